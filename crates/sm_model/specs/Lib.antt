@@ -1,0 +1,6 @@
+pub mod Numbers
+pub mod Names
+pub mod Boxes
+pub mod Fragments
+pub mod FragText
+pub mod Canonical
