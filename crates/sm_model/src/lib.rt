@@ -4,6 +4,7 @@
 
 mod bytes;
 mod fragment;
+pub mod law;
 mod name;
 mod no_memory;
 mod sample;
