@@ -3,6 +3,7 @@
 
 mod children;
 mod head;
+pub mod law;
 mod numbers;
 mod put;
 mod whole;

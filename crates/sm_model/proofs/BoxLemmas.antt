@@ -71,7 +71,7 @@ head_below b e =
 
 -- the boxes that the function gives are those of the relation
 
-size_of : (b : List ℕ) → (box_of b).size ≡ box_len b
+pub size_of : (b : List ℕ) → (box_of b).size ≡ box_len b
 unfolding box_of
 size_of b = refl
 
