@@ -125,3 +125,58 @@ pub fn put_cause(alloc: Global, refusal: &Refusal) -> Result<Bytes, NoMemory>
     let line = format!(in alloc; "{number} {name} at {at}\n")?;
     Ok(Bytes::from_vec(line.into_bytes()))
 }
+
+#[cfg(test)]
+mod tests {
+    use super::*;
+    use std::test::Fail;
+
+    #[test]
+    fn lines_and_statuses(rt: HostRuntime) -> Result<(), Fail> {
+        let table = [
+            (Cause::BadBox, "1 BadBox at 7\n", 400),
+            (Cause::Protected, "10 Protected at 7\n", 415),
+            (Cause::ManyTracks, "11 ManyTracks at 7\n", 400),
+            (Cause::ManyRuns, "12 ManyRuns at 7\n", 400),
+            (Cause::BaseOffset, "13 BaseOffset at 7\n", 400),
+            (Cause::NoTime, "14 NoTime at 7\n", 400),
+            (Cause::NoDuration, "15 NoDuration at 7\n", 400),
+            (Cause::NoSamples, "16 NoSamples at 7\n", 400),
+            (Cause::SamplesOutside, "17 SamplesOutside at 7\n", 400),
+            (Cause::NoMdat, "18 NoMdat at 7\n", 400),
+            (Cause::TimeTooLarge, "22 TimeTooLarge at 7\n", 400),
+            (Cause::TooManySamples, "23 TooManySamples at 7\n", 413),
+            (Cause::BadRun, "24 BadRun at 7\n", 400),
+        ];
+        for (cause, line, status) in table {
+            let told = put_cause(rt.alloc(), &Refusal { at: 7, cause })?;
+            assert_eq!(rt; told.as_slice(), line.as_bytes(), "{line}");
+            assert_eq!(rt; cause.status(), status, "{line}");
+        }
+        Ok(())
+    }
+
+    #[test]
+    fn places_are_decimal(rt: HostRuntime) -> Result<(), Fail> {
+        for (at, line) in [
+            (0, "1 BadBox at 0\n"),
+            (10, "1 BadBox at 10\n"),
+            (u64::MAX, "1 BadBox at 18446744073709551615\n"),
+        ] {
+            let refusal = Refusal {
+                at,
+                cause: Cause::BadBox,
+            };
+            let told = put_cause(rt.alloc(), &refusal)?;
+            assert_eq!(rt; told.as_slice(), line.as_bytes(), "{at}");
+        }
+        Ok(())
+    }
+
+    #[test]
+    fn causes_have_words(rt: HostRuntime) -> Result<(), Fail> {
+        let words = format!(in rt.alloc(); "{}", Cause::NoMdat)?;
+        assert_eq!(rt; words.as_str(), "no media data follows the movie fragment");
+        Ok(())
+    }
+}
