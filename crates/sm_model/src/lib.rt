@@ -5,6 +5,7 @@
 mod bytes;
 mod cause;
 mod fragment;
+pub mod law;
 mod name;
 mod no_memory;
 mod run;
