@@ -4,11 +4,10 @@ use Rattle.std.proofs.lemmas.Bool.{leb-true, le-leb, ltb-true, ltb-false, le-ltb
 use Rattle.std.proofs.lemmas.List.{length-append, length-drop, take-append-le, drop-append-le}
 use Rattle.sm_model.specs.Numbers.{number32_at, number64_at}
 use Rattle.sm_model.specs.Boxes.{head_len, box_len, box_of, starts_whole}
-use Rattle.sm_model.proofs.BoxLemmas.{long_head}
+use Rattle.sm_model.proofs.BoxLemmas.{lengths, is_whole}
 use Rattle.sm_box.specs.declared.head.Head.{Head}
 use Rattle.sm_box.specs.declared.head.Head.TheVariants.{Whole, Short, Bad, OpenEnded}
 use Rattle.sm_box.specs.Heads.{head_of}
-use Rattle.sm_box.proofs.HeadLemmas.{Parts, parts}
 
 -- a part that lies in front
 part_stays : (at n : ℕ) (b rest : List ℕ) → at + n ≤ length b → take n (drop at (b ++ rest)) ≡ take n (drop at b)
@@ -39,22 +38,17 @@ box_len_stays b rest h r =
     ∙ size_stays b rest (eqb (number32_at 0 b) 1) refl h r
 
 pub whole_stays : (b rest : List ℕ) → starts_whole b ≡ true → starts_whole (b ++ rest) ≡ true
-unfolding starts_whole
 whole_stays b rest w =
-    let p = parts b w in
+    let p = lengths b w in
     let h = head_len_stays b rest p.eight in
     let n = box_len_stays b rest p.eight (omega (arith, p.head, p.size)) in
     let l = length-append b rest in
-    let p1 : leb 8 (length (b ++ rest)) ≡ true = le-leb _ _ (omega (arith, l, p.eight)) in
-    let p2 : leb (head_len (b ++ rest)) (box_len (b ++ rest)) ≡ true = le-leb _ _ (omega (arith, h, n, p.head)) in
-    let p3 : leb (box_len (b ++ rest)) (length (b ++ rest)) ≡ true = le-leb _ _ (omega (arith, l, n, p.size)) in
-    and_from (leb 8 (length (b ++ rest))) (leb (head_len (b ++ rest)) (box_len (b ++ rest)) && leb (box_len (b ++ rest)) (length (b ++ rest))) p1
-    (and_from (leb (head_len (b ++ rest)) (box_len (b ++ rest))) (leb (box_len (b ++ rest)) (length (b ++ rest))) p2 p3)
+    is_whole (b ++ rest) (record { eight = omega (arith, l, p.eight); head = omega (arith, h, n, p.head); size = omega (arith, l, n, p.size) })
 
 pub box_stays : (b rest : List ℕ) → starts_whole b ≡ true → box_of (b ++ rest) ≡ box_of b
 unfolding box_of
 box_stays b rest w =
-    let p = parts b w in
+    let p = lengths b w in
     let h = head_len_stays b rest p.eight in
     let n = box_len_stays b rest p.eight (omega (arith, p.head, p.size)) in
     let k = part_stays 4 4 b rest p.eight in

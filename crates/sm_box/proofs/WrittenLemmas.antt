@@ -7,7 +7,7 @@ use Rattle.std.proofs.lemmas.Nat.{from_be_bytes-to_be_bytes_4}
 use Rattle.sm_model.specs.Numbers.{number32, number32_at, number64_at}
 use Rattle.sm_model.specs.Boxes.{Box, head_len, box_len, box_of, starts_whole, boxes}
 use Rattle.sm_model.specs.FragText.{box}
-use Rattle.sm_model.proofs.BoxLemmas.{boxes-whole, size_of}
+use Rattle.sm_model.proofs.BoxLemmas.{is_whole, boxes-whole, size_of}
 use Rattle.sm_box.specs.declared.head.Head.TheVariants.{Whole}
 use Rattle.sm_box.specs.Heads.{head_of, small_box}
 use Rattle.sm_box.proofs.HeadLemmas.{whole_head}
@@ -46,16 +46,12 @@ text_size kind body s =
     ∙ ap (λ (v : Bool). cond v (number64_at 8 (text kind body)) (8 + length body)) (not_one (length body))
 
 text_whole : (kind body : List ℕ) → IsSmall kind body → starts_whole (text kind body) ≡ true
-unfolding starts_whole
 text_whole kind body s =
     let b = text kind body in
     let n = text_len kind body s in
     let h = text_head kind body s in
     let l = text_size kind body s in
-    let p1 : leb 8 (length b) ≡ true = le-leb _ _ (omega (arith, n)) in
-    let p2 : leb (head_len b) (box_len b) ≡ true = le-leb _ _ (omega (arith, h, l)) in
-    let p3 : leb (box_len b) (length b) ≡ true = le-leb _ _ (omega (arith, n, l)) in
-    and_from (leb 8 (length b)) (leb (head_len b) (box_len b) && leb (box_len b) (length b)) p1 (and_from (leb (head_len b) (box_len b)) (leb (box_len b) (length b)) p2 p3)
+    is_whole b (record { eight = omega (arith, n); head = omega (arith, h, l); size = omega (arith, n, l) })
 
 text_box : (kind body : List ℕ) → IsSmall kind body → box_of (text kind body) ≡ small_box kind body
 unfolding box_of
@@ -68,7 +64,7 @@ text_box kind body s =
     let d8 : drop 8 b ≡ body = sym (drop-drop 4 4 b) ∙ ap (drop 4) d4 ∙ drop_at kind body 4 s.kind_is in
     let y : take (box_len b - head_len b) (drop (head_len b) b) ≡ body
     = ap (λ (n : ℕ). take (n - head_len b) (drop (head_len b) b)) l ∙ ap (λ (n : ℕ). take (8 + length body - n) (drop n b)) h
-        ∙ ap (take (8 + length body - 8)) d8 ∙ take_all (8 + length body - 8) body (omega arith) in
+    ∙ ap (take (8 + length body - 8)) d8 ∙ take_all (8 + length body - 8) body (omega arith) in
     cc
 
 pub written_whole : (kind body rest : List ℕ) → IsSmall kind body → starts_whole (text kind body ++ rest) ≡ true
