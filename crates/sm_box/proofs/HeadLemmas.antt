@@ -1,9 +1,9 @@
 -- A head that was read, and a whole box in front.
-use Rattle.std.proofs.Common.{◌≡◌, ◌≤◌, ◌<◌, ◌+◌, ℕ, zero, suc, Bool, true, false, cond, eqb, ltb, leb, List, length, take, drop, refl, sym, ap, subst, ◌∙◌, ◌&&◌, arith}
-use Rattle.std.proofs.lemmas.Bool.{and_parts, and_from, cases_Bool, leb-true, ltb-false, le-leb, lt-leb, le-ltb, ne_eqb, eqb-false, and_left, and_right, ltb-true}
+use Rattle.std.proofs.Common.{◌≡◌, ◌≤◌, ◌<◌, ℕ, zero, suc, Bool, true, false, cond, eqb, ltb, leb, List, length, take, drop, refl, subst, ◌∙◌, ◌&&◌, arith}
+use Rattle.std.proofs.lemmas.Bool.{ltb-false, lt-leb, le-ltb, ne_eqb, and_right}
 use Rattle.sm_model.specs.Numbers.{number32_at, number64_at}
 use Rattle.sm_model.specs.Boxes.{head_len, box_len, box_of, starts_whole}
-use Rattle.sm_model.proofs.BoxLemmas.{Lengths, lengths, is_whole}
+use Rattle.sm_model.proofs.BoxLemmas.{lengths, is_whole}
 use Rattle.sm_box.specs.declared.head.Head.{Head}
 use Rattle.sm_box.specs.declared.head.Head.TheVariants.{Whole, Short, Bad, OpenEnded}
 use Rattle.sm_box.specs.Heads.{head_of}
