@@ -45,3 +45,8 @@ boxes_in (suc n) (c ∷ b) =
 
 unfoldable pub boxes : List ℕ → Option (List Box)
 boxes b = boxes_in (length b) b
+
+-- a whole box and nothing else
+pub record IsOneBox (b : List ℕ) : Type 0 where
+  pub whole : starts_whole b ≡ true
+  pub all : box_len b ≡ length b

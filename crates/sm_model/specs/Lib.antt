@@ -4,3 +4,7 @@ pub mod Boxes
 pub mod Fragments
 pub mod FragText
 pub mod Canonical
+pub mod Causes
+pub mod Found
+pub mod Fields
+pub mod Frag
