@@ -8,3 +8,4 @@ pub mod Causes
 pub mod Found
 pub mod Fields
 pub mod Frag
+pub mod Steps
