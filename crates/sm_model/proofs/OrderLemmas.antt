@@ -1,5 +1,5 @@
 -- One list of causes, and the parts in which it is gone through.
-use Rattle.std.proofs.Common.{◌≡◌, ℕ, Bool, true, false, not, ◌||◌, cond, List, [], ◌∷◌, ◌++◌, Option, Some, None, Result, Ok, Err, refl, sym, ap, subst, ◌∙◌, ◌⊎◌, inl, inr}
+use Rattle.std.proofs.Common.{◌≡◌, ℕ, Bool, true, false, not, cond, List, [], ◌∷◌, ◌++◌, Option, Some, None, Result, Ok, Err, refl, sym, ap, ◌∙◌, ◌⊎◌, inl, inr}
 use Rattle.std.specs.Prelude.{codes}
 use Rattle.std.specs.Option.{option_map_or}
 use Rattle.std.specs.List.{AllByRecursion}
@@ -10,7 +10,7 @@ use Rattle.sm_model.specs.declared.run.RawFragment.{RawFragment}
 use Rattle.sm_model.specs.declared.run.Run.{Run}
 use Rattle.sm_model.specs.Boxes.{Box, boxes, box_of}
 use Rattle.sm_model.specs.Found.{Found, found, bodies}
-use Rattle.sm_model.specs.Frag.{Line, first_cause, Traf, traf_of, bad_lines, other_lines, moof_lines, last_lines, frag_lines, refusal, run_of, judged, traf, judged_moof, run_in, moof_run, mdat_rest, raw_of, last, judged_frag, frag_in, frag}
+use Rattle.sm_model.specs.Frag.{Line, first_cause, Traf, traf_of, bad_lines, other_lines, moof_lines, last_lines, refusal, run_of, judged, traf, judged_moof, run_in, moof_run, mdat_rest, raw_of, last, judged_frag, frag_in, frag}
 use Rattle.sm_model.specs.Steps.{and_then, is_bad, alone}
 
 abbrev none : Option Cause

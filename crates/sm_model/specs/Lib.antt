@@ -9,3 +9,4 @@ pub mod Found
 pub mod Fields
 pub mod Frag
 pub mod Steps
+pub mod Written
