@@ -3,6 +3,7 @@ use Rattle.std.proofs.Common.{◌≡◌, ◌≤◌, ◌<◌, ◌+◌, ℕ, zero,
 use Rattle.std.proofs.lemmas.Bool.{and_parts, and_from, cases_Bool, leb-true, ltb-false, le-leb, lt-leb, le-ltb, ne_eqb, eqb-false, and_left, and_right, ltb-true}
 use Rattle.sm_model.specs.Numbers.{number32_at, number64_at}
 use Rattle.sm_model.specs.Boxes.{head_len, box_len, box_of, starts_whole}
+use Rattle.sm_model.proofs.BoxLemmas.{Lengths, lengths, is_whole}
 use Rattle.sm_box.specs.declared.head.Head.{Head}
 use Rattle.sm_box.specs.declared.head.Head.TheVariants.{Whole, Short, Bad, OpenEnded}
 use Rattle.sm_box.specs.Heads.{head_of}
@@ -16,26 +17,10 @@ pub field_is : (b : List ℕ) → head_len b ≤ box_len b → number32_at 0 b �
 unfolding head_len box_len
 field_is b le e = no_field (number32_at 0 b) (number64_at 8 b) le e
 
-pub least : (b : List ℕ) → 8 ≤ head_len b
-unfolding head_len
-least b = elim (eqb (number32_at 0 b) 1) as (λ v. 8 ≤ cond v 16 8) [ true ↦ omega arith | false ↦ omega arith ]
-
-pub record Parts (b : List ℕ) : Type 0 where
-  pub eight : 8 ≤ length b
-  pub head : head_len b ≤ box_len b
-  pub size : box_len b ≤ length b
-
-pub parts : (b : List ℕ) → starts_whole b ≡ true → Parts b
-unfolding starts_whole
-parts b e =
-    let p = and_parts (leb 8 (length b)) (leb (head_len b) (box_len b) && leb (box_len b) (length b)) e in
-    let q = and_parts (leb (head_len b) (box_len b)) (leb (box_len b) (length b)) p.1 in
-    record { eight = leb-true _ _ p.0; head = leb-true _ _ q.0; size = leb-true _ _ q.1 }
-
 pub whole_head : (b : List ℕ) → starts_whole b ≡ true → head_of b ≡ Whole (take 4 (drop 4 b)) (head_len b) (box_len b)
 unfolding head_of
 whole_head b e =
-    let p = parts b e in
+    let p = lengths b e in
     let f1 : ltb (length b) 8 ≡ false = le-ltb _ _ p.eight in
     let f2 : eqb (number32_at 0 b) 0 ≡ false = ne_eqb _ _ (field_is b p.head) in
     let f3 : ltb (length b) (head_len b) ≡ false = le-ltb _ _ (omega (arith, p.head, p.size)) in
@@ -78,13 +63,6 @@ pub head_says : (b kind : List ℕ) (head size : ℕ) → Whole kind head size �
 unfolding head_of
 head_says b kind head size e = says b kind head size _ _ _ _ refl refl e
 
-pub is_whole : (b kind : List ℕ) (head size : ℕ) → Says b kind head size → size ≤ length b → starts_whole b ≡ true
-unfolding starts_whole
-is_whole b kind head size s le =
-    let p : leb (head_len b) (box_len b) ≡ true = le-leb _ _ (omega (arith, s.fits, s.head_is, s.size_is)) in
-    let q : leb (box_len b) (length b) ≡ true = le-leb _ _ (omega (arith, s.size_is)) in
-    and_from (leb 8 (length b)) (leb (head_len b) (box_len b) && leb (box_len b) (length b)) (le-leb _ _ s.eight) (and_from (leb (head_len b) (box_len b)) (leb (box_len b) (length b)) p q)
-
 pub is_cut : (b kind : List ℕ) (head size : ℕ) → Says b kind head size → length b < size → starts_whole b ≡ false
 unfolding starts_whole
 is_cut b kind head size s lt =
@@ -94,7 +72,7 @@ is_cut b kind head size s lt =
 pub front : (b kind : List ℕ) (head size : ℕ) → Says b kind head size → size ≤ length b → IsFront b head size
 unfolding box_of
 front b kind head size s le = record {
-  whole = is_whole b kind head size s le;
+  whole = is_whole b (record { eight = s.eight; head = omega (arith, s.fits, s.head_is, s.size_is); size = omega (arith, s.size_is) });
   eight = s.eight;
   head_is = s.head_is;
   size_is = s.size_is;

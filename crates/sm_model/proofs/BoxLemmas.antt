@@ -1,7 +1,7 @@
 -- A text of boxes, one box at a time.
 use Rattle.std.proofs.Common.{◌≡◌, ◌≤◌, ◌<◌, ◌+◌, ◌-◌, ℕ, zero, suc, Bool, true, false, cond, eqb, ltb, leb, ◌&&◌, List, [], ◌∷◌, ◌++◌, length, take, drop, Option, Some, None, refl, sym, ap, subst, ◌∙◌, append_assoc, arith}
 use Rattle.std.specs.Option.{option_map}
-use Rattle.std.proofs.lemmas.Bool.{and_parts, cases_Bool, leb-true}
+use Rattle.std.proofs.lemmas.Bool.{and_parts, and_from, leb-true, le-leb}
 use Rattle.std.proofs.lemmas.List.{length-drop}
 use Rattle.sm_model.specs.Numbers.{number32_at, number64_at}
 use Rattle.sm_model.specs.Boxes.{Box, head_len, box_len, box_of, starts_whole, boxes_in, boxes, IsBoxes}
@@ -10,17 +10,31 @@ pub long_head : (b : List ℕ) → 8 ≤ head_len b
 unfolding head_len
 long_head b = elim (eqb (number32_at 0 b) 1) as (λ v. 8 ≤ cond v 16 8) [ true ↦ omega arith | false ↦ omega arith ]
 
+-- what a whole box in front says of the lengths
+pub record Lengths (b : List ℕ) : Type 0 where
+  pub eight : 8 ≤ length b
+  pub head : head_len b ≤ box_len b
+  pub size : box_len b ≤ length b
+
+pub lengths : (b : List ℕ) → starts_whole b ≡ true → Lengths b
+unfolding starts_whole
+lengths b w =
+    let p = and_parts (leb 8 (length b)) (leb (head_len b) (box_len b) && leb (box_len b) (length b)) w in
+    let q = and_parts (leb (head_len b) (box_len b)) (leb (box_len b) (length b)) p.1 in
+    record { eight = leb-true _ _ p.0; head = leb-true _ _ q.0; size = leb-true _ _ q.1 }
+
+pub is_whole : (b : List ℕ) → Lengths b → starts_whole b ≡ true
+unfolding starts_whole
+is_whole b l =
+    and_from (leb 8 (length b)) (leb (head_len b) (box_len b) && leb (box_len b) (length b)) (le-leb _ _ l.eight)
+    (and_from (leb (head_len b) (box_len b)) (leb (box_len b) (length b)) (le-leb _ _ l.head) (le-leb _ _ l.size))
+
 -- a whole box takes at least eight bytes
 pub long_box : (b : List ℕ) → starts_whole b ≡ true → 8 ≤ box_len b
-unfolding starts_whole
-long_box b e =
-    let p = and_parts (leb 8 (length b)) (leb (head_len b) (box_len b) && leb (box_len b) (length b)) e in
-    let q = and_parts (leb (head_len b) (box_len b)) (leb (box_len b) (length b)) p.1 in
-    omega (arith, leb-true _ _ q.0, long_head b)
+long_box b w = omega (arith, (lengths b w).head, long_head b)
 
 pub long_text : (b : List ℕ) → starts_whole b ≡ true → 8 ≤ length b
-unfolding starts_whole
-long_text b e = leb-true _ _ (and_parts (leb 8 (length b)) (leb (head_len b) (box_len b) && leb (box_len b) (length b)) e).0
+long_text b w = (lengths b w).eight
 
 same_by : (b : List ℕ) (x y : Option (List Box)) (t : Bool) → starts_whole b ≡ t → (starts_whole b ≡ true → x ≡ y)
     → cond t (option_map (λ xs. box_of b ∷ xs) x) None ≡ cond t (option_map (λ xs. box_of b ∷ xs) y) None
@@ -64,14 +78,11 @@ pub goes_on : (front : List Box) (b : List ℕ) → starts_whole b ≡ true → 
 goes_on front b w = rw (boxes-whole b w) (front_more front (box_of b) (boxes (drop (box_len b) b)))
 
 pub head_below : (b : List ℕ) → starts_whole b ≡ true → head_len b ≤ box_len b
-unfolding starts_whole
-head_below b e =
-    let p = and_parts (leb 8 (length b)) (leb (head_len b) (box_len b) && leb (box_len b) (length b)) e in
-    leb-true _ _ (and_parts (leb (head_len b) (box_len b)) (leb (box_len b) (length b)) p.1).0
+head_below b w = (lengths b w).head
 
 -- the boxes that the function gives are those of the relation
 
-size_of : (b : List ℕ) → (box_of b).size ≡ box_len b
+pub size_of : (b : List ℕ) → (box_of b).size ≡ box_len b
 unfolding box_of
 size_of b = refl
 
