@@ -1,7 +1,7 @@
 -- One list of causes, and the parts in which it is gone through.
 use Rattle.std.proofs.Common.{◌≡◌, ℕ, Bool, true, false, not, cond, List, [], ◌∷◌, ◌++◌, Option, Some, None, Result, Ok, Err, refl, sym, ap, ◌∙◌, ◌⊎◌, inl, inr}
 use Rattle.std.specs.Prelude.{codes}
-use Rattle.std.specs.Option.{option_map_or}
+use Rattle.std.specs.Option.{option_map, option_map_or}
 use Rattle.std.specs.List.{AllByRecursion}
 use Rattle.sm_model.specs.declared.cause.Cause.{Cause}
 use Rattle.sm_model.specs.declared.cause.Cause.TheVariants.{BadBox, ManyTracks}
@@ -110,25 +110,35 @@ run_in_alone d trafs e =
       | Some ys ↦ judged_alone d trafs (traf_of ys) e
     ]
 
--- the answer of the first traf, with ManyTracks behind BadBox and before every other cause
-pub moof_run_with_traf : (d : Defaults) (m : List ℕ) (xs : List Box) (f : Found) → boxes (box_of m).body ≡ Some xs → f ≡ found (bodies (codes "traf") xs) → f.some ≡ true
-    → moof_run d m ≡ alone f.twice (traf d f.first)
-unfolding moof_run
-moof_run_with_traf d m xs f b w e = rw (b, ← w) (run_in_alone d f e)
-
 none_first : (d : Defaults) (f : Found) → f.some ≡ false → run_in d f ≡ Err BadBox
 unfolding run_in judged_moof
 none_first d f e =
     elim (boxes f.first) as (λ o. option_map_or (λ ys. judged_moof d f (traf_of ys)) o (Err BadBox) ≡ Err BadBox) [ None ↦ refl | Some ys ↦ rw e refl ]
 
-pub moof_run_without_traf : (d : Defaults) (m : List ℕ) (xs : List Box) (f : Found) → boxes (box_of m).body ≡ Some xs → f ≡ found (bodies (codes "traf") xs) → f.some ≡ false
-    → moof_run d m ≡ Err BadBox
-unfolding moof_run
-moof_run_without_traf d m xs f b w e = rw (b, ← w) (none_first d f e)
+map_or_map : (d : Defaults) (o : Option (List Box))
+    → option_map_or (λ xs. run_in d (found (bodies (codes "traf") xs))) o (Err BadBox) ≡ option_map_or (run_in d) (option_map (λ xs. found (bodies (codes "traf") xs)) o) (Err BadBox)
+map_or_map d None = refl
+map_or_map d (Some xs) = refl
 
-pub moof_run_without_boxes : (d : Defaults) (m : List ℕ) → boxes (box_of m).body ≡ None → moof_run d m ≡ Err BadBox
+-- what was found of the trafs among the children of a moof
+abbrev pub trafs_in : List ℕ → Option Found
+trafs_in body = option_map (λ xs. found (bodies (codes "traf") xs)) (boxes body)
+
+moof_run_is : (d : Defaults) (m : List ℕ) → moof_run d m ≡ option_map_or (run_in d) (trafs_in (box_of m).body) (Err BadBox)
 unfolding moof_run
-moof_run_without_boxes d m b = rw b refl
+moof_run_is d m = map_or_map d (boxes (box_of m).body)
+
+-- a child is cut or has a bad size
+pub moof_run_bad : (d : Defaults) (m : List ℕ) → trafs_in (box_of m).body ≡ None → moof_run d m ≡ Err BadBox
+moof_run_bad d m e = moof_run_is d m ∙ ap (λ (o : Option Found). option_map_or (run_in d) o (Err BadBox)) e
+
+-- there is no traf
+pub moof_run_empty : (d : Defaults) (m : List ℕ) (f : Found) → trafs_in (box_of m).body ≡ Some f → f.some ≡ false → moof_run d m ≡ Err BadBox
+moof_run_empty d m f e n = moof_run_is d m ∙ ap (λ (o : Option Found). option_map_or (run_in d) o (Err BadBox)) e ∙ none_first d f n
+
+-- the answer of the first traf, with ManyTracks behind BadBox and before every other cause
+pub moof_run_first : (d : Defaults) (m : List ℕ) (f : Found) → trafs_in (box_of m).body ≡ Some f → f.some ≡ true → moof_run d m ≡ alone f.twice (traf d f.first)
+moof_run_first d m f e n = moof_run_is d m ∙ ap (λ (o : Option Found). option_map_or (run_in d) o (Err BadBox)) e ∙ run_in_alone d f n
 
 -- ---- no line of a moof reads the defaults
 

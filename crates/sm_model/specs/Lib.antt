@@ -10,3 +10,4 @@ pub mod Fields
 pub mod Frag
 pub mod Steps
 pub mod Written
+pub mod TrackId
