@@ -4,3 +4,4 @@ pub mod Boxes
 pub mod Fragments
 pub mod FragText
 pub mod Canonical
+pub mod Channels

@@ -3,13 +3,21 @@
 #![tactic(auto)]
 
 mod bytes;
+mod channel;
 mod fragment;
 mod name;
 mod no_memory;
 mod sample;
+mod smil;
+mod tag;
+mod track;
 
 pub use bytes::Bytes;
+pub use channel::Channel;
 pub use fragment::Fragment;
 pub use name::{Name, NameFault};
 pub use no_memory::NoMemory;
 pub use sample::{Sample, Samples};
+pub use smil::{Smil, SmilTrack};
+pub use tag::{Attribute, Attributes, Tag};
+pub use track::{Kind, Params, Track};
