@@ -5,3 +5,8 @@ pub mod Fragments
 pub mod FragText
 pub mod Canonical
 pub mod Channels
+pub mod Digits
+pub mod TagBytes
+pub mod TagParts
+pub mod TagMarkup
+pub mod Tags

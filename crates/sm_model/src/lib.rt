@@ -5,6 +5,7 @@
 mod bytes;
 mod channel;
 mod fragment;
+mod markup;
 mod name;
 mod no_memory;
 mod sample;
@@ -15,6 +16,7 @@ mod track;
 pub use bytes::Bytes;
 pub use channel::Channel;
 pub use fragment::Fragment;
+pub use markup::{Lead, Markup};
 pub use name::{Name, NameFault};
 pub use no_memory::NoMemory;
 pub use sample::{Sample, Samples};
