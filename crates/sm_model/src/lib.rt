@@ -4,6 +4,7 @@
 
 mod bytes;
 mod channel;
+mod digits;
 mod fragment;
 mod markup;
 mod name;
@@ -15,6 +16,7 @@ mod track;
 
 pub use bytes::Bytes;
 pub use channel::Channel;
+pub use digits::{decimal_up_to, number_of};
 pub use fragment::Fragment;
 pub use markup::{Lead, Markup};
 pub use name::{Name, NameFault};
