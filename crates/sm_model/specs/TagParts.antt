@@ -80,7 +80,7 @@ pub data Values (q : ℕ) : List ℕ → List ℕ → Result (List ℕ × List �
 -- an attribute of that name stands in the list
 abbrev pub has_name : List ℕ → List Attribute → Bool
 has_name name [] = false
-has_name name (a ∷ others) = pointwise nat_eq a.name name || has_name name others
+has_name name (a ∷ others) = pointwise nat_eq name a.name || has_name name others
 
 -- a name, `=` and a quote: the name, the quote, and what is behind it
 unfoldable pub opening_at : List ℕ → Result (List ℕ × ℕ × List ℕ) Stop
