@@ -1,2 +1,10 @@
 pub mod NameLemmas
 pub mod BoxLemmas
+pub mod OrderLemmas
+pub mod WrittenBoxes
+pub mod WrittenRows
+pub mod WrittenFields
+pub mod WrittenTraf
+pub mod WrittenFragment
+pub mod WrittenUserBoxes
+pub mod TextLengths

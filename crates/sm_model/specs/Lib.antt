@@ -8,3 +8,6 @@ pub mod Causes
 pub mod Found
 pub mod Fields
 pub mod Frag
+pub mod Steps
+pub mod Written
+pub mod TrackId
