@@ -8,3 +8,4 @@ pub mod WrittenTraf
 pub mod WrittenFragment
 pub mod WrittenUserBoxes
 pub mod TextLengths
+pub mod DigitLemmas

@@ -11,3 +11,9 @@ pub mod Frag
 pub mod Steps
 pub mod Written
 pub mod TrackId
+pub mod Channels
+pub mod Digits
+pub mod TagBytes
+pub mod TagParts
+pub mod TagMarkup
+pub mod Tags

@@ -4,17 +4,29 @@
 
 mod bytes;
 mod cause;
+mod channel;
+mod digits;
 mod fragment;
 pub mod law;
+mod markup;
 mod name;
 mod no_memory;
 mod run;
 mod sample;
+mod smil;
+mod tag;
+mod track;
 
 pub use bytes::Bytes;
 pub use cause::{Cause, Refusal, put_cause};
+pub use channel::Channel;
+pub use digits::{decimal_up_to, number_of};
 pub use fragment::Fragment;
+pub use markup::{Lead, Markup};
 pub use name::{Name, NameFault};
 pub use no_memory::NoMemory;
 pub use run::{Defaults, Pairs, RawFragment, Row, Rows, Run};
 pub use sample::{Sample, Samples};
+pub use smil::{Smil, SmilTrack};
+pub use tag::{Attribute, Attributes, Tag};
+pub use track::{Kind, Params, Track};

@@ -1,0 +1,17 @@
+use Rattle.std.proofs.Common.{rules, arith, ◌≡◌, length, take}
+use Rattle.std.proofs.lemmas.Grind.{common_steps}
+use Rattle.sm_ends.proofs.Known.{Consumes-front, TakesCount-more}
+use Rattle.sm_ends.proofs.input.read_input.Goals as goal
+
+pub returns-clause-passed : goal.returns-clause-passed
+returns-clause-passed g c =
+    let full : length (take c.loop-filled.filled c.loop-filled.room.items) ≡ c.args.limit = grind (arith, common_steps) in
+    λ fault. TakesCount-more _ _ _ _ _ _ full c.loop-filled.invariant.2 (c.end_at_limit.ensures.long fault)
+
+pub loop-filled-preserved : goal.loop-filled-preserved
+loop-filled-preserved g c = (
+  search rules,
+  search rules,
+  Consumes-front _ _ _ _ _ _ _ _ c.make_room.ensures.kept c.read_behind.ensures.kept c.loop-filled.invariant.2 c.in_ok-count.ensures.bytes.0,
+  search rules,
+)

@@ -1,0 +1,23 @@
+//! Byte ends: where bytes come from and go to. Each end counts its faults, so that an answer which blames an end can be
+//! held against its count. Beside the traits stand the ends that live in memory, of which tests choose the faults.
+#![tactic(auto)]
+
+mod calls;
+mod counted;
+mod ends;
+mod input;
+mod memory_sink;
+mod memory_source;
+mod output;
+mod short;
+#[cfg(test)]
+mod tests;
+
+pub use calls::Calls;
+pub use counted::CountedSource;
+pub use ends::{Failed, Sink, Source};
+pub use input::{InputFault, read_input};
+pub use memory_sink::MemorySink;
+pub use memory_source::MemorySource;
+pub use output::write_all;
+pub use short::{ShortSink, ShortSource};

@@ -1,0 +1,38 @@
+//! Numbers in decimal digits.
+ghost use Rattle.std.specs.Prelude.{◌≡◌, ◌<◌, ◌^◌, min};
+ghost use Rattle.std.specs.List.{list_all};
+ghost use Rattle.sm_model.specs.Digits.{is_digit, decimal_from, number_of};
+
+/// The number that decimal digits write, or `most` where it is greater.
+pub fn decimal_up_to(digits: &[u8], most: u64) -> u64
+    requires { most < 2 ^ 60 }
+    ensures { result ≡ min (decimal_from 0 digits.now) most }
+{
+    let mut number: u64 = 0;
+    for digit in digits {
+        number = (10 * number + u64::from(digit.saturating_sub(b'0'))).min(most);
+    }
+    number
+}
+
+fn are_digits(text: &[u8]) -> bool
+    ensures { result ≡ list_all is_digit text.now }
+{
+    text.iter().all(|c| 48 <= *c && *c <= 57)
+}
+
+/// The number that a text of 1 to 10 decimal digits writes, where it is below 2^32. Leading zeros are allowed.
+#[tactic(auto, unfolding(crate::specs::Digits::is_number, crate::specs::Digits::number_of))]
+pub fn number_of(text: &[u8]) -> Option<u32>
+    ensures { result ≡ number_of text.now }
+{
+    if text.is_empty() || text.len() > 10 || !are_digits(text) {
+        return None;
+    }
+    let number = decimal_up_to(text, 4294967296);
+    if number < 4294967296 {
+        Some(number as u32)
+    } else {
+        None
+    }
+}

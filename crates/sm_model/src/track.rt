@@ -1,0 +1,65 @@
+//! Tracks.
+ghost use Rattle.std.specs.Prelude.{◌≡◌, IfOk};
+
+use crate::{Bytes, Name, NoMemory};
+use std::alloc::Global;
+
+/// What a track shows, which is also the Type of its stream ([MS-SSTR] 2.2.2.3).
+#[derive(Clone, Copy, Debug, PartialEq, Eq)]
+pub enum Kind {
+    Video,
+    Audio,
+    Text,
+}
+
+/// The numbers of a track that a decoder wants, each as it was declared or absent ([MS-SSTR] 2.2.2.5).
+#[derive(Clone, Copy, Debug, PartialEq, Eq)]
+pub struct Params {
+    /// In pixels.
+    pub width: Option<u32>,
+    /// In pixels.
+    pub height: Option<u32>,
+    /// The tag of the audio format.
+    pub tag: Option<u32>,
+    pub channels: Option<u32>,
+    /// In samples a second.
+    pub rate: Option<u32>,
+    /// In bits a sample.
+    pub bits: Option<u32>,
+    /// In bytes.
+    pub packet: Option<u32>,
+}
+
+/// One declared quality of a stream.
+#[derive(Debug, Drop)]
+pub struct Track {
+    pub kind: Kind,
+    /// The name of its stream.
+    pub name: Name,
+    /// In bits a second, as declared.
+    pub bitrate: u32,
+    /// In ticks a second.
+    pub timescale: u32,
+    /// Up to four bytes, each an ASCII letter or digit, `-`, `_` or a space; empty where none was declared.
+    pub fourcc: Bytes,
+    /// The codec's private data, empty where none was declared.
+    pub private: Bytes,
+    pub numbers: Params,
+}
+
+impl Track {
+    /// An equal track.
+    pub fn copy(&self, alloc: Global) -> Result<Track, NoMemory>
+        ensures { IfOk result (λ copy. copy ≡ self.now) }
+    {
+        Ok(Track {
+            kind: self.kind,
+            name: self.name.copy(alloc)?,
+            bitrate: self.bitrate,
+            timescale: self.timescale,
+            fourcc: Bytes::from_slice(alloc, self.fourcc.as_slice())?,
+            private: Bytes::from_slice(alloc, self.private.as_slice())?,
+            numbers: self.numbers,
+        })
+    }
+}

@@ -1,0 +1,5 @@
+pub mod Words
+pub mod Samples
+pub mod Flat
+pub mod Reading
+pub mod Joins

@@ -1,0 +1,6 @@
+use Rattle.std.proofs.Common.{◌≡◌, take}
+use Rattle.sm_model.specs.Fragments.{sample_bytes}
+use Rattle.sm_moof.proofs.put.total_len.Given as goal
+
+abbrev pub invariant-loop-sample : goal.invariant-loop-sample
+invariant-loop-sample l = l.total ≡ sample_bytes (take l.sample-index l.samples)

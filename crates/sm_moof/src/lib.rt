@@ -1,0 +1,12 @@
+//! Whole fragments: a `moof` and the `mdat` behind it, read and written (ISO/IEC 14496-12, 8.8.4 and 8.1.1).
+#![tactic(auto)]
+
+mod canonical;
+mod law;
+mod put;
+mod skim;
+
+pub use canonical::{Canon, read_canonical};
+pub use law::{canonical_texts_are_no_prefixes, joins_are_cut_once};
+pub use put::put_fragment;
+pub use skim::{Skim, skim_canonical};

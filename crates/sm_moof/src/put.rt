@@ -1,0 +1,92 @@
+//! Writing a fragment.
+ghost use Rattle.std.specs.Prelude.{◌≡◌, ◌≤◌, ◌<◌, ◌^◌, ◌++◌, length, OnOk, IfOk};
+ghost use Rattle.sm_model.specs.Numbers.{number32};
+ghost use Rattle.sm_model.specs.Fragments.{sample_bytes, IsValid};
+ghost use Rattle.sm_model.specs.FragText.{mfhd, moof, mdat, frag_text, moof_len};
+
+use sm_box::{append_head, append_u32};
+use sm_model::{Bytes, Fragment, NoMemory, Sample};
+use sm_traf::{append_traf, traf_len};
+use std::alloc::Global;
+
+fn append_mfhd(out: &mut Vec<u8>, seq: u32) -> Result<(), NoMemory>
+    ensures { OnOk result (out.new.items ≡ out.old.items ++ mfhd seq) }
+{
+    append_head(out, 16, b"mfhd")?;
+    append_u32(out, 0)?;
+    append_u32(out, seq)
+}
+
+// How many bytes the moof takes.
+fn moof_len(samples: &[Sample], ahead: &[(u64, u64)]) -> u32
+    requires samples { length samples.now ≤ 65536 }
+    requires few { length ahead.now ≤ 255 }
+    ensures value { result ≡ moof_len samples.now ahead.now }
+    ensures short { result < 2 ^ 22 }
+{
+    24 + traf_len(samples, ahead)
+}
+
+fn append_moof(
+    out: &mut Vec<u8>,
+    seq: u32,
+    id: u32,
+    fragment: &Fragment,
+    ahead: &[(u64, u64)],
+) -> Result<(), NoMemory>
+    requires valid { IsValid fragment.now }
+    requires few { length ahead.now ≤ 255 }
+    ensures { OnOk result (out.new.items ≡ out.old.items ++ moof seq id fragment.now ahead.now) }
+{
+    let size = moof_len(fragment.samples.as_slice(), ahead);
+    append_head(out, size, b"moof")?;
+    append_mfhd(out, seq)?;
+    append_traf(out, id, size + 8, fragment, ahead)
+}
+
+// How many bytes the samples have together.
+fn total_len(samples: &[Sample]) -> u32
+    requires { sample_bytes samples.now ≤ 16777216 }
+    ensures { result ≡ sample_bytes samples.now }
+{
+    let mut total = 0;
+    for sample in samples {
+        total += sample.bytes.len() as u32;
+    }
+    total
+}
+
+fn append_mdat(out: &mut Vec<u8>, samples: &[Sample], total: u32) -> Result<(), NoMemory>
+    requires total { total ≡ sample_bytes samples.now }
+    requires short { sample_bytes samples.now ≤ 16777216 }
+    ensures { OnOk result (out.new.items ≡ out.old.items ++ mdat samples.now) }
+{
+    append_head(out, 8 + total, b"mdat")?;
+    for sample in samples {
+        out.extend_from_slice(sample.bytes.as_slice())?;
+    }
+    Ok(())
+}
+
+/// The canonical text of a fragment: a `moof` and an `mdat` with this sequence number and track_ID, every field of each
+/// sample written out, and the times and durations of the fragments ahead, if any, in ticks of the track's timescale.
+/// Each sample is copied once.
+pub fn put_fragment(
+    alloc: Global,
+    seq: u32,
+    id: u32,
+    fragment: &Fragment,
+    ahead: &[(u64, u64)],
+) -> Result<Bytes, NoMemory>
+    requires valid { IsValid fragment.now }
+    requires few { length ahead.now ≤ 255 }
+    ensures { IfOk result (λ text. text ≡ frag_text seq id fragment.now ahead.now) }
+{
+    let samples = fragment.samples.as_slice();
+    let total = total_len(samples);
+    let size = moof_len(samples, ahead) + 8 + total;
+    let mut out = Vec::with_capacity(alloc, size as usize)?;
+    append_moof(&mut out, seq, id, fragment, ahead)?;
+    append_mdat(&mut out, samples, total)?;
+    Ok(Bytes::from_vec(out))
+}

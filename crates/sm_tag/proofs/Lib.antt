@@ -1,0 +1,5 @@
+pub mod AttributeLemmas
+pub mod Pieces
+pub mod MarkupLemmas
+pub mod NameSets
+pub mod Zeros

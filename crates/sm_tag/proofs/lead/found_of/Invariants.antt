@@ -1,0 +1,14 @@
+use Rattle.std.proofs.Common.{◌≤◌, length, ℕ, List}
+use Rattle.sm_model.specs.declared.markup.Markup.{Markup}
+use Rattle.sm_model.specs.declared.markup.Lead.{Lead}
+use Rattle.sm_model.specs.Tags.{Founds}
+use Rattle.sm_tag.proofs.lead.found_of.Given as goal
+
+abbrev pub invariant-skips : goal.invariant-skips
+invariant-skips l = record {
+  skips : (f : Lead × Markup × ℕ × List ℕ) → Founds l.inside l.rest f → Founds l.inside l.bytes f;
+  shorter : length l.rest ≤ length l.bytes;
+}
+
+abbrev pub decreases-skips : goal.decreases-skips
+decreases-skips l = length l.rest

@@ -1,0 +1,15 @@
+//! The tags of a text: the reader of the XML that Smooth Streaming needs, with the place of every fault.
+#![tactic(auto)]
+
+mod attribute;
+mod halt;
+mod lead;
+mod markup;
+mod reference;
+mod scan;
+mod tags;
+mod value;
+
+pub use sm_model::{Attribute, Attributes, Tag};
+pub use tags::Tags;
+
