@@ -17,3 +17,6 @@ pub use read::{TrafFault, read_traf};
 pub use sm_model::{Cause, Defaults, Pairs, Row, Rows, Run};
 pub use tfrf::{Ahead, read_tfrf};
 pub use tfxd::read_tfxd;
+
+#[cfg(test)]
+mod tests;
