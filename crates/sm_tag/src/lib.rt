@@ -13,3 +13,5 @@ mod value;
 pub use sm_model::{Attribute, Attributes, Tag};
 pub use tags::Tags;
 
+#[cfg(test)]
+mod tests;
