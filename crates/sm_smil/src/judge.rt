@@ -223,7 +223,10 @@ fn share_id(form: Form, a: &RawTrack, b: &RawTrack) -> bool
     ensures { result ≡ share_id form a.now b.now }
 {
     match form {
-        Form::Pushed => are_equal(number_at(ParamName::TrackId, a), number_at(ParamName::TrackId, b)),
+        Form::Pushed => are_equal(
+            number_at(ParamName::TrackId, a),
+            number_at(ParamName::TrackId, b),
+        ),
         Form::Ladder => false,
     }
 }

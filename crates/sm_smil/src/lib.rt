@@ -13,3 +13,6 @@ pub use fault::SmilFault;
 pub use put::put_live_manifest;
 pub use read::{read_ladder, read_live_manifest};
 pub use sm_model::{Smil, SmilTrack};
+
+#[cfg(test)]
+mod tests;
