@@ -140,16 +140,16 @@ begins w empty t =
     else if empty then record w { done = w.done ++ t ∷ [] }
     else record w { current = Some t }
 
+abbrev pub with_current : Form → List Attribute → ℕ → Option RawTrack → Option RawTrack
+with_current form attributes at None = None
+with_current form attributes at (Some t) = Some (with_element form attributes at t)
+
 -- another element: the outermost one is smil, and a child of a track may be a param
 abbrev pub passes : Form → Walk → List ℕ → List Attribute → ℕ → Walk
 passes form w name attributes at =
     if length w.path == 0 then (if is_same name (codes "smil") then w else record w { other = Some at })
     else if length w.path == 4 && is_same name (codes "param") then record w { current = with_current form attributes at w.current }
     else w
-  where
-    with_current : Form → List Attribute → ℕ → Option RawTrack → Option RawTrack
-    with_current form attributes at None = None
-    with_current form attributes at (Some t) = Some (with_element form attributes at t)
 
 abbrev pub meets : Form → Walk → List ℕ → List Attribute → Bool → ℕ → Option Kind → Walk
 meets form w name attributes empty at None = passes form w name attributes at
