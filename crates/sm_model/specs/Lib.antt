@@ -17,3 +17,5 @@ pub mod TagBytes
 pub mod TagParts
 pub mod TagMarkup
 pub mod Tags
+pub mod Moov
+pub mod MoovText
