@@ -1,11 +1,12 @@
 -- How a cause is told.
 use Rattle.std.specs.Prelude.{ℕ, List, ◌++◌, codes, decimal}
 use Rattle.sm_model.specs.declared.cause.Cause.{Cause}
-use Rattle.sm_model.specs.declared.cause.Cause.TheVariants.{BadBox, Protected, ManyTracks, ManyRuns, BaseOffset, NoTime, NoDuration, NoSamples, SamplesOutside, NoMdat, TimeTooLarge, TooManySamples, BadRun}
+use Rattle.sm_model.specs.declared.cause.Cause.TheVariants.{BadBox, BadMoov, Protected, ManyTracks, ManyRuns, BaseOffset, NoTime, NoDuration, NoSamples, SamplesOutside, NoMdat, TimeTooLarge, TooManySamples, BadRun}
 
 -- the number, for a reader that is a program
 abbrev pub number_of : Cause → ℕ
 number_of BadBox = 1
+number_of BadMoov = 6
 number_of Protected = 10
 number_of ManyTracks = 11
 number_of ManyRuns = 12
@@ -22,6 +23,7 @@ number_of BadRun = 24
 -- the HTTP status
 abbrev pub status_of : Cause → ℕ
 status_of BadBox = 400
+status_of BadMoov = 400
 status_of Protected = 415
 status_of ManyTracks = 400
 status_of ManyRuns = 400
@@ -38,6 +40,7 @@ status_of BadRun = 400
 -- the name
 abbrev pub name_of : Cause → List ℕ
 name_of BadBox = codes "BadBox"
+name_of BadMoov = codes "BadMoov"
 name_of Protected = codes "Protected"
 name_of ManyTracks = codes "ManyTracks"
 name_of ManyRuns = codes "ManyRuns"

@@ -22,3 +22,5 @@ pub mod LiveWalk
 pub mod LiveFaults
 pub mod LiveManifests
 pub mod LiveText
+pub mod Moov
+pub mod MoovText

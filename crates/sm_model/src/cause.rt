@@ -14,6 +14,10 @@ pub enum Cause {
     /// that its flags, version and count give.
     #[error("a box is cut, missing, doubled or of the wrong length")]
     BadBox,
+    /// A child of the `moov` is cut or has a bad size, a `trak` lacks what is read of it, a timescale is 0, or two tracks
+    /// have one track_ID.
+    #[error("the header of the movie is malformed")]
+    BadMoov,
     /// A sample encryption box stands in the `traf`.
     #[error("the samples are protected")]
     Protected,
@@ -59,6 +63,7 @@ impl Cause {
     {
         match self {
             Cause::BadBox => 1,
+            Cause::BadMoov => 6,
             Cause::Protected => 10,
             Cause::ManyTracks => 11,
             Cause::ManyRuns => 12,
@@ -91,6 +96,7 @@ impl Cause {
     {
         match self {
             Cause::BadBox => "BadBox",
+            Cause::BadMoov => "BadMoov",
             Cause::Protected => "Protected",
             Cause::ManyTracks => "ManyTracks",
             Cause::ManyRuns => "ManyRuns",
@@ -135,6 +141,7 @@ mod tests {
     fn lines_and_statuses(rt: HostRuntime) -> Result<(), Fail> {
         let table = [
             (Cause::BadBox, "1 BadBox at 7\n", 400),
+            (Cause::BadMoov, "6 BadMoov at 7\n", 400),
             (Cause::Protected, "10 Protected at 7\n", 415),
             (Cause::ManyTracks, "11 ManyTracks at 7\n", 400),
             (Cause::ManyRuns, "12 ManyRuns at 7\n", 400),

@@ -1,0 +1,5 @@
+pub mod ChildLemmas
+pub mod GatherLemmas
+pub mod DefaultLemmas
+pub mod RepeatLemmas
+pub mod MoovLemmas

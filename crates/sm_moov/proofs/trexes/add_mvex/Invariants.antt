@@ -1,0 +1,10 @@
+use Rattle.std.proofs.Common.{◌≡◌, length, ◌-◌}
+use Rattle.sm_model.specs.Moov.{joined, trexes_in}
+use Rattle.sm_box.proofs.Split.{IsSplit}
+use Rattle.sm_moov.proofs.trexes.add_mvex.Given as goal
+
+abbrev pub invariant-walk : goal.invariant-walk
+invariant-walk l = IsSplit l.body l.children (λ xs. l.trexes ≡ joined l.initial.trexes (trexes_in xs))
+
+abbrev pub decreases-walk : goal.decreases-walk
+decreases-walk l = length l.body - l.children.at

@@ -1,0 +1,14 @@
+//! Headers of movies: what a `moov` says of its tracks, and a bare one written.
+#![tactic(auto)]
+
+mod children;
+mod defaults;
+mod gathered;
+mod heads;
+mod kind;
+mod read;
+mod trak;
+mod trexes;
+
+pub use read::{MoovFault, read_moov};
+pub use sm_model::{Heads, TrackHead};
