@@ -24,7 +24,7 @@ use Rattle.sm_model.specs.LiveWalk.{Walk}
 use Rattle.sm_model.specs.LiveFaults.{misfits, inner_faults, is_misread, end_faults, tracks_faults, faults_of, sooner, least_from}
 use Rattle.sm_smil.specs.Answers.{AreFit}
 
-both : (a b : Bool) → (a && b) ≡ true → (a ≡ true) × (b ≡ true)
+pub both : (a b : Bool) → (a && b) ≡ true → (a ≡ true) × (b ≡ true)
 both true b e = (refl, e)
 both false b e = cc
 
@@ -117,7 +117,7 @@ picked p ps name v true true is fit none rest found =
     rw (same, value) at fit
 picked p ps name v false true is fit none rest found = rest none found
 
-fits_all : (ps : List SmilParam) → misfits ps ≡ [] → AreFit ps
+pub fits_all : (ps : List SmilParam) → misfits ps ≡ [] → AreFit ps
 fits_all [] none name v found = cc
 fits_all (p ∷ ps) none name v found =
     picked p ps name v (eqb (index_of p.name) (index_of name)) (is_fit p.name p.value) refl refl none (λ rest. fits_all ps rest name v) found
