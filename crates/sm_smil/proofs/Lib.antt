@@ -4,3 +4,5 @@ pub mod Joined
 pub mod Fit
 pub mod Valid
 pub mod WalkLemmas
+pub mod WrittenTags
+pub mod WrittenLines
