@@ -1,6 +1,7 @@
 //! Headers of movies: what a `moov` says of its tracks, and a bare one written.
 #![tactic(auto)]
 
+mod bare;
 mod children;
 mod defaults;
 mod gathered;
@@ -10,5 +11,6 @@ mod read;
 mod trak;
 mod trexes;
 
+pub use bare::put_bare_moov;
 pub use read::{MoovFault, read_moov};
 pub use sm_model::{Heads, TrackHead};
