@@ -9,3 +9,4 @@ pub mod WrittenFragment
 pub mod WrittenUserBoxes
 pub mod TextLengths
 pub mod DigitLemmas
+pub mod TrackIdLemmas

@@ -5,6 +5,7 @@ use Rattle.std.specs.Option.{ForSome}
 use Rattle.sm_model.specs.declared.track.Kind.{Kind}
 use Rattle.sm_model.specs.declared.track.Params.{Params}
 use Rattle.sm_model.specs.declared.track.Track.{Track}
+use Rattle.sm_model.specs.declared.smil.SmilTrack.{SmilTrack}
 use Rattle.sm_model.specs.Names.{is_within, is_name}
 
 -- an ASCII letter or digit, `-`, `_` or a space
@@ -53,3 +54,21 @@ pub record IsNarrowTrack (t : Track) : Type 0 where
   pub bitrate : t.bitrate < 2 ^ 32
   pub timescale : t.timescale < 2 ^ 32
   pub numbers : AreNarrow t.numbers
+
+-- a track that is valid once it has a timescale
+pub record IsUntimed (t : Track) : Type 0 where
+  pub fourcc : IsTrue (is_fourcc t.fourcc)
+  pub short : length t.private ≤ 32768
+
+-- tracks of a pushed header have a track_ID each, and those of one name differ by bitrate and agree in kind
+pub record Differ (a b : SmilTrack) : Type 0 where
+  pub id : a.id ≢ b.id
+  pub apart : a.track.name ≡ b.track.name → a.track.bitrate ≢ b.track.bitrate
+  pub kind : a.track.name ≡ b.track.name → a.track.kind ≡ b.track.kind
+
+-- the tracks of a pushed header, which are a valid channel once each has a timescale and each name has one
+pub record IsSmil (tracks : List SmilTrack) : Type 0 where
+  pub some : 0 < length tracks
+  pub few : length tracks ≤ 64
+  pub each : All (λ s. IsUntimed s.track) tracks
+  pub differ : AllPairs Differ tracks

@@ -17,5 +17,10 @@ pub mod TagBytes
 pub mod TagParts
 pub mod TagMarkup
 pub mod Tags
+pub mod LiveTracks
+pub mod LiveWalk
+pub mod LiveFaults
+pub mod LiveManifests
+pub mod LiveText
 pub mod Moov
 pub mod MoovText

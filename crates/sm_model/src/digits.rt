@@ -5,12 +5,12 @@ ghost use Rattle.sm_model.specs.Digits.{is_digit, decimal_from, number_of};
 
 /// The number that decimal digits write, or `most` where it is greater.
 pub fn decimal_up_to(digits: &[u8], most: u64) -> u64
-    requires { most < 2 ^ 60 }
     ensures { result ≡ min (decimal_from 0 digits.now) most }
 {
     let mut number: u64 = 0;
     for digit in digits {
-        number = (10 * number + u64::from(digit.saturating_sub(b'0'))).min(most);
+        let next = 10 * number as u128 + digit.saturating_sub(b'0') as u128;
+        number = next.min(most as u128) as u64;
     }
     number
 }

@@ -3,6 +3,7 @@ ghost use Rattle.std.specs.Prelude.{◌≡◌, ◌≤◌, ◌<◌, ◌+◌, ◌*
 ghost use Rattle.std.specs.List.{All};
 ghost use Rattle.sm_model.specs.declared.cause.Cause.{Cause};
 ghost use Rattle.sm_model.specs.declared.run.Defaults.{Defaults};
+ghost use Rattle.sm_model.specs.declared.run.Run.{Run};
 ghost use Rattle.sm_model.specs.declared.sample.Sample.{Sample};
 ghost use Rattle.sm_model.specs.declared.fragment.Fragment.{Fragment};
 ghost use Rattle.sm_model.specs.Boxes.{Box, IsBoxes, IsOneBox, boxes, box_of};
@@ -12,6 +13,7 @@ ghost use Rattle.sm_model.specs.FragText.{tfxd_type, tfrf_type, moof_len, ahead_
 ghost use Rattle.sm_model.specs.Fields.{tfxd};
 ghost use Rattle.sm_model.specs.Frag.{frag, moof_run, last, traf};
 ghost use Rattle.sm_model.specs.Steps.{and_then};
+ghost use Rattle.sm_model.specs.TrackId.{track_id};
 ghost use Rattle.sm_model.specs.Written.{IsWritten, IsUserBox, IsPairsBox, run_again, raw_again};
 
 /// The boxes that are computed from a text are those that stand in it one after another, and none are computed where
@@ -29,6 +31,11 @@ pub fn frag_is_in_two_steps()
 /// No cause of a `moof` alone reads the defaults, so it can be told before the track is known.
 pub fn causes_are_without_defaults()
     ensures { (d other : Defaults) (m : List ℕ) (cause : Cause) → moof_run d m ≡ Err cause → moof_run other m ≡ Err cause }
+{}
+
+/// The track_ID that is found first, with which the defaults are looked up, is the one that a `moof` says.
+pub fn track_id_is_of_run()
+    ensures { (d : Defaults) (m : List ℕ) (run : Run) → moof_run d m ≡ Ok run → track_id m ≡ Some run.id }
 {}
 
 /// Each size in a canonical text is the length of its box.

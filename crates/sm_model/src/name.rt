@@ -92,6 +92,15 @@ impl Name {
         }
     }
 
+    /// Whether these bytes are a name.
+    #[tactic(auto, unfolding(crate::specs::Names::is_name, crate::specs::Names::first_wrong))]
+    pub fn fits(bytes: &[u8]) -> bool
+        ensures { result ≡ is_name bytes.now }
+    {
+        let right = plain_len(bytes).min(text_len(bytes));
+        !bytes.is_empty() && bytes.len() <= 64 && right == bytes.len()
+    }
+
     /// The name of a track that no header names: its track_ID in decimal.
     #[tactic(auto, using(crate::proofs::NameLemmas::decimal_is_name))]
     pub fn of_track(alloc: Global, id: u32) -> Result<Name, NoMemory>

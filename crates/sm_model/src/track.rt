@@ -1,5 +1,7 @@
 //! Tracks.
 ghost use Rattle.std.specs.Prelude.{◌≡◌, IfOk};
+ghost use Rattle.std.specs.List.{list_all};
+ghost use Rattle.sm_model.specs.Channels.{is_fourcc_byte, is_fourcc};
 
 use crate::{Bytes, Name, NoMemory};
 use std::alloc::Global;
@@ -62,4 +64,28 @@ impl Track {
             numbers: self.numbers,
         })
     }
+}
+
+fn is_fourcc_byte(c: u8) -> bool
+    ensures { result ≡ is_fourcc_byte c }
+{
+    48 <= c && c <= 57
+        || 97 <= c && c <= 122
+        || 65 <= c && c <= 90
+        || c == b'-'
+        || c == b'_'
+        || c == b' '
+}
+
+fn are_fourcc_bytes(bytes: &[u8]) -> bool
+    ensures { result ≡ list_all is_fourcc_byte bytes.now }
+{
+    bytes.iter().all(|c| is_fourcc_byte(*c))
+}
+
+/// Whether these bytes are a FourCC: at most four, each an ASCII letter or digit, `-`, `_` or a space.
+pub fn is_fourcc(bytes: &[u8]) -> bool
+    ensures { result ≡ is_fourcc bytes.now }
+{
+    bytes.len() <= 4 && are_fourcc_bytes(bytes)
 }

@@ -2,11 +2,18 @@
 #![tactic(auto)]
 
 mod canonical;
+mod cut;
 mod law;
 mod put;
+mod read;
 mod skim;
+mod track;
+mod whole;
 
 pub use canonical::{Canon, read_canonical};
 pub use law::{canonical_texts_are_no_prefixes, joins_are_cut_once};
 pub use put::put_fragment;
+pub use read::{MoofFault, finish, read_fragment, read_moof};
 pub use skim::{Skim, skim_canonical};
+pub use track::track_of;
+pub use whole::is_one_box;

@@ -154,6 +154,7 @@ pub fn fitting_total(bytes: &[u8]) -> Option<u64>
 /// follow. It takes no memory and copies no sample.
 pub fn skim_canonical(bytes: &[u8]) -> Option<Skim>
     ensures some { IfSome result (λ s. IsSkimmed bytes.now s.id s.time s.length) }
+    ensures within { IfSome result (λ s. (0 < s.length) × (s.length ≤ length bytes.now)) }
     ensures none { IfNone result (BeginsWithNone bytes.now) }
 {
     match fitting_total(bytes) {
@@ -168,7 +169,8 @@ fn shown(bytes: &[u8], total: u64) -> Skim
     requires few { count_of bytes.now ≤ 65536 }
     requires room { 120 + 16 * count_of bytes.now + total ≤ length bytes.now }
     requires total { total ≡ total_of bytes.now }
-    ensures { IsSkimmed bytes.now result.id result.time result.length }
+    ensures shown { IsSkimmed bytes.now result.id result.time result.length }
+    ensures within { (0 < result.length) × (result.length ≤ length bytes.now) }
 {
     let count = u32_at(bytes, 60) as usize;
     Skim {

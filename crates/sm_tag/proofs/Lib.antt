@@ -3,3 +3,4 @@ pub mod Pieces
 pub mod MarkupLemmas
 pub mod NameSets
 pub mod Zeros
+pub mod Unique

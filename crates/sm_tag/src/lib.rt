@@ -3,6 +3,7 @@
 
 mod attribute;
 mod halt;
+mod laws;
 mod lead;
 mod markup;
 mod reference;
@@ -10,6 +11,9 @@ mod scan;
 mod tags;
 mod value;
 
+pub use laws::text_has_one_list_of_tags;
 pub use sm_model::{Attribute, Attributes, Tag};
 pub use tags::Tags;
 
+#[cfg(test)]
+mod tests;

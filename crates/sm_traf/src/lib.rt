@@ -2,6 +2,21 @@
 //! 2.2.4.5).
 #![tactic(auto)]
 
+mod fields;
+mod parts;
 mod put;
+mod read;
+mod refusal;
+mod tfhd;
+mod tfrf;
+mod tfxd;
+mod trun;
 
 pub use put::{append_traf, put_tfrf, put_tfxd, put_traf, traf_len};
+pub use read::{TrafFault, read_traf};
+pub use sm_model::{Cause, Defaults, Pairs, Row, Rows, Run};
+pub use tfrf::{Ahead, read_tfrf};
+pub use tfxd::read_tfxd;
+
+#[cfg(test)]
+mod tests;

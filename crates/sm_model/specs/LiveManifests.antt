@@ -1,0 +1,41 @@
+-- What a live manifest says: its tracks, or the least place of a fault.
+use Rattle.std.specs.Prelude.{◌≡◌, ℕ, List, [], ◌∷◌, length, map, Option, Some, None, Result, Ok, Err}
+use Rattle.sm_model.specs.declared.tag.Tag.{Tag}
+use Rattle.sm_model.specs.declared.tag.Tag.TheVariants.{Start, Finish, Text, End, Bad}
+use Rattle.sm_model.specs.declared.track.Track.{Track}
+use Rattle.sm_model.specs.declared.smil.SmilTrack.{SmilTrack}
+use Rattle.sm_model.specs.declared.raw_track.Form.{Form}
+use Rattle.sm_model.specs.declared.raw_track.Form.TheVariants.{Pushed, Ladder}
+use Rattle.sm_model.specs.declared.raw_track.RawTrack.{RawTrack}
+use Rattle.sm_model.specs.Tags.{TagsOf}
+use Rattle.sm_model.specs.LiveTracks.{smil_track, ladder_track}
+use Rattle.sm_model.specs.LiveWalk.{Walk, start, walk}
+use Rattle.sm_model.specs.LiveFaults.{faults_of, least_from}
+
+-- the place of the tag at fault, if there is one
+abbrev pub bad_of : List Tag → Option ℕ
+bad_of [] = None
+bad_of (Bad at ∷ ts) = Some at
+bad_of (End ∷ ts) = bad_of ts
+bad_of (Text at ∷ ts) = bad_of ts
+bad_of (Start name attributes empty at ∷ ts) = bad_of ts
+bad_of (Finish name at ∷ ts) = bad_of ts
+
+-- the least place of a fault in a text of that length with these tags
+abbrev pub fault_of : Form → ℕ → List Tag → Option ℕ
+fault_of form size tags = least_from None (faults_of form size (bad_of tags) (walk form start tags))
+
+-- a fault, else the tracks
+abbrev pub judged : {X : Type 0} → (RawTrack → X) → Option ℕ → List RawTrack → Result (List X) ℕ
+judged track (Some at) done = Err at
+judged track None done = Ok (map track done)
+
+-- the text of a pushed header, and its tracks or the place of its fault
+abbrev pub IsLiveManifest : List ℕ → Result (List SmilTrack) ℕ → Type 0
+IsLiveManifest text r =
+    (tags : List Tag) × TagsOf text tags × (r ≡ judged smil_track (fault_of Pushed (length text) tags) (walk Pushed start tags).done)
+
+-- the text of a ladder, and its channel or the place of its fault
+abbrev pub IsLadder : List ℕ → Result (List Track) ℕ → Type 0
+IsLadder text r =
+    (tags : List Tag) × TagsOf text tags × (r ≡ judged ladder_track (fault_of Ladder (length text) tags) (walk Ladder start tags).done)

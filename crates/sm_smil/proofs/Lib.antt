@@ -1,0 +1,4 @@
+pub mod Least
+pub mod Over
+pub mod Joined
+pub mod Fit

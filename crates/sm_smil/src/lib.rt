@@ -1,0 +1,18 @@
+//! The tracks of a live server manifest, pushed or as a ladder, and the text of a channel.
+#![tactic(auto)]
+
+mod fault;
+mod judge;
+mod names;
+mod put;
+mod read;
+mod track;
+mod walk;
+
+pub use fault::SmilFault;
+pub use put::put_live_manifest;
+pub use read::{read_ladder, read_live_manifest};
+pub use sm_model::{Smil, SmilTrack};
+
+#[cfg(test)]
+mod tests;

@@ -1,0 +1,63 @@
+//! Printing an answer.
+ghost use Rattle.std.specs.Prelude.{◌≡◌, OnOk, OnErr};
+ghost use Rattle.std.specs.Io.KnownBytes.{Appends};
+ghost use Rattle.sm_ends.specs.Faults.{HasCause};
+ghost use Rattle.sm_ends.specs.Moves.{AppendsFront};
+ghost use Rattle.smooth.specs.Answers.{line_of, status_of, unwritten_status_of};
+ghost use Rattle.smooth.specs.Ran.{Prints};
+
+use crate::answer::Answer;
+use sm_ends::{Failed, Sink, write_all};
+
+// Writes the line of an answer, or a front of it and fails.
+fn write_line<O: Sink>(sink: &mut O, answer: &Answer) -> Result<(), Failed>
+    ensures ok { OnOk result (Appends (O.held sink.old) (O.held sink.new) (line_of answer.now)) }
+    ensures err { OnErr result (AppendsFront (O.held sink.old) (O.held sink.new) (line_of answer.now)) }
+    ensures cause { HasCause (O.faults sink.old) (O.faults sink.new) result }
+{
+    match answer {
+        Answer::Found(text) => write_all(sink, text.as_slice()),
+        Answer::Words => write_all(sink, b"error: words\n"),
+        Answer::Unread => write_all(sink, b"error: read\n"),
+        Answer::TooLong => write_all(sink, b"error: input at 268435456: too long\n"),
+        Answer::Refused(line) => write_all(sink, line.as_slice()),
+        Answer::NotKept => write_all(sink, b"error: 47 NotKept\n"),
+        Answer::Starved => write_all(sink, b"error: memory\n"),
+    }
+}
+
+fn status(answer: &Answer) -> u8
+    ensures { result ≡ status_of answer.now }
+{
+    match answer {
+        Answer::Found(_) => 0,
+        Answer::Words => 2,
+        Answer::TooLong | Answer::Refused(_) => 3,
+        Answer::NotKept => 4,
+        Answer::Unread => 6,
+        Answer::Starved => 9,
+    }
+}
+
+// Where what was found can't be written the status is 7; a failure keeps its own.
+fn unwritten_status(answer: &Answer) -> u8
+    ensures { result ≡ unwritten_status_of answer.now }
+{
+    match answer {
+        Answer::Found(_) => 7,
+        _ => status(answer),
+    }
+}
+
+/// Prints the line of an answer, and gives the status that tells both.
+pub fn print<O: Sink>(sink: &mut O, answer: &Answer) -> u8
+    ensures {
+        Prints answer.now (record { told = O.held sink.old; faults = O.faults sink.old })
+            (record { told = O.held sink.new; faults = O.faults sink.new }) result
+    }
+{
+    match write_line(sink, answer) {
+        Ok(()) => status(answer),
+        Err(Failed) => unwritten_status(answer),
+    }
+}
