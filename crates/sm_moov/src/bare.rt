@@ -1,6 +1,5 @@
 //! A bare `moov` written.
 ghost use Rattle.std.specs.Prelude.{◌≡◌, ◌≤◌, ◌<◌, ◌^◌, ◌+◌, ◌*◌, ◌++◌, length, OnOk, IfOk};
-ghost use Rattle.sm_model.specs.Channels.{IsChannel};
 ghost use Rattle.sm_model.specs.MoovText.{zeros, mvhd, tkhd, mdhd, sample_type, entry, stsd, stbl, minf, mdia, trak, traks, trex, trexes, mvex, bare_moov};
 
 use sm_box::{append_head, append_u32};
@@ -149,11 +148,11 @@ fn append_mvex(out: &mut Vec<u8>, tracks: &[Track]) -> Result<(), NoMemory>
     append_trexes(out, tracks)
 }
 
-/// The bare `moov` of a channel: what a reader of headers wants of its tracks, whose track_IDs are their places plus 1. It
-/// is meant for tests, and nothing can be played by it. It has 124 bytes and 220 for each track.
+/// The bare `moov` of a channel of at most 64 tracks: what a reader of headers wants of them, with their places plus 1 as
+/// their track_IDs. It is meant for tests, and nothing can be played by it. It has 124 bytes and 220 for each track.
 #[tactic(auto, unfolding(sm_model::specs::MoovText::bare_moov, sm_model::specs::MoovText::moov_body))]
 pub fn put_bare_moov(alloc: Global, channel: &Channel) -> Result<Bytes, NoMemory>
-    requires valid { IsChannel channel.now }
+    requires few { length channel.now ≤ 64 }
     ensures { IfOk result (λ text. text ≡ bare_moov channel.now) }
 {
     let tracks = channel.as_slice();

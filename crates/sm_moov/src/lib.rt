@@ -8,6 +8,8 @@ mod gathered;
 mod heads;
 mod kind;
 mod read;
+#[cfg(test)]
+mod tests;
 mod trak;
 mod trexes;
 
