@@ -3,3 +3,4 @@ pub mod GatherLemmas
 pub mod DefaultLemmas
 pub mod RepeatLemmas
 pub mod MoovLemmas
+pub mod NumberedLemmas
