@@ -6,3 +6,4 @@ pub mod Valid
 pub mod WalkLemmas
 pub mod WrittenTags
 pub mod WrittenLines
+pub mod OneAnswer
