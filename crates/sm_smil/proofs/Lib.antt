@@ -6,3 +6,6 @@ pub mod Valid
 pub mod WalkLemmas
 pub mod WrittenTags
 pub mod WrittenLines
+pub mod WrittenValues
+pub mod WrittenTracks
+pub mod WrittenChannel
