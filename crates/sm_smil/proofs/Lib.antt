@@ -9,3 +9,4 @@ pub mod WrittenLines
 pub mod WrittenValues
 pub mod WrittenTracks
 pub mod WrittenChannel
+pub mod OneReading

@@ -9,7 +9,6 @@ use Rattle.std.proofs.lemmas.Slice.Eq.{bytes_eq-Decides}
 use Rattle.hex.specs.Hex.{encode_upper, decode_of}
 use Rattle.hex.proofs.HexLemmas.{decode_of-encode_upper}
 use Rattle.sm_tag.proofs.Zeros.{without_zeros_nonzero}
-use Rattle.sm_tag.proofs.Unique.{Runs-unique}
 use Rattle.sm_model.specs.declared.tag.Attribute.{Attribute}
 use Rattle.sm_model.specs.declared.tag.Tag.{Tag}
 use Rattle.sm_model.specs.declared.tag.Tag.TheVariants.{Start, Finish, End}
@@ -32,7 +31,9 @@ use Rattle.sm_model.specs.LiveWalk.{Walk, start, step, walk}
 use Rattle.sm_model.specs.LiveFaults.{misfits, inner_faults, are_equal, do_differ, is_kind, clash, collide, lacks_part, collides_with, end_faults, tracks_faults, faults_of, text_faults, least_from}
 use Rattle.sm_model.specs.LiveManifests.{bad_of, fault_of, judged, IsLadder}
 use Rattle.sm_model.specs.LiveText.{track_lines, tracks_lines, head_lines, foot_lines, live_text}
-use Rattle.sm_smil.proofs.WrittenTags.{Starts-again, closing, attributes_then}
+use Rattle.sm_smil.proofs.Fit.{neither}
+use Rattle.sm_smil.proofs.OneReading.{one_ladder}
+use Rattle.sm_smil.proofs.WrittenTags.{append_nil, Starts-again}
 use Rattle.sm_smil.proofs.WrittenLines.{Leads, IsGood, left_at, Begins, in_switch, start_line, finish_line, on_start, on_finish, next_finish, feed_read}
 use Rattle.sm_smil.proofs.WrittenValues.{IsWritable, decimal_number, decimal_again, option_again}
 use Rattle.sm_smil.proofs.WrittenTracks.{Stage, walk_out, track_read, track_begins}
@@ -153,21 +154,13 @@ collides_none (y ∷ ys) (u ∷ us) x t are agree is =
 collides_none [] (u ∷ us) x t are agree is = absurd are
 collides_none (y ∷ ys) [] x t are agree is = absurd are
 
-append_nil : {A : Type 0} (xs : List A) → xs ++ [] ≡ xs
-append_nil [] = refl
-append_nil (x ∷ xs) = ap (λ l. x ∷ l) (append_nil xs)
-
-parts_none : (xs ys : List ℕ) → xs ++ ys ≡ [] → (xs ≡ []) × (ys ≡ [])
-parts_none [] ys e = (refl, e)
-parts_none (x ∷ xs) ys e = cc
-
 faults_push : (earlier xs : List RawTrack) (x : RawTrack) → tracks_faults Ladder earlier xs ≡ [] → inner_faults x ≡ [] → end_faults Ladder (earlier ++ xs) x ≡ [] → tracks_faults Ladder earlier (xs ++ x ∷ []) ≡ []
 faults_push earlier [] x none inner end =
     let P : List RawTrack → Type 0 = λ l. end_faults Ladder l x ≡ [] in
     let here : end_faults Ladder earlier x ≡ [] = subst P (append_nil earlier) end in
     rw (inner, here) refl
 faults_push earlier (y ∷ ys) x none inner end =
-    let parts = parts_none (inner_faults y ++ end_faults Ladder earlier y) _ none in
+    let parts = neither (inner_faults y ++ end_faults Ladder earlier y) _ none in
     let P : List RawTrack → Type 0 = λ l. end_faults Ladder l x ≡ [] in
     let here : end_faults Ladder ((earlier ++ y ∷ []) ++ ys) x ≡ [] = subst P (sym (append_assoc earlier (y ∷ []) ys)) end in
     rw (parts.0, faults_push (earlier ++ y ∷ []) ys x parts.1 inner here) refl
@@ -347,8 +340,6 @@ judged_good : (channel : List Track) (size : ℕ) (tags : List Tag) → bad_of t
 judged_good channel size tags bad good = rw (bad, good.0) (ap Ok good.1)
 
 pub live_text_gives : (channel : List Track) → IsChannel channel → All IsNarrowTrack channel → (r : Result (List Track) ℕ) → IsLadder (live_text channel) r → r ≡ Ok channel
-live_text_gives channel is narrow r (tags, reads, says) =
+live_text_gives channel is narrow r read =
     let good = leads_channel channel is narrow in
-    let same : tags ≡ good.0 = Runs-unique reads good.1 in
-    let P : List Tag → Type 0 = λ l. judged ladder_track (fault_of Ladder (length (live_text channel)) l) (walk Ladder start l).done ≡ Ok channel in
-    says ∙ subst P (sym same) (judged_good channel (length (live_text channel)) good.0 good.2 good.3)
+    one_ladder (live_text channel) r (Ok channel) read (good.0, good.1, sym (judged_good channel (length (live_text channel)) good.0 good.2 good.3))

@@ -153,10 +153,10 @@ GoesOn size channel end x id t done k =
 param_stage : (size : ℕ) (channel : List Track) (end : ℕ) (x : List ℕ) (id : ℕ) (t : Track) (done : List RawTrack) (raw : RawTrack) (name : ParamName) (text value : List ℕ) → Begins x → list_all is_plain text ≡ true → param_name text ≡ Some name → is_read Ladder raw name ≡ true → expected id t name ≡ Some value → list_all is_plain value ≡ true → is_fit name value ≡ true → Stage id t (index_of name) raw → GoesOn size channel end x id t done (index_of name + 1) → Leads size channel (left_at size end (param_line text value ++ x) (in_track t.kind)) (walk_in t.kind done raw)
 param_stage size channel end x id t done raw name text value begins plain_name named reads is plain fit stage go =
     param_read size channel end x t.kind text value (walk_in t.kind done raw) begins plain_name plain (λ at.
-      let P : Walk → Type 0 = λ w. Leads size channel (left_at size end x (in_track t.kind)) w in
-      let next : RawTrack = with_param raw (record { name = name; value = value; at = at }) in
-      let met : step Ladder (walk_in t.kind done raw) (Start (codes "param") (param_attributes text value) true at) ≡ walk_in t.kind done next = rw (named, reads) refl in
-      subst P (sym met) (go next (add_stage id t raw name value at is fit stage)))
+    let P : Walk → Type 0 = λ w. Leads size channel (left_at size end x (in_track t.kind)) w in
+    let next : RawTrack = with_param raw (record { name = name; value = value; at = at }) in
+    let met : step Ladder (walk_in t.kind done raw) (Start (codes "param") (param_attributes text value) true at) ≡ walk_in t.kind done next = rw (named, reads) refl in
+    subst P (sym met) (go next (add_stage id t raw name value at is fit stage)))
 
 option_stage : (size : ℕ) (channel : List Track) (end : ℕ) (x : List ℕ) (id : ℕ) (t : Track) (done : List RawTrack) (raw : RawTrack) (name : ParamName) (text : List ℕ) (o : Option ℕ) → Begins x → list_all is_plain text ≡ true → param_name text ≡ Some name → is_read Ladder raw name ≡ true → expected id t name ≡ option_map decimal o → IsNarrowOption o → ((n : ℕ) → n < 2 ^ 32 → is_fit name (decimal n) ≡ true) → Stage id t (index_of name) raw → GoesOn size channel end x id t done (index_of name + 1) → Leads size channel (left_at size end (option_line text o ++ x) (in_track t.kind)) (walk_in t.kind done raw)
 option_stage size channel end x id t done raw name text None begins plain_name named reads is narrow fit stage go =
@@ -242,12 +242,12 @@ numbers_stage size channel end x id t done raw begins narrow stage go =
     let P : List ℕ → Type 0 = λ l. Leads size channel (left_at size end l (in_track t.kind)) (walk_in t.kind done raw) in
     subst P (sym (numbers_text t.numbers x))
     (option_stage size channel end _ id t done raw MaxWidth (codes "MaxWidth") t.numbers.width b6 refl is_width refl refl n.width decimal_number stage (λ r1 s1.
-      option_stage size channel end _ id t done r1 MaxHeight (codes "MaxHeight") t.numbers.height b5 refl is_height refl refl n.height decimal_number s1 (λ r2 s2.
-      option_stage size channel end _ id t done r2 AudioTag (codes "AudioTag") t.numbers.tag b4 refl is_tag refl refl n.tag decimal_number s2 (λ r3 s3.
-      option_stage size channel end _ id t done r3 Channels (codes "Channels") t.numbers.channels b3 refl is_channels refl refl n.channels decimal_number s3 (λ r4 s4.
-      option_stage size channel end _ id t done r4 SamplingRate (codes "SamplingRate") t.numbers.rate b2 refl is_rate refl refl n.rate decimal_number s4 (λ r5 s5.
-      option_stage size channel end _ id t done r5 BitsPerSample (codes "BitsPerSample") t.numbers.bits b1 refl is_bits refl refl n.bits decimal_number s5 (λ r6 s6.
-      option_stage size channel end x id t done r6 PacketSize (codes "PacketSize") t.numbers.packet begins refl is_packet refl refl n.packet decimal_number s6 go)))))))
+    option_stage size channel end _ id t done r1 MaxHeight (codes "MaxHeight") t.numbers.height b5 refl is_height refl refl n.height decimal_number s1 (λ r2 s2.
+    option_stage size channel end _ id t done r2 AudioTag (codes "AudioTag") t.numbers.tag b4 refl is_tag refl refl n.tag decimal_number s2 (λ r3 s3.
+    option_stage size channel end _ id t done r3 Channels (codes "Channels") t.numbers.channels b3 refl is_channels refl refl n.channels decimal_number s3 (λ r4 s4.
+    option_stage size channel end _ id t done r4 SamplingRate (codes "SamplingRate") t.numbers.rate b2 refl is_rate refl refl n.rate decimal_number s4 (λ r5 s5.
+    option_stage size channel end _ id t done r5 BitsPerSample (codes "BitsPerSample") t.numbers.bits b1 refl is_bits refl refl n.bits decimal_number s5 (λ r6 s6.
+    option_stage size channel end x id t done r6 PacketSize (codes "PacketSize") t.numbers.packet begins refl is_packet refl refl n.packet decimal_number s6 go)))))))
 
 track_text : (id : ℕ) (t : Track) (x : List ℕ) → track_lines id t ++ x ≡ opening_line t.kind t.bitrate ++ (number_line (codes "trackID") id ++ (param_line (codes "trackName") t.name ++ (number_line (codes "TimeScale") t.timescale ++ (param_line (codes "FourCC") t.fourcc ++ (param_line (codes "CodecPrivateData") (encode_upper t.private) ++ (number_lines t.numbers ++ (closing_line t.kind ++ x)))))))
 unfolding track_lines
@@ -300,13 +300,13 @@ track_read size channel end x id t done begins fits room go =
     let P : List ℕ → Type 0 = λ l. Leads size channel (left_at size end l in_switch) (walk_out done) in
     subst P (sym (track_text id t x))
     (opening_read size channel end _ t.kind t.bitrate (walk_out done) c7 (decimal_plain t.bitrate narrow.bitrate) (λ at.
-      let Q : Walk → Type 0 = λ w. Leads size channel (left_at size end (number_line (codes "trackID") id ++ (param_line (codes "trackName") t.name ++ (number_line (codes "TimeScale") t.timescale ++ (param_line (codes "FourCC") t.fourcc ++ (param_line (codes "CodecPrivateData") (encode_upper t.private) ++ (number_lines t.numbers ++ (closing_line t.kind ++ x))))))) (in_track t.kind)) w in
-      let met : step Ladder (walk_out done) (Start (element_name t.kind) (track_attributes t.bitrate) false at) ≡ walk_in t.kind done (opened_track t at) = rw (opened_kind t.kind, few) refl in
-      subst Q (sym met)
-      (param_stage size channel end _ id t done (opened_track t at) TrackId (codes "trackID") (decimal id) c6 refl is_id refl refl (decimal_plain id fits.small) (decimal_number id fits.small) (first_stage id t at) (λ r2 s2.
-        param_stage size channel end _ id t done r2 TrackName (codes "trackName") t.name c5 refl is_track_name refl refl (name_plain t.name narrow.name) narrow.name s2 (λ r3 s3.
-        param_stage size channel end _ id t done r3 TimeScale (codes "TimeScale") (decimal t.timescale) c4 refl is_time_scale refl refl (decimal_plain t.timescale narrow.timescale) (timescale_fits t.timescale narrow.timescale fits.track.ticks) s3 (λ r4 s4.
-        param_stage size channel end _ id t done r4 FourCc (codes "FourCC") t.fourcc c3 refl is_four_cc refl refl (fourcc_plain t.fourcc fits.track.fourcc) fits.track.fourcc s4 (λ r5 s5.
-        param_stage size channel end _ id t done r5 CodecPrivateData (codes "CodecPrivateData") (encode_upper t.private) c2 refl is_codec refl refl (private_plain t.private) (private_again t.private narrow.private fits.track.short) s5 (λ r6 s6.
-        numbers_stage size channel end _ id t done r6 c1 narrow s6 (λ r s.
-        closing_read size channel end x t.kind (walk_in t.kind done r) begins (λ place. go r s))))))))))
+    let Q : Walk → Type 0 = λ w. Leads size channel (left_at size end (number_line (codes "trackID") id ++ (param_line (codes "trackName") t.name ++ (number_line (codes "TimeScale") t.timescale ++ (param_line (codes "FourCC") t.fourcc ++ (param_line (codes "CodecPrivateData") (encode_upper t.private) ++ (number_lines t.numbers ++ (closing_line t.kind ++ x))))))) (in_track t.kind)) w in
+    let met : step Ladder (walk_out done) (Start (element_name t.kind) (track_attributes t.bitrate) false at) ≡ walk_in t.kind done (opened_track t at) = rw (opened_kind t.kind, few) refl in
+    subst Q (sym met)
+    (param_stage size channel end _ id t done (opened_track t at) TrackId (codes "trackID") (decimal id) c6 refl is_id refl refl (decimal_plain id fits.small) (decimal_number id fits.small) (first_stage id t at) (λ r2 s2.
+    param_stage size channel end _ id t done r2 TrackName (codes "trackName") t.name c5 refl is_track_name refl refl (name_plain t.name narrow.name) narrow.name s2 (λ r3 s3.
+    param_stage size channel end _ id t done r3 TimeScale (codes "TimeScale") (decimal t.timescale) c4 refl is_time_scale refl refl (decimal_plain t.timescale narrow.timescale) (timescale_fits t.timescale narrow.timescale fits.track.ticks) s3 (λ r4 s4.
+    param_stage size channel end _ id t done r4 FourCc (codes "FourCC") t.fourcc c3 refl is_four_cc refl refl (fourcc_plain t.fourcc fits.track.fourcc) fits.track.fourcc s4 (λ r5 s5.
+    param_stage size channel end _ id t done r5 CodecPrivateData (codes "CodecPrivateData") (encode_upper t.private) c2 refl is_codec refl refl (private_plain t.private) (private_again t.private narrow.private fits.track.short) s5 (λ r6 s6.
+    numbers_stage size channel end _ id t done r6 c1 narrow s6 (λ r s.
+    closing_read size channel end x t.kind (walk_in t.kind done r) begins (λ place. go r s))))))))))

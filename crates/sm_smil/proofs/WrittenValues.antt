@@ -6,7 +6,7 @@ use Rattle.std.specs.Option.{ForSome}
 use Rattle.std.specs.Char.{digit_value}
 use Rattle.std.specs.Str.Lossy.{utf8_valid_len}
 use Rattle.std.specs.Str.Parse.{AllDigits}
-use Rattle.std.proofs.lemmas.Bool.{eqb-true, ne_eqb, le-leb, lt-ltb, eq-eqb}
+use Rattle.std.proofs.lemmas.Bool.{and_parts, eqb-true, ne_eqb, le-leb, lt-ltb, eq-eqb}
 use Rattle.std.proofs.lemmas.Fmt.{decimal_is_IsNumeral, decimal_nonempty, length-decimal-le, digits_decimal, digits_value-decimal}
 use Rattle.std.proofs.lemmas.Str.Parse.{digit_from_value, numerals_by_fold, IsNumeralModel}
 use Rattle.std.proofs.lemmas.List.Sums.{list_all-from_AllPass}
@@ -19,27 +19,12 @@ use Rattle.sm_model.specs.Digits.{is_digit, decimal_from, is_number, number_of}
 use Rattle.sm_model.specs.Names.{is_name, is_name_byte, first_wrong}
 use Rattle.sm_model.specs.Channels.{is_fourcc, is_fourcc_byte, IsTrack, IsNarrowTrack, IsNarrowOption, AreNarrow}
 use Rattle.sm_model.specs.LiveTracks.{is_private, is_timescale, is_fit, number_in}
-use Rattle.sm_smil.proofs.WrittenTags.{is_plain}
-
-both : (a b : Bool) → (a && b) ≡ true → (a ≡ true) × (b ≡ true)
-both true b e = (refl, e)
-both false b e = cc
-
--- a byte of a class isn't one that the class lacks
-not_of : (p : ℕ → Bool) (c k : ℕ) → p c ≡ true → p k ≡ false → eqb c k ≡ false
-not_of p c k is other = tested (eqb c k) refl
-  where
-    tested : (b : Bool) → eqb c k ≡ b → eqb c k ≡ false
-    tested false e = e
-    tested true e =
-        let same = eqb-true c k e in
-        let here : p k ≡ true = rw same at is in
-        cc
+use Rattle.sm_smil.proofs.WrittenTags.{is_plain, not_of}
 
 plain_of : (p : ℕ → Bool) → p 34 ≡ false → p 60 ≡ false → p 38 ≡ false → (b : List ℕ) → list_all p b ≡ true → list_all is_plain b ≡ true
 plain_of p quote angle ampersand [] all = refl
 plain_of p quote angle ampersand (c ∷ cs) all =
-    let parts = both (p c) (list_all p cs) all in
+    let parts = and_parts (p c) (list_all p cs) all in
     let q : eqb c 34 ≡ false = not_of p c 34 parts.0 quote in
     let a : eqb c 60 ≡ false = not_of p c 60 parts.0 angle in
     let m : eqb c 38 ≡ false = not_of p c 38 parts.0 ampersand in
@@ -87,21 +72,21 @@ prefix_all p (c ∷ cs) long = tested (p c) refl long (λ rest. prefix_all p cs 
 pub name_plain : (b : List ℕ) → is_name b ≡ true → list_all is_plain b ≡ true
 unfolding is_name first_wrong
 name_plain b is =
-    let second = both (leb 1 (length b)) _ is in
-    let third = both (leb (length b) 64) _ second.1 in
+    let second = and_parts (leb 1 (length b)) _ is in
+    let third = and_parts (leb (length b) 64) _ second.1 in
     let right = eqb-true _ (length b) third.1 in
     let taken = length-take (prefix_len is_name_byte b) b in
     plain_of is_name_byte refl refl refl b (prefix_all is_name_byte b (omega (arith, right, taken)))
 
 -- FourCCs
 pub fourcc_plain : (b : List ℕ) → is_fourcc b ≡ true → list_all is_plain b ≡ true
-fourcc_plain b is = plain_of is_fourcc_byte refl refl refl b (both (leb (length b) 4) _ is).1
+fourcc_plain b is = plain_of is_fourcc_byte refl refl refl b (and_parts (leb (length b) 4) _ is).1
 
 -- private data
 table_plain : (ts : List ℕ) (i : ℕ) → list_all is_plain ts ≡ true → is_plain (get_or ts i 0) ≡ true
 table_plain [] i all = refl
-table_plain (t ∷ ts) zero all = (both (is_plain t) (list_all is_plain ts) all).0
-table_plain (t ∷ ts) (suc i) all = table_plain ts i (both (is_plain t) (list_all is_plain ts) all).1
+table_plain (t ∷ ts) zero all = (and_parts (is_plain t) (list_all is_plain ts) all).0
+table_plain (t ∷ ts) (suc i) all = table_plain ts i (and_parts (is_plain t) (list_all is_plain ts) all).1
 
 pub private_plain : (b : List ℕ) → list_all is_plain (encode_upper b) ≡ true
 unfolding encode_with

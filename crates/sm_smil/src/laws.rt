@@ -1,11 +1,18 @@
-//! Laws of live manifests and ladders.
+//! Laws of live manifests and ladders. Each is proved once, and there is nothing to run.
 ghost use Rattle.std.specs.Prelude.{◌≡◌, ℕ, List, All, Result, Ok};
 ghost use Rattle.sm_model.specs.declared.track.Track.{Track};
+ghost use Rattle.sm_model.specs.declared.smil.SmilTrack.{SmilTrack};
 ghost use Rattle.sm_model.specs.Channels.{IsChannel, IsNarrowTrack};
-ghost use Rattle.sm_model.specs.LiveManifests.{IsLadder};
+ghost use Rattle.sm_model.specs.LiveManifests.{IsLiveManifest, IsLadder};
 ghost use Rattle.sm_model.specs.LiveText.{live_text};
 
-/// A law, proved once and with nothing to run: the live manifest of a valid channel is read as that channel.
+/// The live manifest of a valid channel is read as that channel. Each track of a real channel is narrow.
 pub fn live_text_is_read_as_its_channel()
     ensures { (channel : List Track) → IsChannel channel → All IsNarrowTrack channel → (r : Result (List Track) ℕ) → IsLadder (live_text channel) r → r ≡ Ok channel }
+{}
+
+/// A text has one reading as a live manifest, and one as a ladder.
+pub fn text_has_one_reading()
+    ensures pushed { (text : List ℕ) (r s : Result (List SmilTrack) ℕ) → IsLiveManifest text r → IsLiveManifest text s → r ≡ s }
+    ensures ladder { (text : List ℕ) (r s : Result (List Track) ℕ) → IsLadder text r → IsLadder text s → r ≡ s }
 {}
