@@ -7,3 +7,7 @@ pub mod WalkLemmas
 pub mod WrittenTags
 pub mod WrittenLines
 pub mod OneAnswer
+pub mod WrittenValues
+pub mod WrittenTracks
+pub mod WrittenChannel
+pub mod OneReading

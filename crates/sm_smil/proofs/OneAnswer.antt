@@ -9,14 +9,11 @@ use Rattle.sm_model.specs.LiveManifests.{IsLiveManifest, fault_of, judged}
 use Rattle.sm_model.specs.LiveRead.{live_manifest}
 use Rattle.sm_model.specs.TagsRead.{tags_of}
 use Rattle.sm_model.proofs.TagTotals.{tags_total}
-use Rattle.sm_tag.proofs.Unique.{Runs-unique}
+use Rattle.sm_smil.proofs.OneReading.{one_live_manifest}
 
 pub some_answer : (text : List ℕ) → IsLiveManifest text (live_manifest text)
 unfolding live_manifest
 some_answer text = (tags_of text, tags_total text, refl)
 
 pub one_answer : (text : List ℕ) (r : Result (List SmilTrack) ℕ) → IsLiveManifest text r → r ≡ live_manifest text
-unfolding live_manifest
-one_answer text r h =
-    let e : h.0 ≡ tags_of text = Runs-unique h.1 (tags_total text) in
-    h.2 ∙ ap (λ (ts : List Tag). judged smil_track (fault_of Pushed (length text) ts) (walk Pushed start ts).done) e
+one_answer text r h = one_live_manifest text r (live_manifest text) h (some_answer text)

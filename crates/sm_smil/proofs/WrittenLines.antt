@@ -36,14 +36,14 @@ IsGood size channel w = (least_from None (faults_of Ladder size None w) ≡ None
 abbrev pub Leads : ℕ → List Track → Left → Walk → Type 0
 Leads size channel s w = (tags : List Tag) × Runs s tags × (bad_of tags ≡ None) × IsGood size channel (walk Ladder w tags)
 
-on_start : (size : ℕ) (channel : List Track) (s t : Left) (name : List ℕ) (attributes : List Attribute) (empty : Bool) (at : ℕ) (w : Walk) → Next s (Start name attributes empty at) t → Leads size channel t (step Ladder w (Start name attributes empty at)) → Leads size channel s w
+pub on_start : (size : ℕ) (channel : List Track) (s t : Left) (name : List ℕ) (attributes : List Attribute) (empty : Bool) (at : ℕ) (w : Walk) → Next s (Start name attributes empty at) t → Leads size channel t (step Ladder w (Start name attributes empty at)) → Leads size channel s w
 on_start size channel s t name attributes empty at w next (tags, runs, bad, good) =
     (Start name attributes empty at ∷ tags, follows t next refl runs, bad, good)
 
 on_text : (size : ℕ) (channel : List Track) (s t : Left) (at : ℕ) (w : Walk) → Next s (Text at) t → Leads size channel t w → Leads size channel s w
 on_text size channel s t at w next (tags, runs, bad, good) = (Text at ∷ tags, follows t next refl runs, bad, good)
 
-on_finish : (size : ℕ) (channel : List Track) (s t : Left) (name : List ℕ) (at : ℕ) (w : Walk) → Next s (Finish name at) t → Leads size channel t (step Ladder w (Finish name at)) → Leads size channel s w
+pub on_finish : (size : ℕ) (channel : List Track) (s t : Left) (name : List ℕ) (at : ℕ) (w : Walk) → Next s (Finish name at) t → Leads size channel t (step Ladder w (Finish name at)) → Leads size channel s w
 on_finish size channel s t name at w next (tags, runs, bad, good) =
     (Finish name at ∷ tags, follows t next refl runs, bad, good)
 
@@ -70,7 +70,7 @@ next_start size end cs more names name attributes empty open_names read =
     let P : Bool → Type 0 = λ b. Founds (not b) (60 ∷ cs) f in
     (f, subst P (sym open_names.0) (marked (lead_tag cs) read (λ e. cc e)), rw (open_names.0, open_names.1) refl)
 
-next_finish : (size end : ℕ) (cs more : List ℕ) (names : List (List ℕ)) (name : List ℕ) → IsOpen names → closes name names ≡ true → Markups cs (Ok (markup.Finish name, more)) → Next (left_at size end (60 ∷ cs) names) (Finish name (end - length (60 ∷ cs))) (left_at size end more (take (length names - 1) names))
+pub next_finish : (size end : ℕ) (cs more : List ℕ) (names : List (List ℕ)) (name : List ℕ) → IsOpen names → closes name names ≡ true → Markups cs (Ok (markup.Finish name, more)) → Next (left_at size end (60 ∷ cs) names) (Finish name (end - length (60 ∷ cs))) (left_at size end more (take (length names - 1) names))
 next_finish size end cs more names name open_names last read =
     let f : Lead × Markup × ℕ × List ℕ = (lead.Tag, markup.Finish name, length (60 ∷ cs), more) in
     let P : Bool → Type 0 = λ b. Founds (not b) (60 ∷ cs) f in
@@ -80,7 +80,7 @@ next_finish size end cs more names name open_names last read =
 abbrev pub Begins : List ℕ → Type 0
 Begins x = (y : List ℕ) × (x ≡ 60 ∷ y)
 
-feed_read : (size : ℕ) (channel : List Track) (end : ℕ) (x : List ℕ) (names : List (List ℕ)) (w : Walk) → Begins x → IsOpen names → Leads size channel (left_at size end x names) w → Leads size channel (left_at size end (10 ∷ x) names) w
+pub feed_read : (size : ℕ) (channel : List Track) (end : ℕ) (x : List ℕ) (names : List (List ℕ)) (w : Walk) → Begins x → IsOpen names → Leads size channel (left_at size end x names) w → Leads size channel (left_at size end (10 ∷ x) names) w
 feed_read size channel end x names w begins open_names go =
     let P : List ℕ → Type 0 = λ l. Leads size channel (left_at size end l names) w → Leads size channel (left_at size end (10 ∷ l) names) w in
     subst P (sym begins.1) (λ here. on_text size channel _ _ _ w (next_feed size end begins.0 names open_names) here) go

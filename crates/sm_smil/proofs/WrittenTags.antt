@@ -2,7 +2,7 @@
 use Rattle.std.proofs.Common.{◌≡◌, ◌≢◌, ◌<◌, ◌+◌, ◌-◌, ℕ, suc, Bool, true, false, ◌&&◌, ◌||◌, not, cond, eqb, leb, ltb, List, [], ◌∷◌, ◌++◌, length, take, Option, Some, None, Result, Ok, Err, refl, ap, sym, ◌∙◌, subst, append_assoc, arith}
 use Rattle.std.specs.Prelude.{◌==◌}
 use Rattle.std.specs.List.{list_all}
-use Rattle.std.proofs.lemmas.Bool.{eqb-true, ne_eqb, eqb-false, lt-ltb}
+use Rattle.std.proofs.lemmas.Bool.{and_parts, eqb-true, lt-ltb}
 use Rattle.sm_model.specs.declared.tag.Attribute.{Attribute}
 use Rattle.sm_model.specs.declared.markup.Markup.{Markup}
 use Rattle.sm_model.specs.declared.markup.Markup.TheVariants as markup
@@ -14,10 +14,6 @@ use Rattle.sm_model.specs.TagMarkup.{Starts, named}
 abbrev pub is_plain : ℕ → Bool
 is_plain c = not (c == 34) && (not (c == 60) && not (c == 38))
 
-both : (a b : Bool) → (a && b) ≡ true → (a ≡ true) × (b ≡ true)
-both true b e = (refl, e)
-both false b e = cc
-
 denied : (b : Bool) → not b ≡ true → b ≡ false
 denied true e = cc
 denied false e = refl
@@ -25,8 +21,8 @@ denied false e = refl
 plain_piece : (c : ℕ) (cs : List ℕ) → is_plain c ≡ true → piece_at 34 (c ∷ cs) ≡ Ok (true, c ∷ [], cs)
 unfolding piece_at
 plain_piece c cs plain =
-    let first = both (not (eqb c 34)) _ plain in
-    let second = both (not (eqb c 60)) _ first.1 in
+    let first = and_parts (not (eqb c 34)) _ plain in
+    let second = and_parts (not (eqb c 60)) _ first.1 in
     let quote : eqb c 34 ≡ false = denied (eqb c 34) first.0 in
     let angle : eqb c 60 ≡ false = denied (eqb c 60) second.0 in
     let ampersand : eqb c 38 ≡ false = denied (eqb c 38) second.1 in
@@ -39,14 +35,14 @@ quote_piece rest = refl
 Values-plain : (v : List ℕ) → list_all is_plain v ≡ true → (text rest : List ℕ) → Values 34 text (v ++ 34 ∷ rest) (Ok (text ++ v, rest))
 Values-plain [] plain text rest = closed (quote_piece rest)
 Values-plain (c ∷ v) plain text rest =
-    let parts = both (is_plain c) (list_all is_plain v) plain in
+    let parts = and_parts (is_plain c) (list_all is_plain v) plain in
     let P : List ℕ → Type 0 = λ t. Values 34 text (c ∷ v ++ 34 ∷ rest) (Ok (t, rest)) in
     subst P (append_assoc text (c ∷ []) v) (goes_on (plain_piece c (v ++ 34 ∷ rest) parts.0) (Values-plain v parts.1 (text ++ c ∷ []) rest))
 
 front_until : (p : ℕ → Bool) (xs : List ℕ) (c : ℕ) (more : List ℕ) → list_all p xs ≡ true → p c ≡ false → front p (xs ++ c ∷ more) ≡ xs
 front_until p [] c more all stop = rw stop refl
 front_until p (x ∷ xs) c more all stop =
-    let h = both (p x) (list_all p xs) all in
+    let h = and_parts (p x) (list_all p xs) all in
     let rest = front_until p xs c more h.1 stop in
     let goes : p x ≡ true = h.0 in
     rw (goes, rest) refl
@@ -54,7 +50,7 @@ front_until p (x ∷ xs) c more all stop =
 behind_until : (p : ℕ → Bool) (xs : List ℕ) (c : ℕ) (more : List ℕ) → list_all p xs ≡ true → p c ≡ false → behind p (xs ++ c ∷ more) ≡ c ∷ more
 behind_until p [] c more all stop = rw stop refl
 behind_until p (x ∷ xs) c more all stop =
-    let h = both (p x) (list_all p xs) all in
+    let h = and_parts (p x) (list_all p xs) all in
     let goes : p x ≡ true = h.0 in
     rw goes (behind_until p xs c more h.1 stop)
 
@@ -67,7 +63,7 @@ name_again : (n : List ℕ) (stop : ℕ) (rest : List ℕ) → IsTagName n → i
 unfolding name_at
 name_again [] stop rest is ends = absurd is
 name_again (c ∷ cs) stop rest is ends =
-    let others = (both (is_tag_byte c) (list_all is_tag_byte cs) is.1).1 in
+    let others = (and_parts (is_tag_byte c) (list_all is_tag_byte cs) is.1).1 in
     let f : front is_tag_byte (cs ++ stop ∷ rest) ≡ cs = front_until is_tag_byte cs stop rest others ends in
     let b : behind is_tag_byte (cs ++ stop ∷ rest) ≡ stop ∷ rest = behind_until is_tag_byte cs stop rest others ends in
     let s : is_tag_start c ≡ true = is.0 in
@@ -80,15 +76,15 @@ opening_again n rest is = rw (name_again n 61 (34 ∷ rest) is refl) refl
 attribute_again : (a : Attribute) (rest : List ℕ) → IsTagName a.name → list_all is_plain a.value ≡ true → AttributeAt (a.name ++ (61 ∷ 34 ∷ (a.value ++ 34 ∷ rest))) (Ok (a, rest))
 attribute_again a rest is plain = opened (opening_again a.name (a.value ++ 34 ∷ rest) is) (Values-plain a.value plain [] rest)
 
--- a byte that begins a name is none that doesn't
-not_start : (c k : ℕ) → is_tag_start c ≡ true → is_tag_start k ≡ false → eqb c k ≡ false
-not_start c k is other = tested (eqb c k) refl
+-- a byte of a class isn't one that the class lacks
+pub not_of : (p : ℕ → Bool) (c k : ℕ) → p c ≡ true → p k ≡ false → eqb c k ≡ false
+not_of p c k is other = tested (eqb c k) refl
   where
     tested : (b : Bool) → eqb c k ≡ b → eqb c k ≡ false
     tested false e = e
     tested true e =
         let same = eqb-true c k e in
-        let here : is_tag_start k ≡ true = rw same at is in
+        let here : p k ≡ true = rw same at is in
         cc
 
 -- a name behind one space
@@ -96,12 +92,12 @@ mark_name : (n rest : List ℕ) → IsTagName n → mark_at (32 ∷ n ++ rest) �
 unfolding mark_at
 mark_name [] rest is = absurd is
 mark_name (c ∷ cs) rest is =
-    let space : eqb c 32 ≡ false = not_start c 32 is.0 refl in
-    let tab : eqb c 9 ≡ false = not_start c 9 is.0 refl in
-    let return : eqb c 13 ≡ false = not_start c 13 is.0 refl in
-    let feed : eqb c 10 ≡ false = not_start c 10 is.0 refl in
-    let angle : eqb c 62 ≡ false = not_start c 62 is.0 refl in
-    let slash : eqb c 47 ≡ false = not_start c 47 is.0 refl in
+    let space : eqb c 32 ≡ false = not_of is_tag_start c 32 is.0 refl in
+    let tab : eqb c 9 ≡ false = not_of is_tag_start c 9 is.0 refl in
+    let return : eqb c 13 ≡ false = not_of is_tag_start c 13 is.0 refl in
+    let feed : eqb c 10 ≡ false = not_of is_tag_start c 10 is.0 refl in
+    let angle : eqb c 62 ≡ false = not_of is_tag_start c 62 is.0 refl in
+    let slash : eqb c 47 ≡ false = not_of is_tag_start c 47 is.0 refl in
     let shorter : ltb (length (c ∷ cs ++ rest)) (length (32 ∷ c ∷ cs ++ rest)) ≡ true = lt-ltb _ _ (omega arith) in
     rw (space, tab, return, feed, angle, slash, shorter) refl
 
@@ -126,7 +122,7 @@ AreWritten seen [] = Unit {0}
 AreWritten seen (a ∷ others) =
     IsTagName a.name × (list_all is_plain a.value ≡ true) × (has_name a.name seen ≡ false) × AreWritten (seen ++ a ∷ []) others
 
-append_nil : (xs : List Attribute) → xs ++ [] ≡ xs
+pub append_nil : {A : Type 0} (xs : List A) → xs ++ [] ≡ xs
 append_nil [] = refl
 append_nil (x ∷ xs) = ap (λ l. x ∷ l) (append_nil xs)
 
