@@ -1,13 +1,13 @@
 -- The bare moov of a channel: the boxes that a reader of headers wants, and nothing to play by (ISO/IEC 14496-12, 8.2.1
 -- to 8.8.3). The tracks have the track_IDs 1, 2 and so on. What is not said is zero.
-use Rattle.std.specs.Prelude.{◌+◌, ◌*◌, ℕ, List, [], ◌∷◌, ◌++◌, length, codes, replicate}
+use Rattle.std.specs.Prelude.{◌+◌, ◌*◌, ℕ, List, [], ◌∷◌, ◌++◌, Bool, false, length, codes, replicate}
 use Rattle.sm_model.specs.declared.track.Kind.{Kind}
 use Rattle.sm_model.specs.declared.track.Kind.TheVariants.{Video, Audio, Text}
 use Rattle.sm_model.specs.declared.track.Track.{Track}
 use Rattle.sm_model.specs.declared.heads.TrackHead.{TrackHead}
 use Rattle.sm_model.specs.Numbers.{number32}
 use Rattle.sm_model.specs.FragText.{box}
-use Rattle.sm_model.specs.Moov.{head_of}
+use Rattle.sm_model.specs.Moov.{no_defaults}
 
 unfoldable pub zeros : ℕ → List ℕ
 zeros n = replicate n 0
@@ -75,7 +75,7 @@ bare_moov ts = box (124 + 220 * length ts) (codes "moov") (moov_body ts)
 
 -- what it says of its tracks
 abbrev pub head : ℕ → Track → TrackHead
-head id t = head_of id t.timescale (sample_type t.kind)
+head id t = record { id = id; timescale = t.timescale; protected = false; defaults = no_defaults }
 
 abbrev pub heads : List Track → List TrackHead
 heads ts = numbered (λ id t. head id t ∷ []) 1 ts

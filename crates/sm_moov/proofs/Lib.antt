@@ -4,3 +4,5 @@ pub mod DefaultLemmas
 pub mod RepeatLemmas
 pub mod MoovLemmas
 pub mod NumberedLemmas
+pub mod BareTrak
+pub mod BareMoov

@@ -7,6 +7,7 @@ mod defaults;
 mod gathered;
 mod heads;
 mod kind;
+pub mod law;
 mod read;
 #[cfg(test)]
 mod tests;
