@@ -8,6 +8,9 @@ mod std_ends;
 mod tool;
 mod words;
 
+#[cfg(test)]
+mod tests;
+
 use std::env;
 use std::process::ExitCode;
 use std_ends::{StdSink, StdSource};

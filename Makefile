@@ -1,0 +1,27 @@
+# Needs the toolchain's command `rt` on the path, and nothing else.
+
+PROGRAM := crates/smooth/out/smooth
+BENCH := crates/fragment_bench/out/fragment_bench
+
+.PHONY: run test build bench clean
+
+# Picks the first audio fragment out of a small sample.
+run: build
+	./$(PROGRAM) pick 3 0 < examples/fragments.frag > /tmp/smooth-picked.frag
+	@wc -c /tmp/smooth-picked.frag
+
+# The merge gate.
+test:
+	bash .ci/run
+
+# Proves and builds the program. `rt run` runs it as well: without words it refuses them, with status 2.
+build:
+	cd crates/smooth && { rt run < /dev/null > /dev/null; test $$? -eq 2; }
+
+bench: build
+	cd crates/fragment_bench && rt run -- copy 1 1 1 > /dev/null
+	bash scripts/bench_pick $(PROGRAM)
+	bash scripts/bench_fragment $(BENCH)
+
+clean:
+	rm -rf crates/*/out
