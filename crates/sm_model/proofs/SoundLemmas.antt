@@ -1,14 +1,13 @@
 -- What is read is sound.
-use Rattle.std.proofs.Common.{◌≡◌, ◌≤◌, ◌<◌, ◌+◌, ◌-◌, ◌*◌, ◌^◌, ℕ, ℤ, pos, negsuc, zero, suc, Bool, true, false, cond, eqb, leb, ltb, ◌&&◌, List, [], ◌∷◌, ◌++◌, length, take, drop, Option, Some, None, Result, Ok, Err, refl, sym, ap, subst, ◌∙◌, arith}
+use Rattle.std.proofs.Common.{◌≡◌, ◌≤◌, ◌+◌, ◌-◌, ◌*◌, ◌^◌, ℕ, ℤ, pos, negsuc, zero, suc, Bool, true, false, cond, eqb, leb, ltb, ◌&&◌, List, [], ◌∷◌, ◌++◌, length, take, drop, Option, Some, None, Result, Ok, Err, refl, sym, ap, subst, ◌∙◌, arith}
 use Rattle.std.specs.Prelude.{codes}
 use Rattle.std.specs.Option.{option_map_or}
 use Rattle.std.specs.List.{flat_map}
-use Rattle.std.proofs.lemmas.Bool.{and_parts, leb-true, leb-false, ltb-false, eqb-false}
+use Rattle.std.proofs.lemmas.Bool.{and_parts, leb-false, ltb-false, eqb-false}
 use Rattle.std.proofs.lemmas.List.{length-append, length-drop, length-take}
-use Rattle.std.proofs.lemmas.List.Concat.{flat_map-cons, length-flat_map}
+use Rattle.std.proofs.lemmas.List.Concat.{flat_map-cons}
 use Rattle.std.proofs.lemmas.List.Sums.{sum_by-cons}
 use Rattle.std.proofs.Math.Seq.{take-add}
-use Rattle.sm_model.specs.declared.sample.Sample.{Sample}
 use Rattle.sm_model.specs.declared.cause.Cause.{Cause}
 use Rattle.sm_model.specs.declared.cause.Cause.TheVariants.{BadBox}
 use Rattle.sm_model.specs.declared.run.Defaults.{Defaults}
@@ -20,7 +19,7 @@ use Rattle.sm_model.specs.Boxes.{Box, boxes, box_of}
 use Rattle.sm_model.specs.Fragments.{sample_bytes}
 use Rattle.sm_model.specs.Found.{Found, found, bodies}
 use Rattle.sm_model.specs.Fields.{version, rows, rows_at, row_len, row, trun_fits, tfxd_pair, defaults_of}
-use Rattle.sm_model.specs.Frag.{first_cause, Traf, traf_of, counts, moof_lines, run_of, judged_moof, run_in, moof_run, cut, sizes, rest_of, mdat_rest, last_lines, raw_of, last, frag}
+use Rattle.sm_model.specs.Frag.{first_cause, Traf, traf_of, moof_lines, run_of, judged_moof, run_in, moof_run, cut, sizes, rest_of, mdat_rest, last_lines, raw_of, last, frag}
 use Rattle.sm_model.specs.Steps.{and_then}
 use Rattle.sm_model.specs.Sound.{IsSoundRun, IsSoundFragment, LieInOrder}
 use Rattle.sm_model.proofs.OrderLemmas.{frag_in_two}

@@ -1,9 +1,8 @@
 -- The track_ID that is found first is the one that the moof says.
-use Rattle.std.proofs.Common.{◌≡◌, ◌≤◌, ℕ, zero, suc, Bool, true, false, not, cond, leb, eqb, ◌&&◌, List, [], ◌∷◌, ◌++◌, length, drop, map, Option, Some, None, Result, Ok, Err, refl, sym, ap, subst, ◌∙◌, arith}
+use Rattle.std.proofs.Common.{◌≡◌, ℕ, zero, suc, Bool, true, false, cond, leb, eqb, List, [], ◌∷◌, length, drop, map, Option, Some, None, Ok, Err, refl, sym, ap, ◌∙◌}
 use Rattle.std.specs.Prelude.{codes, filter, option_and_then}
 use Rattle.std.specs.Option.{option_map, option_map_or}
 use Rattle.std.proofs.lemmas.Bool.{and_parts}
-use Rattle.sm_model.specs.declared.cause.Cause.{Cause}
 use Rattle.sm_model.specs.declared.cause.Cause.TheVariants.{BadBox}
 use Rattle.sm_model.specs.declared.run.Defaults.{Defaults}
 use Rattle.sm_model.specs.declared.run.Run.{Run}
@@ -11,7 +10,7 @@ use Rattle.sm_model.specs.Numbers.{number32_at}
 use Rattle.sm_model.specs.Boxes.{Box, boxes, boxes_in, box_of, box_len, starts_whole}
 use Rattle.sm_model.specs.Found.{Found, found, is_kind, bodies}
 use Rattle.sm_model.specs.Fields.{tfhd_fits, tfhd_len}
-use Rattle.sm_model.specs.Frag.{Line, first_cause, Traf, traf_of, moof_lines, run_of, judged_moof, run_in, moof_run}
+use Rattle.sm_model.specs.Frag.{first_cause, Traf, traf_of, moof_lines, run_of, judged_moof, run_in, moof_run}
 use Rattle.sm_model.proofs.PassLemmas.{NoneHolds, all_pass, not_false, says, err_ok}
 use Rattle.sm_model.specs.TrackId.{first_in, first_box, first_body, head_id, track_id}
 

@@ -1,8 +1,8 @@
 -- A canonical traf is read again as what was written.
-use Rattle.std.proofs.Common.{◌≡◌, ◌≤◌, ◌<◌, ◌+◌, ◌*◌, ◌^◌, ℕ, Bool, true, false, not, cond, eqb, ltb, leb, ◌&&◌, List, [], ◌∷◌, ◌++◌, length, map, Option, Some, None, Ok, Err, refl, ap, ◌∙◌, arith}
+use Rattle.std.proofs.Common.{◌≡◌, ◌≤◌, ◌<◌, ◌+◌, ◌*◌, ◌^◌, ℕ, Bool, true, false, not, eqb, ltb, leb, ◌&&◌, List, [], ◌∷◌, ◌++◌, length, map, Option, Some, None, Ok, Err, refl, ap, ◌∙◌, arith}
 use Rattle.std.specs.Prelude.{codes}
 use Rattle.std.specs.Option.{option_map, option_map_or}
-use Rattle.std.specs.List.{flat_map, AllByRecursion, All}
+use Rattle.std.specs.List.{flat_map, All}
 use Rattle.std.proofs.lemmas.Bool.{lt-leb, le-ltb, ne_eqb, and_right}
 use Rattle.std.proofs.lemmas.List.{length-append, take_all}
 use Rattle.sm_model.specs.declared.sample.Sample.{Sample}
@@ -18,7 +18,7 @@ use Rattle.sm_model.specs.Boxes.{Box, boxes, box_of, IsOneBox}
 use Rattle.sm_model.specs.Fragments.{IsValid, IsWide}
 use Rattle.sm_model.specs.Found.{Found, bodies, user_bodies}
 use Rattle.sm_model.specs.Fields.{tfrf_fits, tfxd_pair, rows, defaults_of}
-use Rattle.sm_model.specs.Frag.{Line, first_cause, Traf, traf_of, bad_lines, other_lines, refusal, ahead_of, run_of, judged, traf}
+use Rattle.sm_model.specs.Frag.{Traf, traf_of, bad_lines, other_lines, refusal, ahead_of, run_of, judged, traf}
 use Rattle.sm_model.specs.Written.{IsWritten, row_of, run_again}
 use Rattle.sm_model.proofs.BoxLemmas.{boxes-nil}
 use Rattle.sm_model.proofs.PassLemmas.{NoneHolds, none_holds, none_holds-append}
