@@ -12,3 +12,5 @@ pub mod TextLengths
 pub mod DigitLemmas
 pub mod TrackIdLemmas
 pub mod SoundLemmas
+pub mod TagLengths
+pub mod TagTotals

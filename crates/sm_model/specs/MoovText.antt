@@ -1,15 +1,15 @@
 -- The bare moov of a channel: the boxes that a reader of headers wants, and nothing to play by (ISO/IEC 14496-12, 8.2.1
 -- to 8.8.3). The tracks have the track_IDs 1, 2 and so on. What is not said is zero.
-use Rattle.std.specs.Prelude.{◌+◌, ◌*◌, ℕ, List, [], ◌∷◌, ◌++◌, length, codes, replicate}
+use Rattle.std.specs.Prelude.{◌+◌, ◌*◌, ℕ, List, [], ◌∷◌, ◌++◌, Bool, false, length, codes, replicate}
 use Rattle.sm_model.specs.declared.track.Kind.{Kind}
 use Rattle.sm_model.specs.declared.track.Kind.TheVariants.{Video, Audio, Text}
 use Rattle.sm_model.specs.declared.track.Track.{Track}
 use Rattle.sm_model.specs.declared.heads.TrackHead.{TrackHead}
 use Rattle.sm_model.specs.Numbers.{number32}
 use Rattle.sm_model.specs.FragText.{box}
-use Rattle.sm_model.specs.Moov.{head_of}
+use Rattle.sm_model.specs.Moov.{no_defaults}
 
-abbrev pub zeros : ℕ → List ℕ
+unfoldable pub zeros : ℕ → List ℕ
 zeros n = replicate n 0
 
 -- the movie's header, which says nothing
@@ -49,29 +49,33 @@ mdia t = box 88 (codes "mdia") (mdhd t.timescale ++ minf t.kind)
 unfoldable pub trak : ℕ → Track → List ℕ
 trak id t = box 188 (codes "trak") (tkhd id ++ mdia t)
 
--- the tracks from this track_ID on
-unfoldable pub traks : ℕ → List Track → List ℕ
-traks id [] = []
-traks id (t ∷ ts) = trak id t ++ traks (id + 1) ts
+-- what each track gives, one behind the other, with their track_IDs from this one on
+unfoldable pub numbered : {A : Type 0} → (ℕ → Track → List A) → ℕ → List Track → List A
+numbered f id [] = []
+numbered f id (t ∷ ts) = f id t ++ numbered f (id + 1) ts
+
+abbrev pub traks : List Track → List ℕ
+traks ts = numbered trak 1 ts
 
 -- the first sample description, and zero defaults
 unfoldable pub trex : ℕ → List ℕ
 trex id = box 32 (codes "trex") (number32 0 ++ (number32 id ++ (number32 1 ++ zeros 12)))
 
-unfoldable pub trexes : ℕ → List Track → List ℕ
-trexes id [] = []
-trexes id (t ∷ ts) = trex id ++ trexes (id + 1) ts
+abbrev pub trexes : List Track → List ℕ
+trexes ts = numbered (λ id t. trex id) 1 ts
 
 unfoldable pub mvex : List Track → List ℕ
-mvex ts = box (8 + 32 * length ts) (codes "mvex") (trexes 1 ts)
+mvex ts = box (8 + 32 * length ts) (codes "mvex") (trexes ts)
 
 unfoldable pub moov_body : List Track → List ℕ
-moov_body ts = mvhd ++ (traks 1 ts ++ mvex ts)
+moov_body ts = mvhd ++ (traks ts ++ mvex ts)
 
 unfoldable pub bare_moov : List Track → List ℕ
 bare_moov ts = box (124 + 220 * length ts) (codes "moov") (moov_body ts)
 
--- what it says
-unfoldable pub heads : ℕ → List Track → List TrackHead
-heads id [] = []
-heads id (t ∷ ts) = head_of id t.timescale (sample_type t.kind) ∷ heads (id + 1) ts
+-- what it says of its tracks
+abbrev pub head : ℕ → Track → TrackHead
+head id t = record { id = id; timescale = t.timescale; protected = false; defaults = no_defaults }
+
+abbrev pub heads : List Track → List TrackHead
+heads ts = numbered (λ id t. head id t ∷ []) 1 ts

@@ -3,3 +3,6 @@ pub mod GatherLemmas
 pub mod DefaultLemmas
 pub mod RepeatLemmas
 pub mod MoovLemmas
+pub mod NumberedLemmas
+pub mod BareTrak
+pub mod BareMoov

@@ -1,14 +1,19 @@
 //! Headers of movies: what a `moov` says of its tracks, and a bare one written.
 #![tactic(auto)]
 
+mod bare;
 mod children;
 mod defaults;
 mod gathered;
 mod heads;
 mod kind;
+pub mod law;
 mod read;
+#[cfg(test)]
+mod tests;
 mod trak;
 mod trexes;
 
+pub use bare::put_bare_moov;
 pub use read::{MoovFault, read_moov};
 pub use sm_model::{Heads, TrackHead};

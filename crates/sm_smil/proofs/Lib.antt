@@ -4,3 +4,10 @@ pub mod Joined
 pub mod Fit
 pub mod Valid
 pub mod WalkLemmas
+pub mod WrittenTags
+pub mod WrittenLines
+pub mod OneAnswer
+pub mod WrittenValues
+pub mod WrittenTracks
+pub mod WrittenChannel
+pub mod OneReading

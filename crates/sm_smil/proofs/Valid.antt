@@ -4,7 +4,7 @@ use Rattle.std.proofs.lemmas.List.{length-map}
 use Rattle.std.specs.Prelude.{IsTrue}
 use Rattle.std.specs.List.{list_all, AllByRecursion}
 use Rattle.std.specs.Result.{result_unwrap_or}
-use Rattle.std.proofs.lemmas.Bool.{eqb-true, eq-eqb, leb-true, ltb-true}
+use Rattle.std.proofs.lemmas.Bool.{and_parts, eqb-true, eq-eqb, leb-true, ltb-true}
 use Rattle.std.proofs.lemmas.List.Elements.{All-from_recursion}
 use Rattle.std.proofs.lemmas.List.Kept.{AllPairs-cons}
 use Rattle.std.proofs.lemmas.List.Sums.{AllPass-from_list_all}
@@ -27,7 +27,7 @@ use Rattle.sm_model.specs.LiveTracks.{is_same, value_of, is_private, is_timescal
 use Rattle.sm_model.specs.LiveWalk.{Walk}
 use Rattle.sm_model.specs.LiveFaults.{is_misread, misfits, inner_faults, are_equal, do_differ, is_kind, clash, share_id, collide, lacks_id, lacks_part, collides_with, end_faults, tracks_faults, open_faults, text_faults, faults_of, least_from}
 use Rattle.sm_smil.specs.Answers.{AreFit}
-use Rattle.sm_smil.proofs.Fit.{both, neither, none_least, fits_all}
+use Rattle.sm_smil.proofs.Fit.{neither, none_least, fits_all}
 
 either_false : (a b : Bool) → (a || b) ≡ false → (a ≡ false) × (b ≡ false)
 either_false true b e = cc
@@ -157,7 +157,7 @@ timescale_known form t clean = said (value_of TimeScale t.params) (λ v e. clean
     said : (o : Option (List ℕ)) → ((v : List ℕ) → o ≡ Some v → is_timescale v ≡ true) → (n : ℕ) × (0 < n) × (timescale_in o ≡ Some n)
     said None fit = (10000000, omega arith, refl)
     said (Some v) fit =
-        let parts = both (is_number v) (ltb 0 (decimal_from 0 v)) (fit v refl) in
+        let parts = and_parts (is_number v) (ltb 0 (decimal_from 0 v)) (fit v refl) in
         (decimal_from 0 v, ltb-true 0 (decimal_from 0 v) parts.1, number_known v parts.0)
 
 -- what two clean tracks that stand apart differ and agree in
@@ -217,8 +217,8 @@ fourcc_fits ps fit = said (value_of FourCc ps) (λ v e. fit FourCc v e)
 private_len : (v : List ℕ) → is_private v ≡ true → length (result_unwrap_or (decode_of v) []) ≤ 32768
 unfolding is_private
 private_len v is =
-    let second = both (leb (length v) 65536) _ is in
-    let third = both (eqb (length v % 2) 0) _ second.1 in
+    let second = and_parts (leb (length v) 65536) _ is in
+    let third = and_parts (eqb (length v % 2) 0) _ second.1 in
     let even = eqb-true (length v % 2) 0 third.0 in
     let good = decode_of-digits v even (AllPass-from_list_all is_hex_digit v third.1) in
     let long = (decode_of-ok v good.0 good.1).2 in

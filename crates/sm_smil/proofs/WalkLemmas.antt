@@ -39,6 +39,7 @@ begins_fits w name empty t fits at = tested (leb 64 (length w.done)) refl empty
   where
     outside : (u : RawTrack) → w.current ≡ Some u → ⊥
     outside u e = omega (arith, (fits.inside u e).0, at)
+
     tested : (full : Bool) → leb 64 (length w.done) ≡ full → (empty : Bool) → Fits (record (cond full (record w { over = first_place w.over t.at }) (cond empty (record w { done = w.done ++ t ∷ [] }) (record w { current = Some t }))) { path = enters empty name w.path })
     tested true is empty = record { few = fits.few; inside = λ u e. absurd (outside u e) }
     tested false is true =
@@ -88,6 +89,7 @@ finishes_fits w p longer fits = tested (eqb (length p) 3) refl
     joined : (o : Option RawTrack) → w.current ≡ o → length (w.done ++ option_to_list o) ≤ 64
     joined None is = omega (arith, fits.few, length-append w.done [])
     joined (Some t) is = omega (arith, (fits.inside t is).1, length-append w.done (t ∷ []))
+
     tested : (b : Bool) → eqb (length p) 3 ≡ b → Fits (cond b (record w { path = p; done = w.done ++ option_to_list w.current; current = None }) (record w { path = p }))
     tested true is = record { few = joined w.current refl; inside = λ t e. cc e }
     tested false is = record {
