@@ -1,6 +1,7 @@
 pub mod NameLemmas
 pub mod BoxLemmas
 pub mod OrderLemmas
+pub mod PassLemmas
 pub mod WrittenBoxes
 pub mod WrittenRows
 pub mod WrittenFields
@@ -10,5 +11,6 @@ pub mod WrittenUserBoxes
 pub mod TextLengths
 pub mod DigitLemmas
 pub mod TrackIdLemmas
+pub mod SoundLemmas
 pub mod TagLengths
 pub mod TagTotals

@@ -1,9 +1,8 @@
 -- The track_ID that is found first is the one that the moof says.
-use Rattle.std.proofs.Common.{◌≡◌, ◌≤◌, ℕ, zero, suc, Bool, true, false, not, cond, leb, eqb, ◌&&◌, List, [], ◌∷◌, ◌++◌, length, drop, map, Option, Some, None, Result, Ok, Err, refl, sym, ap, subst, ◌∙◌, arith}
+use Rattle.std.proofs.Common.{◌≡◌, ℕ, zero, suc, Bool, true, false, cond, leb, eqb, List, [], ◌∷◌, length, drop, map, Option, Some, None, Ok, Err, refl, sym, ap, ◌∙◌}
 use Rattle.std.specs.Prelude.{codes, filter, option_and_then}
 use Rattle.std.specs.Option.{option_map, option_map_or}
 use Rattle.std.proofs.lemmas.Bool.{and_parts}
-use Rattle.sm_model.specs.declared.cause.Cause.{Cause}
 use Rattle.sm_model.specs.declared.cause.Cause.TheVariants.{BadBox}
 use Rattle.sm_model.specs.declared.run.Defaults.{Defaults}
 use Rattle.sm_model.specs.declared.run.Run.{Run}
@@ -11,7 +10,8 @@ use Rattle.sm_model.specs.Numbers.{number32_at}
 use Rattle.sm_model.specs.Boxes.{Box, boxes, boxes_in, box_of, box_len, starts_whole}
 use Rattle.sm_model.specs.Found.{Found, found, is_kind, bodies}
 use Rattle.sm_model.specs.Fields.{tfhd_fits, tfhd_len}
-use Rattle.sm_model.specs.Frag.{Line, first_cause, Traf, traf_of, moof_lines, run_of, judged_moof, run_in, moof_run}
+use Rattle.sm_model.specs.Frag.{first_cause, Traf, traf_of, moof_lines, run_of, judged_moof, run_in, moof_run}
+use Rattle.sm_model.proofs.PassLemmas.{NoneHolds, all_pass, not_false, says, err_ok}
 use Rattle.sm_model.specs.TrackId.{first_in, first_box, first_body, head_id, track_id}
 
 abbrev nothing : Option (List Box)
@@ -79,35 +79,6 @@ first_body-found name b xs e h = ap (option_map body_of) (first_box-boxes (is_ki
 
 -- ---- a moof that says a run
 
-abbrev ok : Run → Result Run Cause
-ok run = Ok run
-
-err_ok : (c : Cause) (run : Run) → Err c ≡ ok run → ⊥
-err_ok c run e = cc
-
-ok_is : (r s : Run) → ok r ≡ ok s → r ≡ s
-ok_is r s e = cc
-
-pub record Says (o : Option Cause) (r s : Run) : Type 0 where
-  pub none : o ≡ None
-  pub same : r ≡ s
-
-says : (o : Option Cause) (r s : Run) → option_map_or (λ c. Err c) o (Ok r) ≡ Ok s → Says o r s
-says None r s e = record { none = refl; same = ok_is r s e }
-says (Some c) r s e = absurd (err_ok c s e)
-
-some_none : (c : Cause) (A : Type 0) → Some c ≡ None → A
-some_none c A e = cc
-
--- a line that is passed, and those behind it
-passed : (t : Bool) (c : Cause) (rest : Option Cause) → cond t (Some c) rest ≡ None → (t ≡ false) × (rest ≡ None)
-passed true c rest e = some_none c ((true ≡ false) × (rest ≡ None)) e
-passed false c rest e = (refl, e)
-
-not_false : (t : Bool) → not t ≡ false → t ≡ true
-not_false true e = refl
-not_false false e = sym e
-
 pub record HasHead (trafs : Found) (t : Traf) : Type 0 where
   pub traf : trafs.some ≡ true
   pub tfhd : t.head.some ≡ true
@@ -115,11 +86,8 @@ pub record HasHead (trafs : Found) (t : Traf) : Type 0 where
 
 has_head : (trafs : Found) (t : Traf) → first_cause (moof_lines trafs t) ≡ None → HasHead trafs t
 has_head trafs t e =
-    let l1 = passed _ _ _ e in
-    let l2 = passed _ _ _ l1.1 in
-    let l3 = passed _ _ _ l2.1 in
-    let l4 = passed _ _ _ l3.1 in
-    record { traf = not_false trafs.some l1.0; tfhd = not_false t.head.some l2.0; fits = not_false (tfhd_fits t.head.first) l4.0 }
+    let h : NoneHolds (moof_lines trafs t) = all_pass (moof_lines trafs t) e in
+    record { traf = not_false trafs.some h.0; tfhd = not_false t.head.some h.1.0; fits = not_false (tfhd_fits t.head.first) h.1.1.1.0 }
 
 head_id_is : (b : List ℕ) → tfhd_fits b ≡ true → head_id b ≡ Some (number32_at 4 b)
 unfolding tfhd_fits head_id

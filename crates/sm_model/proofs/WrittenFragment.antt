@@ -24,10 +24,11 @@ use Rattle.sm_model.specs.Frag.{first_cause, Traf, traf_of, bad_lines, other_lin
 use Rattle.sm_model.specs.Steps.{and_then}
 use Rattle.sm_model.specs.Written.{IsWritten, row_of, run_again, raw_again}
 use Rattle.sm_model.proofs.OrderLemmas.{frag_in_two}
+use Rattle.sm_model.proofs.PassLemmas.{NoneHolds, none_holds, none_holds-append}
 use Rattle.sm_model.proofs.WrittenBoxes.{len32, IsText, made, one_box, boxes-end, box_is, box_text_len, one_whole}
 use Rattle.sm_model.proofs.WrittenRows.{cut_again}
 use Rattle.sm_model.proofs.WrittenFields.{small_signed}
-use Rattle.sm_model.proofs.WrittenTraf.{traf_body, traf_size, traf_text, ahead_small, one, traf_again, NoneHolds, none_holds, none_holds-append, bad_pass, other_pass, run_read, traf_boxes_read}
+use Rattle.sm_model.proofs.WrittenTraf.{traf_body, traf_size, traf_text, ahead_small, one, traf_again, bad_pass, other_pass, run_read, traf_boxes_read}
 
 -- ---- the texts of its boxes
 

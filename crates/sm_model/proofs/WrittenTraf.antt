@@ -1,8 +1,8 @@
 -- A canonical traf is read again as what was written.
-use Rattle.std.proofs.Common.{◌≡◌, ◌≤◌, ◌<◌, ◌+◌, ◌*◌, ◌^◌, ℕ, Bool, true, false, not, cond, eqb, ltb, leb, ◌&&◌, List, [], ◌∷◌, ◌++◌, length, map, Option, Some, None, Ok, Err, refl, ap, ◌∙◌, arith}
+use Rattle.std.proofs.Common.{◌≡◌, ◌≤◌, ◌<◌, ◌+◌, ◌*◌, ◌^◌, ℕ, Bool, true, false, not, eqb, ltb, leb, ◌&&◌, List, [], ◌∷◌, ◌++◌, length, map, Option, Some, None, Ok, Err, refl, ap, ◌∙◌, arith}
 use Rattle.std.specs.Prelude.{codes}
 use Rattle.std.specs.Option.{option_map, option_map_or}
-use Rattle.std.specs.List.{flat_map, AllByRecursion, All}
+use Rattle.std.specs.List.{flat_map, All}
 use Rattle.std.proofs.lemmas.Bool.{lt-leb, le-ltb, ne_eqb, and_right}
 use Rattle.std.proofs.lemmas.List.{length-append, take_all}
 use Rattle.sm_model.specs.declared.sample.Sample.{Sample}
@@ -18,9 +18,10 @@ use Rattle.sm_model.specs.Boxes.{Box, boxes, box_of, IsOneBox}
 use Rattle.sm_model.specs.Fragments.{IsValid, IsWide}
 use Rattle.sm_model.specs.Found.{Found, bodies, user_bodies}
 use Rattle.sm_model.specs.Fields.{tfrf_fits, tfxd_pair, rows, defaults_of}
-use Rattle.sm_model.specs.Frag.{Line, first_cause, Traf, traf_of, bad_lines, other_lines, refusal, ahead_of, run_of, judged, traf}
+use Rattle.sm_model.specs.Frag.{Traf, traf_of, bad_lines, other_lines, refusal, ahead_of, run_of, judged, traf}
 use Rattle.sm_model.specs.Written.{IsWritten, row_of, run_again}
 use Rattle.sm_model.proofs.BoxLemmas.{boxes-nil}
+use Rattle.sm_model.proofs.PassLemmas.{NoneHolds, none_holds, none_holds-append}
 use Rattle.sm_model.proofs.WrittenBoxes.{len32, len64, IsText, made, one_box, boxes-end, box_is, box_text_len, one_whole}
 use Rattle.sm_model.proofs.WrittenFields.{ahead_body, pairs_text_len, pairs_again, ahead_fits, head_body, head_id, head_fits, head_base, time_body, time_fits, time_pair, run_body, run_count, run_body_len, is_signed, run_fits, run_start, run_rows}
 
@@ -134,17 +135,6 @@ stands id st f [] = refl
 stands id st f (p ∷ ps) = refl
 
 -- ---- no line holds
-
-abbrev pub NoneHolds : List Line → Type 0
-NoneHolds xs = AllByRecursion (λ x. x.0 ≡ false) xs
-
-pub none_holds : (xs : List Line) → NoneHolds xs → first_cause xs ≡ None
-none_holds [] h = refl
-none_holds (x ∷ xs) h = ap (λ (v : Bool). cond v (Some x.1) (first_cause xs)) h.0 ∙ none_holds xs h.1
-
-pub none_holds-append : (xs ys : List Line) → NoneHolds xs → NoneHolds ys → NoneHolds (xs ++ ys)
-none_holds-append [] ys p q = q
-none_holds-append (x ∷ xs) ys p q = (p.0, none_holds-append xs ys p.1 q)
 
 ahead_once : (ahead : List (ℕ × ℕ)) → (ahead_found ahead).twice ≡ false
 ahead_once [] = refl

@@ -4,6 +4,7 @@ ghost use Rattle.std.specs.List.{All};
 ghost use Rattle.sm_model.specs.declared.cause.Cause.{Cause};
 ghost use Rattle.sm_model.specs.declared.run.Defaults.{Defaults};
 ghost use Rattle.sm_model.specs.declared.run.Run.{Run};
+ghost use Rattle.sm_model.specs.declared.run.RawFragment.{RawFragment};
 ghost use Rattle.sm_model.specs.declared.sample.Sample.{Sample};
 ghost use Rattle.sm_model.specs.declared.fragment.Fragment.{Fragment};
 ghost use Rattle.sm_model.specs.Boxes.{Box, IsBoxes, IsOneBox, boxes, box_of};
@@ -12,6 +13,7 @@ ghost use Rattle.sm_model.specs.FragText as text;
 ghost use Rattle.sm_model.specs.FragText.{tfxd_type, tfrf_type, moof_len, ahead_len};
 ghost use Rattle.sm_model.specs.Fields.{tfxd};
 ghost use Rattle.sm_model.specs.Frag.{frag, moof_run, last, traf};
+ghost use Rattle.sm_model.specs.Sound.{IsSoundRun, IsSoundFragment, LieInOrder};
 ghost use Rattle.sm_model.specs.Steps.{and_then};
 ghost use Rattle.sm_model.specs.TrackId.{track_id};
 ghost use Rattle.sm_model.specs.Written.{IsWritten, IsUserBox, IsPairsBox, run_again, raw_again};
@@ -36,6 +38,14 @@ pub fn causes_are_without_defaults()
 /// The track_ID that is found first, with which the defaults are looked up, is the one that a `moof` says.
 pub fn track_id_is_of_run()
     ensures { (d : Defaults) (m : List ℕ) (run : Run) → moof_run d m ≡ Ok run → track_id m ≡ Some run.id }
+{}
+
+/// Every run that is read has 1 to 65,536 samples, a duration of at least 1 and an end below 2^63. So has every fragment,
+/// and its samples' bytes lie one after another in the body of the `mdat`, from the place that the `moof` says on.
+pub fn read_is_sound()
+    ensures run { (d : Defaults) (m : List ℕ) (run : Run) → moof_run d m ≡ Ok run → IsSoundRun run }
+    ensures fragment { (d : Defaults) (m md : List ℕ) (raw : RawFragment) → frag d m md ≡ Ok raw → IsSoundFragment md raw }
+    ensures in_order { (d : Defaults) (m md : List ℕ) (raw : RawFragment) → frag d m md ≡ Ok raw → LieInOrder d m md raw }
 {}
 
 /// Each size in a canonical text is the length of its box.

@@ -1,8 +1,8 @@
 -- A text that is one box.
-use Rattle.std.proofs.Common.{◌≡◌, ◌≤◌, ◌<◌, ◌+◌, ◌-◌, ℕ, true, cond, eqb, List, length, take, drop, refl, sym, ap, subst, ◌∙◌, arith}
+use Rattle.std.proofs.Common.{◌≡◌, ◌≤◌, ◌-◌, ℕ, cond, eqb, List, length, take, drop, ap, subst, ◌∙◌, arith}
 use Rattle.std.proofs.lemmas.List.{take_rest}
 use Rattle.sm_model.specs.Numbers.{number32_at}
-use Rattle.sm_model.specs.Boxes.{box_of, box_len, head_len, starts_whole, IsOneBox}
+use Rattle.sm_model.specs.Boxes.{box_of, head_len, IsOneBox}
 use Rattle.sm_model.proofs.BoxLemmas.{long_text, head_below}
 
 pub long_one : (b : List ℕ) → IsOneBox b → 8 ≤ length b

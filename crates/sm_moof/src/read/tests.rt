@@ -410,10 +410,7 @@ fn one_box_and_nothing_else(rt: HostRuntime) {
 #[test]
 fn faults_have_words(rt: HostRuntime) -> Result<(), Fail> {
     let words = format!(in rt.alloc(); "{}", MoofFault::Refused(Cause::NoMdat))?;
-    assert_eq!(rt;
-        words.as_str(),
-        "no media data follows the movie fragment"
-    );
+    assert_eq!(rt; words.as_str(), "no media data follows the movie fragment");
     let words = format!(in rt.alloc(); "{}", MoofFault::NoMemory)?;
     assert_eq!(rt; words.as_str(), "out of memory");
     Ok(())

@@ -1,9 +1,8 @@
-use Rattle.std.proofs.Common.{◌≡◌, ◌+◌, ◌-◌, ℕ, List, Option, Some, length, take, drop, sym, ap, ◌∙◌, arith}
+use Rattle.std.proofs.Common.{◌+◌, ◌-◌, ℕ, List, Some, length, take, drop, sym, ap, ◌∙◌, arith}
 use Rattle.std.specs.Option.{option_map}
 use Rattle.std.specs.Prelude.{nat_eq}
 use Rattle.std.specs.Cmp.Lexicographic.{pointwise}
-use Rattle.sm_model.specs.Boxes.{Box, box_of}
-use Rattle.sm_box.specs.Place.{left}
+use Rattle.sm_model.specs.Boxes.{Box}
 use Rattle.sm_model.specs.TrackId.{first_body}
 use Rattle.sm_moof.proofs.TrackLemmas.{begins, passed, found_here, at_end, at_bad}
 use Rattle.sm_moof.proofs.track.first_of.Goals as goal
