@@ -26,3 +26,4 @@ pub mod Moov
 pub mod MoovText
 pub mod TagsRead
 pub mod LiveRead
+pub mod TagText
