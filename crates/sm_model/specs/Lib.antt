@@ -27,3 +27,4 @@ pub mod MoovText
 pub mod TagsRead
 pub mod LiveRead
 pub mod Sound
+pub mod TagText

@@ -4,7 +4,6 @@ pub mod Joined
 pub mod Fit
 pub mod Valid
 pub mod WalkLemmas
-pub mod WrittenTags
 pub mod WrittenLines
 pub mod OneAnswer
 pub mod WrittenValues

@@ -33,8 +33,10 @@ use Rattle.sm_model.specs.LiveManifests.{bad_of, fault_of, judged, IsLadder}
 use Rattle.sm_model.specs.LiveText.{track_lines, tracks_lines, head_lines, foot_lines, live_text}
 use Rattle.sm_smil.proofs.Fit.{neither}
 use Rattle.sm_smil.proofs.OneReading.{one_ladder}
-use Rattle.sm_smil.proofs.WrittenTags.{append_nil, Starts-again}
-use Rattle.sm_smil.proofs.WrittenLines.{Leads, IsGood, left_at, Begins, in_switch, start_line, finish_line, on_start, on_finish, next_finish, feed_read}
+use Rattle.sm_model.specs.TagText.{left_at}
+use Rattle.sm_tag.proofs.WrittenTags.{append_nil, Starts-again}
+use Rattle.sm_tag.proofs.WrittenNext.{next_finish}
+use Rattle.sm_smil.proofs.WrittenLines.{Leads, IsGood, Begins, in_switch, start_line, finish_line, on_start, on_finish, feed_read}
 use Rattle.sm_smil.proofs.WrittenValues.{IsWritable, decimal_number, decimal_again, option_again}
 use Rattle.sm_smil.proofs.WrittenTracks.{Stage, walk_out, track_read, track_begins}
 

@@ -22,11 +22,9 @@ use Rattle.sm_model.specs.LiveWalk.{Walk, step, walk}
 use Rattle.sm_model.specs.LiveFaults.{faults_of, least_from}
 use Rattle.sm_model.specs.LiveManifests.{bad_of}
 use Rattle.sm_model.specs.LiveText.{param_line, opening_line, closing_line, element_name}
-use Rattle.sm_smil.proofs.WrittenTags.{is_plain, IsTagName, AreWritten, attributes_then, closing, Starts-again}
-
--- a reader inside the outermost element, with these bytes and open elements left
-abbrev pub left_at : ℕ → ℕ → List ℕ → List (List ℕ) → Left
-left_at size end rest names = record { size = size; end = end; rest = rest; open_names = names; begun = true; bad = None }
+use Rattle.sm_model.specs.TagText.{is_plain, AreWritten, attributes_then, closing, left_at, IsOpen}
+use Rattle.sm_tag.proofs.WrittenTags.{Starts-again}
+use Rattle.sm_tag.proofs.WrittenNext.{next_feed, next_start, next_finish}
 
 -- what is walked over gives this channel, and nothing is at fault
 abbrev pub IsGood : ℕ → List Track → Walk → Type 0
@@ -46,35 +44,6 @@ on_text size channel s t at w next (tags, runs, bad, good) = (Text at ∷ tags, 
 pub on_finish : (size : ℕ) (channel : List Track) (s t : Left) (name : List ℕ) (at : ℕ) (w : Walk) → Next s (Finish name at) t → Leads size channel t (step Ladder w (Finish name at)) → Leads size channel s w
 on_finish size channel s t name at w next (tags, runs, bad, good) =
     (Finish name at ∷ tags, follows t next refl runs, bad, good)
-
-lead_tag : (cs : List ℕ) → lead_at true (60 ∷ cs) ≡ (lead.Tag, length (60 ∷ cs), cs)
-unfolding lead_at
-lead_tag cs = refl
-
-lead_feed : (cs : List ℕ) → lead_at true (10 ∷ 60 ∷ cs) ≡ (lead.Run, length (10 ∷ 60 ∷ cs), 60 ∷ cs)
-unfolding lead_at
-lead_feed cs = refl
-
--- one element or more are open, and fewer than 32
-abbrev pub IsOpen : List (List ℕ) → Type 0
-IsOpen names = (eqb (length names) 0 ≡ false) × (leb 32 (length names) ≡ false)
-
-next_feed : (size end : ℕ) (cs : List ℕ) (names : List (List ℕ)) → IsOpen names → Next (left_at size end (10 ∷ 60 ∷ cs) names) (Text (end - length (10 ∷ 60 ∷ cs))) (left_at size end (60 ∷ cs) names)
-next_feed size end cs names open_names =
-    let P : Bool → Type 0 = λ b. Founds (not b) (10 ∷ 60 ∷ cs) (lead.Run, markup.Skipped, length (10 ∷ 60 ∷ cs), 60 ∷ cs) in
-    ((lead.Run, markup.Skipped, length (10 ∷ 60 ∷ cs), 60 ∷ cs), subst P (sym open_names.0) (bare (lead_feed cs) (λ e. cc e)), refl)
-
-next_start : (size end : ℕ) (cs more : List ℕ) (names : List (List ℕ)) (name : List ℕ) (attributes : List Attribute) (empty : Bool) → IsOpen names → Markups cs (Ok (markup.Start name attributes empty, more)) → Next (left_at size end (60 ∷ cs) names) (Start name attributes empty (end - length (60 ∷ cs))) (left_at size end more (cond empty names (names ++ name ∷ [])))
-next_start size end cs more names name attributes empty open_names read =
-    let f : Lead × Markup × ℕ × List ℕ = (lead.Tag, markup.Start name attributes empty, length (60 ∷ cs), more) in
-    let P : Bool → Type 0 = λ b. Founds (not b) (60 ∷ cs) f in
-    (f, subst P (sym open_names.0) (marked (lead_tag cs) read (λ e. cc e)), rw (open_names.0, open_names.1) refl)
-
-pub next_finish : (size end : ℕ) (cs more : List ℕ) (names : List (List ℕ)) (name : List ℕ) → IsOpen names → closes name names ≡ true → Markups cs (Ok (markup.Finish name, more)) → Next (left_at size end (60 ∷ cs) names) (Finish name (end - length (60 ∷ cs))) (left_at size end more (take (length names - 1) names))
-next_finish size end cs more names name open_names last read =
-    let f : Lead × Markup × ℕ × List ℕ = (lead.Tag, markup.Finish name, length (60 ∷ cs), more) in
-    let P : Bool → Type 0 = λ b. Founds (not b) (60 ∷ cs) f in
-    (f, subst P (sym open_names.0) (marked (lead_tag cs) read (λ e. cc e)), rw last refl)
 
 -- a line begins with `<`
 abbrev pub Begins : List ℕ → Type 0

@@ -23,8 +23,8 @@ use Rattle.sm_model.specs.LiveWalk.{Walk, step, with_param, with_named, is_read,
 use Rattle.sm_model.specs.LiveFaults.{misfits}
 use Rattle.sm_model.specs.LiveText.{param_line, number_line, option_line, number_lines, opening_line, closing_line, track_lines, element_name}
 use Rattle.sm_smil.proofs.Fit.{same_name}
-use Rattle.sm_smil.proofs.WrittenTags.{is_plain}
-use Rattle.sm_smil.proofs.WrittenLines.{Leads, left_at, Begins, in_switch, in_track, param_attributes, param_read, param_begins, track_attributes, opening_read, opening_begins, closing_read, closing_begins}
+use Rattle.sm_model.specs.TagText.{is_plain, left_at}
+use Rattle.sm_smil.proofs.WrittenLines.{Leads, Begins, in_switch, in_track, param_attributes, param_read, param_begins, track_attributes, opening_read, opening_begins, closing_read, closing_begins}
 use Rattle.sm_smil.proofs.WrittenValues.{expected, IsWritable, decimal_plain, decimal_number, name_plain, fourcc_plain, private_plain, private_again, timescale_fits}
 
 -- one param more

@@ -19,7 +19,8 @@ use Rattle.sm_model.specs.Digits.{is_digit, decimal_from, is_number, number_of}
 use Rattle.sm_model.specs.Names.{is_name, is_name_byte, first_wrong}
 use Rattle.sm_model.specs.Channels.{is_fourcc, is_fourcc_byte, IsTrack, IsNarrowTrack, IsNarrowOption, AreNarrow}
 use Rattle.sm_model.specs.LiveTracks.{is_private, is_timescale, is_fit, number_in}
-use Rattle.sm_smil.proofs.WrittenTags.{is_plain, not_of}
+use Rattle.sm_model.specs.TagText.{is_plain}
+use Rattle.sm_tag.proofs.WrittenTags.{not_of}
 
 plain_of : (p : ℕ → Bool) → p 34 ≡ false → p 60 ≡ false → p 38 ≡ false → (b : List ℕ) → list_all p b ≡ true → list_all is_plain b ≡ true
 plain_of p quote angle ampersand [] all = refl

@@ -4,3 +4,5 @@ pub mod MarkupLemmas
 pub mod NameSets
 pub mod Zeros
 pub mod Unique
+pub mod WrittenTags
+pub mod WrittenNext

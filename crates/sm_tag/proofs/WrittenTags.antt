@@ -8,11 +8,8 @@ use Rattle.sm_model.specs.declared.markup.Markup.{Markup}
 use Rattle.sm_model.specs.declared.markup.Markup.TheVariants as markup
 use Rattle.sm_model.specs.TagBytes.{is_tag_start, is_tag_byte, is_space, front, behind}
 use Rattle.sm_model.specs.TagParts.{Stop, piece_at, Values, closed, goes_on, name_at, opening_at, quote_at, AttributeAt, opened, mark_at, has_name, Tails, ended, another}
-use Rattle.sm_model.specs.TagMarkup.{Starts, named}
-
--- a byte that stands for itself in a value
-abbrev pub is_plain : ℕ → Bool
-is_plain c = not (c == 34) && (not (c == 60) && not (c == 38))
+use Rattle.sm_model.specs.TagMarkup.{Starts, named, finish_at}
+use Rattle.sm_model.specs.TagText.{is_plain, IsTagName, closing, attributes_then, AreWritten}
 
 denied : (b : Bool) → not b ≡ true → b ≡ false
 denied true e = cc
@@ -53,11 +50,6 @@ behind_until p (x ∷ xs) c more all stop =
     let h = and_parts (p x) (list_all p xs) all in
     let goes : p x ≡ true = h.0 in
     rw goes (behind_until p xs c more h.1 stop)
-
--- a name of a tag or an attribute
-abbrev pub IsTagName : List ℕ → Type 0
-IsTagName [] = ⊥
-IsTagName (c ∷ cs) = (is_tag_start c ≡ true) × (list_all is_tag_byte (c ∷ cs) ≡ true)
 
 name_again : (n : List ℕ) (stop : ℕ) (rest : List ℕ) → IsTagName n → is_tag_byte stop ≡ false → name_at (n ++ stop ∷ rest) ≡ Ok (n, stop ∷ rest)
 unfolding name_at
@@ -101,26 +93,10 @@ mark_name (c ∷ cs) rest is =
     let shorter : ltb (length (c ∷ cs ++ rest)) (length (32 ∷ c ∷ cs ++ rest)) ≡ true = lt-ltb _ _ (omega arith) in
     rw (space, tab, return, feed, angle, slash, shorter) refl
 
--- the end of a start tag, and what is behind it
-abbrev pub closing : Bool → List ℕ → List ℕ
-closing true rest = 47 ∷ 62 ∷ rest
-closing false rest = 62 ∷ rest
-
 mark_end : (empty : Bool) (rest : List ℕ) → mark_at (closing empty rest) ≡ Ok (Some empty, rest)
 unfolding mark_at
 mark_end true rest = refl
 mark_end false rest = refl
-
--- attributes, and what is behind them
-abbrev pub attributes_then : List Attribute → List ℕ → List ℕ
-attributes_then [] rest = rest
-attributes_then (a ∷ others) rest = 32 ∷ a.name ++ (61 ∷ 34 ∷ a.value ++ (34 ∷ attributes_then others rest))
-
--- attributes that can be written so, behind those seen
-abbrev pub AreWritten : List Attribute → List Attribute → Type 0
-AreWritten seen [] = Unit {0}
-AreWritten seen (a ∷ others) =
-    IsTagName a.name × (list_all is_plain a.value ≡ true) × (has_name a.name seen ≡ false) × AreWritten (seen ++ a ∷ []) others
 
 pub append_nil : {A : Type 0} (xs : List A) → xs ++ [] ≡ xs
 append_nil [] = refl
@@ -147,3 +123,8 @@ before_attributes n (a ∷ others) empty rest is = name_again n 32 _ is refl
 -- a start tag that is written is read
 pub Starts-again : (n : List ℕ) (others : List Attribute) (empty : Bool) (rest : List ℕ) → IsTagName n → AreWritten [] others → Starts (n ++ attributes_then others (closing empty rest)) (Ok (markup.Start n others empty, rest))
 Starts-again n others empty rest is are = named (before_attributes n others empty rest is) (Tails-again others [] empty rest are)
+
+-- an end tag that is written is read
+pub finish-again : (n rest : List ℕ) → IsTagName n → finish_at (n ++ 62 ∷ rest) ≡ Ok (markup.Finish n, rest)
+unfolding finish_at
+finish-again n rest is = rw (name_again n 62 rest is refl) refl
