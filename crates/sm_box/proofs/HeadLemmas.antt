@@ -13,10 +13,12 @@ no_field : (n m : ℕ) → cond (eqb n 1) 16 8 ≤ cond (eqb n 1) m n → n ≡ 
 no_field zero m le e = omega (arith, le)
 no_field (suc n) m le e = omega (arith, e)
 
+-- a size field of 0 leaves the size below the head
 pub field_is : (b : List ℕ) → head_len b ≤ box_len b → number32_at 0 b ≡ 0 → ⊥
 unfolding head_len box_len
 field_is b le e = no_field (number32_at 0 b) (number64_at 8 b) le e
 
+-- a whole box in front is read as what it is
 pub whole_head : (b : List ℕ) → starts_whole b ≡ true → head_of b ≡ Whole (take 4 (drop 4 b)) (head_len b) (box_len b)
 unfolding head_of
 whole_head b e =
@@ -37,6 +39,7 @@ other : (b : List ℕ) (h : Head) (t : Bool) → starts_whole b ≡ t → h ≡ 
 other b h false w e o = refl
 other b h true w e o = absurd (subst IsOther (e ∙ whole_head b w) o)
 
+-- where the head is not read as whole, no whole box stands in front
 pub no_whole : (b : List ℕ) (h : Head) → h ≡ head_of b → IsOther h → starts_whole b ≡ false
 no_whole b h e o = other b h (starts_whole b) refl e o
 
@@ -59,16 +62,19 @@ says b kind head size false false false false p q e =
     let s : size ≡ box_len b = cc in
     record { eight = ltb-false _ _ p; kind_is = cc; head_is = h; size_is = s; fits = omega (arith, ltb-false _ _ q) }
 
+-- the head that is read as whole is the one that stands there
 pub head_says : (b kind : List ℕ) (head size : ℕ) → Whole kind head size ≡ head_of b → Says b kind head size
 unfolding head_of
 head_says b kind head size e = says b kind head size _ _ _ _ refl refl e
 
+-- a body that is cut is no whole box
 pub is_cut : (b kind : List ℕ) (head size : ℕ) → Says b kind head size → length b < size → starts_whole b ≡ false
 unfolding starts_whole
 is_cut b kind head size s lt =
     let q : leb (box_len b) (length b) ≡ false = lt-leb _ _ (omega (arith, s.size_is)) in
     and_right (leb 8 (length b)) (leb (head_len b) (box_len b) && leb (box_len b) (length b)) (and_right (leb (head_len b) (box_len b)) (leb (box_len b) (length b)) q)
 
+-- a body that is there makes a whole box
 pub front : (b kind : List ℕ) (head size : ℕ) → Says b kind head size → size ≤ length b → IsFront b head size
 unfolding box_of
 front b kind head size s le = record {

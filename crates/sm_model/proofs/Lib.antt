@@ -10,3 +10,5 @@ pub mod WrittenUserBoxes
 pub mod TextLengths
 pub mod DigitLemmas
 pub mod TrackIdLemmas
+pub mod TagLengths
+pub mod TagTotals

@@ -79,7 +79,6 @@ first_body-found name b xs e h = ap (option_map body_of) (first_box-boxes (is_ki
 
 -- ---- a moof that says a run
 
-
 abbrev ok : Run → Result Run Cause
 ok run = Ok run
 
@@ -141,8 +140,8 @@ with_boxes d trafs ys run b e =
     let h = has_head trafs (traf_of ys) s.none in (
       h.traf,
       ap (option_and_then head_id) (first_body-found (codes "tfhd") trafs.first ys b h.tfhd)
-      ∙ head_id_is (traf_of ys).head.first h.fits
-      ∙ ap (λ (n : ℕ). Some n) (sym (run_id d (traf_of ys)) ∙ ap (λ (r : Run). r.id) s.same),
+          ∙ head_id_is (traf_of ys).head.first h.fits
+          ∙ ap (λ (n : ℕ). Some n) (sym (run_id d (traf_of ys)) ∙ ap (λ (r : Run). r.id) s.same),
     )
 
 in_traf : (d : Defaults) (trafs : Found) (o : Option (List Box)) (run : Run) → boxes trafs.first ≡ o → option_map_or (λ ys. judged_moof d trafs (traf_of ys)) o (Err BadBox) ≡ Ok run

@@ -2,6 +2,7 @@
 use Rattle.std.specs.Prelude.{◌≡◌, ◌≢◌, ◌≤◌, ◌<◌, ◌^◌, ◌&&◌, ◌||◌, ◌==◌, ℕ, Bool, List, Option, length, nat_le, IsTrue, All, AllPairs}
 use Rattle.std.specs.List.{list_all}
 use Rattle.std.specs.Option.{ForSome}
+use Rattle.hex.specs.Hex.{IsBytes}
 use Rattle.sm_model.specs.declared.track.Kind.{Kind}
 use Rattle.sm_model.specs.declared.track.Params.{Params}
 use Rattle.sm_model.specs.declared.track.Track.{Track}
@@ -48,11 +49,12 @@ pub record AreNarrow (p : Params) : Type 0 where
   pub bits : IsNarrowOption p.bits
   pub packet : IsNarrowOption p.packet
 
--- the track's name is one and its numbers have 32 bits, as those of a real track have
+-- the track's name is one, its numbers have 32 bits and its data are bytes, as those of a real track are
 pub record IsNarrowTrack (t : Track) : Type 0 where
   pub name : IsTrue (is_name t.name)
   pub bitrate : t.bitrate < 2 ^ 32
   pub timescale : t.timescale < 2 ^ 32
+  pub private : IsBytes t.private
   pub numbers : AreNarrow t.numbers
 
 -- a track that is valid once it has a timescale

@@ -24,3 +24,5 @@ pub mod LiveManifests
 pub mod LiveText
 pub mod Moov
 pub mod MoovText
+pub mod TagsRead
+pub mod LiveRead

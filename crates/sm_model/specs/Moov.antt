@@ -80,8 +80,8 @@ unfoldable pub trak : List ℕ → Option TrackHead
 trak b =
     option_and_then
     (λ id.
-        option_and_then (λ mdia. option_and_then (λ ticks. option_map (head_of id ticks) (entry_type mdia)) (timescale mdia))
-        (first_child (codes "mdia") b))
+    option_and_then (λ mdia. option_and_then (λ ticks. option_map (head_of id ticks) (entry_type mdia)) (timescale mdia))
+    (first_child (codes "mdia") b))
     (track_id b)
 
 -- ---- an mvex

@@ -98,14 +98,15 @@ pub data AttributeAt : List ℕ → Result (Attribute × List ℕ) Stop → Type
   unopened : {bytes : List ℕ} {e : Stop} → opening_at bytes ≡ Err e → AttributeAt bytes (Err e)
   opened : {bytes name rest : List ℕ} {q : ℕ} {r : Result (List ℕ × List ℕ) Stop} → opening_at bytes ≡ Ok (name, q, rest) → Values q [] rest r → AttributeAt bytes (naming name r)
 
--- behind a name or an attribute: the tag's end, with whether the element is empty, or where an attribute is to stand
+-- behind white space, if there is some: the tag's end, with whether the element is empty, or where an attribute is to stand
+abbrev pub mark_behind : Bool → List ℕ → Result (Option Bool × List ℕ) Stop
+mark_behind spaced [] = Err short
+mark_behind spaced (c ∷ cs) =
+    if c == 62 then Ok (Some false, cs) else if c == 47 then (byte_at 62 cs >>= λ rest. Ok (Some true, rest)) else if spaced then Ok (None, c ∷ cs) else Err wrong
+
+-- the same behind a name or an attribute
 unfoldable pub mark_at : List ℕ → Result (Option Bool × List ℕ) Stop
 mark_at bytes = mark_behind (nat_lt (length (behind is_space bytes)) (length bytes)) (behind is_space bytes)
-  where
-    mark_behind : Bool → List ℕ → Result (Option Bool × List ℕ) Stop
-    mark_behind spaced [] = Err short
-    mark_behind spaced (c ∷ cs) =
-        if c == 62 then Ok (Some false, cs) else if c == 47 then (byte_at 62 cs >>= λ rest. Ok (Some true, rest)) else if spaced then Ok (None, c ∷ cs) else Err wrong
 
 -- behind a name and the attributes seen: all of them, whether the element is empty, and what is behind the tag; an
 -- attribute that stands twice is wrong as soon as its value is whole

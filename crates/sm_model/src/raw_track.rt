@@ -1,5 +1,5 @@
 //! Tracks as they stand in the text of a live manifest.
-ghost use Rattle.std.specs.Prelude.{◌≡◌, ◌++◌, [], ◌∷◌, OnOk};
+ghost use Rattle.std.specs.Prelude.{◌≡◌, ◌++◌, [], ◌∷◌, length, OnOk};
 
 use crate::{Bytes, Kind, NoMemory};
 use std::alloc::Global;
@@ -64,6 +64,27 @@ impl SmilParams {
         SmilParams {
             items: Vec::new(alloc),
         }
+    }
+
+    /// These params, without a copy.
+    pub fn from_vec(items: Vec<SmilParam>) -> SmilParams
+        ensures { result ≡ items.items }
+    {
+        SmilParams { items }
+    }
+
+    /// The params back, without a copy.
+    pub fn into_vec(self) -> Vec<SmilParam>
+        ensures { result.items ≡ self }
+    {
+        self.items
+    }
+
+    /// How many params there are.
+    pub fn len(&self) -> u64
+        ensures { result ≡ length self.now }
+    {
+        self.items.len() as u64
     }
 
     /// One param more at the end.

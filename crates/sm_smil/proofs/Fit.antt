@@ -3,7 +3,7 @@ use Rattle.std.proofs.Common.{◌≡◌, ◌⊎◌, inl, inr, ℕ, ◌%◌, Bool
 use Rattle.std.specs.List.{list_all, AllByRecursion}
 use Rattle.std.specs.Prelude.{IsAscii}
 use Rattle.std.specs.Str.Lossy.{utf8_valid_len}
-use Rattle.std.proofs.lemmas.Bool.{eqb-true, ltb-true}
+use Rattle.std.proofs.lemmas.Bool.{and_parts, eqb-true, ltb-true}
 use Rattle.std.proofs.lemmas.Str.{IsUtf8-from_ascii, utf8_valid_len-IsUtf8}
 use Rattle.std.proofs.lemmas.Str.Ascii.{IsAscii-nil, IsAscii-cons}
 use Rattle.std.proofs.lemmas.List.Sums.{AllPass-from_list_all}
@@ -24,16 +24,12 @@ use Rattle.sm_model.specs.LiveWalk.{Walk}
 use Rattle.sm_model.specs.LiveFaults.{misfits, inner_faults, is_misread, end_faults, tracks_faults, faults_of, sooner, least_from}
 use Rattle.sm_smil.specs.Answers.{AreFit}
 
-both : (a b : Bool) → (a && b) ≡ true → (a ≡ true) × (b ≡ true)
-both true b e = (refl, e)
-both false b e = cc
-
 -- digits that are private data decode
 pub decodes : (b : List ℕ) (e : FromHexError) → is_private b ≡ true → decode_of b ≡ Err e → ⊥
 unfolding is_private
 decodes b e is bad =
-    let second = both (leb (length b) 65536) _ is in
-    let third = both (eqb (length b % 2) 0) _ second.1 in
+    let second = and_parts (leb (length b) 65536) _ is in
+    let third = and_parts (eqb (length b % 2) 0) _ second.1 in
     let even = eqb-true (length b % 2) 0 third.0 in
     let good = decode_of-digits b even (AllPass-from_list_all is_hex_digit b third.1) in
     cc (good.1, bad)
@@ -49,7 +45,7 @@ ascii : (b : List ℕ) → list_all small b ≡ true → IsAscii b
 unfolding small
 ascii [] e = IsAscii-nil
 ascii (c ∷ cs) e =
-    let parts = both (ltb c 128) (list_all small cs) e in
+    let parts = and_parts (ltb c 128) (list_all small cs) e in
     IsAscii-cons c cs (ltb-true c 128 parts.0) (ascii cs parts.1)
 
 plain : (b : List ℕ) → list_all small b ≡ true → utf8_valid_len b ≡ length b
@@ -117,7 +113,7 @@ picked p ps name v true true is fit none rest found =
     rw (same, value) at fit
 picked p ps name v false true is fit none rest found = rest none found
 
-fits_all : (ps : List SmilParam) → misfits ps ≡ [] → AreFit ps
+pub fits_all : (ps : List SmilParam) → misfits ps ≡ [] → AreFit ps
 fits_all [] none name v found = cc
 fits_all (p ∷ ps) none name v found =
     picked p ps name v (eqb (index_of p.name) (index_of name)) (is_fit p.name p.value) refl refl none (λ rest. fits_all ps rest name v) found

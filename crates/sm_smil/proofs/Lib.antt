@@ -2,3 +2,12 @@ pub mod Least
 pub mod Over
 pub mod Joined
 pub mod Fit
+pub mod Valid
+pub mod WalkLemmas
+pub mod WrittenTags
+pub mod WrittenLines
+pub mod OneAnswer
+pub mod WrittenValues
+pub mod WrittenTracks
+pub mod WrittenChannel
+pub mod OneReading

@@ -3,6 +3,7 @@
 
 mod fault;
 mod judge;
+mod laws;
 mod names;
 mod put;
 mod read;
@@ -10,6 +11,9 @@ mod track;
 mod walk;
 
 pub use fault::SmilFault;
+pub use laws::{
+    live_manifest_has_one_answer, live_text_is_read_as_its_channel, text_has_one_reading,
+};
 pub use put::put_live_manifest;
 pub use read::{read_ladder, read_live_manifest};
 pub use sm_model::{Smil, SmilTrack};

@@ -1,5 +1,6 @@
 //! The readers of live manifests and ladders.
 ghost use Rattle.std.specs.Prelude.{◌≡◌, IfOk};
+ghost use Rattle.sm_model.specs.Channels.{IsChannel, IsSmil};
 ghost use Rattle.sm_model.specs.LiveManifests.{IsLiveManifest, IsLadder};
 ghost use Rattle.sm_smil.specs.Answers.{Answers, WalkedOver};
 
@@ -37,6 +38,7 @@ fn walk_over<'a>(
 /// name. A track without `trackName` is named by its kind. Params that aren't read are passed over, `TimeScale` too.
 pub fn read_live_manifest(alloc: Global, text: &[u8]) -> Result<Smil, SmilFault>
     ensures read { Answers result (IsLiveManifest text.now) }
+    ensures valid { IfOk result IsSmil }
 {
     let (walk, bad) = walk_over(alloc, Form::Pushed, Tags::new(alloc, text))?;
     if let Some(at) = fault_of(Form::Pushed, text.len() as u64, bad, &walk) {
@@ -49,6 +51,7 @@ pub fn read_live_manifest(alloc: Global, text: &[u8]) -> Result<Smil, SmilFault>
 /// is 10,000,000 by default.
 pub fn read_ladder(alloc: Global, text: &[u8]) -> Result<Channel, SmilFault>
     ensures read { Answers result (IsLadder text.now) }
+    ensures valid { IfOk result IsChannel }
 {
     let (walk, bad) = walk_over(alloc, Form::Ladder, Tags::new(alloc, text))?;
     if let Some(at) = fault_of(Form::Ladder, text.len() as u64, bad, &walk) {

@@ -1,7 +1,7 @@
 -- The names of attributes as an ordered set.
 use Rattle.std.proofs.Common.{◌≡◌, ℕ, Bool, true, false, ◌||◌, ◌&&◌, not, eqb, List, [], ◌∷◌, ◌++◌, refl, sym, ap, ◌∙◌}
 use Rattle.std.specs.Prelude.{nat_eq}
-use Rattle.std.proofs.lemmas.Bool.{eqb-true}
+use Rattle.std.proofs.lemmas.Slice.Eq.{bytes_eq-Decides}
 use Rattle.std.specs.List.{list_any}
 use Rattle.std.specs.Ordering.{is_eq, nat_cmp, match_ordering}
 use Rattle.std.specs.declared.cmp.Ordering.{Ordering}
@@ -21,17 +21,6 @@ in_set q keys = list_any (λ k. is_eq (slice_cmp nat_cmp q k.now)) keys
 abbrev pub Knows : List (Bor (List ℕ)) → List Attribute → Type 0
 Knows keys seen = (q : List ℕ) → in_set q keys ≡ has_name q seen
 
-tests : (a b : ℕ) (xs ys : List ℕ) (same : Bool) → eqb a b ≡ same → (same && pointwise nat_eq xs ys) ≡ true → (pointwise nat_eq xs ys ≡ true → xs ≡ ys) → a ∷ xs ≡ b ∷ ys
-tests a b xs ys true is e more = let first = eqb-true a b is in let rest = more e in cc
-tests a b xs ys false is e more = cc
-
--- lists that pass the test are equal
-pub equal : (xs ys : List ℕ) → pointwise nat_eq xs ys ≡ true → xs ≡ ys
-equal [] [] e = refl
-equal [] (y ∷ ys) e = cc
-equal (x ∷ xs) [] e = cc
-equal (x ∷ xs) (y ∷ ys) e = tests x y xs ys (eqb x y) refl e (equal xs ys)
-
 -- the query compares equal to a key, or to one behind it
 later : (o : Ordering) (q : List ℕ) (x key : Bor (List ℕ)) (xs more : List (Bor (List ℕ))) → slice_cmp nat_cmp key.now x.now ≡ o → in_set q more ≡ (in_set q xs || is_eq (slice_cmp nat_cmp q key.now)) → in_set q (match_ordering o (key ∷ x ∷ xs) (x ∷ xs) (x ∷ more)) ≡ (in_set q (x ∷ xs) || is_eq (slice_cmp nat_cmp q key.now))
 later Less q x key xs more is h = first (is_eq (slice_cmp nat_cmp q key.now)) (in_set q (x ∷ xs))
@@ -42,7 +31,7 @@ later Less q x key xs more is h = first (is_eq (slice_cmp nat_cmp q key.now)) (i
     first false true = refl
     first false false = refl
 later Equal q x key xs more is h =
-    let same : key.now ≡ x.now = equal key.now x.now (sym (is_eq-slice_cmp key.now x.now) ∙ ap is_eq is) in
+    let same : key.now ≡ x.now = (bytes_eq-Decides key.now x.now).0 (sym (is_eq-slice_cmp key.now x.now) ∙ ap is_eq is) in
     rw same (again (is_eq (slice_cmp nat_cmp q x.now)) (in_set q xs))
   where
     again : (a b : Bool) → (a || b) ≡ ((a || b) || a)

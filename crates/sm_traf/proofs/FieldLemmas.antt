@@ -23,6 +23,7 @@ ahead_five b e = (fits_ahead b e).five
 pub one_more : (i n w : ℕ) → i < n → i * w + w ≤ n * w
 one_more i n w lt = let h : (i + 1) * w ≤ n * w = mul-le-mul_right w (omega arith) in omega (arith, h)
 
+-- the pair of an index below the count lies inside the body
 pub ahead_room : (b : List ℕ) (i : ℕ) → tfrf_fits b ≡ true → i < get_or b 4 0 → 5 + i * pair_len b + cond (eqb (version b) 1) 16 8 ≤ length b
 unfolding pair_len
 ahead_room b i e lt = omega (arith, (fits_ahead b e).len, one_more i (get_or b 4 0) (cond (eqb (version b) 1) 16 8) lt)
@@ -41,10 +42,12 @@ run_fits b e =
 pub run_eight : (b : List ℕ) → trun_fits b ≡ true → 8 ≤ length b
 run_eight b e = (run_fits b e).eight
 
+-- the row of an index below the count lies inside the body
 pub row_room : (b : List ℕ) (i : ℕ) → trun_fits b ≡ true → i < number32_at 4 b
     → rows_at (number32_at 0 b) + i * row_len (number32_at 0 b) + row_len (number32_at 0 b) ≤ length b
 row_room b i e lt = omega (arith, (run_fits b e).len, one_more i (number32_at 4 b) (row_len (number32_at 0 b)) lt)
 
+-- what stands in front of the rows lies inside the body
 pub rows_front : (b : List ℕ) → trun_fits b ≡ true → rows_at (number32_at 0 b) ≤ length b
 rows_front b e = omega (arith, (run_fits b e).len)
 

@@ -1,0 +1,19 @@
+-- A text gives one answer as a live manifest.
+use Rattle.std.proofs.Common.{◌≡◌, ℕ, List, length, Result, refl, ap, ◌∙◌}
+use Rattle.sm_model.specs.declared.tag.Tag.{Tag}
+use Rattle.sm_model.specs.declared.smil.SmilTrack.{SmilTrack}
+use Rattle.sm_model.specs.declared.raw_track.Form.TheVariants.{Pushed}
+use Rattle.sm_model.specs.LiveTracks.{smil_track}
+use Rattle.sm_model.specs.LiveWalk.{start, walk}
+use Rattle.sm_model.specs.LiveManifests.{IsLiveManifest, fault_of, judged}
+use Rattle.sm_model.specs.LiveRead.{live_manifest}
+use Rattle.sm_model.specs.TagsRead.{tags_of}
+use Rattle.sm_model.proofs.TagTotals.{tags_total}
+use Rattle.sm_smil.proofs.OneReading.{one_live_manifest}
+
+pub some_answer : (text : List ℕ) → IsLiveManifest text (live_manifest text)
+unfolding live_manifest
+some_answer text = (tags_of text, tags_total text, refl)
+
+pub one_answer : (text : List ℕ) (r : Result (List SmilTrack) ℕ) → IsLiveManifest text r → r ≡ live_manifest text
+one_answer text r h = one_live_manifest text r (live_manifest text) h (some_answer text)
