@@ -1,5 +1,5 @@
 -- The boxes of a bare moov, read again: a trak and a trex.
-use Rattle.std.proofs.Common.{◌≡◌, ◌≤◌, ◌<◌, ◌+◌, ◌^◌, ℕ, Bool, true, false, eqb, leb, List, [], ◌∷◌, ◌++◌, length, drop, Option, Some, refl, sym, ap, ◌∙◌, arith, lit<}
+use Rattle.std.proofs.Common.{◌≡◌, ◌<◌, ◌+◌, ◌^◌, ℕ, true, false, eqb, leb, List, [], ◌∷◌, ◌++◌, length, drop, Some, refl, ap, ◌∙◌, arith, lit<}
 use Rattle.std.specs.Prelude.{codes}
 use Rattle.std.specs.Option.{option_map, option_and_then}
 use Rattle.std.proofs.lemmas.Bool.{le-leb, ne_eqb}
@@ -14,7 +14,7 @@ use Rattle.sm_model.specs.Found.{found, bodies}
 use Rattle.sm_model.specs.Fields.{version}
 use Rattle.sm_model.specs.Moov as moov
 use Rattle.sm_model.specs.Moov.{first_body, first_child, number_behind_times, first_entry, no_defaults}
-use Rattle.sm_model.specs.MoovText.{zeros, tkhd, mdhd, sample_type, entry, stsd, stbl, minf, mdia, trak, trex, head}
+use Rattle.sm_model.specs.MoovText.{zeros, tkhd, mdhd, sample_type, entry, stsd, stbl, minf, mdia, head}
 use Rattle.sm_model.proofs.WrittenBoxes.{IsText, made, len32, front32, past32, drop_past, one_box, boxes-end, box_is, box_text_len, one_whole}
 
 pub zeros-len : (n : ℕ) → length (zeros n) ≡ n

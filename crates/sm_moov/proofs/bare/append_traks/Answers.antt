@@ -1,4 +1,4 @@
-use Rattle.std.proofs.Common.{rules, arith, ◌≡◌, ◌∙◌, ◌++◌, ap}
+use Rattle.std.proofs.Common.{rules, arith, ◌∙◌, ◌++◌, ap}
 use Rattle.sm_model.specs.declared.track.Track.{Track}
 use Rattle.sm_model.specs.MoovText.{trak, numbered}
 use Rattle.sm_moov.proofs.NumberedLemmas.{numbered-more}

@@ -1,4 +1,4 @@
-use Rattle.std.proofs.Common.{rules, arith, ◌≡◌, ◌∙◌}
+use Rattle.std.proofs.Common.{rules, arith}
 use Rattle.sm_model.specs.MoovText.{trex, numbered}
 use Rattle.sm_moov.proofs.NumberedLemmas.{numbered-more, first_track}
 use Rattle.sm_moov.proofs.bare.append_trexes.Goals as goal

@@ -1,4 +1,4 @@
-use Rattle.std.proofs.Common.{◌≡◌, ◌∙◌, ◌++◌, ℕ, List, ap}
+use Rattle.std.proofs.Common.{◌∙◌, ◌++◌, ℕ, List, ap}
 use Rattle.std.proofs.lemmas.List.{take-replicate}
 use Rattle.sm_model.specs.MoovText.{zeros}
 use Rattle.sm_moov.proofs.bare.append_zeros.Goals as goal

@@ -1,4 +1,4 @@
-use Rattle.std.proofs.Common.{◌≡◌, ◌∙◌, ap}
+use Rattle.std.proofs.Common.{◌∙◌, ap}
 use Rattle.sm_model.specs.Moov.{moov}
 use Rattle.sm_moov.proofs.BareMoov.{bare_whole, bare_body, bare-len, body_read, timed}
 use Rattle.sm_moov.proofs.law.written_is_read.Goals as goal
