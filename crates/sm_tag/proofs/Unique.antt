@@ -125,8 +125,8 @@ Markups-unique : (bytes : List ℕ) (r s : Result (Markup × List ℕ) Stop) →
 Markups-unique [] r s h k = h ∙ sym k
 Markups-unique (c ∷ cs) r s h k =
     either (eqb c 63) _ _ _ _ _ h k (λ a b. a ∙ sym b) (λ h1 k1.
-      either (eqb c 33) _ _ _ _ _ h1 k1 (λ a b. a ∙ sym b) (λ h2 k2.
-        either (eqb c 47) _ _ _ _ _ h2 k2 (λ a b. a ∙ sym b) (λ a b. Starts-unique a b)))
+    either (eqb c 33) _ _ _ _ _ h1 k1 (λ a b. a ∙ sym b) (λ h2 k2.
+    either (eqb c 47) _ _ _ _ _ h2 k2 (λ a b. a ∙ sym b) (λ a b. Starts-unique a b)))
 
 -- two facts on what stands before a tag
 leads : {l m : Lead} {a b : ℕ} {x y : List ℕ} (p : Lead × ℕ × List ℕ) → p ≡ (l, a, x) → p ≡ (m, b, y) → (l ≡ m) × (a ≡ b) × (x ≡ y)

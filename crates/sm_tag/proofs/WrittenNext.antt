@@ -37,4 +37,3 @@ next_finish size end cs more names name open_names last read =
     let f : Lead × Markup × ℕ × List ℕ = (lead.Tag, markup.Finish name, length (60 ∷ cs), more) in
     let P : Bool → Type 0 = λ b. Founds (not b) (60 ∷ cs) f in
     (f, subst P (sym open_names.0) (marked (lead_tag cs) read (λ e. cc e)), rw last refl)
-

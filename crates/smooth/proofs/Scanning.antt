@@ -132,11 +132,11 @@ broken b track time at count noted s none more = record {
   more = more;
 }
   where
-  longest_at : (n : ℕ) (cs : List Canonical) → n ≤ length b → IsJoin (take n b) cs → n ≤ at
-  longest_at n cs le j =
-      let whole : b ≡ flat_map text_of cs ++ drop n b = sym (take-append-drop n b) ∙ ap (λ (x : List ℕ). x ++ drop n b) j.text in
-      let short = none_longer b s.texts cs (drop at b) (drop n b) s.canonical j.canonical s.front whole none in
-      omega (arith, short, s.at_is, ap length j.text, length-take-le n b le)
+    longest_at : (n : ℕ) (cs : List Canonical) → n ≤ length b → IsJoin (take n b) cs → n ≤ at
+    longest_at n cs le j =
+        let whole : b ≡ flat_map text_of cs ++ drop n b = sym (take-append-drop n b) ∙ ap (λ (x : List ℕ). x ++ drop n b) j.text in
+        let short = none_longer b s.texts cs (drop at b) (drop n b) s.canonical j.canonical s.front whole none in
+        omega (arith, short, s.at_is, ap length j.text, length-take-le n b le)
 
 whole_join : (b : List ℕ) (track time at count : ℕ) (noted : Option (ℕ × ℕ)) (s : IsScanned b track time at count noted) → length b ≤ at → IsJoin b s.texts
 whole_join b track time at count noted s le = record {

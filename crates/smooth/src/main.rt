@@ -5,11 +5,10 @@ mod answer;
 mod pick;
 mod print;
 mod std_ends;
-mod tool;
-mod words;
-
 #[cfg(test)]
 mod tests;
+mod tool;
+mod words;
 
 use std::env;
 use std::process::ExitCode;

@@ -10,23 +10,12 @@ use sm_moof::{Skim, put_fragment, read_canonical, skim_canonical};
 use std::alloc::Global;
 
 // Where the first text that is sought begins, with its place from 1. A later one doesn't count.
-fn noted(
-    before: Option<(u32, usize)>,
-    hit: bool,
-    place: u32,
-    at: usize,
-) -> Option<(u32, usize)>
+fn noted(before: Option<(u32, usize)>, hit: bool, place: u32, at: usize) -> Option<(u32, usize)>
     ensures { result ≡ note before hit place at }
 {
     match before {
         Some(first) => Some(first),
-        None => {
-            if hit {
-                Some((place, at))
-            } else {
-                None
-            }
-        }
+        None => { if hit { Some((place, at)) } else { None } }
     }
 }
 
@@ -61,12 +50,7 @@ fn first_text(input: &[u8], track: u32, time: u64) -> Result<Option<(u32, usize)
 }
 
 // The canonical text in front of these bytes, numbered by its place among all of them.
-fn written(
-    alloc: Global,
-    bytes: &[u8],
-    track: u32,
-    place: u32,
-) -> Result<Option<Bytes>, NoMemory>
+fn written(alloc: Global, bytes: &[u8], track: u32, place: u32) -> Result<Option<Bytes>, NoMemory>
     ensures some { IfOk result (λ answer. IfSome answer (λ text. IsWrittenAgain bytes.now place track text)) }
     ensures none { IfOk result (λ answer. IfNone answer (BeginsWithNone bytes.now)) }
 {

@@ -51,10 +51,8 @@ fn unwritten_status(answer: &Answer) -> u8
 
 /// Prints the line of an answer, and gives the status that tells both.
 pub fn print<O: Sink>(sink: &mut O, answer: &Answer) -> u8
-    ensures {
-        Prints answer.now (record { told = O.held sink.old; faults = O.faults sink.old })
-            (record { told = O.held sink.new; faults = O.faults sink.new }) result
-    }
+    ensures { Prints answer.now (record { told = O.held sink.old; faults = O.faults sink.old })
+        (record { told = O.held sink.new; faults = O.faults sink.new }) result }
 {
     match write_line(sink, answer) {
         Ok(()) => status(answer),

@@ -103,9 +103,24 @@ fn picks_and_refuses(rt: HostRuntime) -> Result<(), Fail> {
         (&behind, 0, &second, "the second of two"),
         (&other, 4, b"error: 47 NotKept\n", "another track"),
         (&[], 4, b"error: 47 NotKept\n", "nothing"),
-        (&TEXT[..136], 3, b"error: input at 0: 50 NotCanonical\n", "cut short"),
-        (&broken, 3, b"error: input at 137: 50 NotCanonical\n", "the second is cut short"),
-        (&begun, 3, b"error: input at 0: 50 NotCanonical\n", "a text behind what is none"),
+        (
+            &TEXT[..136],
+            3,
+            b"error: input at 0: 50 NotCanonical\n",
+            "cut short",
+        ),
+        (
+            &broken,
+            3,
+            b"error: input at 137: 50 NotCanonical\n",
+            "the second is cut short",
+        ),
+        (
+            &begun,
+            3,
+            b"error: input at 0: 50 NotCanonical\n",
+            "a text behind what is none",
+        ),
     ];
     for (input, status, printed, row) in table {
         expect(&rt, alloc, &pick, input, status, printed, row)?;
@@ -139,7 +154,15 @@ fn words_are_exact(rt: HostRuntime) -> Result<(), Fail> {
         &["pick", "1", "9999999999999999999"],
     ];
     for words in refused {
-        expect(&rt, alloc, words, &TEXT, 2, b"error: words\n", "refused words")?;
+        expect(
+            &rt,
+            alloc,
+            words,
+            &TEXT,
+            2,
+            b"error: words\n",
+            "refused words",
+        )?;
     }
     let taken: [(&[&str], u8); 5] = [
         (&["pick", "0000000000000000001", "0000000000000000000"], 0),
@@ -218,7 +241,10 @@ fn each_field_is_read(rt: HostRuntime) -> Result<(), Fail> {
         assert_eq!(rt; run(alloc, &["pick", "1", "0"], &text)?.0, 0, "at {at}");
     }
     let signed = with_number(alloc, 56, 0x01000f01)?;
-    assert_eq!(rt; run(alloc, &["pick", "1", "0"], &signed)?.1.as_slice(), signed.as_slice());
+    assert_eq!(rt;
+        run(alloc, &["pick", "1", "0"], &signed)?.1.as_slice(),
+        signed.as_slice()
+    );
     Ok(())
 }
 
@@ -324,7 +350,11 @@ fn inputs_at_the_limit(rt: HostRuntime) -> Result<(), Fail> {
     for (left, line) in table {
         let mut source = CountedSource { byte: 0, left };
         let mut sink = MemorySink::new(alloc, Calls::from_vec(Vec::new(alloc)));
-        assert_eq!(rt; tool(alloc, &words, &mut source, &mut sink), 3, "{left} bytes");
+        assert_eq!(rt;
+            tool(alloc, &words, &mut source, &mut sink),
+            3,
+            "{left} bytes"
+        );
         assert_eq!(rt; sink.held(), line, "{left} bytes");
         assert_eq!(rt; source.left, 0, "{left} bytes");
     }
@@ -338,7 +368,11 @@ fn ends_that_fail(rt: HostRuntime) -> Result<(), Fail> {
     for call in [1, 2] {
         let (status, printed) = run_failing(alloc, &pick, &TEXT, &[call], &[])?;
         assert_eq!(rt; status, 6, "read {call}");
-        assert_eq!(rt; printed.as_slice(), b"error: read\n".as_slice(), "read {call}");
+        assert_eq!(rt;
+            printed.as_slice(),
+            b"error: read\n".as_slice(),
+            "read {call}"
+        );
     }
     assert_eq!(rt; run_failing(alloc, &pick, &TEXT, &[3], &[])?.0, 0);
     assert_eq!(rt; run_failing(alloc, &["pick"], &TEXT, &[1], &[])?.0, 2);
@@ -382,7 +416,14 @@ fn short_reads_and_writes(rt: HostRuntime) -> Result<(), Fail> {
             let fails = failing > 0 && (failing as usize - 1) * most < 137;
             assert_eq!(rt; status, if fails { 7 } else { 0 }, "{most} {failing}");
             assert!(rt; TEXT.starts_with(held), "{most} {failing}");
-            assert_eq!(rt; held.len(), if fails { (failing as usize - 1) * most } else { 137 });
+            assert_eq!(rt;
+                held.len(),
+                if fails {
+                    (failing as usize - 1) * most
+                } else {
+                    137
+                }
+            );
         }
     }
     Ok(())

@@ -15,10 +15,8 @@ const LIMIT: u64 = 268_435_456;
 
 // What the words and the input come to.
 fn answer_to<I: Source>(alloc: Global, words: &[String], input: &mut I) -> Answer
-    ensures {
-        Means (map string_bytes words.now) (record { told = I.left input.old; faults = I.faults input.old })
-            (record { told = I.left input.new; faults = I.faults input.new }) result
-    }
+    ensures { Means (map string_bytes words.now) (record { told = I.left input.old; faults = I.faults input.old })
+        (record { told = I.left input.new; faults = I.faults input.new }) result }
 {
     let Some((track, time)) = asked_of(words) else {
         return Answer::Words;
@@ -45,14 +43,12 @@ pub fn tool<I: Source, O: Sink>(
     input: &mut I,
     output: &mut O,
 ) -> u8
-    ensures {
-        IsRun (map string_bytes words.now)
-            (record { told = I.left input.old; faults = I.faults input.old })
-            (record { told = I.left input.new; faults = I.faults input.new })
-            (record { told = O.held output.old; faults = O.faults output.old })
-            (record { told = O.held output.new; faults = O.faults output.new })
-            result
-    }
+    ensures { IsRun (map string_bytes words.now)
+        (record { told = I.left input.old; faults = I.faults input.old })
+        (record { told = I.left input.new; faults = I.faults input.new })
+        (record { told = O.held output.old; faults = O.faults output.old })
+        (record { told = O.held output.new; faults = O.faults output.new })
+        result }
 {
     let answer = answer_to(alloc, words, input);
     print(output, &answer)
