@@ -2,6 +2,7 @@
 #![tactic(auto)]
 
 mod answer;
+pub mod law;
 mod pick;
 mod print;
 mod std_ends;
