@@ -34,3 +34,6 @@ pub use sample::{Sample, Samples};
 pub use smil::{Smil, SmilTrack};
 pub use tag::{Attribute, Attributes, Tag};
 pub use track::{Kind, Params, Track, is_fourcc};
+
+#[cfg(test)]
+mod tests;

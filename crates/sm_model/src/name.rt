@@ -127,3 +127,56 @@ impl Name {
         })
     }
 }
+
+#[cfg(test)]
+mod tests {
+    use super::*;
+    use std::test::Fail;
+
+    #[test]
+    fn names_and_places(rt: HostRuntime) -> Result<(), Fail> {
+        let alloc = rt.alloc();
+        let most = [b'a'; 64];
+        let beyond = [b'a'; 65];
+        let table: [(&[u8], Option<u64>, &str); 14] = [
+            (b"a", None, "one byte"),
+            (b"az09AZ_-. ", None, "each kind of byte"),
+            (b"\xc3\xa9t\xc3\xa9", None, "beyond ASCII"),
+            (&most, None, "64 bytes"),
+            (&beyond, Some(65), "65 bytes"),
+            (b"", Some(0), "nothing"),
+            (b"/a", Some(0), "a slash first"),
+            (b"ab(c", Some(2), "a bracket"),
+            (b"a\n", Some(1), "a line feed"),
+            (b"a\x7f", Some(1), "a control byte"),
+            (b"ab\x80", Some(2), "a byte that continues nothing"),
+            (b"ab\xe2\x82", Some(2), "a character cut short"),
+            (b"\xc3\xa9/", Some(2), "a slash behind a character"),
+            (b"a\xc0\xaf", Some(1), "an overlong slash"),
+        ];
+        for (bytes, wrong, row) in table {
+            assert_eq!(rt; Name::fits(bytes), wrong.is_none(), "{row}");
+            match Name::read(alloc, bytes) {
+                Ok(name) => {
+                    assert_eq!(rt; wrong, None, "{row}");
+                    assert_eq!(rt; name.as_bytes(), bytes, "{row}");
+                }
+                Err(fault) => match wrong {
+                    Some(at) => assert_eq!(rt; fault, NameFault::Form { at }, "{row}"),
+                    None => return Err("a name is refused".into()),
+                },
+            }
+        }
+        Ok(())
+    }
+
+    #[test]
+    fn tracks_without_a_header_have_names(rt: HostRuntime) -> Result<(), Fail> {
+        let alloc = rt.alloc();
+        for (id, text) in [(0, "0"), (9, "9"), (u32::MAX, "4294967295")] {
+            let name = Name::of_track(alloc, id)?;
+            assert_eq!(rt; name.as_bytes(), text.as_bytes(), "{id}");
+        }
+        Ok(())
+    }
+}

@@ -90,3 +90,6 @@ pub fn put_fragment(
     append_mdat(&mut out, samples, total)?;
     Ok(Bytes::from_vec(out))
 }
+
+#[cfg(test)]
+mod tests;

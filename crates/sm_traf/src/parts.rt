@@ -6,13 +6,13 @@ ghost use Rattle.sm_traf.specs.Parts.{seen_parts};
 
 use sm_box::{Child, Children, Found};
 
-// 6d1d9b05-42d5-44e6-80e2-141daff757b2
-const TFXD: [u8; 16] = [
+/// The type of the box of a fragment's time and duration: 6d1d9b05-42d5-44e6-80e2-141daff757b2 ([MS-SSTR] 2.2.4.4).
+pub(crate) const TFXD: [u8; 16] = [
     0x6d, 0x1d, 0x9b, 0x05, 0x42, 0xd5, 0x44, 0xe6, 0x80, 0xe2, 0x14, 0x1d, 0xaf, 0xf7, 0x57, 0xb2,
 ];
 
-// d4807ef2-ca39-4695-8e54-26cb9e46a79f
-const TFRF: [u8; 16] = [
+/// The type of the box of the fragments ahead: d4807ef2-ca39-4695-8e54-26cb9e46a79f ([MS-SSTR] 2.2.4.5).
+pub(crate) const TFRF: [u8; 16] = [
     0xd4, 0x80, 0x7e, 0xf2, 0xca, 0x39, 0x46, 0x95, 0x8e, 0x54, 0x26, 0xcb, 0x9e, 0x46, 0xa7, 0x9f,
 ];
 

@@ -5,19 +5,10 @@ ghost use Rattle.sm_model.specs.Numbers.{number32};
 ghost use Rattle.sm_model.specs.Fragments.{sample_bytes, IsValid};
 ghost use Rattle.sm_model.specs.FragText.{row, pair, tfhd, trun, tfxd, tfrf, tfrf_box, traf, ahead_len};
 
+use crate::parts::{TFRF, TFXD};
 use sm_box::{append_head, append_u32, append_u64};
 use sm_model::{Bytes, Fragment, NoMemory, Sample};
 use std::alloc::Global;
-
-// 6d1d9b05-42d5-44e6-80e2-141daff757b2
-const TFXD: [u8; 16] = [
-    0x6d, 0x1d, 0x9b, 0x05, 0x42, 0xd5, 0x44, 0xe6, 0x80, 0xe2, 0x14, 0x1d, 0xaf, 0xf7, 0x57, 0xb2,
-];
-
-// d4807ef2-ca39-4695-8e54-26cb9e46a79f
-const TFRF: [u8; 16] = [
-    0xd4, 0x80, 0x7e, 0xf2, 0xca, 0x39, 0x46, 0x95, 0x8e, 0x54, 0x26, 0xcb, 0x9e, 0x46, 0xa7, 0x9f,
-];
 
 fn append_pair(out: &mut Vec<u8>, time: u64, duration: u64) -> Result<(), NoMemory>
     ensures { OnOk result (out.new.items ≡ out.old.items ++ pair (time, duration)) }
@@ -192,3 +183,6 @@ pub fn put_tfrf(alloc: Global, ahead: &[(u64, u64)]) -> Result<Bytes, NoMemory>
     append_tfrf(&mut out, ahead)?;
     Ok(Bytes::from_vec(out))
 }
+
+#[cfg(test)]
+mod tests;
