@@ -12,3 +12,4 @@ pub mod DigitLemmas
 pub mod TrackIdLemmas
 pub mod TagLengths
 pub mod TagTotals
+pub mod ItemLemmas

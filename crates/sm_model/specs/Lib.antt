@@ -26,3 +26,8 @@ pub mod Moov
 pub mod MoovText
 pub mod TagsRead
 pub mod LiveRead
+pub mod Header
+pub mod Items
+pub mod PushHeads
+pub mod PushBoxes
+pub mod Body
