@@ -14,3 +14,4 @@ pub mod TrackIdLemmas
 pub mod SoundLemmas
 pub mod TagLengths
 pub mod TagTotals
+pub mod ItemLemmas

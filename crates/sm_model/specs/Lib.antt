@@ -28,3 +28,8 @@ pub mod TagsRead
 pub mod LiveRead
 pub mod Sound
 pub mod TagText
+pub mod Header
+pub mod Items
+pub mod PushHeads
+pub mod PushBoxes
+pub mod Body
