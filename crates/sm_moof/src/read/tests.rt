@@ -1,5 +1,5 @@
 use super::*;
-use crate::{is_one_box, track_of};
+use crate::{body_of, is_one_box, track_of};
 use std::alloc::Global;
 use std::test::Fail;
 
@@ -404,6 +404,28 @@ fn one_box_and_nothing_else(rt: HostRuntime) {
     ];
     for (bytes, want) in table {
         assert_eq!(rt; is_one_box(bytes), want, "{bytes:?}");
+    }
+}
+
+#[test]
+fn a_body_stands_behind_the_head(rt: HostRuntime) {
+    let table = [
+        (MDAT, b"A".as_slice()),
+        (b"\0\0\0\x08mdat".as_slice(), b"".as_slice()),
+        (
+            b"\0\0\0\x01mdat\0\0\0\0\0\0\0\x10".as_slice(),
+            b"".as_slice(),
+        ),
+        (
+            b"\0\0\0\x01mdat\0\0\0\0\0\0\0\x11A".as_slice(),
+            b"A".as_slice(),
+        ),
+    ];
+    for (bytes, body) in table {
+        assert!(rt; is_one_box(bytes), "{bytes:?}");
+        if is_one_box(bytes) {
+            assert_eq!(rt; body_of(bytes), body, "{bytes:?}");
+        }
     }
 }
 
