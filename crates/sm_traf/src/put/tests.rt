@@ -1,4 +1,5 @@
-ghost use Rattle.std.specs.Prelude.{◌<◌};
+ghost use Rattle.std.specs.Prelude.{◌<◌, IfOk};
+ghost use Rattle.sm_model.specs.Fragments.{IsValid};
 
 use super::*;
 use sm_model::{Name, Samples};
