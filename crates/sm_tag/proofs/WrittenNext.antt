@@ -1,5 +1,5 @@
 -- The next tag of a written text, where the reader has begun.
-use Rattle.std.proofs.Common.{◌≡◌, ℕ, ◌-◌, Bool, true, false, not, cond, List, [], ◌∷◌, ◌++◌, length, take, Ok, refl, sym, subst}
+use Rattle.std.proofs.Common.{◌≡◌, ℕ, ◌-◌, Bool, true, not, cond, List, [], ◌∷◌, ◌++◌, length, take, Ok, refl, sym, subst}
 use Rattle.sm_model.specs.declared.tag.Attribute.{Attribute}
 use Rattle.sm_model.specs.declared.tag.Tag.TheVariants.{Start, Finish, Text}
 use Rattle.sm_model.specs.declared.markup.Markup.{Markup}
@@ -37,4 +37,3 @@ next_finish size end cs more names name open_names last read =
     let f : Lead × Markup × ℕ × List ℕ = (lead.Tag, markup.Finish name, length (60 ∷ cs), more) in
     let P : Bool → Type 0 = λ b. Founds (not b) (60 ∷ cs) f in
     (f, subst P (sym open_names.0) (marked (lead_tag cs) read (λ e. cc e)), rw last refl)
-

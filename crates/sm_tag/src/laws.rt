@@ -10,13 +10,11 @@ ghost use Rattle.sm_model.specs.Tags.{TagsOf};
 /// A text has one list of tags, so that what is said of some list of its tags is said of the one that [`crate::Tags`] reads.
 pub fn text_has_one_list_of_tags()
     ensures { (text : List ℕ) (a b : List Tag) → TagsOf text a → TagsOf text b → a ≡ b }
-{
-}
+{}
 
 /// Tags that are written plainly are read as they are, whatever follows: the first clause is of a start tag behind its `<`, the
 /// second of an end tag behind its `</`.
 pub fn written_tags_are_read()
     ensures start { (name : List ℕ) (attributes : List Attribute) (empty : Bool) (rest : List ℕ) → IsTagName name → AreWritten [] attributes → Starts (name ++ attributes_then attributes (closing empty rest)) (Ok (Start name attributes empty, rest)) }
     ensures finish { (name rest : List ℕ) → IsTagName name → finish_at (name ++ 62 ∷ rest) ≡ Ok (Finish name, rest) }
-{
-}
+{}
