@@ -3,7 +3,6 @@ use Rattle.std.specs.Prelude.{◌≡◌, ◌≢◌, ◌≤◌, ◌<◌, ◌^◌,
 use Rattle.std.specs.List.{list_all}
 use Rattle.std.specs.Option.{ForSome}
 use Rattle.hex.specs.Hex.{IsBytes}
-use Rattle.sm_model.specs.declared.track.Kind.{Kind}
 use Rattle.sm_model.specs.declared.track.Params.{Params}
 use Rattle.sm_model.specs.declared.track.Track.{Track}
 use Rattle.sm_model.specs.declared.smil.SmilTrack.{SmilTrack}

@@ -9,7 +9,7 @@ use Rattle.sm_model.specs.declared.raw_track.Form.TheVariants.{Pushed, Ladder}
 use Rattle.sm_model.specs.declared.raw_track.RawTrack.{RawTrack}
 use Rattle.sm_model.specs.Tags.{TagsOf}
 use Rattle.sm_model.specs.LiveTracks.{smil_track, ladder_track}
-use Rattle.sm_model.specs.LiveWalk.{Walk, start, walk}
+use Rattle.sm_model.specs.LiveWalk.{start, walk}
 use Rattle.sm_model.specs.LiveFaults.{faults_of, least_from}
 
 -- the place of the tag at fault, if there is one

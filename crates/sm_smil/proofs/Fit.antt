@@ -1,5 +1,5 @@
 -- Where nothing is at fault, every value fits.
-use Rattle.std.proofs.Common.{◌≡◌, ◌⊎◌, inl, inr, ℕ, ◌%◌, Bool, true, false, ◌&&◌, cond, eqb, leb, ltb, List, [], ◌∷◌, ◌++◌, length, Option, Some, None, option_to_list, Result, Ok, Err, min, refl, ap, sym, ◌∙◌, All, get_or, unwrap_or}
+use Rattle.std.proofs.Common.{◌≡◌, ℕ, ◌%◌, Bool, true, false, cond, eqb, leb, ltb, List, [], ◌∷◌, ◌++◌, length, Option, Some, None, Err, min, refl, ap, sym, ◌∙◌, All, get_or, unwrap_or}
 use Rattle.std.specs.List.{list_all, AllByRecursion}
 use Rattle.std.specs.Prelude.{IsAscii}
 use Rattle.std.specs.Str.Lossy.{utf8_valid_len}
@@ -21,7 +21,7 @@ use Rattle.sm_model.specs.declared.track.Kind.TheVariants.{Video, Audio, Text}
 use Rattle.sm_model.specs.Names.{is_name, first_wrong}
 use Rattle.sm_model.specs.LiveTracks.{index_of, value_of, is_private, is_fit, kind_name, name_of}
 use Rattle.sm_model.specs.LiveWalk.{Walk}
-use Rattle.sm_model.specs.LiveFaults.{misfits, inner_faults, is_misread, end_faults, tracks_faults, faults_of, sooner, least_from}
+use Rattle.sm_model.specs.LiveFaults.{misfits, inner_faults, is_misread, end_faults, tracks_faults, faults_of, least_from}
 use Rattle.sm_smil.specs.Answers.{AreFit}
 
 -- digits that are private data decode

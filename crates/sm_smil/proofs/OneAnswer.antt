@@ -1,11 +1,7 @@
 -- A text gives one answer as a live manifest.
-use Rattle.std.proofs.Common.{◌≡◌, ℕ, List, length, Result, refl, ap, ◌∙◌}
-use Rattle.sm_model.specs.declared.tag.Tag.{Tag}
+use Rattle.std.proofs.Common.{◌≡◌, ℕ, List, Result, refl}
 use Rattle.sm_model.specs.declared.smil.SmilTrack.{SmilTrack}
-use Rattle.sm_model.specs.declared.raw_track.Form.TheVariants.{Pushed}
-use Rattle.sm_model.specs.LiveTracks.{smil_track}
-use Rattle.sm_model.specs.LiveWalk.{start, walk}
-use Rattle.sm_model.specs.LiveManifests.{IsLiveManifest, fault_of, judged}
+use Rattle.sm_model.specs.LiveManifests.{IsLiveManifest}
 use Rattle.sm_model.specs.LiveRead.{live_manifest}
 use Rattle.sm_model.specs.TagsRead.{tags_of}
 use Rattle.sm_model.proofs.TagTotals.{tags_total}

@@ -1,8 +1,7 @@
 -- A text without a fault names a valid channel.
-use Rattle.std.proofs.Common.{◌≡◌, ◌≢◌, ◌<◌, ◌≤◌, ◌*◌, ◌%◌, ℕ, Bool, true, false, ◌&&◌, ◌||◌, not, cond, eqb, leb, ltb, List, [], ◌∷◌, ◌++◌, length, map, Option, Some, None, Result, Ok, Err, is_none, unwrap_or, refl, ap, sym, ◌∙◌, All, AllPairs, arith}
+use Rattle.std.proofs.Common.{◌≡◌, ◌≢◌, ◌<◌, ◌≤◌, ◌%◌, ℕ, Bool, true, false, ◌&&◌, ◌||◌, not, cond, eqb, leb, ltb, List, [], ◌∷◌, ◌++◌, length, map, Option, Some, None, is_none, unwrap_or, refl, sym, ◌∙◌, AllPairs, arith}
 use Rattle.std.proofs.lemmas.List.{length-map}
-use Rattle.std.specs.Prelude.{IsTrue}
-use Rattle.std.specs.List.{list_all, AllByRecursion}
+use Rattle.std.specs.List.{AllByRecursion}
 use Rattle.std.specs.Result.{result_unwrap_or}
 use Rattle.std.proofs.lemmas.Bool.{and_parts, eqb-true, eq-eqb, leb-true, ltb-true}
 use Rattle.std.proofs.lemmas.List.Elements.{All-from_recursion}
@@ -13,13 +12,11 @@ use Rattle.hex.specs.Hex.{decode_of, is_hex_digit}
 use Rattle.hex.proofs.HexLemmas.{decode_of-digits, decode_of-ok}
 use Rattle.sm_model.specs.declared.raw_track.Form.{Form}
 use Rattle.sm_model.specs.declared.raw_track.Form.TheVariants.{Pushed, Ladder}
-use Rattle.sm_model.specs.declared.raw_track.ParamName.{ParamName}
 use Rattle.sm_model.specs.declared.raw_track.ParamName.TheVariants.{SystemBitrate, TrackId, TimeScale, FourCc, CodecPrivateData}
 use Rattle.sm_model.specs.declared.raw_track.SmilParam.{SmilParam}
 use Rattle.sm_model.specs.declared.raw_track.RawTrack.{RawTrack}
 use Rattle.sm_model.specs.declared.track.Kind.{Kind}
 use Rattle.sm_model.specs.declared.track.Kind.TheVariants.{Video, Audio, Text}
-use Rattle.sm_model.specs.declared.track.Track.{Track}
 use Rattle.sm_model.specs.declared.smil.SmilTrack.{SmilTrack}
 use Rattle.sm_model.specs.Digits.{is_number, number_of, decimal_from}
 use Rattle.sm_model.specs.Channels.{is_fourcc, IsTrack, Agree, IsChannel, IsUntimed, Differ, IsSmil}

@@ -1,6 +1,6 @@
 -- At most 64 tracks are kept on the way through the tags.
 use Rattle.std.proofs.Common.{◌≡◌, ◌≢◌, ◌≤◌, ◌<◌, ◌+◌, ◌-◌, ℕ, Bool, true, false, ◌&&◌, cond, eqb, leb, List, [], ◌∷◌, ◌++◌, length, take, Option, Some, None, option_to_list, refl, arith, length-append, length-take}
-use Rattle.std.proofs.lemmas.Bool.{eqb-true, eqb-false, leb-true, leb-false}
+use Rattle.std.proofs.lemmas.Bool.{eqb-false, leb-false}
 use Rattle.std.specs.Prelude.{codes}
 use Rattle.sm_model.specs.declared.tag.Attribute.{Attribute}
 use Rattle.sm_model.specs.declared.tag.Tag.{Tag}
@@ -9,7 +9,7 @@ use Rattle.sm_model.specs.declared.track.Kind.{Kind}
 use Rattle.sm_model.specs.declared.raw_track.Form.{Form}
 use Rattle.sm_model.specs.declared.raw_track.RawTrack.{RawTrack}
 use Rattle.sm_model.specs.LiveTracks.{is_same}
-use Rattle.sm_model.specs.LiveWalk.{Walk, start, is_switch, track_kind, kind_in, enters, begins, with_current, passes, meets, starts, finishes, step, walk, first_place, attribute_of}
+use Rattle.sm_model.specs.LiveWalk.{Walk, start, is_switch, track_kind, kind_in, enters, begins, with_current, passes, meets, starts, finishes, step, walk, first_place}
 
 -- at most 64 tracks have ended, and fewer where one hasn't, which then is open
 pub record Fits (w : Walk) : Type 0 where

@@ -1,17 +1,16 @@
 -- The live manifest of a channel is read as that channel.
-use Rattle.std.proofs.Common.{◌≡◌, ◌≢◌, ◌<◌, ◌≤◌, ◌+◌, ◌-◌, ◌^◌, ℕ, suc, Bool, true, false, ◌&&◌, ◌||◌, not, cond, eqb, List, [], ◌∷◌, ◌++◌, length, map, take, Option, Some, None, option_to_list, unwrap_or, Result, Ok, Err, refl, ap, sym, ◌∙◌, subst, append_assoc, length-append, arith, All, AllPairs}
-use Rattle.std.specs.Prelude.{codes, decimal}
+use Rattle.std.proofs.Common.{◌≡◌, ◌<◌, ◌≤◌, ◌+◌, ◌-◌, ◌^◌, ℕ, suc, Bool, true, false, ◌&&◌, ◌||◌, not, eqb, List, [], ◌∷◌, ◌++◌, length, map, Some, None, unwrap_or, Result, Ok, refl, ap, sym, ◌∙◌, subst, append_assoc, length-append, arith, All, AllPairs}
+use Rattle.std.specs.Prelude.{codes}
 use Rattle.std.specs.List.{AllByRecursion}
 use Rattle.std.specs.Result.{result_unwrap_or}
 use Rattle.std.proofs.lemmas.Bool.{ne_eqb, eq-eqb}
 use Rattle.std.proofs.lemmas.List.Elements.{recursion_from_All}
 use Rattle.std.proofs.lemmas.Slice.Eq.{bytes_eq-Decides}
-use Rattle.hex.specs.Hex.{encode_upper, decode_of}
 use Rattle.hex.proofs.HexLemmas.{decode_of-encode_upper}
 use Rattle.sm_tag.proofs.Zeros.{without_zeros_nonzero}
 use Rattle.sm_model.specs.declared.tag.Attribute.{Attribute}
 use Rattle.sm_model.specs.declared.tag.Tag.{Tag}
-use Rattle.sm_model.specs.declared.tag.Tag.TheVariants.{Start, Finish, End}
+use Rattle.sm_model.specs.declared.tag.Tag.TheVariants.{Start, End}
 use Rattle.sm_model.specs.declared.markup.Markup.{Markup}
 use Rattle.sm_model.specs.declared.markup.Markup.TheVariants as markup
 use Rattle.sm_model.specs.declared.markup.Lead.{Lead}
@@ -25,10 +24,10 @@ use Rattle.sm_model.specs.declared.track.Track.{Track}
 use Rattle.sm_model.specs.Channels.{IsTrack, Agree, IsChannel, IsNarrowTrack}
 use Rattle.sm_model.specs.TagParts.{name_at}
 use Rattle.sm_model.specs.TagMarkup.{Markups, lead_at, finish_at, instruction_at, past}
-use Rattle.sm_model.specs.Tags.{Left, Founds, bare, marked, skipped, Next, Runs, ends, follows, begin, without_zeros, without_mark}
+use Rattle.sm_model.specs.Tags.{Left, Founds, bare, marked, skipped, Next, ends, begin, without_zeros, without_mark}
 use Rattle.sm_model.specs.LiveTracks.{is_same, value_of, number_in, name_of, bitrate_of, timescale_of, bytes_in, numbers_of, track_of, ladder_track}
-use Rattle.sm_model.specs.LiveWalk.{Walk, start, step, walk}
-use Rattle.sm_model.specs.LiveFaults.{misfits, inner_faults, are_equal, do_differ, is_kind, clash, collide, lacks_part, collides_with, end_faults, tracks_faults, faults_of, text_faults, least_from}
+use Rattle.sm_model.specs.LiveWalk.{Walk, start, walk}
+use Rattle.sm_model.specs.LiveFaults.{inner_faults, is_kind, clash, collide, lacks_part, collides_with, end_faults, tracks_faults, text_faults}
 use Rattle.sm_model.specs.LiveManifests.{bad_of, fault_of, judged, IsLadder}
 use Rattle.sm_model.specs.LiveText.{track_lines, tracks_lines, head_lines, foot_lines, live_text}
 use Rattle.sm_smil.proofs.Fit.{neither}

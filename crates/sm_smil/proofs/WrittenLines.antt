@@ -1,22 +1,18 @@
 -- The lines of a live manifest, read one after another.
-use Rattle.std.proofs.Common.{◌≡◌, ◌≢◌, ◌<◌, ◌+◌, ◌-◌, ℕ, Bool, true, false, not, cond, eqb, leb, List, [], ◌∷◌, ◌++◌, length, map, take, Option, Some, None, Result, Ok, Err, refl, ap, sym, ◌∙◌, subst, append_assoc}
+use Rattle.std.proofs.Common.{◌≡◌, ◌-◌, ℕ, Bool, true, false, cond, List, [], ◌∷◌, ◌++◌, length, map, take, None, Ok, refl, sym, subst, append_assoc}
 use Rattle.std.specs.Prelude.{codes, decimal}
 use Rattle.std.specs.List.{list_all}
-use Rattle.hex.specs.Hex.{encode_upper}
 use Rattle.sm_model.specs.declared.tag.Attribute.{Attribute}
 use Rattle.sm_model.specs.declared.tag.Tag.{Tag}
-use Rattle.sm_model.specs.declared.tag.Tag.TheVariants.{Start, Finish, Text, End, Bad}
-use Rattle.sm_model.specs.declared.markup.Markup.{Markup}
+use Rattle.sm_model.specs.declared.tag.Tag.TheVariants.{Start, Finish, Text}
 use Rattle.sm_model.specs.declared.markup.Markup.TheVariants as markup
-use Rattle.sm_model.specs.declared.markup.Lead.{Lead}
-use Rattle.sm_model.specs.declared.markup.Lead.TheVariants as lead
 use Rattle.sm_model.specs.declared.raw_track.Form.TheVariants.{Ladder}
 use Rattle.sm_model.specs.declared.track.Kind.{Kind}
 use Rattle.sm_model.specs.declared.track.Kind.TheVariants as kind
 use Rattle.sm_model.specs.declared.track.Track.{Track}
 use Rattle.sm_model.specs.TagParts.{name_at}
-use Rattle.sm_model.specs.TagMarkup.{Markups, lead_at, finish_at}
-use Rattle.sm_model.specs.Tags.{Left, Founds, bare, marked, Next, Runs, follows, closes}
+use Rattle.sm_model.specs.TagMarkup.{Markups, finish_at}
+use Rattle.sm_model.specs.Tags.{Left, Next, Runs, follows, closes}
 use Rattle.sm_model.specs.LiveTracks.{ladder_track}
 use Rattle.sm_model.specs.LiveWalk.{Walk, step, walk}
 use Rattle.sm_model.specs.LiveFaults.{faults_of, least_from}

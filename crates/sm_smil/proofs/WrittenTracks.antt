@@ -1,13 +1,10 @@
 -- A written track is read as it is, param by param.
-use Rattle.std.proofs.Common.{◌≡◌, ◌≢◌, ◌⊎◌, inl, inr, ◌<◌, ◌≤◌, ◌+◌, ◌-◌, ◌^◌, ℕ, suc, Bool, true, false, cond, eqb, leb, ltb, List, [], ◌∷◌, ◌++◌, length, take, Option, Some, None, option_map, unwrap_or, refl, ap, sym, ◌∙◌, subst, append_assoc, arith}
+use Rattle.std.proofs.Common.{◌≡◌, ◌⊎◌, inl, inr, ◌<◌, ◌≤◌, ◌+◌, ◌^◌, ℕ, Bool, true, false, cond, eqb, leb, ltb, List, [], ◌∷◌, ◌++◌, length, Option, Some, None, option_map, refl, ap, sym, ◌∙◌, subst, append_assoc, arith}
 use Rattle.std.specs.Prelude.{codes, decimal}
 use Rattle.std.specs.List.{list_all}
-use Rattle.std.specs.Result.{result_unwrap_or}
-use Rattle.std.proofs.lemmas.Bool.{cases_eq, cases_lt, eqb-true, eq-eqb, ne_eqb, lt-ltb, le-ltb, lt-leb}
-use Rattle.hex.specs.Hex.{encode_upper, decode_of}
-use Rattle.hex.proofs.HexLemmas.{decode_of-encode_upper}
-use Rattle.sm_model.specs.declared.tag.Attribute.{Attribute}
-use Rattle.sm_model.specs.declared.tag.Tag.TheVariants.{Start, Finish}
+use Rattle.std.proofs.lemmas.Bool.{cases_eq, cases_lt, eq-eqb, ne_eqb, lt-ltb, le-ltb, lt-leb}
+use Rattle.hex.specs.Hex.{encode_upper}
+use Rattle.sm_model.specs.declared.tag.Tag.TheVariants.{Start}
 use Rattle.sm_model.specs.declared.track.Kind.{Kind}
 use Rattle.sm_model.specs.declared.track.Kind.TheVariants as kind
 use Rattle.sm_model.specs.declared.track.Params.{Params}
@@ -17,9 +14,9 @@ use Rattle.sm_model.specs.declared.raw_track.ParamName.{ParamName}
 use Rattle.sm_model.specs.declared.raw_track.ParamName.TheVariants.{SystemBitrate, TrackId, TrackName, TimeScale, FourCc, CodecPrivateData, MaxWidth, MaxHeight, AudioTag, Channels, SamplingRate, BitsPerSample, PacketSize}
 use Rattle.sm_model.specs.declared.raw_track.SmilParam.{SmilParam}
 use Rattle.sm_model.specs.declared.raw_track.RawTrack.{RawTrack}
-use Rattle.sm_model.specs.Channels.{IsTrack, IsNarrowTrack, IsNarrowOption}
+use Rattle.sm_model.specs.Channels.{IsNarrowTrack, IsNarrowOption}
 use Rattle.sm_model.specs.LiveTracks.{index_of, value_of, is_fit}
-use Rattle.sm_model.specs.LiveWalk.{Walk, step, with_param, with_named, is_read, param_name, text_param, number_param, video_param, audio_param, kind_in}
+use Rattle.sm_model.specs.LiveWalk.{Walk, step, with_param, is_read, param_name, text_param, number_param, video_param, audio_param, kind_in}
 use Rattle.sm_model.specs.LiveFaults.{misfits}
 use Rattle.sm_model.specs.LiveText.{param_line, number_line, option_line, number_lines, opening_line, closing_line, track_lines, element_name}
 use Rattle.sm_smil.proofs.Fit.{same_name}

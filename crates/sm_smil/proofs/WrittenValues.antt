@@ -1,24 +1,20 @@
 -- The values of a written track: they stand for themselves, fit their names and are read again.
-use Rattle.std.proofs.Common.{◌≡◌, ◌≢◌, ◌<◌, ◌≤◌, ◌+◌, ◌*◌, ◌/◌, ◌%◌, ◌^◌, ℕ, zero, suc, Bool, true, false, ◌&&◌, ◌||◌, not, cond, eqb, leb, ltb, List, [], ◌∷◌, ◌++◌, length, take, min, Option, Some, None, option_map, Result, Ok, Err, get_or, refl, ap, sym, ◌∙◌, arith, rules, length-take}
-use Rattle.std.specs.Prelude.{◌==◌, decimal, IsTrue, take_while}
+use Rattle.std.proofs.Common.{◌≡◌, ◌<◌, ◌≤◌, ◌+◌, ◌/◌, ◌%◌, ◌^◌, ℕ, zero, suc, Bool, true, false, cond, eqb, leb, ltb, List, [], ◌∷◌, length, Option, Some, None, option_map, get_or, refl, arith, rules, length-take}
+use Rattle.std.specs.Prelude.{decimal}
 use Rattle.std.specs.List.{list_all, prefix_len}
-use Rattle.std.specs.Option.{ForSome}
-use Rattle.std.specs.Char.{digit_value}
-use Rattle.std.specs.Str.Lossy.{utf8_valid_len}
-use Rattle.std.specs.Str.Parse.{AllDigits}
-use Rattle.std.proofs.lemmas.Bool.{and_parts, eqb-true, ne_eqb, le-leb, lt-ltb, eq-eqb}
-use Rattle.std.proofs.lemmas.Fmt.{decimal_is_IsNumeral, decimal_nonempty, length-decimal-le, digits_decimal, digits_value-decimal}
-use Rattle.std.proofs.lemmas.Str.Parse.{digit_from_value, numerals_by_fold, IsNumeralModel}
+use Rattle.std.proofs.lemmas.Bool.{and_parts, eqb-true, le-leb, lt-ltb, eq-eqb}
+use Rattle.std.proofs.lemmas.Fmt.{decimal_nonempty, length-decimal-le, digits_decimal, digits_value-decimal}
+use Rattle.std.proofs.lemmas.Str.Parse.{numerals_by_fold, IsNumeralModel}
 use Rattle.std.proofs.lemmas.List.Sums.{list_all-from_AllPass}
-use Rattle.hex.specs.Hex.{encode_upper, encode_with, upper_digits, is_hex_digit, IsBytes, decode_of}
+use Rattle.hex.specs.Hex.{encode_upper, encode_with, upper_digits, is_hex_digit, IsBytes}
 use Rattle.hex.proofs.HexLemmas.{length-encode_with, decode_of-encode_upper, decode_of-ok}
 use Rattle.sm_model.specs.declared.track.Track.{Track}
 use Rattle.sm_model.specs.declared.raw_track.ParamName.{ParamName}
 use Rattle.sm_model.specs.declared.raw_track.ParamName.TheVariants.{SystemBitrate, TrackId, TrackName, TimeScale, FourCc, CodecPrivateData, MaxWidth, MaxHeight, AudioTag, Channels, SamplingRate, BitsPerSample, PacketSize}
 use Rattle.sm_model.specs.Digits.{is_digit, decimal_from, is_number, number_of}
 use Rattle.sm_model.specs.Names.{is_name, is_name_byte, first_wrong}
-use Rattle.sm_model.specs.Channels.{is_fourcc, is_fourcc_byte, IsTrack, IsNarrowTrack, IsNarrowOption, AreNarrow}
-use Rattle.sm_model.specs.LiveTracks.{is_private, is_timescale, is_fit, number_in}
+use Rattle.sm_model.specs.Channels.{is_fourcc, is_fourcc_byte, IsTrack, IsNarrowTrack, IsNarrowOption}
+use Rattle.sm_model.specs.LiveTracks.{is_private, is_timescale, number_in}
 use Rattle.sm_model.specs.TagText.{is_plain}
 use Rattle.sm_tag.proofs.WrittenTags.{not_of}
 

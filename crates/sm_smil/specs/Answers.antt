@@ -1,10 +1,9 @@
 -- What the readers of live manifests answer, and what their parts hand on.
-use Rattle.std.specs.Prelude.{◌≡◌, ℕ, Bool, true, List, Option, Some, Result, Ok, Err}
+use Rattle.std.specs.Prelude.{◌≡◌, ℕ, true, List, Option, Some, Result, Ok, Err}
 use Rattle.sm_model.specs.declared.tag.Tag.{Tag}
 use Rattle.sm_model.specs.declared.raw_track.Form.{Form}
 use Rattle.sm_model.specs.declared.raw_track.ParamName.{ParamName}
 use Rattle.sm_model.specs.declared.raw_track.SmilParam.{SmilParam}
-use Rattle.sm_model.specs.declared.raw_track.RawTrack.{RawTrack}
 use Rattle.sm_model.specs.Tags.{Left, Runs}
 use Rattle.sm_model.specs.LiveTracks.{value_of, is_fit}
 use Rattle.sm_model.specs.LiveWalk.{Walk, start, walk}

@@ -3,11 +3,11 @@ use sm_model::{Kind, Track};
 use std::test::Fail;
 
 // A header of three tracks as an encoder writes it.
-const S1: &[u8] =
+const HEADER: &[u8] =
     b"<?xml version=\"1.0\" encoding=\"utf-8\"?>\n<smil xmlns=\"http://www.w3.org/2001/SMIL20/Language\">\n  <head>\n    <meta name=\"creator\" content=\"encoder\" />\n  </head>\n  <body>\n    <switch>\n      <video src=\"Streams\" systemBitrate=\"350000\">\n        <param name=\"trackID\" value=\"1\" valuetype=\"data\" />\n        <param name=\"FourCC\" value=\"H264\" valuetype=\"data\" />\n        <param name=\"CodecPrivateData\" value=\"000000016742\" valuetype=\"data\" />\n        <param name=\"MaxWidth\" value=\"640\" valuetype=\"data\" />\n        <param name=\"MaxHeight\" value=\"360\" valuetype=\"data\" />\n      </video>\n      <video src=\"Streams\" systemBitrate=\"700000\">\n        <param name=\"trackID\" value=\"2\" valuetype=\"data\" />\n        <param name=\"FourCC\" value=\"H264\" valuetype=\"data\" />\n        <param name=\"CodecPrivateData\" value=\"000000016742\" valuetype=\"data\" />\n        <param name=\"MaxWidth\" value=\"1280\" valuetype=\"data\" />\n        <param name=\"MaxHeight\" value=\"720\" valuetype=\"data\" />\n      </video>\n      <audio src=\"Streams\" systemBitrate=\"64000\">\n        <param name=\"trackID\" value=\"3\" valuetype=\"data\" />\n        <param name=\"FourCC\" value=\"AACL\" valuetype=\"data\" />\n        <param name=\"CodecPrivateData\" value=\"1210\" valuetype=\"data\" />\n        <param name=\"AudioTag\" value=\"255\" valuetype=\"data\" />\n        <param name=\"Channels\" value=\"2\" valuetype=\"data\" />\n        <param name=\"SamplingRate\" value=\"44100\" valuetype=\"data\" />\n        <param name=\"BitsPerSample\" value=\"16\" valuetype=\"data\" />\n        <param name=\"PacketSize\" value=\"4\" valuetype=\"data\" />\n      </audio>\n    </switch>\n  </body>\n</smil>\n";
 
 // The live manifest of its channel.
-const PUT_C1: &[u8] =
+const WRITTEN: &[u8] =
     b"<?xml version=\"1.0\" encoding=\"utf-8\"?>\n<smil xmlns=\"http://www.w3.org/2001/SMIL20/Language\">\n<head/>\n<body>\n<switch>\n<video src=\"Streams\" systemBitrate=\"350000\">\n<param name=\"trackID\" value=\"1\" valuetype=\"data\"/>\n<param name=\"trackName\" value=\"video\" valuetype=\"data\"/>\n<param name=\"TimeScale\" value=\"10000000\" valuetype=\"data\"/>\n<param name=\"FourCC\" value=\"H264\" valuetype=\"data\"/>\n<param name=\"CodecPrivateData\" value=\"000000016742\" valuetype=\"data\"/>\n<param name=\"MaxWidth\" value=\"640\" valuetype=\"data\"/>\n<param name=\"MaxHeight\" value=\"360\" valuetype=\"data\"/>\n</video>\n<video src=\"Streams\" systemBitrate=\"700000\">\n<param name=\"trackID\" value=\"2\" valuetype=\"data\"/>\n<param name=\"trackName\" value=\"video\" valuetype=\"data\"/>\n<param name=\"TimeScale\" value=\"10000000\" valuetype=\"data\"/>\n<param name=\"FourCC\" value=\"H264\" valuetype=\"data\"/>\n<param name=\"CodecPrivateData\" value=\"000000016742\" valuetype=\"data\"/>\n<param name=\"MaxWidth\" value=\"1280\" valuetype=\"data\"/>\n<param name=\"MaxHeight\" value=\"720\" valuetype=\"data\"/>\n</video>\n<audio src=\"Streams\" systemBitrate=\"64000\">\n<param name=\"trackID\" value=\"3\" valuetype=\"data\"/>\n<param name=\"trackName\" value=\"audio\" valuetype=\"data\"/>\n<param name=\"TimeScale\" value=\"10000000\" valuetype=\"data\"/>\n<param name=\"FourCC\" value=\"AACL\" valuetype=\"data\"/>\n<param name=\"CodecPrivateData\" value=\"1210\" valuetype=\"data\"/>\n<param name=\"AudioTag\" value=\"255\" valuetype=\"data\"/>\n<param name=\"Channels\" value=\"2\" valuetype=\"data\"/>\n<param name=\"SamplingRate\" value=\"44100\" valuetype=\"data\"/>\n<param name=\"BitsPerSample\" value=\"16\" valuetype=\"data\"/>\n<param name=\"PacketSize\" value=\"4\" valuetype=\"data\"/>\n</audio>\n</switch>\n</body>\n</smil>\n";
 
 fn push(out: &mut String, rt: &HostRuntime, mark: &str, number: Option<u32>) -> Result<(), Fail> {
@@ -77,9 +77,9 @@ fn ladder(rt: &HostRuntime, text: &[u8]) -> Result<String, Fail> {
 
 #[test]
 fn a_header_is_read(rt: HostRuntime) -> Result<(), Fail> {
-    assert_eq!(rt; S1.len(), 1585);
+    assert_eq!(rt; HEADER.len(), 1585);
     assert_eq!(rt;
-        pushed(&rt, S1)?.as_str(),
+        pushed(&rt, HEADER)?.as_str(),
         "video video 350000 0 H264 000000016742 w640 h360 #1; video video 700000 0 H264 000000016742 w1280 h720 #2; audio audio 64000 0 AACL 1210 t255 c2 r44100 b16 p4 #3; "
     );
     Ok(())
@@ -88,13 +88,13 @@ fn a_header_is_read(rt: HostRuntime) -> Result<(), Fail> {
 #[test]
 fn a_channel_is_read_and_written_again(rt: HostRuntime) -> Result<(), Fail> {
     assert_eq!(rt;
-        ladder(&rt, PUT_C1)?.as_str(),
+        ladder(&rt, WRITTEN)?.as_str(),
         "video video 350000 10000000 H264 000000016742 w640 h360; video video 700000 10000000 H264 000000016742 w1280 h720; audio audio 64000 10000000 AACL 1210 t255 c2 r44100 b16 p4; "
     );
-    match read_ladder(rt.alloc(), PUT_C1) {
+    match read_ladder(rt.alloc(), WRITTEN) {
         Ok(channel) => {
             let text = put_live_manifest(rt.alloc(), &channel)?;
-            assert_eq!(rt; text.as_slice(), PUT_C1);
+            assert_eq!(rt; text.as_slice(), WRITTEN);
         }
         Err(_) => assert!(rt; false, "refused"),
     }

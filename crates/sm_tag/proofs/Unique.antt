@@ -1,5 +1,5 @@
 -- A text has one reading.
-use Rattle.std.proofs.Common.{◌≡◌, ◌≢◌, ℕ, Bool, true, false, eqb, List, [], ◌∷◌, ◌++◌, Option, Some, None, Result, Ok, Err, refl, ap, sym, ◌∙◌}
+use Rattle.std.proofs.Common.{◌≡◌, ℕ, Bool, true, false, eqb, List, [], ◌∷◌, Option, Some, None, Result, Ok, Err, refl, ap, sym, ◌∙◌}
 use Rattle.std.specs.Prelude.{MatchBool}
 use Rattle.sm_model.specs.declared.tag.Attribute.{Attribute}
 use Rattle.sm_model.specs.declared.tag.Tag.{Tag}
@@ -7,8 +7,8 @@ use Rattle.sm_model.specs.declared.markup.Markup.{Markup}
 use Rattle.sm_model.specs.declared.markup.Markup.TheVariants.{Skipped}
 use Rattle.sm_model.specs.declared.markup.Lead.{Lead}
 use Rattle.sm_model.specs.declared.markup.Lead.TheVariants as lead
-use Rattle.sm_model.specs.TagParts.{Stop, short, wrong, piece_at, opening_at, mark_at, name_at, has_name, naming, Values, refused, closed, goes_on, AttributeAt, unopened, opened, Tails, unmarked, ended, broken, twice, another}
-use Rattle.sm_model.specs.TagMarkup.{Starts, unnamed, named, starting, Markups, instruction_at, comment_at, finish_at, lead_at}
+use Rattle.sm_model.specs.TagParts.{Stop, short, wrong, piece_at, opening_at, mark_at, name_at, Values, refused, closed, goes_on, AttributeAt, unopened, opened, Tails, unmarked, ended, broken, twice, another}
+use Rattle.sm_model.specs.TagMarkup.{Starts, unnamed, named, Markups, lead_at}
 use Rattle.sm_model.specs.Tags as tags
 use Rattle.sm_model.specs.Tags.{Left, Founds, bare, lost, stray, marked, skipped, Next, gives, Runs, ends, follows, is_last}
 

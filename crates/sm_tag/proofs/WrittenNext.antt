@@ -1,5 +1,5 @@
 -- The next tag of a written text, where the reader has begun.
-use Rattle.std.proofs.Common.{◌≡◌, ℕ, ◌-◌, Bool, true, false, not, cond, List, [], ◌∷◌, ◌++◌, length, take, Ok, refl, sym, subst}
+use Rattle.std.proofs.Common.{◌≡◌, ℕ, ◌-◌, Bool, true, not, cond, List, [], ◌∷◌, ◌++◌, length, take, Ok, refl, sym, subst}
 use Rattle.sm_model.specs.declared.tag.Attribute.{Attribute}
 use Rattle.sm_model.specs.declared.tag.Tag.TheVariants.{Start, Finish, Text}
 use Rattle.sm_model.specs.declared.markup.Markup.{Markup}

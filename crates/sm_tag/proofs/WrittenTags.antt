@@ -1,13 +1,11 @@
 -- Tags are read as they are written: plain values in quotes, one space before each attribute.
-use Rattle.std.proofs.Common.{◌≡◌, ◌≢◌, ◌<◌, ◌+◌, ◌-◌, ℕ, suc, Bool, true, false, ◌&&◌, ◌||◌, not, cond, eqb, leb, ltb, List, [], ◌∷◌, ◌++◌, length, take, Option, Some, None, Result, Ok, Err, refl, ap, sym, ◌∙◌, subst, append_assoc, arith}
-use Rattle.std.specs.Prelude.{◌==◌}
+use Rattle.std.proofs.Common.{◌≡◌, ℕ, Bool, true, false, not, eqb, ltb, List, [], ◌∷◌, ◌++◌, length, Some, None, Ok, refl, ap, sym, subst, append_assoc, arith}
 use Rattle.std.specs.List.{list_all}
 use Rattle.std.proofs.lemmas.Bool.{and_parts, eqb-true, lt-ltb}
 use Rattle.sm_model.specs.declared.tag.Attribute.{Attribute}
-use Rattle.sm_model.specs.declared.markup.Markup.{Markup}
 use Rattle.sm_model.specs.declared.markup.Markup.TheVariants as markup
-use Rattle.sm_model.specs.TagBytes.{is_tag_start, is_tag_byte, is_space, front, behind}
-use Rattle.sm_model.specs.TagParts.{Stop, piece_at, Values, closed, goes_on, name_at, opening_at, quote_at, AttributeAt, opened, mark_at, has_name, Tails, ended, another}
+use Rattle.sm_model.specs.TagBytes.{is_tag_start, is_tag_byte, front, behind}
+use Rattle.sm_model.specs.TagParts.{piece_at, Values, closed, goes_on, name_at, opening_at, quote_at, AttributeAt, opened, mark_at, Tails, ended, another}
 use Rattle.sm_model.specs.TagMarkup.{Starts, named, finish_at}
 use Rattle.sm_model.specs.TagText.{is_plain, IsTagName, closing, attributes_then, AreWritten}
 
