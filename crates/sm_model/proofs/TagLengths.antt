@@ -1,18 +1,17 @@
 -- What is behind a part of a tag is no longer than the bytes that the part was read from.
-use Rattle.std.proofs.Common.{◌≡◌, ◌≤◌, ◌<◌, ◌+◌, ◌-◌, ℕ, zero, suc, Bool, true, false, cond, eqb, ltb, ◌&&◌, ◌||◌, List, [], ◌∷◌, ◌++◌, length, drop, take, Option, Some, None, Result, Ok, Err, refl, ap, ◌∙◌, arith}
+use Rattle.std.proofs.Common.{◌≡◌, ◌≤◌, ◌+◌, ◌-◌, ℕ, zero, suc, Bool, true, false, cond, eqb, ltb, ◌&&◌, ◌||◌, List, [], ◌∷◌, ◌++◌, length, drop, Option, Some, None, Result, Ok, Err, refl, arith}
 use Rattle.std.specs.Prelude.{codes, nat_eq, encode_utf8}
 use Rattle.std.specs.List.{starts_with}
 use Rattle.std.proofs.lemmas.List.{length-drop}
 use Rattle.sm_model.specs.declared.tag.Attribute.{Attribute}
 use Rattle.sm_model.specs.declared.markup.Markup.{Markup}
-use Rattle.sm_model.specs.declared.markup.Markup.TheVariants.{Skipped, Finish, Start}
 use Rattle.sm_model.specs.declared.markup.Lead.{Lead}
 use Rattle.sm_model.specs.declared.markup.Lead.TheVariants as lead
 use Rattle.sm_model.specs.Digits.{is_digit, decimal_from}
 use Rattle.sm_model.specs.TagBytes.{is_tag_start, is_tag_byte, is_space, is_text, front, behind}
-use Rattle.sm_model.specs.TagParts.{Stop, short, wrong, ◌>>=◌, name_at, byte_at, quote_at, word_at, named, or_else, is_scalar, number_end, number_at, reference_at, piece_at, opening_at, naming, mark_behind, mark_at, has_name}
-use Rattle.sm_model.specs.TagMarkup.{past, finish_at, comment_at, instruction_at, starting, lead_inside, lead_stray, lead_outside, lead_at}
-use Rattle.sm_model.specs.TagsRead.{value_by, value_in, attribute_in, attribute_by, tail_by, tail_in, start_in, markup_in, markup_by, lead_by, found_in}
+use Rattle.sm_model.specs.TagParts.{Stop, short, wrong, ◌>>=◌, name_at, byte_at, quote_at, word_at, named, or_else, is_scalar, number_end, number_at, reference_at, piece_at, opening_at, mark_behind, mark_at, has_name}
+use Rattle.sm_model.specs.TagMarkup.{past, finish_at, comment_at, instruction_at, lead_inside, lead_stray, lead_outside, lead_at}
+use Rattle.sm_model.specs.TagsRead.{value_by, value_in, attribute_in, attribute_by, tail_by, tail_in, start_in, markup_in}
 
 -- no more than n bytes are behind it
 abbrev pub Within : {X : Type 0} → (X → List ℕ) → ℕ → Result X Stop → Type 0

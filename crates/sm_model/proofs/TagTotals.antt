@@ -1,5 +1,5 @@
 -- Every text has a list of tags.
-use Rattle.std.proofs.Common.{◌≡◌, ◌≢◌, ◌≤◌, ◌<◌, ◌+◌, ◌-◌, ℕ, zero, suc, Bool, true, false, not, cond, eqb, List, [], ◌∷◌, ◌++◌, length, drop, Option, Some, None, Result, Ok, Err, refl, sym, ap, subst, ◌∙◌, arith}
+use Rattle.std.proofs.Common.{◌≡◌, ◌≢◌, ◌≤◌, ◌+◌, ◌-◌, ℕ, zero, suc, Bool, true, false, not, cond, eqb, List, [], ◌∷◌, ◌++◌, length, drop, Option, Some, None, Result, Ok, Err, refl, sym, subst, ◌∙◌, arith}
 use Rattle.std.specs.Prelude.{MatchBool, nat_eq}
 use Rattle.std.specs.List.{starts_with}
 use Rattle.std.proofs.lemmas.List.{length-drop}
@@ -10,13 +10,12 @@ use Rattle.sm_model.specs.declared.markup.Markup.{Markup}
 use Rattle.sm_model.specs.declared.markup.Markup.TheVariants.{Skipped, Finish, Start}
 use Rattle.sm_model.specs.declared.markup.Lead.{Lead}
 use Rattle.sm_model.specs.declared.markup.Lead.TheVariants as lead
-use Rattle.sm_model.specs.TagBytes.{is_space}
 use Rattle.sm_model.specs.TagParts.{Stop, short, wrong, ◌>>=◌, name_at, piece_at, Values, refused, closed, goes_on, opening_at, naming, AttributeAt, unopened, opened, mark_at, has_name, Tails, unmarked, ended, broken, twice, another}
 use Rattle.sm_model.specs.TagMarkup.{Starts, unnamed, named, Markups, instruction_at, comment_at, finish_at, starting, lead_at}
 use Rattle.sm_model.specs.Tags as whole
-use Rattle.sm_model.specs.Tags.{Left, Founds, bare, lost, stray, marked, skipped, gives, Next, is_last, Runs, ends, follows, TagsOf, begin, without_zeros, without_mark}
+use Rattle.sm_model.specs.Tags.{Left, Founds, bare, lost, stray, marked, skipped, Next, is_last, Runs, ends, follows, TagsOf, begin, without_zeros, without_mark}
 use Rattle.sm_model.specs.TagsRead.{value_by, value_in, attribute_in, attribute_by, tail_by, tail_in, start_in, markup_in, markup_by, lead_by, found_in, next_by, next_from, next_in, run_by, run_in, tags_of}
-use Rattle.sm_model.proofs.TagLengths.{Within, name_within, piece_within, opening_within, value_within, attribute_within, mark_within, tail_within, markup_within, LeadWithin, lead_within}
+use Rattle.sm_model.proofs.TagLengths.{Within, name_within, piece_within, opening_within, attribute_within, mark_within, markup_within, LeadWithin, lead_within}
 
 -- ---- values
 

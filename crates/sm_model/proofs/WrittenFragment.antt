@@ -15,7 +15,7 @@ use Rattle.sm_model.specs.declared.cause.Cause.TheVariants.{BadBox, ManyTracks}
 use Rattle.sm_model.specs.declared.run.Run.{Run}
 use Rattle.sm_model.specs.declared.run.Defaults.{Defaults}
 use Rattle.sm_model.specs.Numbers.{number32}
-use Rattle.sm_model.specs.FragText.{moof_len, ahead_len}
+use Rattle.sm_model.specs.FragText.{moof_len}
 use Rattle.sm_model.specs.FragText as text
 use Rattle.sm_model.specs.Boxes.{Box, boxes, box_of, IsOneBox}
 use Rattle.sm_model.specs.Fragments.{sample_bytes}

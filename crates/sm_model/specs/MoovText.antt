@@ -1,6 +1,6 @@
 -- The bare moov of a channel: the boxes that a reader of headers wants, and nothing to play by (ISO/IEC 14496-12, 8.2.1
 -- to 8.8.3). The tracks have the track_IDs 1, 2 and so on. What is not said is zero.
-use Rattle.std.specs.Prelude.{◌+◌, ◌*◌, ℕ, List, [], ◌∷◌, ◌++◌, Bool, false, length, codes, replicate}
+use Rattle.std.specs.Prelude.{◌+◌, ◌*◌, ℕ, List, [], ◌∷◌, ◌++◌, false, length, codes, replicate}
 use Rattle.sm_model.specs.declared.track.Kind.{Kind}
 use Rattle.sm_model.specs.declared.track.Kind.TheVariants.{Video, Audio, Text}
 use Rattle.sm_model.specs.declared.track.Track.{Track}

@@ -1,5 +1,5 @@
 -- What one whole box at the top of a push body gives, and leaves for later ones.
-use Rattle.std.specs.Prelude.{ℕ, ◌+◌, ◌-◌, ◌^◌, min, List, [], ◌∷◌, length, drop, Option, Some, None, Result, Ok, Err, decimal}
+use Rattle.std.specs.Prelude.{ℕ, ◌+◌, ◌-◌, ◌^◌, min, List, length, drop, Option, Some, None, Result, Ok, Err, decimal}
 use Rattle.sm_model.specs.declared.cause.Cause.{Cause}
 use Rattle.sm_model.specs.declared.cause.Cause.TheVariants.{UnknownTrack}
 use Rattle.sm_model.specs.declared.cause.Refusal.{Refusal}

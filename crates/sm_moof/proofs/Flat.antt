@@ -1,8 +1,7 @@
 -- The canonical text without pairs, as numbers in a row.
-use Rattle.std.proofs.Common.{◌≡◌, ◌≤◌, ◌<◌, ◌+◌, ◌-◌, ◌*◌, ◌^◌, ℕ, List, [], ◌∷◌, ◌++◌, length, refl, sym, ap, ◌∙◌, append_assoc, add-zero, arith}
+use Rattle.std.proofs.Common.{◌≡◌, ◌+◌, ◌-◌, ◌*◌, ℕ, List, ◌++◌, length, refl, append_assoc, add-zero, arith}
 use Rattle.std.specs.Prelude.{codes}
 use Rattle.std.specs.List.{flat_map}
-use Rattle.std.proofs.lemmas.List.{append-nil}
 use Rattle.sm_model.specs.Numbers.{number32, number64}
 use Rattle.sm_model.specs.Fragments.{sample_bytes}
 use Rattle.sm_model.specs.FragText.{row, run_word, tfxd_type}

@@ -1,10 +1,9 @@
 -- Canonical texts one after another can be cut in one way only.
-use Rattle.std.proofs.Common.{◌≡◌, ◌≤◌, ◌<◌, ◌+◌, ◌-◌, ℕ, true, List, [], ◌∷◌, ◌++◌, length, take, drop, refl, sym, ap, subst, ◌∙◌, append_assoc, arith}
+use Rattle.std.proofs.Common.{◌≡◌, ◌≤◌, ◌+◌, ◌-◌, ℕ, List, [], ◌∷◌, ◌++◌, length, drop, refl, sym, ap, ◌∙◌, append_assoc, arith}
 use Rattle.std.specs.List.{flat_map, AllByRecursion}
-use Rattle.std.proofs.lemmas.List.{length-append, length-drop, append-nil, drop_at, take-append-drop, length-take-le}
+use Rattle.std.proofs.lemmas.List.{length-append, drop_at}
 use Rattle.std.proofs.lemmas.List.Concat.{flat_map-cons}
-use Rattle.sm_model.specs.Canonical.{Canonical, IsCanonical, text_of, BeginsWith, BeginsWithNone, IsJoin, IsLongestJoin}
-use Rattle.sm_moof.specs.Layout.{said}
+use Rattle.sm_model.specs.Canonical.{Canonical, IsCanonical, text_of, BeginsWith, BeginsWithNone, IsJoin}
 use Rattle.sm_moof.proofs.Reading.{said_again, none_short}
 
 -- two texts in front of the same bytes are one

@@ -1,19 +1,19 @@
 -- A text that fits is canonical, and a canonical text fits and says what was written.
-use Rattle.std.proofs.Common.{◌≡◌, ◌≤◌, ◌<◌, ◌+◌, ◌-◌, ◌*◌, ◌^◌, ℕ, zero, suc, Bool, true, false, cond, eqb, leb, ltb, ◌&&◌, ◌||◌, List, [], ◌∷◌, ◌++◌, length, take, drop, get_or, refl, sym, ap, subst, ◌∙◌, ◌⊎◌, inl, inr, append_assoc, add-zero, arith}
+use Rattle.std.proofs.Common.{◌≡◌, ◌≤◌, ◌<◌, ◌+◌, ◌-◌, ◌*◌, ◌^◌, ℕ, Bool, true, false, eqb, leb, ltb, ◌&&◌, ◌||◌, List, [], ◌∷◌, ◌++◌, length, drop, refl, sym, ap, subst, ◌∙◌, ◌⊎◌, inl, inr, append_assoc, arith}
 use Rattle.std.specs.Prelude.{decimal}
 use Rattle.std.specs.List.{flat_map, All, AllByRecursion}
-use Rattle.std.proofs.lemmas.Bool.{and_parts, and_from, eqb-true, eq-eqb, leb-true, le-leb, ltb-true, lt-ltb, or_parts}
-use Rattle.std.proofs.lemmas.List.{length-append, length-drop, take_all, drop_at}
+use Rattle.std.proofs.lemmas.Bool.{and_parts, eqb-true, leb-true, le-leb, ltb-true, lt-ltb}
+use Rattle.std.proofs.lemmas.List.{length-append, length-drop, take_all}
 use Rattle.std.proofs.lemmas.List.Concat.{flat_map-cons}
 use Rattle.sm_model.specs.declared.sample.Sample.{Sample}
 use Rattle.sm_model.specs.declared.fragment.Fragment.{Fragment}
 use Rattle.sm_model.specs.Numbers.{number32, number64, number32_at, number64_at}
-use Rattle.sm_model.specs.Fragments.{IsValid, IsNarrow, sample_bytes}
+use Rattle.sm_model.specs.Fragments.{IsNarrow, sample_bytes}
 use Rattle.sm_model.specs.FragText.{row, run_word}
 use Rattle.sm_model.specs.Canonical.{Canonical, IsCanonical, text_of, BeginsWith, BeginsWithNone}
 use Rattle.sm_moof.specs.Layout.{words_at, front_words, tfxd_words, mdat_words, total_at, count_of, total_of, time_of, duration_of, front_fits, times_fit, data_fits, fits, samples_at, fragment_at, said}
 use Rattle.sm_moof.specs.Shown.{IsSkimmed, IsReadAs}
-use Rattle.sm_moof.proofs.Words.{IsBytes, len32, len64, below32, split64, found64, behind, words_len, words_from, words_to, word_at}
+use Rattle.sm_moof.proofs.Words.{IsBytes, len64, below32, split64, found64, behind, words_len, words_from, words_to, word_at}
 use Rattle.sm_moof.proofs.Samples.{bytes_of, row_len, bytes_len, count_samples, rows_stand, bytes_stand, total_found, narrow_found, total_again, samples_again}
 use Rattle.sm_moof.proofs.Flat.{front_of, back_of, text_flat}
 

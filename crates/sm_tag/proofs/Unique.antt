@@ -10,7 +10,7 @@ use Rattle.sm_model.specs.declared.markup.Lead.TheVariants as lead
 use Rattle.sm_model.specs.TagParts.{Stop, short, wrong, piece_at, opening_at, mark_at, name_at, Values, refused, closed, goes_on, AttributeAt, unopened, opened, Tails, unmarked, ended, broken, twice, another}
 use Rattle.sm_model.specs.TagMarkup.{Starts, unnamed, named, Markups, lead_at}
 use Rattle.sm_model.specs.Tags as tags
-use Rattle.sm_model.specs.Tags.{Left, Founds, bare, lost, stray, marked, skipped, Next, gives, Runs, ends, follows, is_last}
+use Rattle.sm_model.specs.Tags.{Left, Founds, bare, lost, stray, marked, skipped, Next, gives, Runs, ends, follows}
 
 abbrev ok_or : {A : Type 0} → A → Result A Stop → A
 ok_or d (Ok x) = x

@@ -1,16 +1,15 @@
 -- Looking through an input, one canonical text after another.
-use Rattle.std.proofs.Common.{◌≡◌, ◌≤◌, ◌<◌, ◌+◌, ◌-◌, ℕ, Bool, true, false, cond, eqb, ◌&&◌, List, [], ◌∷◌, ◌++◌, length, take, drop, Option, Some, None, refl, sym, ap, subst, ◌∙◌, append_assoc, add-zero, arith}
+use Rattle.std.proofs.Common.{◌≡◌, ◌≤◌, ◌<◌, ◌+◌, ◌-◌, ℕ, Bool, true, false, cond, eqb, ◌&&◌, List, [], ◌∷◌, ◌++◌, length, take, drop, Option, Some, None, refl, sym, ap, ◌∙◌, append_assoc, add-zero, arith}
 use Rattle.std.specs.List.{flat_map, AllByRecursion}
 use Rattle.std.proofs.lemmas.Bool.{and_parts, eqb-true}
 use Rattle.std.proofs.lemmas.List.{length-append, length-drop, append-nil, length-take-le, take-append-drop, drop_at, take_at, drop-drop, drop_all}
 use Rattle.std.proofs.lemmas.List.Concat.{flat_map-cons, flat_map-append}
 use Rattle.sm_model.specs.declared.fragment.Fragment.{Fragment}
-use Rattle.sm_model.specs.FragText.{frag_text}
-use Rattle.sm_model.specs.Canonical.{Canonical, IsCanonical, BeginsWith, BeginsWithNone, IsJoin, IsLongestJoin, text_of, is_sought, first_from, first_of}
+use Rattle.sm_model.specs.Canonical.{Canonical, IsCanonical, BeginsWith, BeginsWithNone, IsJoin, text_of, is_sought, first_from}
 use Rattle.sm_moof.specs.Shown.{IsSkimmed}
 use Rattle.sm_moof.proofs.Joins.{same_text, none_longer}
 use Rattle.smooth.specs.Answers.{IsPicked, IsAbsent, IsBroken}
-use Rattle.smooth.specs.Scan.{IsNoted, Noted, note, IsScanned, IsLookedThrough, IsWrittenAgain}
+use Rattle.smooth.specs.Scan.{Noted, note, IsScanned, IsLookedThrough, IsWrittenAgain}
 
 -- ---- the first of a list that grows
 

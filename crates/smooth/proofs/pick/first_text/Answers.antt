@@ -1,4 +1,4 @@
-use Rattle.std.proofs.Common.{◌<◌, ◌≤◌, length, drop, arith}
+use Rattle.std.proofs.Common.{◌≤◌, length, drop}
 use Rattle.sm_model.specs.Canonical.{BeginsWithNone}
 use Rattle.sm_moof.specs.Shown.{IsSkimmed}
 use Rattle.smooth.proofs.Scanning.{scanned_more, broken}

@@ -1,4 +1,4 @@
-use Rattle.std.proofs.Common.{Some, drop}
+use Rattle.std.proofs.Common.{Some}
 use Rattle.sm_model.specs.Canonical.{BeginsWithNone}
 use Rattle.smooth.specs.Scan.{IsLookedThrough, IsWrittenAgain}
 use Rattle.smooth.proofs.Scanning.{picked, there}
