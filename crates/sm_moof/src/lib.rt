@@ -16,4 +16,4 @@ pub use put::put_fragment;
 pub use read::{MoofFault, finish, read_fragment, read_moof};
 pub use skim::{Skim, skim_canonical};
 pub use track::track_of;
-pub use whole::is_one_box;
+pub use whole::{body_of, is_one_box};

@@ -28,9 +28,9 @@ pub(crate) fn head_len(bytes: &[u8]) -> usize
     if u32_at(bytes, 0) == 1 { 16 } else { 8 }
 }
 
-// The body.
+/// The body of a box, behind its head. The user type of a `uuid` box is the front of it. It takes no memory.
 #[tactic(auto, using(crate::proofs::WholeLemmas::body_is))]
-pub(crate) fn body_of(bytes: &[u8]) -> &[u8]
+pub fn body_of(bytes: &[u8]) -> &[u8]
     requires { IsOneBox bytes.now }
     ensures { result.now ≡ (box_of bytes.now).body }
 {
