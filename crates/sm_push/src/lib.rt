@@ -15,3 +15,6 @@ pub use fault::PushFault;
 pub use laws::front;
 pub use session::Push;
 pub use sm_model::{Item, Items};
+
+#[cfg(test)]
+mod tests;
