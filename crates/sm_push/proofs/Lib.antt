@@ -1,0 +1,6 @@
+pub mod HeadLemmas
+pub mod Fronts
+pub mod Stable
+pub mod Walking
+pub mod Steps
+pub mod HeaderLemmas

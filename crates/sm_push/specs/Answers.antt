@@ -1,0 +1,18 @@
+-- What the readers of a header answer, where memory may be wanting.
+use Rattle.std.specs.Prelude.{◌≡◌, ℕ, List, Result, Ok, Err}
+use Rattle.sm_model.specs.declared.cause.Cause.{Cause}
+use Rattle.sm_model.specs.declared.cause.Cause.TheVariants.{BadLiveManifest}
+use Rattle.sm_push.specs.declared.header.HeaderFault.{HeaderFault}
+use Rattle.sm_push.specs.declared.header.HeaderFault.TheVariants.{Refused, NoMemory}
+
+-- the value that the definition gives, or its cause, and nothing else but want of memory
+abbrev pub Gives : {A : Type 0} → Result A HeaderFault → Result A Cause → Type 0
+Gives (Ok value) defined = defined ≡ Ok value
+Gives (Err (Refused cause)) defined = defined ≡ Err cause
+Gives (Err NoMemory) defined = Unit {0}
+
+-- what a live manifest says, or its fault as the cause of the place inside it
+abbrev pub Reads : {A : Type 0} → Result A HeaderFault → Result A ℕ → Type 0
+Reads (Ok value) defined = defined ≡ Ok value
+Reads (Err (Refused cause)) defined = (inside : ℕ) × (cause ≡ BadLiveManifest inside) × (defined ≡ Err inside)
+Reads (Err NoMemory) defined = Unit {0}

@@ -1,0 +1,4 @@
+pub mod Heads
+pub mod Answers
+pub mod Steps
+pub mod Standing

@@ -1,0 +1,20 @@
+//! Push sessions: the items of a push body that comes in pieces, whatever the cuts.
+#![tactic(auto)]
+
+mod decide;
+mod fault;
+mod header;
+mod held;
+mod kept;
+mod laws;
+mod session;
+mod step;
+mod track;
+
+pub use fault::PushFault;
+pub use laws::front;
+pub use session::Push;
+pub use sm_model::{Item, Items};
+
+#[cfg(test)]
+mod tests;

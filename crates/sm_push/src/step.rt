@@ -1,0 +1,247 @@
+//! What whole boxes give, and leave for later ones.
+ghost use Rattle.std.specs.Prelude.{◌≡◌, length, drop, OnOk, IfOk, Some};
+ghost use Rattle.sm_model.specs.Boxes.{IsOneBox, box_of};
+ghost use Rattle.sm_model.specs.Frag.{moof_run};
+ghost use Rattle.sm_model.specs.Moov.{no_defaults};
+ghost use Rattle.sm_model.specs.Header.{header_of};
+ghost use Rattle.sm_model.specs.Items.{given_of};
+ghost use Rattle.sm_model.specs.Items as items;
+ghost use Rattle.sm_model.specs.PushBoxes.{taken, passed, past, text_of, named, moof_taken, pending, track_in, mdat_taken, moov_taken, manifest_taken, header_taken};
+ghost use Rattle.sm_push.specs.Steps.{Takes, HoldsBoxes, AreBoxes};
+
+use crate::fault::{StepFault, refuse};
+use crate::header::{HeaderFault, read_header};
+use crate::track::{NO_DEFAULTS, track_in};
+use sm_model::{
+    Bytes, Cause, Fragment, HeaderStage, HeaderTrack, Item, PendingMoof, PushState, RawFragment,
+    TopBox,
+};
+use sm_moof::{MoofFault, body_of, read_fragment, read_moof};
+use std::alloc::Global;
+use std::mem;
+
+/// An item, and with a fragment its track_ID.
+#[derive(Debug, Drop)]
+pub struct NewItem {
+    pub item: Item,
+    pub id: u32,
+}
+
+/// Goes on behind a box of this size, in bytes.
+pub(crate) fn pass(state: &mut PushState, size: u64)
+    ensures { state.new ≡ passed state.old size }
+{
+    state.at = state.at.saturating_add(size);
+}
+
+// The text of a live server manifest box, behind the user type, and version and flags.
+fn text_of(manifest: &[u8]) -> &[u8]
+    requires { IsOneBox manifest.now }
+    ensures { result.now ≡ text_of manifest.now }
+{
+    let body = body_of(manifest);
+    if body.len() < 20 {
+        return &[];
+    }
+    let (_, text) = body.split_at(20);
+    text
+}
+
+fn take_moof(
+    alloc: Global,
+    state: &mut PushState,
+    whole: Bytes,
+) -> Result<Option<NewItem>, StepFault>
+    requires whole { IsOneBox whole }
+    requires boxes { HoldsBoxes state.old }
+    ensures takes { Takes state.new result (moof_taken (moof_run no_defaults whole) state.old whole) }
+    ensures boxes { OnOk result (HoldsBoxes state.new) }
+{
+    match read_moof(alloc, whole.as_slice(), &NO_DEFAULTS) {
+        Ok(run) => match track_in(alloc, &state.stage, run.id)? {
+            Some(track) => {
+                let size = whole.len();
+                state.moof = Some(PendingMoof {
+                    bytes: whole,
+                    at: state.at,
+                    track,
+                });
+                pass(state, size);
+                Ok(None)
+            }
+            None => Err(refuse(state.at, Cause::UnknownTrack)),
+        },
+        Err(MoofFault::Refused(cause)) => Err(refuse(state.at, cause)),
+        Err(MoofFault::NoMemory) => Err(StepFault::NoMemory),
+    }
+}
+
+fn named(track: HeaderTrack, raw: RawFragment) -> NewItem
+    ensures item { result.item ≡ Item.Frag (named track raw) }
+    ensures id { result.id ≡ raw.id }
+{
+    NewItem {
+        item: Item::Frag(Fragment {
+            stream: track.stream,
+            bitrate: track.bitrate,
+            time: raw.time,
+            duration: raw.duration,
+            signed: raw.signed,
+            samples: raw.samples,
+        }),
+        id: raw.id,
+    }
+}
+
+fn take_mdat(
+    alloc: Global,
+    state: &mut PushState,
+    whole: &[u8],
+) -> Result<Option<NewItem>, StepFault>
+    requires whole { IsOneBox whole.now }
+    requires boxes { HoldsBoxes state.old }
+    ensures takes { Takes state.new result (mdat_taken state.old.moof state.old whole.now) }
+    ensures boxes { OnOk result (HoldsBoxes state.new) }
+{
+    let size = whole.len() as u64;
+    match mem::replace(&mut state.moof, None) {
+        None => {
+            pass(state, size);
+            Ok(None)
+        }
+        Some(moof) => {
+            match read_fragment(alloc, moof.bytes.as_slice(), whole, &moof.track.defaults) {
+                Ok(raw) => {
+                    pass(state, size);
+                    Ok(Some(named(moof.track, raw)))
+                }
+                Err(MoofFault::Refused(cause)) => Err(refuse(moof.at, cause)),
+                Err(MoofFault::NoMemory) => Err(StepFault::NoMemory),
+            }
+        }
+    }
+}
+
+// Both boxes of the header are there, and the later one has this size.
+fn complete(
+    alloc: Global,
+    state: &mut PushState,
+    manifest: &[u8],
+    moov: &[u8],
+    size: u64,
+) -> Result<Option<NewItem>, StepFault>
+    requires manifest { IsOneBox manifest.now }
+    requires moov { IsOneBox moov.now }
+    requires moof { AreBoxes state.old.moof }
+    ensures takes { Takes state.new result (header_taken (header_of (text_of manifest.now) (box_of moov.now).body) state.old size) }
+    ensures boxes { OnOk result (HoldsBoxes state.new) }
+{
+    match read_header(alloc, text_of(manifest), body_of(moov)) {
+        Ok(header) => {
+            state.stage = HeaderStage::Complete(header.tracks);
+            pass(state, size);
+            Ok(Some(NewItem {
+                item: Item::Header(header.channel),
+                id: 0,
+            }))
+        }
+        Err(HeaderFault::Refused(cause)) => Err(refuse(state.at, cause)),
+        Err(HeaderFault::NoMemory) => Err(StepFault::NoMemory),
+    }
+}
+
+fn nothing() -> HeaderStage
+    ensures { result ≡ HeaderStage.Gathering None None }
+{
+    HeaderStage::Gathering {
+        manifest: None,
+        moov: None,
+    }
+}
+
+fn take_moov(
+    alloc: Global,
+    state: &mut PushState,
+    whole: Bytes,
+) -> Result<Option<NewItem>, StepFault>
+    requires whole { IsOneBox whole }
+    requires boxes { HoldsBoxes state.old }
+    ensures takes { Takes state.new result (moov_taken state.old.stage state.old whole) }
+    ensures boxes { OnOk result (HoldsBoxes state.new) }
+{
+    let size = whole.len();
+    match mem::replace(&mut state.stage, nothing()) {
+        HeaderStage::Gathering { manifest, moov: _ } => match manifest {
+            Some(manifest) => complete(alloc, state, manifest.as_slice(), whole.as_slice(), size),
+            None => {
+                state.stage = HeaderStage::Gathering {
+                    manifest: None,
+                    moov: Some(whole),
+                };
+                pass(state, size);
+                Ok(None)
+            }
+        },
+        HeaderStage::Complete(tracks) => {
+            state.stage = HeaderStage::Complete(tracks);
+            pass(state, size);
+            Ok(None)
+        }
+    }
+}
+
+fn take_manifest(
+    alloc: Global,
+    state: &mut PushState,
+    whole: Bytes,
+) -> Result<Option<NewItem>, StepFault>
+    requires whole { IsOneBox whole }
+    requires boxes { HoldsBoxes state.old }
+    ensures takes { Takes state.new result (manifest_taken state.old.stage state.old whole) }
+    ensures boxes { OnOk result (HoldsBoxes state.new) }
+{
+    let size = whole.len();
+    match mem::replace(&mut state.stage, nothing()) {
+        HeaderStage::Gathering { manifest: _, moov } => match moov {
+            Some(moov) => complete(alloc, state, whole.as_slice(), moov.as_slice(), size),
+            None => {
+                state.stage = HeaderStage::Gathering {
+                    manifest: Some(whole),
+                    moov: None,
+                };
+                pass(state, size);
+                Ok(None)
+            }
+        },
+        HeaderStage::Complete(tracks) => {
+            state.stage = HeaderStage::Complete(tracks);
+            pass(state, size);
+            Ok(None)
+        }
+    }
+}
+
+/// Takes one whole box.
+#[tactic(auto, unfolding(sm_model::specs::PushBoxes::taken))]
+pub(crate) fn take(
+    alloc: Global,
+    state: &mut PushState,
+    sort: TopBox,
+    whole: Bytes,
+) -> Result<Option<NewItem>, StepFault>
+    requires whole { IsOneBox whole }
+    requires boxes { HoldsBoxes state.old }
+    ensures takes { Takes state.new result (taken state.old sort whole) }
+    ensures boxes { OnOk result (HoldsBoxes state.new) }
+{
+    match sort {
+        TopBox::Moof => take_moof(alloc, state, whole),
+        TopBox::Mdat => take_mdat(alloc, state, whole.as_slice()),
+        TopBox::Moov => take_moov(alloc, state, whole),
+        TopBox::Manifest => take_manifest(alloc, state, whole),
+        TopBox::Other => {
+            pass(state, whole.len());
+            Ok(None)
+        }
+    }
+}
