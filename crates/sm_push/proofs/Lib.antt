@@ -4,3 +4,4 @@ pub mod Stable
 pub mod Walking
 pub mod Steps
 pub mod HeaderLemmas
+pub mod Boxes

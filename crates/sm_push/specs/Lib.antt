@@ -2,3 +2,4 @@ pub mod Heads
 pub mod Answers
 pub mod Steps
 pub mod Standing
+pub mod Boxes
