@@ -112,7 +112,7 @@ not_short_read heads.OpenEnded h = tt
 not_short_read (heads.Whole kind head size) h = tt
 
 -- a box's head is that of all the bytes
-head_take : (b : List ℕ) (kind : List ℕ) (head size : ℕ) → head_of b ≡ heads.Whole kind head size → size ≤ length b → head_of (take size b) ≡ heads.Whole kind head size
+pub head_take : (b : List ℕ) (kind : List ℕ) (head size : ℕ) → head_of b ≡ heads.Whole kind head size → size ≤ length b → head_of (take size b) ≡ heads.Whole kind head size
 head_take b kind head size e le =
     let fits = whole_is b kind head size e in
     let joined : take size b ++ drop size b ≡ b = take-append-drop size b in

@@ -5,3 +5,4 @@ pub mod Walking
 pub mod Steps
 pub mod HeaderLemmas
 pub mod Boxes
+pub mod Valid

@@ -3,3 +3,4 @@ pub mod Answers
 pub mod Steps
 pub mod Standing
 pub mod Boxes
+pub mod Validity
