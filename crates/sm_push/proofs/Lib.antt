@@ -4,3 +4,5 @@ pub mod Stable
 pub mod Walking
 pub mod Steps
 pub mod HeaderLemmas
+pub mod Boxes
+pub mod Valid

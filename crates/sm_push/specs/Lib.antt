@@ -2,3 +2,5 @@ pub mod Heads
 pub mod Answers
 pub mod Steps
 pub mod Standing
+pub mod Boxes
+pub mod Validity

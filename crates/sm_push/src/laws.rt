@@ -1,8 +1,25 @@
 //! Laws of push bodies. Each is the contract of a function that does nothing.
 ghost use Rattle.std.specs.Prelude.{◌≡◌, ◌++◌, Bool, List, ℕ};
 ghost use Rattle.sm_model.specs.Body.{body, IsFrontOf};
+ghost use Rattle.sm_model.specs.Body;
+ghost use Rattle.std.specs.List.{AllByRecursion};
+ghost use Rattle.sm_push.specs.Boxes.{Splits, boxes_give};
+ghost use Rattle.sm_push.specs.Validity.{IsValidItem};
 
 /// What a front of the bytes gives is a front of what they give.
 pub fn front()
     ensures { (headerless : Bool) (p q : List ℕ) → IsFrontOf (body headerless p) (body headerless (p ++ q)) }
+{}
+
+/// All bytes are whole boxes and a rest in which no whole box stands in front, and give what these give, one box after the
+/// other.
+pub fn by_boxes()
+    ensures split { (headerless : Bool) (b : List ℕ) → (boxes : List (List ℕ)) × (rest : List ℕ) × Splits b boxes rest × (body headerless b ≡ boxes_give (Body.start headerless) boxes rest) }
+    // However they are split.
+    ensures any { (headerless : Bool) (b : List ℕ) (boxes : List (List ℕ)) (rest : List ℕ) → Splits b boxes rest → body headerless b ≡ boxes_give (Body.start headerless) boxes rest }
+{}
+
+/// Every fragment that a push gives is valid.
+pub fn fragments_are_valid()
+    ensures { (headerless : Bool) (b : List ℕ) → AllByRecursion IsValidItem (body headerless b).items }
 {}

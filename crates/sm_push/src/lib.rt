@@ -12,7 +12,7 @@ mod step;
 mod track;
 
 pub use fault::PushFault;
-pub use laws::front;
+pub use laws::{by_boxes, fragments_are_valid, front};
 pub use session::Push;
 pub use sm_model::{Item, Items};
 

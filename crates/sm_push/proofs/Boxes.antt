@@ -1,0 +1,154 @@
+-- Bytes are boxes and a rest, and give what these give.
+use Rattle.std.proofs.Common.{◌≡◌, ℕ, zero, suc, ◌+◌, ◌-◌, ◌<◌, ◌≤◌, Bool, true, ltb, leb, List, [], ◌∷◌, ◌++◌, length, take, drop, refl, sym, ap, subst, ◌∙◌, arith, inl, inr}
+use Rattle.std.specs.Prelude.{◌&&◌, is_some, None, Ok, Err, codes}
+use Rattle.std.specs.Option.{option_to_list}
+use Rattle.std.specs.List.{AllByRecursion}
+use Rattle.std.proofs.lemmas.Bool.{cases_lt, cond_both, lt-ltb, ltb-true, leb-true, and_parts}
+use Rattle.std.proofs.lemmas.List.{append_assoc, take-append-drop, length-take, length-drop}
+use Rattle.sm_model.specs.declared.push.PushState.{PushState}
+use Rattle.sm_model.specs.declared.push.BoxDecision.{BoxDecision}
+use Rattle.sm_model.specs.declared.push.BoxDecision.TheVariants.{Wait, Refuse, Pass, Take}
+use Rattle.sm_model.specs.PushHeads.{decision, by_kind, ruling, user_sort, kind_sort, is as is_kind}
+use Rattle.sm_model.specs.PushBoxes.{Step, taken, passed}
+use Rattle.sm_model.specs.Body.{Outcome, ended, behind, stepped, at_box, walk}
+use Rattle.sm_model.proofs.BoxLemmas.{long_head}
+use Rattle.sm_box.specs.Heads.{head_of}
+use Rattle.sm_box.specs.declared.head.Head.{Head}
+use Rattle.sm_box.specs.declared.head.Head.TheVariants as heads
+use Rattle.sm_push.specs.Heads.{by_head}
+use Rattle.sm_push.specs.Boxes.{HasSize, IsBox, IsBeyond, IsRest, bytes_of, Splits, rest_gives, rest_inside, step_gives, box_gives, boxes_give}
+use Rattle.sm_push.proofs.HeadLemmas.{decision_is}
+use Rattle.sm_push.proofs.Fronts.{IsRead, Tight, head_stable, head_tight, whole_is}
+use Rattle.sm_push.proofs.Stable.{decision-nil, ruling_made, IsMade, SizeIs, kind_size}
+use Rattle.sm_push.proofs.Walking.{passes, refuses, takes}
+
+-- on a whole box a decision is made
+kind_whole : (s : PushState) (b : List ℕ) (kind : List ℕ) (head size : ℕ) → size ≤ length b → IsMade (by_kind s b kind head size)
+kind_whole s b kind head size le =
+    cond_both (is_kind kind (codes "uuid") && leb 16 (size - head)) _ _ IsMade
+    (λ first. cond_both (ltb (length b) (head + 16)) _ _ IsMade
+    (λ lt. absurd (omega (arith, ltb-true _ _ lt, leb-true _ _ (and_parts (is_kind kind (codes "uuid")) (leb 16 (size - head)) first).1)))
+    (λ _. ruling_made s (user_sort (take 16 (drop head b))) head size))
+    (λ _. ruling_made s (kind_sort kind) head size)
+
+box_at : (s : PushState) (box : List ℕ) (hd : Head) → HasSize (length box) hd → SizeIs (length box) (by_head s box hd) × IsMade (by_head s box hd)
+box_at s box heads.Short is = absurd is
+box_at s box heads.Bad is = absurd is
+box_at s box heads.OpenEnded is = absurd is
+box_at s box (heads.Whole kind head size) is =
+    (subst (λ (n : ℕ). SizeIs n (by_kind s box kind head size)) is (kind_size s box kind head size), kind_whole s box kind head size (omega arith))
+
+box_decision : (s : PushState) (box : List ℕ) → IsBox box → SizeIs (length box) (decision s box) × IsMade (decision s box)
+box_decision s box is = subst (λ (d : BoxDecision). SizeIs (length box) d × IsMade d) (sym (decision_is s box)) (box_at s box (head_of box) is)
+
+-- ---- a rest gives nothing but its head's refusal
+
+abbrev Beyond : ℕ → BoxDecision → Type 0
+Beyond count Wait = Unit {0}
+Beyond count (Refuse cause) = Unit {0}
+Beyond count (Pass n) = count < n
+Beyond count (Take sort n) = count < n
+
+sized_beyond : (count size : ℕ) (d : BoxDecision) → count < size → SizeIs size d → Beyond count d
+sized_beyond count size Wait lt is = tt
+sized_beyond count size (Refuse cause) lt is = tt
+sized_beyond count size (Pass n) lt is = omega arith
+sized_beyond count size (Take sort n) lt is = omega arith
+
+rest_at : (s : PushState) (rest : List ℕ) (hd : Head) → IsBeyond (length rest) hd → Beyond (length rest) (by_head s rest hd)
+rest_at s rest heads.Short lt = tt
+rest_at s rest heads.Bad lt = tt
+rest_at s rest heads.OpenEnded lt = tt
+rest_at s rest (heads.Whole kind head size) lt = sized_beyond (length rest) size (by_kind s rest kind head size) lt (kind_size s rest kind head size)
+
+rest_decision : (s : PushState) (rest : List ℕ) → IsRest rest → Beyond (length rest) (decision s rest)
+rest_decision s rest is = subst (Beyond (length rest)) (sym (decision_is s rest)) (rest_at s rest (head_of rest) is)
+
+-- past the end of the bytes
+beyond_end : (s : PushState) (k : ℕ) (xs : List ℕ) → length xs < k → walk s k xs ≡ ended s true
+unfolding walk
+beyond_end s (suc k) [] lt = let some : ltb 0 (suc k) ≡ true = lt-ltb _ _ (omega arith) in rw some refl
+beyond_end s (suc k) (x ∷ xs) lt = beyond_end s k xs (omega arith)
+beyond_end s zero xs lt = absurd (omega arith)
+
+rest_walk_at : (s : PushState) (x : ℕ) (xs : List ℕ) (d : BoxDecision) → Beyond (length (x ∷ xs)) d → at_box s (x ∷ xs) d (λ next size. walk next (size - 1) xs) ≡ rest_gives s d true
+rest_walk_at s x xs Wait lt = refl
+rest_walk_at s x xs (Refuse cause) lt = refl
+rest_walk_at s x xs (Pass n) lt = beyond_end (passed s n) (n - 1) xs (omega arith)
+rest_walk_at s x xs (Take sort n) lt = let short : ltb (length (x ∷ xs)) n ≡ true = lt-ltb _ _ lt in rw short refl
+
+rest_walk : (s : PushState) (rest : List ℕ) → IsRest rest → walk s 0 rest ≡ rest_gives s (decision s rest) (rest_inside rest (is_some s.moof))
+unfolding walk
+rest_walk s [] is = rw (decision-nil s) refl
+rest_walk s (x ∷ xs) is = rest_walk_at s x xs (decision s (x ∷ xs)) (rest_decision s (x ∷ xs) is)
+
+-- ---- boxes
+
+step_walk : (step : Step) (size : ℕ) (go : PushState → Outcome) (go' : PushState → Outcome) → ((next : PushState) → go next ≡ go' next) → stepped step size (λ next _. go next) ≡ step_gives step go'
+step_walk (Err r) size go go' h = refl
+step_walk (Ok step) size go go' h = ap (behind (option_to_list step.0)) (h step.1)
+
+box_walk : (s : PushState) (box more : List ℕ) (d : BoxDecision) → decision s box ≡ d → SizeIs (length box) d × IsMade d → (go' : PushState → Outcome) → ((next : PushState) → walk next 0 more ≡ go' next)
+    → walk s 0 (box ++ more) ≡ box_gives s box d go'
+box_walk s box more Wait e is go' h = absurd is.1
+box_walk s box more (Refuse cause) e is go' h = refuses s box more cause e
+box_walk s box more (Pass n) e is go' h =
+    passes s box more n e (omega (arith, is.0)) ∙ ap (λ (k : ℕ). walk (passed s n) k more) (omega (arith, is.0)) ∙ h (passed s n)
+box_walk s box more (Take sort n) e is go' h =
+    takes s box more sort n e (sym is.0) ∙ step_walk (taken s sort box) n (λ next. walk next 0 more) go' h
+
+-- what boxes and a rest give is what their bytes give
+pub boxes_walk : (s : PushState) (boxes : List (List ℕ)) (rest : List ℕ) → AllByRecursion IsBox boxes → IsRest rest → walk s 0 (bytes_of boxes ++ rest) ≡ boxes_give s boxes rest
+boxes_walk s [] rest each last = rest_walk s rest last
+boxes_walk s (box ∷ boxes) rest each last =
+    rw (append_assoc box (bytes_of boxes) rest) (box_walk s box (bytes_of boxes ++ rest) (decision s box) refl (box_decision s box each.0) (λ next. boxes_give next boxes rest) (λ next. boxes_walk next boxes rest each.1 last))
+
+-- ---- each list of bytes is boxes and a rest
+
+not_short_read : (hd : Head) → (hd ≡ heads.Short → ⊥) → IsRead hd
+not_short_read heads.Short h = h refl
+not_short_read heads.Bad h = tt
+not_short_read heads.OpenEnded h = tt
+not_short_read (heads.Whole kind head size) h = tt
+
+-- a box's head is that of all the bytes
+pub head_take : (b : List ℕ) (kind : List ℕ) (head size : ℕ) → head_of b ≡ heads.Whole kind head size → size ≤ length b → head_of (take size b) ≡ heads.Whole kind head size
+head_take b kind head size e le =
+    let fits = whole_is b kind head size e in
+    let joined : take size b ++ drop size b ≡ b = take-append-drop size b in
+    let len : length (take size b) ≡ size = omega (arith, length-take size b) in
+    let read : IsRead (head_of (take size b)) = not_short_read _ (λ short.
+    let t : Tight (size + 1) (heads.Whole kind head size) = rw (joined, e) at (head_tight (take size b) (drop size b) (size + 1) short (omega arith)) in
+    omega (arith, t.0, fits.fits)) in
+    sym (head_stable (take size b) (drop size b) read) ∙ ap head_of joined ∙ e
+
+abbrev SomeSplit : List ℕ → Type 0
+SomeSplit b = (boxes : List (List ℕ)) × (rest : List ℕ) × Splits b boxes rest
+
+alone : (b : List ℕ) → IsRest b → SomeSplit b
+alone b is = ([], b, record { whole = refl; each = tt; last = is })
+
+split_at : (fuel : ℕ) (b : List ℕ) → length b ≤ fuel → (hd : Head) → head_of b ≡ hd → SomeSplit b
+split_at fuel b le heads.Short e = alone b (rw e tt)
+split_at fuel b le heads.Bad e = alone b (rw e tt)
+split_at fuel b le heads.OpenEnded e = alone b (rw e tt)
+split_at zero b le (heads.Whole kind head size) e = alone b (rw e (let w = whole_is b kind head size e in omega (arith, w.eight)))
+split_at (suc fuel) b le (heads.Whole kind head size) e =
+    elim (cases_lt (length b) size) [
+      | inl lt ↦ alone b (rw e lt)
+      | inr ge ↦
+          let w = whole_is b kind head size e in
+          let after : SomeSplit (drop size b) = split_at fuel (drop size b) (omega (arith, length-drop size b, w.fits, w.head_is, long_head b)) (head_of (drop size b)) refl in
+          let box : IsBox (take size b) = rw (head_take b kind head size e ge) (omega (arith, length-take size b)) in (
+            take size b ∷ after.0,
+            after.1,
+            record {
+              whole = sym (take-append-drop size b) ∙ ap (λ (xs : List ℕ). take size b ++ xs) after.2.whole ∙ sym (append_assoc (take size b) (bytes_of after.0) after.1);
+              each = (box, after.2.each);
+              last = after.2.last;
+            },
+          )
+    ]
+
+pub split_all : (b : List ℕ) → SomeSplit b
+split_all b = split_at (length b) b (omega arith) (head_of b) refl

@@ -1,0 +1,19 @@
+-- Which items are valid.
+use Rattle.std.specs.Prelude.{List, Option, Some, None, Result, Ok, Err}
+use Rattle.std.specs.List.{AllByRecursion}
+use Rattle.sm_model.specs.Fragments.{IsValid}
+use Rattle.sm_model.specs.Items.{Given, Header, Frag}
+use Rattle.sm_model.specs.PushBoxes.{Step}
+
+-- a fragment is valid
+abbrev pub IsValidItem : Given → Type 0
+IsValidItem (Header channel) = Unit {0}
+IsValidItem (Frag id f) = IsValid f
+
+abbrev pub ItemIsValid : Option Given → Type 0
+ItemIsValid None = Unit {0}
+ItemIsValid (Some g) = IsValidItem g
+
+abbrev pub StepIsValid : Step → Type 0
+StepIsValid (Ok step) = ItemIsValid step.0
+StepIsValid (Err r) = Unit {0}
