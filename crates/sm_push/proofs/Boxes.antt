@@ -1,6 +1,6 @@
 -- Bytes are boxes and a rest, and give what these give.
-use Rattle.std.proofs.Common.{◌≡◌, ℕ, zero, suc, ◌+◌, ◌-◌, ◌<◌, ◌≤◌, Bool, true, ltb, leb, List, [], ◌∷◌, ◌++◌, length, take, drop, refl, sym, ap, subst, ◌∙◌, arith, inl, inr}
-use Rattle.std.specs.Prelude.{◌&&◌, is_some, None, Ok, Err, codes}
+use Rattle.std.proofs.Common.{◌≡◌, ℕ, zero, suc, ◌+◌, ◌-◌, ◌<◌, ◌≤◌, true, ltb, leb, List, [], ◌∷◌, ◌++◌, length, take, drop, refl, sym, ap, subst, ◌∙◌, arith, inl, inr}
+use Rattle.std.specs.Prelude.{◌&&◌, is_some, Ok, Err, codes}
 use Rattle.std.specs.Option.{option_to_list}
 use Rattle.std.specs.List.{AllByRecursion}
 use Rattle.std.proofs.lemmas.Bool.{cases_lt, cond_both, lt-ltb, ltb-true, leb-true, and_parts}
@@ -8,7 +8,7 @@ use Rattle.std.proofs.lemmas.List.{append_assoc, take-append-drop, length-take, 
 use Rattle.sm_model.specs.declared.push.PushState.{PushState}
 use Rattle.sm_model.specs.declared.push.BoxDecision.{BoxDecision}
 use Rattle.sm_model.specs.declared.push.BoxDecision.TheVariants.{Wait, Refuse, Pass, Take}
-use Rattle.sm_model.specs.PushHeads.{decision, by_kind, ruling, user_sort, kind_sort, is as is_kind}
+use Rattle.sm_model.specs.PushHeads.{decision, by_kind, user_sort, kind_sort, is as is_kind}
 use Rattle.sm_model.specs.PushBoxes.{Step, taken, passed}
 use Rattle.sm_model.specs.Body.{Outcome, ended, behind, stepped, at_box, walk}
 use Rattle.sm_model.proofs.BoxLemmas.{long_head}

@@ -1,5 +1,5 @@
 -- A decision is one on the head that stands in front.
-use Rattle.std.proofs.Common.{◌≡◌, ℕ, ltb, eqb, List, length, take, drop, refl, inl, inr}
+use Rattle.std.proofs.Common.{◌≡◌, ℕ, ltb, eqb, List, length, refl, inl, inr}
 use Rattle.std.proofs.lemmas.Bool.{cases_Bool}
 use Rattle.sm_model.specs.declared.push.PushState.{PushState}
 use Rattle.sm_model.specs.Numbers.{number32_at}

@@ -10,7 +10,7 @@ use Rattle.sm_model.specs.declared.push.TopBox.{TopBox}
 use Rattle.sm_model.specs.declared.push.TopBox.TheVariants as sorts
 use Rattle.sm_model.specs.declared.push.BoxDecision.{BoxDecision}
 use Rattle.sm_model.specs.declared.push.BoxDecision.TheVariants.{Wait, Refuse, Pass, Take}
-use Rattle.sm_model.specs.Boxes.{box_len, IsOneBox}
+use Rattle.sm_model.specs.Boxes.{IsOneBox}
 use Rattle.sm_model.specs.PushHeads.{decision, by_kind, ruling, at_top, behind_moof, within, user_sort, kind_sort, is}
 use Rattle.sm_model.proofs.BoxLemmas.{is_whole}
 use Rattle.sm_box.specs.Heads.{head_of}
@@ -18,7 +18,7 @@ use Rattle.sm_box.specs.declared.head.Head.{Head}
 use Rattle.sm_box.specs.declared.head.Head.TheVariants as heads
 use Rattle.sm_push.specs.Heads.{by_head, FitsIn}
 use Rattle.sm_push.proofs.HeadLemmas.{decision_is}
-use Rattle.sm_push.proofs.Fronts.{part_stable, IsRead, head_stable, Tight, head_tight, whole_is}
+use Rattle.sm_push.proofs.Fronts.{part_stable, head_stable, Tight, head_tight, whole_is}
 
 longer : (n : ℕ) (h t : List ℕ) → n ≤ length h → ltb (length (h ++ t)) n ≡ false
 longer n h t le = le-ltb _ _ (omega (arith, length-append h t))

@@ -7,7 +7,6 @@ use Rattle.std.proofs.lemmas.Bool.{lt-ltb}
 use Rattle.sm_model.specs.declared.cause.Cause.{Cause}
 use Rattle.sm_model.specs.declared.cause.Cause.TheVariants.{CutOff}
 use Rattle.sm_model.specs.declared.cause.Refusal.{Refusal}
-use Rattle.sm_model.specs.declared.header.HeaderTrack.{HeaderTrack}
 use Rattle.sm_model.specs.declared.push.PushState.{PushState}
 use Rattle.sm_model.specs.declared.push.TopBox.{TopBox}
 use Rattle.sm_model.specs.declared.push.BoxDecision.{BoxDecision}
@@ -15,7 +14,7 @@ use Rattle.sm_model.specs.declared.push.BoxDecision.TheVariants.{Wait, Refuse, P
 use Rattle.sm_model.specs.Items.{Given}
 use Rattle.sm_model.specs.PushHeads.{decision}
 use Rattle.sm_model.specs.PushBoxes.{taken, passed}
-use Rattle.sm_model.specs.Body.{Outcome, header_in, ended, refused, behind, at_box, walk, start, body, body_end}
+use Rattle.sm_model.specs.Body.{Outcome, ended, refused, behind, at_box, walk, start, body, body_end}
 use Rattle.sm_push.specs.declared.fault.StepFault.{StepFault}
 use Rattle.sm_push.specs.declared.fault.StepFault.TheVariants as faults
 use Rattle.sm_push.specs.declared.step.NewItem.{NewItem}

@@ -1,5 +1,5 @@
 -- What the readers of a header answer, where memory may be wanting.
-use Rattle.std.specs.Prelude.{◌≡◌, ℕ, List, Result, Ok, Err}
+use Rattle.std.specs.Prelude.{◌≡◌, ℕ, Result, Ok, Err}
 use Rattle.sm_model.specs.declared.cause.Cause.{Cause}
 use Rattle.sm_model.specs.declared.cause.Cause.TheVariants.{BadLiveManifest}
 use Rattle.sm_push.specs.declared.header.HeaderFault.{HeaderFault}

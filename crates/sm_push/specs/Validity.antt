@@ -1,6 +1,5 @@
 -- Which items are valid.
-use Rattle.std.specs.Prelude.{List, Option, Some, None, Result, Ok, Err}
-use Rattle.std.specs.List.{AllByRecursion}
+use Rattle.std.specs.Prelude.{Option, Some, None, Ok, Err}
 use Rattle.sm_model.specs.Fragments.{IsValid}
 use Rattle.sm_model.specs.Items.{Given, Header, Frag}
 use Rattle.sm_model.specs.PushBoxes.{Step}

@@ -12,10 +12,12 @@ const S1: &[u8] =
 const FTYP: &[u8] = b"\0\0\0\x14ftypisml\0\0\0\x01isml";
 
 // The head of its box with 1,585 bytes of text, the user type, and version and flags.
-const MANIFEST: &[u8] = b"\0\0\x06\x4duuid\xa5\xd4\x0b\x30\xe8\x14\x11\xdd\xba\x2f\x08\x00\x20\x0c\x9a\x66\0\0\0\0";
+const MANIFEST: &[u8] =
+    b"\0\0\x06\x4duuid\xa5\xd4\x0b\x30\xe8\x14\x11\xdd\xba\x2f\x08\x00\x20\x0c\x9a\x66\0\0\0\0";
 
 // A moof of one sample at time 0 with duration 2, and the mdat with its byte.
-const P1: &[u8] = b"\0\0\0\x80moof\0\0\0\x10mfhd\0\0\0\0\0\0\0\x01\0\0\0\x68traf\0\0\0\x10tfhd\0\0\0\0\0\0\0\x01\0\0\0\x24trun\0\0\x0f\x01\0\0\0\x01\0\0\0\x88\0\0\0\x02\0\0\0\x01\0\0\0\0\0\0\0\0\0\0\0\x2cuuid\x6d\x1d\x9b\x05\x42\xd5\x44\xe6\x80\xe2\x14\x1d\xaf\xf7\x57\xb2\x01\0\0\0\0\0\0\0\0\0\0\0\0\0\0\0\0\0\0\x02\0\0\0\x09mdatA";
+const P1: &[u8] =
+    b"\0\0\0\x80moof\0\0\0\x10mfhd\0\0\0\0\0\0\0\x01\0\0\0\x68traf\0\0\0\x10tfhd\0\0\0\0\0\0\0\x01\0\0\0\x24trun\0\0\x0f\x01\0\0\0\x01\0\0\0\x88\0\0\0\x02\0\0\0\x01\0\0\0\0\0\0\0\0\0\0\0\x2cuuid\x6d\x1d\x9b\x05\x42\xd5\x44\xe6\x80\xe2\x14\x1d\xaf\xf7\x57\xb2\x01\0\0\0\0\0\0\0\0\0\0\0\0\0\0\0\0\0\0\x02\0\0\0\x09mdatA";
 
 // A free box whose 64-bit size is 2^64 - 1.
 const ENDLESS: &[u8] = b"\0\0\0\x01free\xff\xff\xff\xff\xff\xff\xff\xff.";
@@ -66,10 +68,9 @@ fn tell(rt: &HostRuntime, out: &mut String, items: &Items) -> Result<(), Fail> {
                 let time = f.time;
                 let duration = f.duration;
                 let samples = f.samples.len();
-                out.push_str(
-                    format!(in rt.alloc(); "{id} {name} {bitrate} {time} {duration} {samples}; ")?
-                        .as_str(),
-                )?;
+                out.push_str(format!(in rt.alloc();
+                    "{id} {name} {bitrate} {time} {duration} {samples}; "
+                )?.as_str())?;
             }
         }
         index += 1;
@@ -190,10 +191,26 @@ fn refusals_are_those_of_the_list(rt: HostRuntime) -> Result<(), Fail> {
             "header 3; 1 video 350000 0 2 1; ",
         ),
         ("an mdat alone", joined(&rt, &[mdat])?, ""),
-        ("a box of size 4", joined(&rt, &[b"\0\0\0\x04free"])?, "1 BadBox at 0\n"),
-        ("a box of size 0", joined(&rt, &[FTYP, b"\0\0\0\0free"])?, "3 OpenEnded at 20\n"),
-        ("a short head", joined(&rt, &[b"\0\0\0\x01free\0\0"])?, "21 CutOff at 10\n"),
-        ("a box without end", joined(&rt, &[ENDLESS])?, "21 CutOff at 17\n"),
+        (
+            "a box of size 4",
+            joined(&rt, &[b"\0\0\0\x04free"])?,
+            "1 BadBox at 0\n",
+        ),
+        (
+            "a box of size 0",
+            joined(&rt, &[FTYP, b"\0\0\0\0free"])?,
+            "3 OpenEnded at 20\n",
+        ),
+        (
+            "a short head",
+            joined(&rt, &[b"\0\0\0\x01free\0\0"])?,
+            "21 CutOff at 10\n",
+        ),
+        (
+            "a box without end",
+            joined(&rt, &[ENDLESS])?,
+            "21 CutOff at 17\n",
+        ),
         (
             "a large moov",
             joined(&rt, &[FTYP, b"\0\x10\0\x01moov"])?,
@@ -211,13 +228,23 @@ fn refusals_are_those_of_the_list(rt: HostRuntime) -> Result<(), Fail> {
         ),
         (
             "a live manifest box without text",
-            joined(&rt, &[b"\0\0\0\x18uuid\xa5\xd4\x0b\x30\xe8\x14\x11\xdd\xba\x2f\x08\x00\x20\x0c\x9a\x66", &moov])?,
+            joined(
+                &rt,
+                &[
+                    b"\0\0\0\x18uuid\xa5\xd4\x0b\x30\xe8\x14\x11\xdd\xba\x2f\x08\x00\x20\x0c\x9a\x66",
+                    &moov,
+                ],
+            )?,
             "5 BadLiveManifest inside 0 at 24\n",
         ),
     ];
     for (name, bytes, want) in &rows {
         for size in [1, 5, 100_000] {
-            assert_eq!(rt; told(&rt, false, bytes, size)?.as_str(), *want, "{name} {size}");
+            assert_eq!(rt;
+                told(&rt, false, bytes, size)?.as_str(),
+                *want,
+                "{name} {size}"
+            );
         }
     }
     Ok(())

@@ -1,9 +1,8 @@
-use Rattle.std.proofs.Common.{◌≡◌, ◌≤◌, subst, sym, refl, arith, length, List, ℕ}
+use Rattle.std.proofs.Common.{◌≡◌, ◌≤◌, subst, sym, refl, arith, length}
 use Rattle.sm_model.specs.declared.push.BoxDecision.TheVariants.{Take, Pass, Refuse}
 use Rattle.sm_model.specs.Boxes.{IsOneBox}
 use Rattle.sm_model.specs.PushHeads.{decision}
-use Rattle.sm_model.specs.PushBoxes.{taken, passed}
-use Rattle.sm_push.specs.Heads.{FitsIn}
+use Rattle.sm_model.specs.PushBoxes.{taken}
 use Rattle.sm_push.specs.Steps.{Takes, HoldsBoxes}
 use Rattle.sm_push.proofs.Stable.{taken_whole}
 use Rattle.sm_push.proofs.Steps.{passed_settles, refused_settles, box_settles, box_partial, empty_partial}

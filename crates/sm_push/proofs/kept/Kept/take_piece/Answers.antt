@@ -1,4 +1,4 @@
-use Rattle.std.proofs.Common.{refl, length, ap, arith}
+use Rattle.std.proofs.Common.{length, ap, arith}
 use Rattle.std.proofs.lemmas.List.{take_rest, length-drop}
 use Rattle.std.proofs.lemmas.Result.{err_from_is_err_and}
 use Rattle.sm_push.proofs.Steps.{begun, goes_on, fault_gives, all_taken}

@@ -1,4 +1,4 @@
-use Rattle.std.proofs.Common.{length, ◌-◌, ◌≤◌, ◌≡◌}
+use Rattle.std.proofs.Common.{length, ◌-◌, ◌≤◌}
 use Rattle.sm_push.specs.Standing.{IsPartial}
 use Rattle.sm_push.proofs.Steps.{Taking}
 use Rattle.sm_push.proofs.kept.Kept.take_piece.Given as goal
