@@ -3,6 +3,7 @@ use crate::{Item, Items, Push, PushFault};
 use sm_model::{Name, put_cause};
 use sm_moov::put_bare_moov;
 use sm_smil::read_ladder;
+use std::process::Abort;
 use std::test::Fail;
 
 // The live manifest of three tracks as an encoder writes it.
@@ -22,6 +23,22 @@ const P1: &[u8] =
 // A free box whose 64-bit size is 2^64 - 1.
 const ENDLESS: &[u8] = b"\0\0\0\x01free\xff\xff\xff\xff\xff\xff\xff\xff.";
 
+const FREE: &[u8] = b"\0\0\0\x08free";
+
+// One byte more than a moof may have, and as many as it may have.
+const LARGE_MOOF: &[u8] = b"\0\x20\0\x01moof";
+
+const LARGEST_MOOF: &[u8] = b"\0\x20\0\0moof";
+
+// The same of an mdat.
+const LARGE_MDAT: &[u8] = b"\x01\0\0\x09mdat";
+
+const LARGEST_MDAT: &[u8] = b"\x01\0\0\x08mdat";
+
+// A live server manifest box without text.
+const EMPTY: &[u8] =
+    b"\0\0\0\x18uuid\xa5\xd4\x0b\x30\xe8\x14\x11\xdd\xba\x2f\x08\x00\x20\x0c\x9a\x66";
+
 fn joined(rt: &HostRuntime, parts: &[&[u8]]) -> Result<Vec<u8>, Fail> {
     let mut out = Vec::new(rt.alloc());
     for part in parts {
@@ -39,7 +56,9 @@ fn moov(rt: &HostRuntime) -> Result<Vec<u8>, Fail> {
 
 // A header of 2,417 bytes.
 fn header(rt: &HostRuntime) -> Result<Vec<u8>, Fail> {
-    joined(rt, &[FTYP, MANIFEST, S1, &moov(rt)?])
+    let moov = moov(rt)?;
+    let out = joined(rt, &[FTYP, MANIFEST, S1, &moov])?;
+    Ok(out)
 }
 
 // The fragment with another track_ID and another sample.
@@ -54,15 +73,14 @@ fn fragment(rt: &HostRuntime, id: u8, byte: u8) -> Result<Vec<u8>, Fail> {
 }
 
 fn tell(rt: &HostRuntime, out: &mut String, items: &Items) -> Result<(), Fail> {
-    let mut index = 0;
-    for item in items.as_slice() {
+    for (index, item) in items.as_slice().iter().enumerate() {
         match item {
             Item::Header(channel) => {
                 let count = channel.len();
                 out.push_str(format!(in rt.alloc(); "header {count}; ")?.as_str())?;
             }
             Item::Frag(f) => {
-                let id = items.id(index).unwrap_or(0);
+                let id = items.id(index as u64).unwrap_or(0);
                 let name = str::from_utf8(f.stream.as_bytes()).unwrap_or("?");
                 let bitrate = f.bitrate;
                 let time = f.time;
@@ -73,7 +91,6 @@ fn tell(rt: &HostRuntime, out: &mut String, items: &Items) -> Result<(), Fail> {
                 )?.as_str())?;
             }
         }
-        index += 1;
     }
     Ok(())
 }
@@ -155,98 +172,109 @@ fn pieces_give_what_the_whole_gives(rt: HostRuntime) -> Result<(), Fail> {
     Ok(())
 }
 
+// Asserts what the joined parts give, however they are cut.
+fn expect(
+    abort: &impl Abort,
+    rt: &HostRuntime,
+    row: &str,
+    parts: &[&[u8]],
+    want: &str,
+) -> Result<(), Fail> {
+    let bytes = joined(rt, parts)?;
+    for size in [1, 5, 100_000] {
+        assert_eq!(abort;
+            told(rt, false, &bytes, size)?.as_str(),
+            want,
+            "{row} {size}"
+        );
+    }
+    Ok(())
+}
+
 #[test]
-fn refusals_are_those_of_the_list(rt: HostRuntime) -> Result<(), Fail> {
+fn heads_are_refused_in_their_order(rt: HostRuntime) -> Result<(), Fail> {
+    expect(&rt, &rt, "nothing", &[], "")?;
+    expect(&rt, &rt, "size 4", &[b"\0\0\0\x04free"], "1 BadBox at 0\n")?;
+    expect(
+        &rt,
+        &rt,
+        "size 0",
+        &[FTYP, b"\0\0\0\0free"],
+        "3 OpenEnded at 20\n",
+    )?;
+    expect(
+        &rt,
+        &rt,
+        "a short head",
+        &[b"\0\0\0\x01free\0\0"],
+        "21 CutOff at 10\n",
+    )?;
+    expect(
+        &rt,
+        &rt,
+        "a box without end",
+        &[ENDLESS],
+        "21 CutOff at 17\n",
+    )?;
+    expect(&rt, &rt, "a moof first", &[P1], "4 NoHeader at 0\n")?;
+    expect(
+        &rt,
+        &rt,
+        "a large moov",
+        &[FTYP, b"\0\x10\0\x01moov"],
+        "2 BoxTooLarge at 20\n",
+    )?;
+    expect(
+        &rt,
+        &rt,
+        "the largest moov",
+        &[FTYP, b"\0\x10\0\0moov"],
+        "21 CutOff at 28\n",
+    )?;
+    expect(&rt, &rt, "an mdat alone", &[b"\0\0\0\x09mdatA"], "")?;
+    Ok(())
+}
+
+#[test]
+fn headers_come_in_either_order(rt: HostRuntime) -> Result<(), Fail> {
     let head = header(&rt)?;
     let moov = moov(&rt)?;
-    let unknown = fragment(&rt, 9, 65)?;
-    let (moof, mdat) = P1.split_at(128);
     let manifest = joined(&rt, &[MANIFEST, S1])?;
-    let rows: [(&str, Vec<u8>, &str); 16] = [
-        ("nothing", joined(&rt, &[])?, ""),
-        ("a moof first", joined(&rt, &[P1])?, "4 NoHeader at 0\n"),
-        (
-            "another track",
-            joined(&rt, &[&head, &unknown])?,
-            "header 3; 7 UnknownTrack at 2417\n",
-        ),
-        (
-            "a moof alone",
-            joined(&rt, &[&head, moof])?,
-            "header 3; 21 CutOff at 2545\n",
-        ),
-        (
-            "no mdat behind it",
-            joined(&rt, &[&head, moof, b"\0\0\0\x08free"])?,
-            "header 3; 18 NoMdat at 2545\n",
-        ),
-        (
-            "moov before the live manifest",
-            joined(&rt, &[&moov, &manifest, P1])?,
-            "header 3; 1 video 350000 0 2 1; ",
-        ),
-        (
-            "two headers",
-            joined(&rt, &[&head, &head, P1])?,
-            "header 3; 1 video 350000 0 2 1; ",
-        ),
-        ("an mdat alone", joined(&rt, &[mdat])?, ""),
-        (
-            "a box of size 4",
-            joined(&rt, &[b"\0\0\0\x04free"])?,
-            "1 BadBox at 0\n",
-        ),
-        (
-            "a box of size 0",
-            joined(&rt, &[FTYP, b"\0\0\0\0free"])?,
-            "3 OpenEnded at 20\n",
-        ),
-        (
-            "a short head",
-            joined(&rt, &[b"\0\0\0\x01free\0\0"])?,
-            "21 CutOff at 10\n",
-        ),
-        (
-            "a box without end",
-            joined(&rt, &[ENDLESS])?,
-            "21 CutOff at 17\n",
-        ),
-        (
-            "a large moov",
-            joined(&rt, &[FTYP, b"\0\x10\0\x01moov"])?,
-            "2 BoxTooLarge at 20\n",
-        ),
-        (
-            "a large moof",
-            joined(&rt, &[&head, b"\0\x20\0\x01moof"])?,
-            "header 3; 2 BoxTooLarge at 2417\n",
-        ),
-        (
-            "a large mdat",
-            joined(&rt, &[&head, moof, b"\x01\0\0\x09mdat"])?,
-            "header 3; 2 BoxTooLarge at 2545\n",
-        ),
-        (
-            "a live manifest box without text",
-            joined(
-                &rt,
-                &[
-                    b"\0\0\0\x18uuid\xa5\xd4\x0b\x30\xe8\x14\x11\xdd\xba\x2f\x08\x00\x20\x0c\x9a\x66",
-                    &moov,
-                ],
-            )?,
-            "5 BadLiveManifest inside 0 at 24\n",
-        ),
-    ];
-    for (name, bytes, want) in &rows {
-        for size in [1, 5, 100_000] {
-            assert_eq!(rt;
-                told(&rt, false, bytes, size)?.as_str(),
-                *want,
-                "{name} {size}"
-            );
-        }
-    }
+    let given = "header 3; 1 video 350000 0 2 1; ";
+    expect(&rt, &rt, "moov first", &[&moov, &manifest, P1], given)?;
+    expect(&rt, &rt, "two headers", &[&head, &head, P1], given)?;
+    let without = [EMPTY, &moov];
+    let fault = "5 BadLiveManifest inside 0 at 24\n";
+    expect(&rt, &rt, "no text", &without, fault)?;
+    Ok(())
+}
+
+#[test]
+fn fragments_are_refused_behind_a_header(rt: HostRuntime) -> Result<(), Fail> {
+    let head = header(&rt)?;
+    let ninth = fragment(&rt, 9, 65)?;
+    let mut moof = joined(&rt, &[P1])?;
+    moof.truncate(128);
+    let fault = "header 3; 7 UnknownTrack at 2417\n";
+    expect(&rt, &rt, "another track", &[&head, &ninth], fault)?;
+    let fault = "header 3; 21 CutOff at 2545\n";
+    expect(&rt, &rt, "a moof alone", &[&head, &moof], fault)?;
+    let fault = "header 3; 18 NoMdat at 2545\n";
+    expect(&rt, &rt, "no mdat", &[&head, &moof, FREE], fault)?;
+    let fault = "header 3; 2 BoxTooLarge at 2417\n";
+    expect(&rt, &rt, "a large moof", &[&head, LARGE_MOOF], fault)?;
+    let fault = "header 3; 21 CutOff at 2425\n";
+    expect(&rt, &rt, "the largest moof", &[&head, LARGEST_MOOF], fault)?;
+    let fault = "header 3; 2 BoxTooLarge at 2545\n";
+    expect(&rt, &rt, "a large mdat", &[&head, &moof, LARGE_MDAT], fault)?;
+    let fault = "header 3; 21 CutOff at 2553\n";
+    expect(
+        &rt,
+        &rt,
+        "the largest mdat",
+        &[&head, &moof, LARGEST_MDAT],
+        fault,
+    )?;
     Ok(())
 }
 
@@ -254,7 +282,8 @@ fn refusals_are_those_of_the_list(rt: HostRuntime) -> Result<(), Fail> {
 fn a_headerless_push_names_tracks_by_number(rt: HostRuntime) -> Result<(), Fail> {
     let zero = fragment(&rt, 0, 65)?;
     let nine = fragment(&rt, 9, 65)?;
-    let bytes = joined(&rt, &[&zero, &nine, &header(&rt)?, P1, &nine])?;
+    let head = header(&rt)?;
+    let bytes = joined(&rt, &[&zero, &nine, &head, P1, &nine])?;
     for size in [1, 100_000] {
         assert_eq!(rt;
             told(&rt, true, &bytes, size)?.as_str(),
