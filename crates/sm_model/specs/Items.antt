@@ -1,5 +1,5 @@
 -- What a push gives: headers, and fragments with their track_IDs.
-use Rattle.std.specs.Prelude.{ℕ, zero, suc, List, [], ◌∷◌, Option, Some, None}
+use Rattle.std.specs.Prelude.{ℕ, zero, suc, ◌+◌, ◌==◌, ◌&&◌, List, [], ◌∷◌, Option, Some, None, if◌then◌else◌}
 use Rattle.sm_model.specs.declared.track.Track.{Track}
 use Rattle.sm_model.specs.declared.fragment.Fragment.{Fragment}
 use Rattle.sm_model.specs.declared.item.Item.{Item}
@@ -33,3 +33,17 @@ unfoldable pub id_at : List Given → ℕ → Option ℕ
 id_at [] n = None
 id_at (g ∷ gs) zero = id_of g
 id_at (g ∷ gs) (suc n) = id_at gs n
+
+-- ---- one fragment among the items
+
+-- The first fragment with that track_ID and time, and its place among the fragments, where the first of them has this place. A
+-- header has no place.
+abbrev pub first_from : ℕ → ℕ → ℕ → List Given → Option (ℕ × Fragment)
+first_from place track time [] = None
+first_from place track time (Header channel ∷ gs) = first_from place track time gs
+first_from place track time (Frag id fragment ∷ gs) =
+    if id == track && fragment.time == time then Some (place, fragment) else first_from (place + 1) track time gs
+
+-- places count from 1
+abbrev pub first_of : ℕ → ℕ → List Given → Option (ℕ × Fragment)
+first_of track time gs = first_from 1 track time gs
