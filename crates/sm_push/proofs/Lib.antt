@@ -3,6 +3,7 @@ pub mod Fronts
 pub mod Stable
 pub mod Walking
 pub mod Steps
+pub mod Counts
 pub mod HeaderLemmas
 pub mod Boxes
 pub mod Valid

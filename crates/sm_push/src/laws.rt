@@ -1,5 +1,5 @@
 //! Laws of push bodies. Each is the contract of a function that does nothing.
-ghost use Rattle.std.specs.Prelude.{◌≡◌, ◌++◌, Bool, List, ℕ};
+ghost use Rattle.std.specs.Prelude.{◌≡◌, ◌≤◌, ◌++◌, Bool, List, ℕ, length};
 ghost use Rattle.sm_model.specs.Body.{body, IsFrontOf};
 ghost use Rattle.sm_model.specs.Body;
 ghost use Rattle.std.specs.List.{AllByRecursion};
@@ -17,6 +17,11 @@ pub fn by_boxes()
     ensures split { (headerless : Bool) (b : List ℕ) → (boxes : List (List ℕ)) × (rest : List ℕ) × Splits b boxes rest × (body headerless b ≡ boxes_give (Body.start headerless) boxes rest) }
     // However they are split.
     ensures any { (headerless : Bool) (b : List ℕ) (boxes : List (List ℕ)) (rest : List ℕ) → Splits b boxes rest → body headerless b ≡ boxes_give (Body.start headerless) boxes rest }
+{}
+
+/// Bytes give no more items than there are bytes, so that their places fit wherever the number of bytes does.
+pub fn items_are_no_more_than_bytes()
+    ensures { (headerless : Bool) (b : List ℕ) → length (body headerless b).items ≤ length b }
 {}
 
 /// Every fragment that a push gives is valid.
