@@ -3,6 +3,7 @@ pub mod Over
 pub mod Joined
 pub mod Fit
 pub mod Valid
+pub mod ValidAnswers
 pub mod WalkLemmas
 pub mod WrittenLines
 pub mod OneAnswer

@@ -2,7 +2,7 @@
 ghost use Rattle.std.specs.Prelude.{◌≡◌, ℕ, List, All, Result, Ok};
 ghost use Rattle.sm_model.specs.declared.track.Track.{Track};
 ghost use Rattle.sm_model.specs.declared.smil.SmilTrack.{SmilTrack};
-ghost use Rattle.sm_model.specs.Channels.{IsChannel, IsNarrowTrack};
+ghost use Rattle.sm_model.specs.Channels.{IsChannel, IsNarrowTrack, IsSmil};
 ghost use Rattle.sm_model.specs.LiveManifests.{IsLiveManifest, IsLadder};
 ghost use Rattle.sm_model.specs.LiveRead.{live_manifest};
 ghost use Rattle.sm_model.specs.LiveText.{live_text};
@@ -22,4 +22,9 @@ pub fn text_has_one_reading()
 pub fn live_manifest_has_one_answer()
     ensures some { (text : List ℕ) → IsLiveManifest text (live_manifest text) }
     ensures one { (text : List ℕ) (r : Result (List SmilTrack) ℕ) → IsLiveManifest text r → r ≡ live_manifest text }
+{}
+
+/// The tracks that a live manifest says are valid: a valid channel once each has a timescale and each name has one.
+pub fn live_manifests_are_valid()
+    ensures { (text : List ℕ) (tracks : List SmilTrack) → IsLiveManifest text (Ok tracks) → IsSmil tracks }
 {}
