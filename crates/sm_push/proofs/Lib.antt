@@ -5,5 +5,6 @@ pub mod Walking
 pub mod Steps
 pub mod Counts
 pub mod HeaderLemmas
+pub mod HeaderValid
 pub mod Boxes
 pub mod Valid

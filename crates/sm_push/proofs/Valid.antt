@@ -41,7 +41,9 @@ use Rattle.sm_model.specs.Found.{Found, found, bodies}
 use Rattle.sm_model.specs.Fields.{rows, row, trun_fits, tfxd_pair, defaults_of, version, rows_at, row_len}
 use Rattle.sm_model.specs.Fragments.{IsValid, sample_bytes}
 use Rattle.sm_model.specs.Frag.{Line, first_cause, Traf, traf_of, frag_lines, run_of, mdat_rest, rest_of, raw_of, cut, judged_frag, frag_in, frag}
-use Rattle.sm_model.specs.PushBoxes.{Step, passed, named, track_in, pending, moof_taken, fragment_taken, mdat_taken, header_taken, moov_taken, manifest_taken, taken}
+use Rattle.sm_model.specs.Channels.{IsChannel}
+use Rattle.sm_model.specs.Header.{header_of}
+use Rattle.sm_model.specs.PushBoxes.{Step, passed, named, text_of, track_in, pending, moof_taken, fragment_taken, mdat_taken, header_taken, moov_taken, manifest_taken, taken}
 
 abbrev IsNot : Line → Type 0
 IsNot l = l.0 ≡ false
@@ -188,9 +190,13 @@ step_valid : (s : PushState) (r : Result RawFragment Cause) (moof : PendingMoof)
 step_valid s (Err cause) moof size h = tt
 step_valid s (Ok raw) moof size h = h raw refl
 
-header_valid : (s : PushState) (r : Result Header Cause) (size : ℕ) → StepIsValid (header_taken r s size)
-header_valid s (Err cause) size = tt
-header_valid s (Ok h) size = tt
+-- a header that is read has a valid channel
+abbrev pub HeadersAreValid : Type 0
+HeadersAreValid = (text body : List ℕ) (h : Header) → header_of text body ≡ Ok h → IsChannel h.channel
+
+header_valid : (s : PushState) (r : Result Header Cause) (size : ℕ) → ((h : Header) → r ≡ Ok h → IsChannel h.channel) → StepIsValid (header_taken r s size)
+header_valid s (Err cause) size headers = tt
+header_valid s (Ok h) size headers = headers h refl
 
 pending_valid : (s : PushState) (b : List ℕ) (t : Option HeaderTrack) → StepIsValid (pending t s b)
 pending_valid s b None = tt
@@ -200,27 +206,29 @@ moof_valid : (s : PushState) (b : List ℕ) (r : Result Run Cause) → StepIsVal
 moof_valid s b (Err cause) = tt
 moof_valid s b (Ok run) = pending_valid s b (track_in s.stage run.id)
 
-moov_valid : (s : PushState) (b : List ℕ) (stage : HeaderStage) → StepIsValid (moov_taken stage s b)
-moov_valid s b (Gathering (Some manifest) moov) = header_valid s _ (length b)
-moov_valid s b (Gathering None moov) = tt
-moov_valid s b (Complete tracks) = tt
+moov_valid : HeadersAreValid → (s : PushState) (b : List ℕ) (stage : HeaderStage) → StepIsValid (moov_taken stage s b)
+moov_valid headers s b (Gathering (Some manifest) moov) =
+    header_valid s (header_of (text_of manifest) (box_of b).body) (length b) (headers (text_of manifest) (box_of b).body)
+moov_valid headers s b (Gathering None moov) = tt
+moov_valid headers s b (Complete tracks) = tt
 
-manifest_valid : (s : PushState) (b : List ℕ) (stage : HeaderStage) → StepIsValid (manifest_taken stage s b)
-manifest_valid s b (Gathering manifest (Some moov)) = header_valid s _ (length b)
-manifest_valid s b (Gathering manifest None) = tt
-manifest_valid s b (Complete tracks) = tt
+manifest_valid : HeadersAreValid → (s : PushState) (b : List ℕ) (stage : HeaderStage) → StepIsValid (manifest_taken stage s b)
+manifest_valid headers s b (Gathering manifest (Some moov)) =
+    header_valid s (header_of (text_of b) (box_of moov).body) (length b) (headers (text_of b) (box_of moov).body)
+manifest_valid headers s b (Gathering manifest None) = tt
+manifest_valid headers s b (Complete tracks) = tt
 
 mdat_valid : (s : PushState) (b : List ℕ) (moof : Option PendingMoof) → (is_some moof ≡ true → length (box_of b).body ≤ 16777216) → StepIsValid (mdat_taken moof s b)
 mdat_valid s b None h = tt
 mdat_valid s b (Some moof) h = step_valid s (frag moof.track.defaults moof.bytes b) moof (length b) (λ raw e. frag_valid moof.track.defaults moof.bytes b raw moof.track e (h refl))
 
-taken_valid : (s : PushState) (b : List ℕ) (sort : TopBox) → (is_some s.moof ≡ true → length (box_of b).body ≤ 16777216) → StepIsValid (taken s sort b)
+taken_valid : HeadersAreValid → (s : PushState) (b : List ℕ) (sort : TopBox) → (is_some s.moof ≡ true → length (box_of b).body ≤ 16777216) → StepIsValid (taken s sort b)
 unfolding taken
-taken_valid s b sorts.Moof h = moof_valid s b _
-taken_valid s b sorts.Mdat h = mdat_valid s b s.moof h
-taken_valid s b sorts.Moov h = moov_valid s b s.stage
-taken_valid s b sorts.Manifest h = manifest_valid s b s.stage
-taken_valid s b sorts.Other h = tt
+taken_valid headers s b sorts.Moof short = moof_valid s b _
+taken_valid headers s b sorts.Mdat short = mdat_valid s b s.moof short
+taken_valid headers s b sorts.Moov short = moov_valid headers s b s.stage
+taken_valid headers s b sorts.Manifest short = manifest_valid headers s b s.stage
+taken_valid headers s b sorts.Other short = tt
 
 stepped_valid : (step : Step) (size : ℕ) (go : PushState → ℕ → Outcome) → StepIsValid step → ((next : PushState) (k : ℕ) → AllByRecursion IsValidItem (go next k).items) → AllByRecursion IsValidItem (stepped step size go).items
 stepped_valid (Err r) size go v h = tt
@@ -230,16 +238,16 @@ stepped_valid (Ok step) size go v h = by_item step.0 v
     by_item None v = h step.1 size
     by_item (Some g) v = (v, h step.1 size)
 
-box_valid : (s : PushState) (b : List ℕ) (d : BoxDecision) → decision s b ≡ d → (go : PushState → ℕ → Outcome) → ((next : PushState) (k : ℕ) → AllByRecursion IsValidItem (go next k).items) → AllByRecursion IsValidItem (at_box s b d go).items
-box_valid s b Wait e go h = tt
-box_valid s b (Refuse cause) e go h = tt
-box_valid s b (Pass size) e go h = h (passed s size) size
-box_valid s b (Take sort size) e go h =
+box_valid : HeadersAreValid → (s : PushState) (b : List ℕ) (d : BoxDecision) → decision s b ≡ d → (go : PushState → ℕ → Outcome) → ((next : PushState) (k : ℕ) → AllByRecursion IsValidItem (go next k).items) → AllByRecursion IsValidItem (at_box s b d go).items
+box_valid headers s b Wait e go h = tt
+box_valid headers s b (Refuse cause) e go h = tt
+box_valid headers s b (Pass size) e go h = h (passed s size) size
+box_valid headers s b (Take sort size) e go h =
     cond_both (ltb (length b) size) _ _ (λ (o : Outcome). AllByRecursion IsValidItem o.items) (λ _. tt)
-    (λ ge. stepped_valid (taken s sort (take size b)) size go (taken_valid s (take size b) sort (λ some. limit s b sort size e some (ltb-false _ _ ge))) h)
+    (λ ge. stepped_valid (taken s sort (take size b)) size go (taken_valid headers s (take size b) sort (λ some. limit s b sort size e some (ltb-false _ _ ge))) h)
 
-pub walk_valid : (s : PushState) (k : ℕ) (b : List ℕ) → AllByRecursion IsValidItem (walk s k b).items
+pub walk_valid : HeadersAreValid → (s : PushState) (k : ℕ) (b : List ℕ) → AllByRecursion IsValidItem (walk s k b).items
 unfolding walk
-walk_valid s k [] = tt
-walk_valid s (suc k) (x ∷ b) = walk_valid s k b
-walk_valid s zero (x ∷ b) = box_valid s (x ∷ b) (decision s (x ∷ b)) refl (λ next size. walk next (size - 1) b) (λ next k. walk_valid next (k - 1) b)
+walk_valid headers s k [] = tt
+walk_valid headers s (suc k) (x ∷ b) = walk_valid headers s k b
+walk_valid headers s zero (x ∷ b) = box_valid headers s (x ∷ b) (decision s (x ∷ b)) refl (λ next size. walk next (size - 1) b) (λ next k. walk_valid headers next (k - 1) b)

@@ -6,6 +6,9 @@ ghost use Rattle.std.specs.List.{AllByRecursion};
 ghost use Rattle.sm_push.specs.Boxes.{Splits, boxes_give};
 ghost use Rattle.sm_push.specs.Validity.{IsValidItem};
 
+use sm_moov::law::timescales_are_positive;
+use sm_smil::{live_manifest_has_one_answer, live_manifests_are_valid};
+
 /// What a front of the bytes gives is a front of what they give.
 pub fn front()
     ensures { (headerless : Bool) (p q : List ℕ) → IsFrontOf (body headerless p) (body headerless (p ++ q)) }
@@ -24,7 +27,11 @@ pub fn items_are_no_more_than_bytes()
     ensures { (headerless : Bool) (b : List ℕ) → length (body headerless b).items ≤ length b }
 {}
 
-/// Every fragment that a push gives is valid.
-pub fn fragments_are_valid()
+/// Every item that a push gives is valid: each fragment is, and the channel of each header.
+pub fn items_are_valid()
     ensures { (headerless : Bool) (b : List ℕ) → AllByRecursion IsValidItem (body headerless b).items }
-{}
+{
+    live_manifest_has_one_answer();
+    live_manifests_are_valid();
+    timescales_are_positive();
+}

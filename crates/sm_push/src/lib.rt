@@ -12,7 +12,7 @@ mod step;
 mod track;
 
 pub use fault::PushFault;
-pub use laws::{by_boxes, fragments_are_valid, front, items_are_no_more_than_bytes};
+pub use laws::{by_boxes, front, items_are_no_more_than_bytes, items_are_valid};
 pub use session::Push;
 pub use sm_model::{Item, Items};
 
