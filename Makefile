@@ -5,9 +5,9 @@ BENCH := crates/fragment_bench/out/fragment_bench
 
 .PHONY: run test build bench clean
 
-# Picks the first audio fragment out of a small sample.
+# Picks the first audio fragment out of a sample push.
 run: build
-	./$(PROGRAM) pick 3 0 < examples/fragments.frag > /tmp/smooth-picked.frag
+	./$(PROGRAM) pick 3 0 < examples/push.isml > /tmp/smooth-picked.frag
 	@wc -c /tmp/smooth-picked.frag
 
 # The merge gate.
@@ -20,7 +20,7 @@ build:
 
 bench: build
 	cd crates/fragment_bench && rt run -- copy 1 1 1 > /dev/null
-	bash scripts/bench_pick $(PROGRAM)
+	bash scripts/bench_push $(PROGRAM)
 	bash scripts/bench_fragment $(BENCH)
 
 clean:
