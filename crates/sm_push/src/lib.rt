@@ -7,6 +7,7 @@ mod header;
 mod held;
 mod kept;
 mod laws;
+mod same;
 mod session;
 mod step;
 mod track;
