@@ -1,5 +1,5 @@
--- Bytes are boxes and a rest, and give what these give.
-use Rattle.std.proofs.Common.{◌≡◌, ℕ, zero, suc, ◌+◌, ◌-◌, ◌<◌, ◌≤◌, true, ltb, leb, List, [], ◌∷◌, ◌++◌, length, take, drop, refl, sym, ap, subst, ◌∙◌, arith, inl, inr}
+-- Bytes give what their boxes and their rest give.
+use Rattle.std.proofs.Common.{◌≡◌, ℕ, zero, suc, ◌+◌, ◌-◌, ◌<◌, ◌≤◌, true, false, ltb, leb, List, [], ◌∷◌, ◌++◌, length, take, drop, refl, sym, ap, subst, ◌∙◌, arith, inl, inr}
 use Rattle.std.specs.Prelude.{◌&&◌, is_some, Ok, Err, codes}
 use Rattle.std.specs.Option.{option_to_list}
 use Rattle.std.specs.List.{AllByRecursion}
@@ -8,19 +8,52 @@ use Rattle.std.proofs.lemmas.List.{append_assoc, take-append-drop, length-take, 
 use Rattle.sm_model.specs.declared.push.PushState.{PushState}
 use Rattle.sm_model.specs.declared.push.BoxDecision.{BoxDecision}
 use Rattle.sm_model.specs.declared.push.BoxDecision.TheVariants.{Wait, Refuse, Pass, Take}
+use Rattle.sm_model.specs.Boxes.{IsOneBox, starts_whole, box_of}
 use Rattle.sm_model.specs.PushHeads.{decision, by_kind, user_sort, kind_sort, is as is_kind}
 use Rattle.sm_model.specs.PushBoxes.{Step, taken, passed}
 use Rattle.sm_model.specs.Body.{Outcome, ended, behind, stepped, at_box, walk}
-use Rattle.sm_model.proofs.BoxLemmas.{long_head}
+use Rattle.sm_model.proofs.BoxLemmas.{is_whole, size_of}
 use Rattle.sm_box.specs.Heads.{head_of}
 use Rattle.sm_box.specs.declared.head.Head.{Head}
 use Rattle.sm_box.specs.declared.head.Head.TheVariants as heads
 use Rattle.sm_push.specs.Heads.{by_head}
-use Rattle.sm_push.specs.Boxes.{HasSize, IsBox, IsBeyond, IsRest, bytes_of, Splits, rest_gives, rest_inside, step_gives, box_gives, boxes_give}
+use Rattle.sm_push.specs.Boxes.{bytes_of, rest_gives, rest_inside, step_gives, box_gives, boxes_give}
 use Rattle.sm_push.proofs.HeadLemmas.{decision_is}
 use Rattle.sm_push.proofs.Fronts.{IsRead, Tight, head_stable, head_tight, whole_is}
 use Rattle.sm_push.proofs.Stable.{decision-nil, ruling_made, IsMade, SizeIs, kind_size}
 use Rattle.sm_push.proofs.Walking.{passes, refuses, takes}
+
+-- a whole box's head is read as it is
+abbrev pub ReadsWhole : Type 0
+ReadsWhole = (b : List ℕ) → starts_whole b ≡ true → head_of b ≡ heads.Whole (box_of b).kind (box_of b).head (box_of b).size
+
+abbrev HasSize : ℕ → Head → Type 0
+HasSize count (heads.Whole kind head size) = size ≡ count
+HasSize count heads.Short = ⊥
+HasSize count heads.Bad = ⊥
+HasSize count heads.OpenEnded = ⊥
+
+has_size : ReadsWhole → (box : List ℕ) → IsOneBox box → HasSize (length box) (head_of box)
+has_size reads box one = rw (reads box one.whole) (size_of box ∙ one.all)
+
+abbrev IsBeyond : ℕ → Head → Type 0
+IsBeyond count (heads.Whole kind head size) = count < size
+IsBeyond count heads.Short = Unit {0}
+IsBeyond count heads.Bad = Unit {0}
+IsBeyond count heads.OpenEnded = Unit {0}
+
+ends_beyond : (rest : List ℕ) (hd : Head) → head_of rest ≡ hd → starts_whole rest ≡ false → IsBeyond (length rest) hd
+ends_beyond rest heads.Short e none = tt
+ends_beyond rest heads.Bad e none = tt
+ends_beyond rest heads.OpenEnded e none = tt
+ends_beyond rest (heads.Whole kind head size) e none =
+    elim (cases_lt (length rest) size) [
+      | inl lt ↦ lt
+      | inr ge ↦
+          let w = whole_is rest kind head size e in
+          let whole : starts_whole rest ≡ true = is_whole rest (record { eight = w.eight; head = omega (arith, w.fits, w.head_is, w.size_is); size = omega (arith, w.size_is, ge) }) in
+          absurd cc
+    ]
 
 -- on a whole box a decision is made
 kind_whole : (s : PushState) (b : List ℕ) (kind : List ℕ) (head size : ℕ) → size ≤ length b → IsMade (by_kind s b kind head size)
@@ -38,7 +71,7 @@ box_at s box heads.OpenEnded is = absurd is
 box_at s box (heads.Whole kind head size) is =
     (subst (λ (n : ℕ). SizeIs n (by_kind s box kind head size)) is (kind_size s box kind head size), kind_whole s box kind head size (omega arith))
 
-box_decision : (s : PushState) (box : List ℕ) → IsBox box → SizeIs (length box) (decision s box) × IsMade (decision s box)
+box_decision : (s : PushState) (box : List ℕ) → HasSize (length box) (head_of box) → SizeIs (length box) (decision s box) × IsMade (decision s box)
 box_decision s box is = subst (λ (d : BoxDecision). SizeIs (length box) d × IsMade d) (sym (decision_is s box)) (box_at s box (head_of box) is)
 
 -- ---- a rest gives nothing but its head's refusal
@@ -61,8 +94,8 @@ rest_at s rest heads.Bad lt = tt
 rest_at s rest heads.OpenEnded lt = tt
 rest_at s rest (heads.Whole kind head size) lt = sized_beyond (length rest) size (by_kind s rest kind head size) lt (kind_size s rest kind head size)
 
-rest_decision : (s : PushState) (rest : List ℕ) → IsRest rest → Beyond (length rest) (decision s rest)
-rest_decision s rest is = subst (Beyond (length rest)) (sym (decision_is s rest)) (rest_at s rest (head_of rest) is)
+rest_decision : (s : PushState) (rest : List ℕ) → starts_whole rest ≡ false → Beyond (length rest) (decision s rest)
+rest_decision s rest none = subst (Beyond (length rest)) (sym (decision_is s rest)) (rest_at s rest (head_of rest) (ends_beyond rest (head_of rest) refl none))
 
 -- past the end of the bytes
 beyond_end : (s : PushState) (k : ℕ) (xs : List ℕ) → length xs < k → walk s k xs ≡ ended s true
@@ -77,10 +110,10 @@ rest_walk_at s x xs (Refuse cause) lt = refl
 rest_walk_at s x xs (Pass n) lt = beyond_end (passed s n) (n - 1) xs (omega arith)
 rest_walk_at s x xs (Take sort n) lt = let short : ltb (length (x ∷ xs)) n ≡ true = lt-ltb _ _ lt in rw short refl
 
-rest_walk : (s : PushState) (rest : List ℕ) → IsRest rest → walk s 0 rest ≡ rest_gives s (decision s rest) (rest_inside rest (is_some s.moof))
+rest_walk : (s : PushState) (rest : List ℕ) → starts_whole rest ≡ false → walk s 0 rest ≡ rest_gives s (decision s rest) (rest_inside rest (is_some s.moof))
 unfolding walk
-rest_walk s [] is = rw (decision-nil s) refl
-rest_walk s (x ∷ xs) is = rest_walk_at s x xs (decision s (x ∷ xs)) (rest_decision s (x ∷ xs) is)
+rest_walk s [] none = rw (decision-nil s) refl
+rest_walk s (x ∷ xs) none = rest_walk_at s x xs (decision s (x ∷ xs)) (rest_decision s (x ∷ xs) none)
 
 -- ---- boxes
 
@@ -98,12 +131,12 @@ box_walk s box more (Take sort n) e is go' h =
     takes s box more sort n e (sym is.0) ∙ step_walk (taken s sort box) n (λ next. walk next 0 more) go' h
 
 -- what boxes and a rest give is what their bytes give
-pub boxes_walk : (s : PushState) (boxes : List (List ℕ)) (rest : List ℕ) → AllByRecursion IsBox boxes → IsRest rest → walk s 0 (bytes_of boxes ++ rest) ≡ boxes_give s boxes rest
-boxes_walk s [] rest each last = rest_walk s rest last
-boxes_walk s (box ∷ boxes) rest each last =
-    rw (append_assoc box (bytes_of boxes) rest) (box_walk s box (bytes_of boxes ++ rest) (decision s box) refl (box_decision s box each.0) (λ next. boxes_give next boxes rest) (λ next. boxes_walk next boxes rest each.1 last))
+pub boxes_walk : ReadsWhole → (s : PushState) (boxes : List (List ℕ)) (rest : List ℕ) → AllByRecursion IsOneBox boxes → starts_whole rest ≡ false → walk s 0 (bytes_of boxes ++ rest) ≡ boxes_give s boxes rest
+boxes_walk reads s [] rest each last = rest_walk s rest last
+boxes_walk reads s (box ∷ boxes) rest each last =
+    rw (append_assoc box (bytes_of boxes) rest) (box_walk s box (bytes_of boxes ++ rest) (decision s box) refl (box_decision s box (has_size reads box each.0)) (λ next. boxes_give next boxes rest) (λ next. boxes_walk reads next boxes rest each.1 last))
 
--- ---- each list of bytes is boxes and a rest
+-- ---- the box in front of bytes
 
 not_short_read : (hd : Head) → (hd ≡ heads.Short → ⊥) → IsRead hd
 not_short_read heads.Short h = h refl
@@ -121,34 +154,3 @@ head_take b kind head size e le =
     let t : Tight (size + 1) (heads.Whole kind head size) = rw (joined, e) at (head_tight (take size b) (drop size b) (size + 1) short (omega arith)) in
     omega (arith, t.0, fits.fits)) in
     sym (head_stable (take size b) (drop size b) read) ∙ ap head_of joined ∙ e
-
-abbrev SomeSplit : List ℕ → Type 0
-SomeSplit b = (boxes : List (List ℕ)) × (rest : List ℕ) × Splits b boxes rest
-
-alone : (b : List ℕ) → IsRest b → SomeSplit b
-alone b is = ([], b, record { whole = refl; each = tt; last = is })
-
-split_at : (fuel : ℕ) (b : List ℕ) → length b ≤ fuel → (hd : Head) → head_of b ≡ hd → SomeSplit b
-split_at fuel b le heads.Short e = alone b (rw e tt)
-split_at fuel b le heads.Bad e = alone b (rw e tt)
-split_at fuel b le heads.OpenEnded e = alone b (rw e tt)
-split_at zero b le (heads.Whole kind head size) e = alone b (rw e (let w = whole_is b kind head size e in omega (arith, w.eight)))
-split_at (suc fuel) b le (heads.Whole kind head size) e =
-    elim (cases_lt (length b) size) [
-      | inl lt ↦ alone b (rw e lt)
-      | inr ge ↦
-          let w = whole_is b kind head size e in
-          let after : SomeSplit (drop size b) = split_at fuel (drop size b) (omega (arith, length-drop size b, w.fits, w.head_is, long_head b)) (head_of (drop size b)) refl in
-          let box : IsBox (take size b) = rw (head_take b kind head size e ge) (omega (arith, length-take size b)) in (
-            take size b ∷ after.0,
-            after.1,
-            record {
-              whole = sym (take-append-drop size b) ∙ ap (λ (xs : List ℕ). take size b ++ xs) after.2.whole ∙ sym (append_assoc (take size b) (bytes_of after.0) after.1);
-              each = (box, after.2.each);
-              last = after.2.last;
-            },
-          )
-    ]
-
-pub split_all : (b : List ℕ) → SomeSplit b
-split_all b = split_at (length b) b (omega arith) (head_of b) refl

@@ -4,8 +4,8 @@ use Rattle.std.proofs.lemmas.Bool.{cases_lt, cases_Bool, le-ltb, ltb-true, ltb-f
 use Rattle.std.proofs.lemmas.List.{take-append-le, drop-append-le, length-append, length-drop}
 use Rattle.std.specs.Int.{w32, w64, from_be_bytes}
 use Rattle.sm_model.specs.Numbers.{number32_at, number64_at}
-use Rattle.sm_model.specs.Boxes.{head_len, box_len}
-use Rattle.sm_model.proofs.BoxLemmas.{long_head}
+use Rattle.sm_model.specs.Boxes.{IsOneBox, head_len, box_len}
+use Rattle.sm_model.proofs.BoxLemmas.{long_head, is_whole}
 use Rattle.sm_box.specs.Heads.{head_of}
 use Rattle.sm_box.specs.declared.head.Head.{Head}
 use Rattle.sm_box.specs.declared.head.Head.TheVariants.{Whole, Short, Bad, OpenEnded}
@@ -62,6 +62,15 @@ whole_by b kind head size false false false false p q r e =
 pub whole_is : (b kind : List ℕ) (head size : ℕ) → head_of b ≡ Whole kind head size → WholeIs b kind head size
 unfolding head_of
 whole_is b kind head size e = whole_by b kind head size _ _ _ _ refl refl refl e
+
+-- bytes of a head's size are one box
+pub one_box : (b kind : List ℕ) (head size : ℕ) → head_of b ≡ Whole kind head size → length b ≡ size → IsOneBox b
+one_box b kind head size e all =
+    let w = whole_is b kind head size e in
+    record {
+      whole = is_whole b (record { eight = w.eight; head = omega (arith, w.fits, w.head_is, w.size_is); size = omega (arith, w.size_is, all) });
+      all = omega (arith, w.size_is, all);
+    }
 
 short_by : (b : List ℕ) (b1 b2 b3 b4 : Bool) → ltb (length b) 8 ≡ b1 → ltb (length b) (head_len b) ≡ b3
     → cond b1 Short (cond b2 OpenEnded (cond b3 Short (cond b4 Bad (Whole (take 4 (drop 4 b)) (head_len b) (box_len b))))) ≡ Short → 8 ≤ length b → length b < head_len b

@@ -7,4 +7,5 @@ pub mod Counts
 pub mod HeaderLemmas
 pub mod HeaderValid
 pub mod Boxes
+pub mod Splits
 pub mod Valid

@@ -12,13 +12,12 @@ use Rattle.sm_model.specs.declared.push.BoxDecision.{BoxDecision}
 use Rattle.sm_model.specs.declared.push.BoxDecision.TheVariants.{Wait, Refuse, Pass, Take}
 use Rattle.sm_model.specs.Boxes.{IsOneBox}
 use Rattle.sm_model.specs.PushHeads.{decision, by_kind, ruling, at_top, behind_moof, within, user_sort, kind_sort, is}
-use Rattle.sm_model.proofs.BoxLemmas.{is_whole}
 use Rattle.sm_box.specs.Heads.{head_of}
 use Rattle.sm_box.specs.declared.head.Head.{Head}
 use Rattle.sm_box.specs.declared.head.Head.TheVariants as heads
 use Rattle.sm_push.specs.Heads.{by_head, FitsIn}
 use Rattle.sm_push.proofs.HeadLemmas.{decision_is}
-use Rattle.sm_push.proofs.Fronts.{part_stable, head_stable, Tight, head_tight, whole_is}
+use Rattle.sm_push.proofs.Fronts.{part_stable, head_stable, Tight, head_tight, one_box}
 
 longer : (n : ℕ) (h t : List ℕ) → n ≤ length h → ltb (length (h ++ t)) n ≡ false
 longer n h t le = le-ltb _ _ (omega (arith, length-append h t))
@@ -180,12 +179,7 @@ whole_at s h sort size heads.Short read e whole = absurd cc
 whole_at s h sort size heads.Bad read e whole = absurd cc
 whole_at s h sort size heads.OpenEnded read e whole = absurd cc
 whole_at s h sort size (heads.Whole kind head n) read e whole =
-    let w = whole_is h kind head n read in
-    let same : size ≡ n = subst (SizeIs n) e (kind_size s h kind head n) in
-    record {
-      whole = is_whole h (record { eight = w.eight; head = omega (arith, w.fits, w.head_is, w.size_is); size = omega (arith, w.size_is, same, whole) });
-      all = omega (arith, w.size_is, same, whole);
-    }
+    let same : size ≡ n = subst (SizeIs n) e (kind_size s h kind head n) in one_box h kind head n read (omega arith)
 
 -- what is taken is one whole box
 pub taken_whole : (s : PushState) (h : List ℕ) (sort : TopBox) (size : ℕ) → decision s h ≡ Take sort size → length h ≡ size → IsOneBox h

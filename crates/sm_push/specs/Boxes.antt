@@ -1,45 +1,23 @@
 -- The same over whole boxes and a rest: one box after the other, up to the first refusal.
-use Rattle.std.specs.Prelude.{◌≡◌, ℕ, ◌<◌, Bool, true, List, [], ◌∷◌, ◌++◌, length, is_some, Ok, Err}
+use Rattle.std.specs.Prelude.{◌≡◌, ℕ, Bool, true, false, List, [], ◌∷◌, ◌++◌, is_some, Ok, Err}
 use Rattle.std.specs.Option.{option_to_list}
 use Rattle.std.specs.List.{flat_map, AllByRecursion}
-use Rattle.sm_box.specs.Heads.{head_of}
-use Rattle.sm_box.specs.declared.head.Head.{Head}
-use Rattle.sm_box.specs.declared.head.Head.TheVariants as heads
 use Rattle.sm_model.specs.declared.push.PushState.{PushState}
 use Rattle.sm_model.specs.declared.push.BoxDecision.{BoxDecision}
 use Rattle.sm_model.specs.declared.push.BoxDecision.TheVariants.{Wait, Refuse, Pass, Take}
+use Rattle.sm_model.specs.Boxes.{IsOneBox, starts_whole}
 use Rattle.sm_model.specs.PushHeads.{decision}
 use Rattle.sm_model.specs.PushBoxes.{Step, taken, passed}
 use Rattle.sm_model.specs.Body.{Outcome, ended, refused, behind}
 
-abbrev pub HasSize : ℕ → Head → Type 0
-HasSize count (heads.Whole kind head size) = size ≡ count
-HasSize count heads.Short = ⊥
-HasSize count heads.Bad = ⊥
-HasSize count heads.OpenEnded = ⊥
-
--- one whole box
-abbrev pub IsBox : List ℕ → Type 0
-IsBox box = HasSize (length box) (head_of box)
-
-abbrev pub IsBeyond : ℕ → Head → Type 0
-IsBeyond count (heads.Whole kind head size) = count < size
-IsBeyond count heads.Short = Unit {0}
-IsBeyond count heads.Bad = Unit {0}
-IsBeyond count heads.OpenEnded = Unit {0}
-
--- no whole box stands in front
-abbrev pub IsRest : List ℕ → Type 0
-IsRest rest = IsBeyond (length rest) (head_of rest)
-
 abbrev pub bytes_of : List (List ℕ) → List ℕ
 bytes_of boxes = flat_map (λ box. box) boxes
 
--- the bytes are these whole boxes, and then less than one, or none that can be whole
+-- the bytes are these whole boxes and a rest in which no whole box stands in front
 pub record Splits (bytes : List ℕ) (boxes : List (List ℕ)) (rest : List ℕ) : Type 0 where
   pub whole : bytes ≡ bytes_of boxes ++ rest
-  pub each : AllByRecursion IsBox boxes
-  pub last : IsRest rest
+  pub each : AllByRecursion IsOneBox boxes
+  pub last : starts_whole rest ≡ false
 
 abbrev pub rest_gives : PushState → BoxDecision → Bool → Outcome
 rest_gives s (Refuse cause) inside = refused (record { at = s.at; cause = cause })

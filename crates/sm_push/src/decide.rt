@@ -1,7 +1,8 @@
 //! What is done with a box, as its head says.
 ghost use Rattle.std.specs.Prelude.{◌≡◌, ◌≤◌, ◌+◌, length, take, drop};
-ghost use Rattle.sm_model.specs.PushHeads.{decision, by_kind, ruling, kind_sort, user_sort, within, is};
+ghost use Rattle.sm_model.specs.PushHeads.{decision, by_kind, ruling, kind_sort, user_sort, within};
 
+use crate::same::is_same;
 use sm_box::{BoxHead, Head};
 use sm_model::{BoxDecision, Cause, HeaderStage, PushState, TopBox};
 
@@ -32,16 +33,10 @@ pub(crate) fn decide(state: &PushState, bytes: &[u8]) -> BoxDecision
     }
 }
 
-fn is(part: &[u8], name: &[u8]) -> bool
-    ensures { result ≡ is part.now name.now }
-{
-    part == name
-}
-
 fn decide_kind(state: &PushState, bytes: &[u8], kind: &[u8], head: u64, size: u64) -> BoxDecision
     ensures { result ≡ by_kind state.now bytes.now kind.now head size }
 {
-    if is(kind, b"uuid") && 16 <= size.saturating_sub(head) {
+    if is_same(kind, b"uuid") && 16 <= size.saturating_sub(head) {
         if (bytes.len() as u64) < head + 16 {
             return BoxDecision::Wait;
         }
@@ -55,11 +50,11 @@ fn decide_kind(state: &PushState, bytes: &[u8], kind: &[u8], head: u64, size: u6
 fn kind_sort(kind: &[u8]) -> TopBox
     ensures { result ≡ kind_sort kind.now }
 {
-    if is(kind, b"moof") {
+    if is_same(kind, b"moof") {
         TopBox::Moof
-    } else if is(kind, b"mdat") {
+    } else if is_same(kind, b"mdat") {
         TopBox::Mdat
-    } else if is(kind, b"moov") {
+    } else if is_same(kind, b"moov") {
         TopBox::Moov
     } else {
         TopBox::Other
@@ -69,7 +64,7 @@ fn kind_sort(kind: &[u8]) -> TopBox
 fn user_sort(user: &[u8]) -> TopBox
     ensures { result ≡ user_sort user.now }
 {
-    if is(user, &MANIFEST_TYPE) {
+    if is_same(user, &MANIFEST_TYPE) {
         TopBox::Manifest
     } else {
         TopBox::Other

@@ -1,13 +1,13 @@
 //! The header of a push, out of a live manifest and a `moov`.
 ghost use Rattle.std.specs.Prelude.{◌≡◌, ◌≤◌, length, IfOk};
 ghost use Rattle.sm_model.specs.Header.{head_for, heads_for, tracks_of, keys_of, is_off, has_two_timescales, is_protected, header_with, header_by, header_of};
-ghost use Rattle.sm_model.specs.LiveTracks.{is_same};
 ghost use Rattle.sm_model.specs.LiveRead.{live_manifest};
 ghost use Rattle.sm_model.specs.Moov.{moov};
 ghost use Rattle.std.specs.List.{list_any};
 ghost use Rattle.sm_push.specs.Answers.{Gives, Reads};
 ghost use Rattle.sm_push.specs.declared.header.HeaderFault.TheVariants.{NoMemory as NoRoom};
 
+use crate::same::is_same;
 use sm_model::{
     Cause, Channel, Header, HeaderTrack, HeaderTracks, Heads, NoMemory, Smil, SmilTrack, Track,
     TrackHead,
@@ -104,12 +104,6 @@ fn keys_of(
         keys.push(key_of(alloc, &tracks[i], &heads[i])?)?;
     }
     Ok(HeaderTracks::from_vec(keys))
-}
-
-fn is_same(a: &[u8], b: &[u8]) -> bool
-    ensures { result ≡ is_same a.now b.now }
-{
-    a == b
 }
 
 fn is_off(a: &Track, b: &Track) -> bool

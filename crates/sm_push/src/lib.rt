@@ -7,12 +7,15 @@ mod header;
 mod held;
 mod kept;
 mod laws;
+mod same;
 mod session;
 mod step;
 mod track;
 
 pub use fault::PushFault;
-pub use laws::{by_boxes, front, items_are_no_more_than_bytes, items_are_valid};
+pub use laws::{
+    by_boxes, front, items_are_no_more_than_bytes, items_are_valid, texts_of_boxes_have_no_rest,
+};
 pub use session::Push;
 pub use sm_model::{Item, Items};
 

@@ -1,9 +1,9 @@
 //! The track of a fragment.
 ghost use Rattle.std.specs.Prelude.{◌≡◌, IfOk};
 ghost use Rattle.sm_model.specs.Header.{track_with, id_for, is_named};
-ghost use Rattle.sm_model.specs.LiveTracks.{is_same};
 ghost use Rattle.sm_model.specs.PushBoxes.{track_in};
 
+use crate::same::is_same;
 use sm_model::{Defaults, HeaderStage, HeaderTrack, Name, NoMemory};
 use std::alloc::Global;
 
@@ -50,12 +50,6 @@ pub(crate) fn track_in(
             defaults: NO_DEFAULTS,
         })),
     }
-}
-
-fn is_same(a: &[u8], b: &[u8]) -> bool
-    ensures { result ≡ is_same a.now b.now }
-{
-    a == b
 }
 
 fn is_named(track: &HeaderTrack, stream: &Name, bitrate: u32) -> bool
