@@ -53,7 +53,16 @@ fn tallied(before: Tally, hit: bool, index: usize) -> Tally
     let count = before.count + 1;
     let hit = match before.hit {
         Some(first) => Some(first),
-        None => { if hit { Some(Hit { index, place: count }) } else { None } }
+        None => {
+            if hit {
+                Some(Hit {
+                    index,
+                    place: count,
+                })
+            } else {
+                None
+            }
+        }
     };
     Tally { count, hit }
 }

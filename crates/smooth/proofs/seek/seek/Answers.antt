@@ -17,7 +17,7 @@ loop-index-preserved c =
     let more : take (i + 1) gs ≡ take i gs ++ g ∷ [] = take_more gs i (Header []) (omega arith) in
     let at : i ≡ length (take i gs) = sym (length-take-le i gs (omega arith)) in
     rw more (elim c.if-is_fragment.branch [
-      then-is_fragment w ↦ tally_fragment c.args.before c.args.track c.args.time i (take i gs) g c.loop-index.tally c.if-is_fragment.tally c.is_fragment.result w.is_sought.result
+      | then-is_fragment w ↦ tally_fragment c.args.before c.args.track c.args.time i (take i gs) g c.loop-index.tally c.if-is_fragment.tally c.is_fragment.result w.is_sought.result
           (c.is_fragment.ensures (Header [])) w.if-is_fragment.true (w.is_sought.ensures (Header [])) at (w.tally-is ∙ w.tallied-tally.ensures) c.loop-index.invariant
       | else-is_fragment w ↦ tally_header c.args.before c.args.track c.args.time (take i gs) g c.loop-index.tally c.if-is_fragment.tally c.is_fragment.result
           (c.is_fragment.ensures (Header [])) w.if-is_fragment.false w.tally-is c.loop-index.invariant
