@@ -342,7 +342,7 @@ def moov(body):
         identity, timescale, encrypted = head_of_trak(trak)
         refuse(MOOV, identity in heads)
         heads[identity] = timescale, encrypted
-    for mvex in bodies(b"mvex", boxes)[:1]:
+    for mvex in bodies(b"mvex", boxes):
         for trex in bodies(b"trex", opened(mvex)):
             refuse(MOOV, len(trex) < 24)
             trexes.setdefault(number(trex[4:8]), tuple(number(trex[at : at + 4]) for at in (12, 16, 20)))
