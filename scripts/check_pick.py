@@ -8,7 +8,7 @@ import sys
 import tempfile
 import time
 
-from derived_inputs import derived
+from derived_inputs import derived, in_turn
 from reference_pick import answer
 
 SECONDS = float(os.environ.get("CHECK_PICK_SECONDS", "60"))
@@ -40,28 +40,31 @@ def shown(printed):
     return repr(printed.decode()) if len(printed) < 80 and printed.isascii() else f"{len(printed)} bytes"
 
 
+def named_parts(file):
+    with open(file, "rb") as source:
+        parts = derived(source.read(), RANDOM)
+    return [(((file, what), words, data) for what, words, data in part) for part in parts]
+
+
 def compare(program, files, share, shares, until):
     """The differences in one share of all inputs, how many were compared, and how many time did not suffice for."""
-    program, differences, compared, left, place = Program(program), [], 0, 0, 0
-    for file in files:
-        with open(file, "rb") as source:
-            whole = source.read()
-        for what, words, data in derived(whole, RANDOM):
-            place += 1
-            if place % shares != share:
-                continue
-            if time.monotonic() > until:
-                left += 1
-                continue
-            compared += 1
-            ours, theirs = program.run(words, data), answer([os.fsencode(word) for word in words], data)
-            if ours != theirs:
-                told = " against ".join(f"{status} {shown(printed)}" for printed, status in (ours, theirs))
-                differences.append(f"{file}: {what}: pick {' '.join(words)}: {told}")
-                if KEEP:
-                    with open(os.path.join(KEEP, f"{os.path.basename(file)}.{place}"), "wb") as kept:
-                        kept.write(data)
-                    differences[-1] += f": {os.path.basename(file)}.{place}"
+    program, differences, compared, left = Program(program), [], 0, 0
+    inputs = in_turn([part for file in files for part in named_parts(file)])
+    for place, ((file, what), words, data) in enumerate(inputs):
+        if place % shares != share:
+            continue
+        if time.monotonic() > until:
+            left += 1
+            continue
+        compared += 1
+        ours, theirs = program.run(words, data), answer([os.fsencode(word) for word in words], data)
+        if ours != theirs:
+            told = " against ".join(f"{status} {shown(printed)}" for printed, status in (ours, theirs))
+            differences.append(f"{file}: {what}: pick {' '.join(words)}: {told}")
+            if KEEP:
+                differences[-1] += f": {KEEP}/{place}"
+                with open(f"{KEEP}/{place}", "wb") as kept:
+                    kept.write(data)
     return differences, compared, left
 
 

@@ -67,6 +67,8 @@ def edits_of_children(boxes):
         yield f"two {name} {place}", before + [child, child] + after
         yield f"{name} {place} last", before + after + [child]
         yield f"{name} {place} first", [child] + before + after
+        yield f"an empty {name} before {place}", before + [box(child[4:8]), child] + after
+        yield f"a broken {name} behind {place}", before + [child, box(child[4:8], bytes(3))] + after
         start = 24 if name == "uuid" else 8
         for lost in (1, 4, len(child) - start, len(child) - start - 3, len(child) - start - 4, len(child) - start - 5):
             if 0 < lost <= len(child) - 8:
@@ -160,6 +162,22 @@ def nested_edits(body, path=""):
         elif child[4:8] == b"stsd":
             for entry in (b"encv", b"enca", b"free"):
                 yield f"{path}{entry.decode()}", b"".join(boxes[:place] + [child[:20] + entry + child[24:]] + boxes[place + 1 :])
+
+
+def with_defaults(boxes):
+    """The header with a trex for each track that says more than zeros, and for each track a fragment that leaves all to it."""
+    made = []
+    for child in boxes:
+        if child[4:8] == b"moov":
+            parts = child.split(b"trex")
+            child = b"trex".join(parts[:1] + [part[:12] + word(3) + word(5) + word(7) + part[24:] for part in parts[1:]])
+        if child[4:8] in (b"moof", b"mdat"):
+            break
+        made.append(child)
+    for track in (1, 2, 3, 4):
+        tfhd, tfxd = box(b"tfhd", word(0) + word(track)), box(b"uuid", TFXD + bytes(8) + word(5))
+        made.append(small_moof(tfhd, tfxd, box(b"trun", word(0) + word(2))) + box(b"mdat", b"ten bytes!"))
+    return made
 
 
 def moov_edits(moov):

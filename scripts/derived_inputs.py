@@ -1,7 +1,7 @@
 """Inputs for `pick` that are derived from one file. Each is a few words on what it is, the words behind `pick`, and the bytes."""
 import random
 
-from derived_boxes import inserted_boxes, moof_edits, moov_edits
+from derived_boxes import inserted_boxes, moof_edits, moov_edits, with_defaults
 from derived_texts import text_edits
 from reference_pick import MANIFEST, Refused, read_head, read_push
 
@@ -70,6 +70,9 @@ def orders(boxes):
     yield "headers behind the first fragment", others[:2] + headers + others[2:]
     yield "headers behind the second fragment", others[:4] + headers + others[4:]
     yield "no headers", others
+    for count in (3, 2, 1, 0):
+        yield f"fragments of defaults alone, {count}", with_defaults(boxes)[: count - 4]
+    yield "fragments of defaults alone, turned round", with_defaults(boxes)[::-1]
     yield "fragments twice", boxes + [box for box in others if box[4:8] in (b"moof", b"mdat")]
     for left_out, header in enumerate(headers):
         rest = headers[:left_out] + headers[left_out + 1 :]
@@ -95,12 +98,12 @@ def replaced(boxes):
 
 
 def flips(boxes):
-    """Each byte of the first 3,000 and of each moof, with its lowest or highest bit turned."""
+    """Each byte of the first 3,000, of the moov and of each moof, with its lowest or highest bit turned."""
     data, at = b"".join(boxes), 0
     places = set(range(min(FRONT, len(data))))
     for box in boxes:
-        if box[4:8] == b"moof":
-            places.update(range(at, at + min(len(box), 600)))
+        if box[4:8] in (b"moof", b"moov"):
+            places.update(range(at, at + min(len(box), 600 if box[4:8] == b"moof" else FRONT)))
         at += len(box)
     for place in sorted(places):
         for bits in (0x01, 0x80):
@@ -126,18 +129,30 @@ def changes(boxes, data, count):
 
 
 def derived(data, count):
-    """All inputs derived from one file, with `count` random ones."""
+    """All inputs derived from one file, with `count` random ones, in parts that may be taken in turn."""
     boxes = top_boxes(data)
     whole, front = fragments_of(data), front_of(boxes)
-    picks = [[str(fragment.id), str(fragment.time)] for fragment in fragments_of(b"".join(front))] or [["1", "0"]]
-    for fragment in whole:
-        yield "whole", [str(fragment.id), str(fragment.time)], data
-    for words in WORDS:
-        yield "whole", words, data
     short = b"".join(front)
-    parts = [((f"cut at {place}", short[:place]) for place in cuts(front, len(short)))]
-    parts += [((name, b"".join(made)) for name, made in part) for part in (orders(front), replaced(front))]
-    parts += [flips(front), changes(boxes, data, count) if data else ()]
-    for part in parts:
+    picks = [[str(fragment.id), str(fragment.time)] for fragment in fragments_of(short)] or [["1", "0"]]
+    wanted = [[str(fragment.id), str(fragment.time)] for fragment in whole]
+
+    def with_words(part):
         for number, (name, made) in enumerate(part):
             yield name, picks[number % len(picks)], made
+
+    cut = ((f"cut at {place}", short[:place]) for place in cuts(front, len(short)))
+    made = ((name, b"".join(changed)) for part in (orders(front), replaced(front)) for name, changed in part)
+    parts = [cut, made, flips(front), changes(boxes, data, count) if data else ()]
+    return [(("whole", words, data) for words in wanted + WORDS), *map(with_words, parts)]
+
+
+def in_turn(parts):
+    """One input of each part, and again, until all are taken."""
+    parts = [iter(part) for part in parts]
+    while parts:
+        for part in list(parts):
+            one = next(part, None)
+            if one is None:
+                parts.remove(part)
+            else:
+                yield one

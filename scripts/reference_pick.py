@@ -342,7 +342,7 @@ def moov(body):
         identity, timescale, encrypted = head_of_trak(trak)
         refuse(MOOV, identity in heads)
         heads[identity] = timescale, encrypted
-    for mvex in bodies(b"mvex", boxes)[:1]:
+    for mvex in bodies(b"mvex", boxes):
         for trex in bodies(b"trex", opened(mvex)):
             refuse(MOOV, len(trex) < 24)
             trexes.setdefault(number(trex[4:8]), tuple(number(trex[at : at + 4]) for at in (12, 16, 20)))
@@ -393,10 +393,10 @@ def read_push(data):
         return kind == b"moof" or (tracks is None and kind in header and header[kind] is None)
 
     def check_head(kind, head, at):
+        if waiting and kind != b"mdat":
+            raise Refused("NoMdat", at)
         if is_read(kind) and head.size > (MOST_MOOF if kind == b"moof" else MOST_HEADER):
             raise Refused("BoxTooLarge", at)
-        if waiting and kind != b"mdat":
-            raise Refused("NoMdat", waiting[0])
         if waiting and head.size - head.length > MOST_MEDIA:
             raise Refused("BoxTooLarge", at)
 
