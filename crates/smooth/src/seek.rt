@@ -53,16 +53,11 @@ fn tallied(before: Tally, hit: bool, index: usize) -> Tally
     let count = before.count + 1;
     let hit = match before.hit {
         Some(first) => Some(first),
-        None => {
-            if hit {
-                Some(Hit {
-                    index,
-                    place: count,
-                })
-            } else {
-                None
-            }
-        }
+        None if hit => Some(Hit {
+            index,
+            place: count,
+        }),
+        None => None,
     };
     Tally { count, hit }
 }

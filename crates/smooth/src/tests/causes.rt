@@ -2,6 +2,7 @@
 
 use super::expect;
 use super::fixtures::{TEXT, boxed, fragment, header, joined, manifest, trak, with_numbers};
+use std::alloc::Global;
 use std::test::Fail;
 
 const PICK: [&str; 3] = ["pick", "1", "0"];
@@ -159,11 +160,18 @@ fn boxes_at_the_top(rt: HostRuntime) -> Result<(), Fail> {
     Ok(())
 }
 
+// A moov with one track.
+fn moov(alloc: Global, id: u32, entry: &[u8]) -> Result<Vec<u8>, Fail> {
+    let trak = trak(alloc, id, 5, entry)?;
+    boxed(alloc, b"moov", &[&trak])
+}
+
 #[test]
 fn headers_and_tracks(rt: HostRuntime) -> Result<(), Fail> {
     let alloc = rt.alloc();
     let head = header(alloc)?;
-    let unknown = joined(alloc, &[&head, &fragment(alloc, 9, 0x41)?])?;
+    let ninth = fragment(alloc, 9, 0x41)?;
+    let unknown = joined(alloc, &[&head, &ninth])?;
     let line = b"error: input at 2417: 7 UnknownTrack\n";
     expect(&rt, alloc, &PICK, &unknown, 3, line, "another track")?;
     let secret = boxed(
@@ -187,9 +195,9 @@ fn headers_and_tracks(rt: HostRuntime) -> Result<(), Fail> {
     // The live manifest comes first, and the moov is the later box.
     let text =
         b"<smil><body><switch><video systemBitrate='5'><param name='trackID' value='1'/></video></switch></body></smil>";
-    let clear = boxed(alloc, b"moov", &[&trak(alloc, 1, 5, b"avc1")?])?;
-    let closed = boxed(alloc, b"moov", &[&trak(alloc, 1, 5, b"encv")?])?;
-    let other = boxed(alloc, b"moov", &[&trak(alloc, 2, 5, b"avc1")?])?;
+    let clear = moov(alloc, 1, b"avc1")?;
+    let closed = moov(alloc, 1, b"encv")?;
+    let other = moov(alloc, 2, b"avc1")?;
     let good = manifest(alloc, text)?;
     let bad = manifest(alloc, b"<smil><body></smil>")?;
     assert_eq!(rt; good.len(), 137);

@@ -12,7 +12,10 @@ fn ends_that_fail(rt: HostRuntime) -> Result<(), Fail> {
     let alloc = rt.alloc();
     let pick = ["pick", "1", "0"];
     // Behind the text a box that is passed over, so that four reads give bytes and a fifth one the end.
-    let long = joined(alloc, &[&TEXT, &boxed(alloc, b"free", &[&[0; 200_000]])?])?;
+    let mut zeros = Vec::new(alloc);
+    zeros.resize(200_000, 0)?;
+    let filler = boxed(alloc, b"free", &[&zeros])?;
+    let long = joined(alloc, &[&TEXT, &filler])?;
     for call in [1, 2, 3, 4, 5] {
         let (status, printed) = run_failing(alloc, &pick, &long, &[call], &[])?;
         assert_eq!(rt; status, 6, "read {call}");

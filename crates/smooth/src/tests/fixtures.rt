@@ -52,7 +52,8 @@ pub fn joined(alloc: Global, parts: &[&[u8]]) -> Result<Vec<u8>, Fail> {
 /// A box of this kind with these parts as its body.
 pub fn boxed(alloc: Global, kind: &[u8], parts: &[&[u8]]) -> Result<Vec<u8>, Fail> {
     let body = joined(alloc, parts)?;
-    let size = (body.len() as u32).saturating_add(8);
+    let length = u32::try_from(body.len()).unwrap_or(u32::MAX);
+    let size = length.saturating_add(8);
     joined(alloc, &[&size.to_be_bytes(), kind, &body])
 }
 
@@ -161,25 +162,13 @@ pub fn header(alloc: Global) -> Result<Vec<u8>, Fail> {
     let manifest = manifest(alloc, text.as_bytes())?;
     let mvhd = boxed(alloc, b"mvhd", &[&[0; 100]])?;
     let none = [0, 0, 0];
-    let mvex = boxed(
-        alloc,
-        b"mvex",
-        &[
-            &trex(alloc, 1, &none)?,
-            &trex(alloc, 2, &none)?,
-            &trex(alloc, 3, &none)?,
-        ],
-    )?;
-    let moov = boxed(
-        alloc,
-        b"moov",
-        &[
-            &mvhd,
-            &trak(alloc, 1, 10_000_000, b"avc1")?,
-            &trak(alloc, 2, 10_000_000, b"avc1")?,
-            &trak(alloc, 3, 10_000_000, b"mp4a")?,
-            &mvex,
-        ],
-    )?;
+    let first = trex(alloc, 1, &none)?;
+    let second = trex(alloc, 2, &none)?;
+    let third = trex(alloc, 3, &none)?;
+    let mvex = boxed(alloc, b"mvex", &[&first, &second, &third])?;
+    let first = trak(alloc, 1, 10_000_000, b"avc1")?;
+    let second = trak(alloc, 2, 10_000_000, b"avc1")?;
+    let third = trak(alloc, 3, 10_000_000, b"mp4a")?;
+    let moov = boxed(alloc, b"moov", &[&mvhd, &first, &second, &third, &mvex])?;
     joined(alloc, &[&ftyp, &manifest, &moov])
 }

@@ -15,7 +15,8 @@ fn the_first_fragment_that_is_sought(rt: HostRuntime) -> Result<(), Fail> {
     let other = with_numbers(alloc, &[(44, 2)])?;
     let later = with_numbers(alloc, &[(116, 1)])?;
     let twice = joined(alloc, &[&TEXT, &TEXT])?;
-    let unlike = joined(alloc, &[&ninth, &fragment(alloc, 1, 0x44)?])?;
+    let differing = fragment(alloc, 1, 0x44)?;
+    let unlike = joined(alloc, &[&ninth, &differing])?;
     let behind = joined(alloc, &[&other, &ninth])?;
     let last = joined(alloc, &[&other, &later, &ninth, &other])?;
     let pick = ["pick", "1", "0"];
@@ -68,7 +69,8 @@ fn pushes_with_a_header(rt: HostRuntime) -> Result<(), Fail> {
         "a header",
     )?;
     // A fragment before the header is of the track that its number names, and counts.
-    let early = joined(alloc, &[&fragment(alloc, 9, 0x41)?, &push])?;
+    let ninth = fragment(alloc, 9, 0x41)?;
+    let early = joined(alloc, &[&ninth, &push])?;
     let third = with_numbers(alloc, &[(20, 2), (68, 20_000_000), (124, 20_000_000)])?;
     expect(
         &rt,
@@ -98,8 +100,10 @@ fn defaults_of_the_header(rt: HostRuntime) -> Result<(), Fail> {
     let alloc = rt.alloc();
     let text =
         b"<smil><body><switch><video systemBitrate='5'><param name='trackID' value='1'/></video></switch></body></smil>";
-    let mvex = boxed(alloc, b"mvex", &[&trex(alloc, 1, &[7, 1, 9])?])?;
-    let moov = boxed(alloc, b"moov", &[&trak(alloc, 1, 90_000, b"avc1")?, &mvex])?;
+    let trex = trex(alloc, 1, &[7, 1, 9])?;
+    let mvex = boxed(alloc, b"mvex", &[&trex])?;
+    let trak = trak(alloc, 1, 90_000, b"avc1")?;
+    let moov = boxed(alloc, b"moov", &[&trak, &mvex])?;
     let tfhd = boxed(
         alloc,
         b"tfhd",
