@@ -1,9 +1,9 @@
-# Needs the toolchain's command `rt` on the path, and nothing else.
+# Needs the toolchain's command `rt` on the path; `check` and `bench` need Python 3 too.
 
 PROGRAM := crates/smooth/out/smooth
 BENCH := crates/fragment_bench/out/fragment_bench
 
-.PHONY: run test build bench clean
+.PHONY: run test build check bench clean
 
 # Picks the first audio fragment out of a sample push.
 run: build
@@ -17,6 +17,10 @@ test:
 # Proves and builds the program. `rt run` runs it as well: without words it refuses them, with status 2.
 build:
 	cd crates/smooth && { rt run < /dev/null > /dev/null; test $$? -eq 2; }
+
+# Holds the program against a plain reference in Python, on the samples and on many inputs made of them.
+check: build
+	bash scripts/check_pick $(PROGRAM)
 
 bench: build
 	cd crates/fragment_bench && rt run -- copy 1 1 1 > /dev/null
