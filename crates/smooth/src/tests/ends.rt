@@ -5,47 +5,81 @@ use super::{run_failing, words_of};
 use crate::tool::tool;
 use sm_ends::{Calls, MemorySink, MemorySource, ShortSink, ShortSource};
 use sm_model::Bytes;
+use std::alloc::Global;
+use std::process::Abort;
 use std::test::Fail;
 
-#[test]
-fn ends_that_fail(rt: HostRuntime) -> Result<(), Fail> {
-    let alloc = rt.alloc();
-    let pick = ["pick", "1", "0"];
-    // Behind the text a box that is passed over, so that four reads give bytes and a fifth one the end.
+const PICK: [&str; 3] = ["pick", "1", "0"];
+
+// The text, and behind it a box that is passed over, so that four reads give bytes and a fifth one the end.
+fn long(alloc: Global) -> Result<Vec<u8>, Fail> {
     let mut zeros = Vec::new(alloc);
     zeros.resize(200_000, 0)?;
     let filler = boxed(alloc, b"free", &[&zeros])?;
-    let long = joined(alloc, &[&TEXT, &filler])?;
-    for call in [1, 2, 3, 4, 5] {
-        let (status, printed) = run_failing(alloc, &pick, &long, &[call], &[])?;
-        assert_eq!(rt; status, 6, "read {call}");
-        assert_eq!(rt;
-            printed.as_slice(),
-            b"error: read\n".as_slice(),
-            "read {call}"
-        );
+    joined(alloc, &[&TEXT, &filler])
+}
+
+// Asserts that a read that fails is told.
+fn expect_unread(rt: &impl Abort, alloc: Global, input: &[u8], call: u64) -> Result<(), Fail> {
+    let (status, printed) = run_failing(alloc, &PICK, input, &[call], &[])?;
+    assert_eq!(rt; status, 6, "read {call}");
+    assert_eq!(rt;
+        printed.as_slice(),
+        b"error: read\n".as_slice(),
+        "read {call}"
+    );
+    Ok(())
+}
+
+#[test]
+fn reads_that_fail(rt: HostRuntime) -> Result<(), Fail> {
+    let alloc = rt.alloc();
+    let input = long(alloc)?;
+    for call in 1..=5 {
+        expect_unread(&rt, alloc, &input, call)?;
     }
-    assert_eq!(rt; run_failing(alloc, &pick, &long, &[6], &[])?.0, 0);
-    // A fault comes before what the bytes before it say.
-    let refused = joined(alloc, &[&[0; 8], &long])?;
-    assert_eq!(rt; run_failing(alloc, &pick, &refused, &[], &[])?.0, 3);
-    assert_eq!(rt; run_failing(alloc, &pick, &refused, &[4], &[])?.0, 6);
-    assert_eq!(rt; run_failing(alloc, &["pick"], &TEXT, &[1], &[])?.0, 2);
-    let (status, printed) = run_failing(alloc, &pick, &TEXT, &[], &[1])?;
-    assert_eq!(rt; status, 7);
+    let (status, _) = run_failing(alloc, &PICK, &input, &[6], &[])?;
+    assert_eq!(rt; status, 0, "there is no sixth read");
+    Ok(())
+}
+
+#[test]
+fn a_fault_comes_before_what_the_bytes_say(rt: HostRuntime) -> Result<(), Fail> {
+    let alloc = rt.alloc();
+    let input = long(alloc)?;
+    let refused = joined(alloc, &[&[0; 8], &input])?;
+    let (status, _) = run_failing(alloc, &PICK, &refused, &[], &[])?;
+    assert_eq!(rt; status, 3);
+    expect_unread(&rt, alloc, &refused, 4)?;
+    let (status, _) = run_failing(alloc, &["pick"], &TEXT, &[1], &[])?;
+    assert_eq!(rt; status, 2, "nothing is read");
+    Ok(())
+}
+
+// Asserts the status where nothing can be written.
+fn expect_unwritten(
+    rt: &impl Abort,
+    alloc: Global,
+    words: &[&str],
+    input: &[u8],
+    reads: &[u64],
+    status: u8,
+) -> Result<(), Fail> {
+    let (got, printed) = run_failing(alloc, words, input, reads, &[1])?;
+    assert_eq!(rt; got, status);
     assert_eq!(rt; printed.len(), 0);
-    // The line of a failure that can't be written leaves its status.
-    let table: [(&[&str], &[u8], &[u64], u8); 4] = [
-        (&["pick"], &TEXT, &[], 2),
-        (&pick, &TEXT[..9], &[], 3),
-        (&pick, &[], &[], 4),
-        (&pick, &TEXT, &[1], 6),
-    ];
-    for (words, input, reads, due) in table {
-        let (status, printed) = run_failing(alloc, words, input, reads, &[1])?;
-        assert_eq!(rt; status, due);
-        assert_eq!(rt; printed.len(), 0);
-    }
+    Ok(())
+}
+
+// The line of a failure that can't be written leaves its status.
+#[test]
+fn writes_that_fail(rt: HostRuntime) -> Result<(), Fail> {
+    let alloc = rt.alloc();
+    expect_unwritten(&rt, alloc, &PICK, &TEXT, &[], 7)?;
+    expect_unwritten(&rt, alloc, &["pick"], &TEXT, &[], 2)?;
+    expect_unwritten(&rt, alloc, &PICK, &TEXT[..9], &[], 3)?;
+    expect_unwritten(&rt, alloc, &PICK, &[], &[], 4)?;
+    expect_unwritten(&rt, alloc, &PICK, &TEXT, &[1], 6)?;
     Ok(())
 }
 
