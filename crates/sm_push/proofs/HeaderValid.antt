@@ -1,6 +1,6 @@
 -- The channel of a header is valid.
-use Rattle.std.proofs.Common.{◌≡◌, ◌≢◌, ◌<◌, ◌≤◌, ℕ, zero, suc, Bool, true, false, ◌&&◌, ◌||◌, not, cond, eqb, List, [], ◌∷◌, length, Option, Some, None, Result, Ok, Err, refl, sym, ap, subst, ◌∙◌, All, AllPairs, arith}
-use Rattle.std.proofs.lemmas.Bool.{eqb-true}
+use Rattle.std.proofs.Common.{◌≡◌, ◌<◌, ℕ, zero, suc, Bool, true, false, not, cond, eqb, List, [], ◌∷◌, length, Option, Some, None, Result, Ok, Err, refl, ap, subst, All, AllPairs, inl, inr, arith}
+use Rattle.std.proofs.lemmas.Bool.{eqb-true, not-false, and_cases, or_parts}
 use Rattle.std.proofs.lemmas.List.Elements.{All-from_recursion, recursion_from_All}
 use Rattle.std.proofs.lemmas.List.Kept.{AllPairs-cons}
 use Rattle.std.proofs.lemmas.Slice.Eq.{bytes_eq-Decides}
@@ -23,18 +23,6 @@ use Rattle.sm_push.proofs.HeaderLemmas.{as_many}
 -- a track's head has ticks
 abbrev pub HasTicks : TrackHead → Type 0
 HasTicks h = 0 < h.timescale
-
-either_false : (a b : Bool) → (a || b) ≡ false → (a ≡ false) × (b ≡ false)
-either_false true b e = absurd cc
-either_false false b e = (refl, e)
-
-and_false : (a b : Bool) → a ≡ true → (a && b) ≡ false → b ≡ false
-and_false true b is e = e
-and_false false b is e = absurd cc
-
-not_false : (b : Bool) → not b ≡ false → b ≡ true
-not_false true e = refl
-not_false false e = absurd cc
 
 -- ---- each track's timescale
 
@@ -72,13 +60,16 @@ tracks_timed (t ∷ ts) (h ∷ hs) each ticks = (record { ticks = ticks.0; fourc
 one_timescale : (a b : Track) → is_off a b ≡ false → a.name ≡ b.name → a.timescale ≡ b.timescale
 one_timescale a b e same =
     let named : is_same a.name b.name ≡ true = (bytes_eq-Decides a.name b.name).1 same in
-    eqb-true a.timescale b.timescale (not_false _ (and_false (is_same a.name b.name) (not (eqb a.timescale b.timescale)) named e))
+    elim (and_cases (is_same a.name b.name) (not (eqb a.timescale b.timescale)) e) [
+      | inl other ↦ absurd cc
+      | inr one ↦ eqb-true a.timescale b.timescale (not-false _ one)
+    ]
 
 agrees : (t : SmilTrack) (h : TrackHead) (ts : List SmilTrack) (hs : List TrackHead) → AllByRecursion (Differ t) ts → list_any (is_off (timed t h)) (tracks_of ts hs) ≡ false → AllByRecursion (Agree (timed t h)) (tracks_of ts hs)
 agrees t h [] hs differ e = tt
 agrees t h (u ∷ ts) [] differ e = tt
 agrees t h (u ∷ ts) (k ∷ hs) differ e =
-    let parts = either_false (is_off (timed t h) (timed u k)) (list_any (is_off (timed t h)) (tracks_of ts hs)) e in
+    let parts = or_parts (is_off (timed t h) (timed u k)) (list_any (is_off (timed t h)) (tracks_of ts hs)) e in
     (record { apart = differ.0.apart; kind = differ.0.kind; timescale = λ same. one_timescale (timed t h) (timed u k) parts.0 same }, agrees t h ts hs differ.1 parts.1)
 
 first_pairs : {X : Type 0} (R : X → X → Type 0) (x : X) (xs : List X) → AllPairs R (x ∷ xs) → All (R x) xs
@@ -92,7 +83,7 @@ unfolding has_two_timescales
 agree [] hs differ e = λ i j d lt within. absurd (omega arith)
 agree (t ∷ ts) [] differ e = λ i j d lt within. absurd (omega arith)
 agree (t ∷ ts) (h ∷ hs) differ e =
-    let parts = either_false (list_any (is_off (timed t h)) (tracks_of ts hs)) (has_two_timescales (tracks_of ts hs)) e in
+    let parts = or_parts (list_any (is_off (timed t h)) (tracks_of ts hs)) (has_two_timescales (tracks_of ts hs)) e in
     let first = agrees t h ts hs (recursion_from_All (Differ t) ts (first_pairs Differ t ts differ)) parts.0 in
     AllPairs-cons Agree (timed t h) (tracks_of ts hs) (All-from_recursion (Agree (timed t h)) (tracks_of ts hs) first) (agree ts hs (later_pairs Differ t ts differ) parts.1)
 

@@ -1,9 +1,9 @@
 -- What a push gives is valid.
-use Rattle.std.proofs.Common.{◌≡◌, ◌≤◌, ◌<◌, ◌+◌, ◌*◌, ◌-◌, ℕ, zero, suc, Bool, true, false, not, cond, eqb, leb, ltb, ℤ, pos, negsuc, List, [], ◌∷◌, ◌++◌, length, take, drop, Option, Some, None, Result, Ok, Err, refl, sym, ap, subst, ◌∙◌, arith, inl, inr}
+use Rattle.std.proofs.Common.{◌≡◌, ◌≤◌, ◌<◌, ◌+◌, ◌*◌, ◌-◌, ℕ, zero, suc, Bool, true, false, cond, eqb, leb, ltb, ℤ, pos, negsuc, List, [], ◌∷◌, ◌++◌, length, take, drop, Option, Some, None, Result, Ok, Err, refl, sym, ap, subst, ◌∙◌, arith}
 use Rattle.std.specs.Prelude.{◌^◌, ◌&&◌, is_some, codes}
 use Rattle.std.specs.Option.{option_map_or, option_to_list}
 use Rattle.std.specs.List.{AllByRecursion}
-use Rattle.std.proofs.lemmas.Bool.{cases_Bool, cond_both, ltb-false, ltb-true, le-leb, and_parts}
+use Rattle.std.proofs.lemmas.Bool.{cond_both, ltb-false, leb-false, not-false, and_parts}
 use Rattle.std.proofs.lemmas.List.{length-take, length-drop, length-append}
 use Rattle.std.proofs.lemmas.List.Sums.{sum_by-cons}
 use Rattle.sm_model.specs.declared.cause.Cause.{Cause}
@@ -80,16 +80,9 @@ unfolding rows
 rows_len d b zero = refl
 rows_len d b (suc n) = omega (arith, length-append (rows d b n) (row d b n ∷ []), rows_len d b n)
 
-not_false : (b : Bool) → not b ≡ false → b ≡ true
-not_false true e = refl
-not_false false e = absurd cc
-
 some_of : (n : ℕ) → eqb n 0 ≡ false → 0 < n
 some_of zero e = absurd (let t : true ≡ false = e in cc)
 some_of (suc n) e = omega arith
-
-below_of : (n m : ℕ) → leb n m ≡ false → m < n
-below_of n m e = elim (cases_Bool (ltb m n)) [ inl lt ↦ ltb-true _ _ lt | inr ge ↦ absurd (let t : leb n m ≡ true = le-leb _ _ (ltb-false _ _ ge) in let f : true ≡ false = sym t ∙ e in cc) ]
 
 and_true : (a b : Bool) → a ≡ true → (a && b) ≡ false → b ≡ false
 and_true true b p e = e
@@ -106,7 +99,7 @@ unfolding run_of raw_of
 judged_valid d m md trafs t track e short =
     let p = none_holds (frag_lines trafs t m md (run_of d t)) e in
     let q = p.1.1.1.1.1.1.1.1.1.1 in
-    let fits : leb 8 (length t.run.first) ≡ true = fits_eight t.run.first (not_false _ q.1.1.1.1.1.1.0) in
+    let fits : leb 8 (length t.run.first) ≡ true = fits_eight t.run.first (not-false _ q.1.1.1.1.1.1.0) in
     let count : length (cut (mdat_rest m md (run_of d t)) (rows (defaults_of d t.head.first) t.run.first (number32_at 4 t.run.first))) ≡ number32_at 4 t.run.first
     = cut_len (mdat_rest m md (run_of d t)) (rows (defaults_of d t.head.first) t.run.first (number32_at 4 t.run.first)) ∙ rows_len (defaults_of d t.head.first) t.run.first (number32_at 4 t.run.first) in
     let some : 0 < number32_at 4 t.run.first = some_of _ (and_true _ _ fits q.1.1.1.1.0) in
@@ -115,7 +108,7 @@ judged_valid d m md trafs t track e short =
       some = omega (arith, count, some);
       few = omega (arith, count, few);
       lasts = some_of (tfxd_pair t.time.first).1 q.1.0;
-      ends = below_of (2 ^ 63) ((tfxd_pair t.time.first).0 + (tfxd_pair t.time.first).1) q.1.1.0;
+      ends = leb-false (2 ^ 63) ((tfxd_pair t.time.first).0 + (tfxd_pair t.time.first).1) q.1.1.0;
       short = omega (arith, cut_bytes (mdat_rest m md (run_of d t)) (rows (defaults_of d t.head.first) t.run.first (number32_at 4 t.run.first)), rest_short (length m + (box_of md).head) (run_of d t).start (box_of md).body, short);
     }
 

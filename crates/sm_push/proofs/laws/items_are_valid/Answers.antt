@@ -1,4 +1,4 @@
-use Rattle.std.proofs.Common.{Ok, sym, subst}
+use Rattle.std.proofs.Common.{subst}
 use Rattle.sm_model.specs.LiveManifests.{IsLiveManifest}
 use Rattle.sm_model.specs.Body.{start}
 use Rattle.sm_push.proofs.HeaderValid.{header_valid}
