@@ -1,5 +1,5 @@
 -- What is known of the bytes that came so far, one piece after the other.
-use Rattle.std.proofs.Common.{◌≡◌, ◌≤◌, ◌<◌, ◌+◌, ◌^◌, ℕ, Bool, true, false, List, [], ◌++◌, length, Option, Some, None, Ok, Err, refl, sym, ap, subst, ◌∙◌, arith}
+use Rattle.std.proofs.Common.{◌≡◌, ◌≤◌, ◌<◌, ◌+◌, ℕ, Bool, true, false, List, ◌++◌, length, Option, Some, None, Err, refl, sym, ap, subst, ◌∙◌, arith}
 use Rattle.std.specs.Prelude.{is_some}
 use Rattle.std.specs.Option.{option_or}
 use Rattle.std.specs.List.{AllByRecursion}
@@ -7,7 +7,7 @@ use Rattle.std.proofs.lemmas.List.{length-append}
 use Rattle.sm_model.specs.declared.cause.Refusal.{Refusal}
 use Rattle.sm_model.specs.declared.fragment.Fragment.{Fragment}
 use Rattle.sm_model.specs.Fragments.{IsValid}
-use Rattle.sm_model.specs.Items.{Given, first_from, first_of}
+use Rattle.sm_model.specs.Items.{Given, first_from}
 use Rattle.sm_model.specs.Body.{Outcome, body, body_end, cut_off, IsFrontOf}
 use Rattle.sm_push.specs.Validity.{IsValidItem}
 use Rattle.sm_push.specs.Standing.{Standing, Stands, Answers}

@@ -3,8 +3,7 @@ use Rattle.std.proofs.Common.{◌≡◌, ℕ, true, List, [], Option, Some, None
 use Rattle.sm_model.specs.declared.cause.Refusal.{Refusal}
 use Rattle.sm_model.specs.declared.fragment.Fragment.{Fragment}
 use Rattle.sm_model.specs.FragText.{frag_text}
-use Rattle.sm_model.specs.Items.{first_of}
-use Rattle.sm_model.specs.Body.{body, body_end}
+use Rattle.sm_model.specs.Body.{body_end}
 use Rattle.smooth.specs.declared.answer.Answer.{Answer}
 use Rattle.smooth.specs.declared.answer.Answer.TheVariants.{Found, Words, Unread, TooLong, Refused, NotKept, Starved}
 use Rattle.smooth.specs.Answers.{IsPicked, IsAbsent, IsRefused, IsDue, refusal_line}

@@ -1,11 +1,10 @@
 -- Looking for one fragment among the items of a push.
-use Rattle.std.proofs.Common.{◌≡◌, ◌≤◌, ◌<◌, ◌+◌, ℕ, zero, suc, Bool, true, false, cond, eqb, ◌&&◌, List, [], ◌∷◌, ◌++◌, length, take, get_or, map, Option, Some, None, refl, sym, ap, subst, ◌∙◌, add-zero, arith}
+use Rattle.std.proofs.Common.{◌≡◌, ◌≤◌, ◌<◌, ◌+◌, ℕ, zero, suc, Bool, true, false, cond, eqb, ◌&&◌, List, [], ◌∷◌, ◌++◌, length, get_or, map, Option, Some, None, refl, sym, ap, subst, ◌∙◌, add-zero, arith}
 use Rattle.std.specs.Prelude.{is_some}
 use Rattle.std.specs.Option.{option_or}
 use Rattle.std.specs.List.{AllByRecursion}
 use Rattle.std.proofs.Math.ListN.{get_or-append}
 use Rattle.std.proofs.Math.Seq.{get_or-append_seam}
-use Rattle.std.proofs.lemmas.Bool.{cond_both}
 use Rattle.std.proofs.lemmas.List.{length-append, get_or-map}
 use Rattle.sm_model.specs.declared.fragment.Fragment.{Fragment}
 use Rattle.sm_model.specs.declared.item.Item.{Item}
@@ -17,7 +16,7 @@ use Rattle.sm_model.specs.Body.{body, walk}
 use Rattle.sm_push.specs.Validity.{IsValidItem}
 use Rattle.smooth.specs.declared.seek.Hit.{Hit}
 use Rattle.smooth.specs.declared.seek.Tally.{Tally}
-use Rattle.smooth.specs.Search.{tallied, is_fragment, is_sought, fragment_of, fragments_in, IsHit, Hits, first_hit, IsAmong}
+use Rattle.smooth.specs.Search.{tallied, is_fragment, is_sought, fragment_of, fragments_in, IsHit, Hits, first_hit}
 
 -- ---- one item
 

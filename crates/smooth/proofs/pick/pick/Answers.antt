@@ -1,5 +1,4 @@
-use Rattle.std.proofs.Common.{◌≡◌, ◌≤◌, ◌<◌, ◌+◌, ◌++◌, ℕ, List, take, subst, arith}
-use Rattle.smooth.specs.Answers.{limit}
+use Rattle.std.proofs.Common.{◌+◌, ◌++◌, ℕ, List, take, subst, arith}
 use Rattle.smooth.specs.Search.{Looks}
 use Rattle.smooth.proofs.Picking.{IsPiece, piece_taken, read_on, read_over, at_most, long}
 use Rattle.smooth.proofs.pick.pick.Goals as goal

@@ -1,6 +1,6 @@
-use Rattle.std.proofs.Common.{◌≡◌, map, get_or, sym, ◌∙◌}
+use Rattle.std.proofs.Common.{◌≡◌, map, get_or, ◌∙◌}
 use Rattle.sm_model.specs.Items.{item_of}
-use Rattle.smooth.proofs.Searching.{no_id, IsLent, header_lent, fragment_lent}
+use Rattle.smooth.proofs.Searching.{no_id, header_lent, fragment_lent}
 use Rattle.smooth.proofs.seek.is_sought.Goals as goal
 
 pub returns-in_default : goal.returns-in_default

@@ -1,5 +1,5 @@
-use Rattle.std.proofs.Common.{◌≡◌, ap, sym}
-use Rattle.sm_model.specs.Items.{Given, first_from}
+use Rattle.std.proofs.Common.{ap, sym}
+use Rattle.sm_model.specs.Items.{first_from}
 use Rattle.smooth.specs.Search.{fragments_in}
 use Rattle.smooth.proofs.Searching.{nothing_yet}
 use Rattle.smooth.proofs.search.Search.new.Goals as goal

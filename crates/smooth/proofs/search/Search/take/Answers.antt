@@ -1,6 +1,4 @@
-use Rattle.std.proofs.Common.{◌≡◌, true, false, List, ℕ, Some, sym, subst, ◌∙◌}
-use Rattle.std.specs.Prelude.{is_some, Option}
-use Rattle.sm_model.specs.declared.cause.Refusal.{Refusal}
+use Rattle.std.proofs.Common.{true, sym, subst, ◌∙◌}
 use Rattle.smooth.specs.Search.{IsLooking, RefusedBy}
 use Rattle.smooth.proofs.Looking.{looking, none_of, stays_refused, all_fit, looks_on, fault_refuses}
 use Rattle.smooth.proofs.search.Search.take.Goals as goal
