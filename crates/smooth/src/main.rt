@@ -13,18 +13,36 @@ mod tests;
 mod tool;
 mod words;
 
+use answer::Answer;
+use print::print;
+use sm_model::NoMemory;
 use std::env;
+use std::io::ErrorKind;
 use std::process::ExitCode;
 use std_ends::{StdSink, StdSource};
 use tool::tool;
 
-fn main(rt: HostRuntime) -> anyhow::Result<ExitCode> {
-    let alloc = rt.alloc();
-    let mut words = Vec::new(alloc);
-    for word in env::args(&rt)?.skip(1) {
-        words.push(word)?;
+// The words behind the program's name. Where one of them is no text they are none of a command, and so are no words at all.
+fn words_of(rt: &HostRuntime) -> Result<Vec<String>, NoMemory> {
+    let mut words = Vec::new(rt.alloc());
+    match env::args(rt) {
+        Ok(args) => {
+            for word in args.skip(1) {
+                words.push(word)?;
+            }
+        }
+        Err(fault) if fault.kind() == ErrorKind::OutOfMemory => return Err(NoMemory),
+        Err(_) => {}
     }
+    Ok(words)
+}
+
+fn main(rt: HostRuntime) -> ExitCode {
     let mut input = StdSource::new(rt.stdin());
     let mut output = StdSink::new(rt.stdout());
-    Ok(ExitCode::from(tool(alloc, &words, &mut input, &mut output)))
+    let status = match words_of(&rt) {
+        Ok(words) => tool(rt.alloc(), &words, &mut input, &mut output),
+        Err(NoMemory) => print(&mut output, &Answer::Starved),
+    };
+    ExitCode::from(status)
 }
