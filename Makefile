@@ -1,13 +1,13 @@
-# Needs the toolchain's command `rt` on the path, and nothing else.
+# Needs the toolchain's command `rt` on the path; `check` and `bench` need Python 3 too.
 
 PROGRAM := crates/smooth/out/smooth
 BENCH := crates/fragment_bench/out/fragment_bench
 
-.PHONY: run test build bench clean
+.PHONY: run test build check bench clean
 
-# Picks the first audio fragment out of a small sample.
+# Picks the first audio fragment out of a sample push.
 run: build
-	./$(PROGRAM) pick 3 0 < examples/fragments.frag > /tmp/smooth-picked.frag
+	./$(PROGRAM) pick 3 0 < examples/push.isml > /tmp/smooth-picked.frag
 	@wc -c /tmp/smooth-picked.frag
 
 # The merge gate.
@@ -18,9 +18,13 @@ test:
 build:
 	cd crates/smooth && { rt run < /dev/null > /dev/null; test $$? -eq 2; }
 
+# Holds the program against a plain reference in Python, on the samples and on many inputs made of them.
+check: build
+	bash scripts/check_pick $(PROGRAM)
+
 bench: build
 	cd crates/fragment_bench && rt run -- copy 1 1 1 > /dev/null
-	bash scripts/bench_pick $(PROGRAM)
+	bash scripts/bench_push $(PROGRAM)
 	bash scripts/bench_fragment $(BENCH)
 
 clean:

@@ -1,6 +1,8 @@
-//! Reads, writes or copies one fragment again and again, for a script that takes the time.
+//! Reads, writes, copies or pushes one fragment again and again, for a script that takes the time.
 //!
-//!     fragment_bench read|write|copy SAMPLES SIZE REPEATS
+//!     fragment_bench read|write|copy|push|bytes SAMPLES SIZE REPEATS
+//!
+//! `push` hands its text to a push in pieces of 65,536 bytes, and `bytes` byte by byte.
 #![tactic(auto)]
 
 ghost use Rattle.std.specs.Prelude.{◌≤◌, length, IsTrue};
@@ -9,6 +11,7 @@ ghost use Rattle.sm_model.specs.Fragments.{IsValid};
 use anyhow::{Result, ensure};
 use sm_model::{Bytes, Defaults, Fragment, Name, Sample, Samples};
 use sm_moof::{is_one_box, put_fragment, read_fragment};
+use sm_push::Push;
 use std::alloc::Global;
 use std::env;
 
@@ -87,6 +90,19 @@ fn read(alloc: Global, text: &[u8], split: usize, repeats: u32) -> Result<u64>
     Ok(done)
 }
 
+// Pushes the text so many times, in pieces of this size, and gives how many fragments came of it.
+fn push(alloc: Global, text: &[u8], size: usize, repeats: u32) -> Result<u64> {
+    let mut push = Push::headerless(alloc);
+    let mut done = 0u64;
+    for _ in 0..repeats {
+        for piece in text.chunks(size.max(1)) {
+            done = done.saturating_add(push.feed(piece)?.len());
+        }
+    }
+    push.end()?;
+    Ok(done)
+}
+
 fn copy(alloc: Global, text: &[u8], repeats: u32) -> Result<u64> {
     let mut done = 0u64;
     for _ in 0..repeats {
@@ -115,8 +131,10 @@ fn main(rt: HostRuntime) -> Result<()> {
     let done = match mode.as_str() {
         "read" => read(alloc, text.as_slice(), split, repeats)?,
         "write" => write(alloc, &fragment, repeats)?,
+        "push" => push(alloc, text.as_slice(), 65_536, repeats)?,
+        "bytes" => push(alloc, text.as_slice(), 1, repeats)?,
         _ => copy(alloc, text.as_slice(), repeats)?,
     };
-    println!(rt; "{done} bytes")?;
+    println!(rt; "{done}")?;
     Ok(())
 }

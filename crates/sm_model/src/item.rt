@@ -1,5 +1,5 @@
 //! What a push gives.
-ghost use Rattle.std.specs.Prelude.{◌≡◌, ◌++◌, [], ◌∷◌, length, map, OnOk};
+ghost use Rattle.std.specs.Prelude.{◌≡◌, ◌++◌, [], ◌∷◌, length, map, OnOk, OnErr};
 ghost use Rattle.sm_model.specs.Items.{given_of, item_of, id_at};
 
 use crate::{Channel, Fragment, NoMemory};
@@ -50,6 +50,7 @@ impl Items {
     #[tactic(auto, using(crate::proofs::ItemLemmas::given_more))]
     pub fn push(&mut self, item: Item, id: u32) -> Result<(), NoMemory>
         ensures ok { OnOk result (self.new ≡ self.old ++ given_of item id ∷ []) }
+        ensures err { OnErr result (self.new ≡ self.old) }
     {
         self.ids.push(id)?;
         if let Err(_) = self.items.push(item) {

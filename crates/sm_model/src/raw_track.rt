@@ -1,5 +1,5 @@
 //! Tracks as they stand in the text of a live manifest.
-ghost use Rattle.std.specs.Prelude.{◌≡◌, ◌++◌, [], ◌∷◌, length, OnOk};
+ghost use Rattle.std.specs.Prelude.{◌≡◌, ◌++◌, [], ◌∷◌, length, OnOk, OnErr};
 
 use crate::{Bytes, Kind, NoMemory};
 use std::alloc::Global;
@@ -89,7 +89,8 @@ impl SmilParams {
 
     /// One param more at the end.
     pub fn push(&mut self, param: SmilParam) -> Result<(), NoMemory>
-        ensures { OnOk result (self.new ≡ self.old ++ param ∷ []) }
+        ensures ok { OnOk result (self.new ≡ self.old ++ param ∷ []) }
+        ensures err { OnErr result (self.new ≡ self.old) }
     {
         self.items.push(param)?;
         Ok(())

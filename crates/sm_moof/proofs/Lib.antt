@@ -1,8 +1,5 @@
-pub mod Words
-pub mod Samples
-pub mod Flat
-pub mod Reading
-pub mod Joins
+pub mod FrontLemmas
+pub mod JoinLemmas
 pub mod WholeLemmas
 pub mod CutLemmas
 pub mod TrackLemmas

@@ -1,19 +1,15 @@
 //! Whole fragments: a `moof` and the `mdat` behind it, read and written (ISO/IEC 14496-12, 8.8.4 and 8.1.1).
 #![tactic(auto)]
 
-mod canonical;
 mod cut;
 mod law;
 mod put;
 mod read;
-mod skim;
 mod track;
 mod whole;
 
-pub use canonical::{Canon, read_canonical};
 pub use law::{canonical_texts_are_no_prefixes, joins_are_cut_once};
 pub use put::put_fragment;
 pub use read::{MoofFault, finish, read_fragment, read_moof};
-pub use skim::{Skim, skim_canonical};
 pub use track::track_of;
 pub use whole::{body_of, is_one_box};

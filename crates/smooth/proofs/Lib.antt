@@ -1,2 +1,4 @@
-pub mod Scanning
+pub mod Searching
+pub mod Looking
+pub mod Picking
 pub mod OneAnswer

@@ -1,8 +1,12 @@
 -- What a command answers, and which answer is due.
-use Rattle.std.specs.Prelude.{◌≡◌, ◌<◌, ◌+◌, ◌++◌, ℕ, List, [], length, codes, decimal, Some, None}
+use Rattle.std.specs.Prelude.{◌≡◌, ◌≤◌, ◌++◌, ℕ, true, List, [], length, codes, decimal, Option, Some, None}
+use Rattle.std.specs.Io.KnownBytes.{Consumes, IsAtEnd}
+use Rattle.sm_model.specs.declared.cause.Refusal.{Refusal}
 use Rattle.sm_model.specs.declared.fragment.Fragment.{Fragment}
+use Rattle.sm_model.specs.Causes.{number_of, name_of}
 use Rattle.sm_model.specs.FragText.{frag_text}
-use Rattle.sm_model.specs.Canonical.{Canonical, IsJoin, IsLongestJoin, first_of}
+use Rattle.sm_model.specs.Items.{first_of}
+use Rattle.sm_model.specs.Body.{body, body_end}
 use Rattle.smooth.specs.declared.answer.Answer.{Answer}
 use Rattle.smooth.specs.declared.answer.Answer.TheVariants.{Found, Words, Unread, TooLong, Refused, NotKept, Starved}
 
@@ -38,34 +42,30 @@ unwritten_status_of Starved = 9
 
 -- ---- the answer that is due to an input
 
--- the input is texts one after another, and this is the first one with that track_ID and time, numbered by its place
+-- the input is a whole push, with a header or without, and this is the first fragment with that track_ID and time, numbered by its
+-- place among all of them
 pub record IsPicked (input : List ℕ) (track time : ℕ) (text : List ℕ) : Type 0 where
-  pub texts : List Canonical
-  pub join : IsJoin input texts
+  pub whole : body_end true input ≡ None
   pub place : ℕ
   pub fragment : Fragment
-  pub first : first_of track time texts ≡ Some (place, fragment)
+  pub first : first_of track time (body true input).items ≡ Some (place, fragment)
   pub text_is : text ≡ frag_text place track fragment []
 
--- the input is texts one after another, and none has that track_ID and time
+-- the input is a whole push, and has no fragment with that track_ID and time
 pub record IsAbsent (input : List ℕ) (track time : ℕ) : Type 0 where
-  pub texts : List Canonical
-  pub join : IsJoin input texts
-  pub none : first_of track time texts ≡ None
+  pub whole : body_end true input ≡ None
+  pub none : first_of track time (body true input).items ≡ None
 
--- the input isn't texts one after another: the longest front that is ends before it
-pub record IsBroken (input : List ℕ) (at : ℕ) : Type 0 where
-  pub front : IsLongestJoin input at
-  pub more : at < length input
+-- the place, the number and the name of a cause
+abbrev pub refusal_line : Refusal → List ℕ
+refusal_line r =
+    codes "error: input at " ++ (decimal r.at ++ (codes ": " ++ (decimal (number_of r.cause) ++ (codes " " ++ (name_of r.cause ++ codes "\n")))))
 
-abbrev pub place_line : ℕ → List ℕ
-place_line at = codes "error: input at " ++ (decimal at ++ codes ": 50 NotCanonical\n")
-
--- and this line says where
+-- the input is no whole push, and this line says where and why
 pub record IsRefused (input line : List ℕ) : Type 0 where
-  pub at : ℕ
-  pub broken : IsBroken input at
-  pub line_is : line ≡ place_line at
+  pub refusal : Refusal
+  pub refused : body_end true input ≡ Some refusal
+  pub line_is : line ≡ refusal_line refusal
 
 abbrev pub limit : ℕ
 limit = 268435456
@@ -79,3 +79,11 @@ IsDue track time input Words = ⊥
 IsDue track time input TooLong = ⊥
 IsDue track time input Unread = ⊥
 IsDue track time input Starved = ⊥
+
+-- an input within the limit was read to its end, and the answer is due to it
+pub record IsAnswered (track time : ℕ) (old new : Option (List ℕ)) (answer : Answer) : Type 0 where
+  pub input : List ℕ
+  pub read : Consumes old new input
+  pub ended : IsAtEnd new
+  pub short : length input ≤ limit
+  pub due : IsDue track time input answer

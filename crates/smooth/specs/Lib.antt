@@ -1,4 +1,4 @@
 pub mod Words
 pub mod Answers
-pub mod Scan
+pub mod Search
 pub mod Ran

@@ -1,12 +1,12 @@
 -- What a run of a command did.
-use Rattle.std.specs.Prelude.{◌≡◌, ◌<◌, ◌≤◌, ◌+◌, ◌⊎◌, ℕ, List, length, Option, Some, None, IfSome}
-use Rattle.std.specs.Io.KnownBytes.{Appends, Consumes, IsAtEnd, Keeps}
+use Rattle.std.specs.Prelude.{◌≡◌, ◌<◌, ◌+◌, ◌⊎◌, ℕ, List, length, Option, Some, None, IfSome}
+use Rattle.std.specs.Io.KnownBytes.{Appends, Keeps}
 use Rattle.sm_ends.specs.Faults.{Rose}
 use Rattle.sm_ends.specs.Moves.{TakesCount, TakesAtMost, AppendsFront}
 use Rattle.smooth.specs.declared.answer.Answer.{Answer}
 use Rattle.smooth.specs.declared.answer.Answer.TheVariants.{Found, Words, Unread, TooLong, Refused, NotKept, Starved}
 use Rattle.smooth.specs.Words.{asked}
-use Rattle.smooth.specs.Answers.{IsDue, limit, status_of, unwritten_status_of, line_of}
+use Rattle.smooth.specs.Answers.{IsAnswered, limit, status_of, unwritten_status_of, line_of}
 
 -- an end before a call and after it: what it tells, and its count of faults
 pub record End : Type 0 where
@@ -18,11 +18,7 @@ pub record IsRead (words : List (List ℕ)) (old new : End) (answer : Answer) : 
   pub track : ℕ
   pub time : ℕ
   pub asked_is : asked words ≡ Some (track, time)
-  pub input : List ℕ
-  pub read : Consumes old.told new.told input
-  pub ended : IsAtEnd new.told
-  pub short : length input ≤ limit
-  pub due : IsDue track time input answer
+  pub answered : IsAnswered track time old.told new.told answer
 
 -- the words ask for nothing, and nothing was read
 pub record IsUnasked (words : List (List ℕ)) (old new : End) : Type 0 where

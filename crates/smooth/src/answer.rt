@@ -13,7 +13,7 @@ pub enum Answer {
     Unread,
     /// The input has more than 268,435,456 bytes.
     TooLong,
-    /// The input isn't canonical texts one after another. The line says how many bytes the longest front has that is.
+    /// The input is no whole push. The line says where, and why.
     Refused(Bytes),
     /// The input has no such fragment.
     NotKept,

@@ -5,6 +5,8 @@ mod answer;
 pub mod law;
 mod pick;
 mod print;
+mod search;
+mod seek;
 mod std_ends;
 #[cfg(test)]
 mod tests;

@@ -1,91 +1,82 @@
 //! Picking a fragment out of an input.
-ghost use Rattle.std.specs.Prelude.{◌≡◌, ◌≤◌, ◌==◌, ◌&&◌, length, IfOk, IfErr, IfSome, IfNone};
-ghost use Rattle.sm_model.specs.Canonical.{BeginsWithNone};
-ghost use Rattle.smooth.specs.Answers.{IsBroken, IsDue, limit, place_line};
-ghost use Rattle.smooth.specs.Scan.{note, IsLookedThrough, IsWrittenAgain};
+ghost use Rattle.std.specs.Prelude.{◌≡◌, ◌≤◌, ◌<◌, ◌+◌, ◌*◌, length, take, vec_len, IfOk, IfSome, OnOk, IsErrOf, min};
+ghost use Rattle.std.specs.Io.{ReadsAtMost};
+ghost use Rattle.std.specs.Io.KnownBytes.{ReadConsumes, Consumes, IsAtEnd};
+ghost use Rattle.sm_ends.specs.Faults.{HasCause, Rose};
+ghost use Rattle.sm_ends.specs.Moves.{TakesCount, TakesAtMost};
+ghost use Rattle.sm_ends.specs.declared.input.InputFault.TheVariants.{Failed as ReadFailed, NoMemory as NoRoom, TooLong};
+ghost use Rattle.smooth.specs.Answers.{IsAnswered, limit};
 
 use crate::answer::Answer;
-use sm_model::{Bytes, NoMemory};
-use sm_moof::{Skim, put_fragment, read_canonical, skim_canonical};
+use crate::search::Search;
+use sm_ends::{Failed, InputFault, Source};
+use sm_model::NoMemory;
 use std::alloc::Global;
 
-// Where the first text that is sought begins, with its place from 1. A later one doesn't count.
-fn noted(before: Option<(u32, usize)>, hit: bool, place: u32, at: usize) -> Option<(u32, usize)>
-    ensures { result ≡ note before hit place at }
+// The most bytes that an input may have.
+const LIMIT: u64 = 268_435_456;
+
+// So many bytes are read at once.
+const PIECE: usize = 65_536;
+
+// Room for one piece.
+fn room(alloc: Global) -> Result<Vec<u8>, NoMemory>
+    ensures { IfOk result (λ room. vec_len room ≡ PIECE) }
 {
-    match before {
-        Some(first) => Some(first),
-        None => { if hit { Some((place, at)) } else { None } }
+    let mut room = Vec::new(alloc);
+    room.resize(PIECE, 0)?;
+    Ok(room)
+}
+
+// Reads a piece of no more than so many bytes. The room keeps so much of its length.
+fn read_piece<I: Source>(input: &mut I, room: &mut Vec<u8>, most: u64) -> Result<usize, Failed>
+    requires room { 0 < vec_len room.old }
+    requires some { 0 < most }
+    ensures most { IfOk result (λ n. n ≤ most) }
+    ensures bound { IfOk result (λ n. n ≤ length room.new.items) }
+    ensures room { 0 < vec_len room.new }
+    ensures bytes { ReadConsumes (I.left input.old) (I.left input.new) result room.new.items }
+    ensures cause { HasCause (I.faults input.old) (I.faults input.new) result }
+{
+    if most < room.len() as u64 {
+        room.truncate(most as usize);
     }
+    input.read(room)
 }
 
-fn is_sought(skim: Skim, track: u32, time: u64) -> bool
-    ensures { result ≡ (skim.id == track && skim.time == time) }
-{
-    skim.id == track && skim.time == time
-}
+/// Reads the input to its end, and picks the first fragment with that track_ID and time, in ticks of its track's timescale.
+///
+/// It holds one piece of the input, what the push holds, and the fragment that was found. Whatever it answers, the input has
+/// lost exactly the bytes that were read: all of them for an answer, 268,435,457 where that is too long, and at most
+/// 268,435,456 where reading failed or memory ran out.
+pub fn pick<I: Source>(
+    alloc: Global,
+    input: &mut I,
+    track: u32,
+    time: u64,
+) -> Result<Answer, InputFault>
+    ensures answer { IfOk result (λ answer. IsAnswered track time (I.left input.old) (I.left input.new) answer) }
 
-// The first text with that track_ID and time, if there is one: its place from 1, and where it begins. Else where the
-// input stops being canonical texts one after another.
-fn first_text(input: &[u8], track: u32, time: u64) -> Result<Option<(u32, usize)>, u64>
-    requires { length input.now ≤ limit }
-    ensures whole { IfOk result (λ first. IsLookedThrough input.now track time first) }
-    ensures broken { IfErr result (λ at. IsBroken input.now at) }
+    // These are the faults.
+    ensures long { IsErrOf result TooLong → IfSome (I.left input.old) (λ bytes. limit < length bytes) }
+    ensures passed { IsErrOf result TooLong → TakesCount (I.left input.old) (I.left input.new) (limit + 1) }
+    ensures failed { IsErrOf result ReadFailed → TakesAtMost (I.left input.old) (I.left input.new) limit }
+    ensures memory { IsErrOf result NoRoom → TakesAtMost (I.left input.old) (I.left input.new) limit }
+    ensures cause { IsErrOf result ReadFailed → Rose (I.faults input.old) (I.faults input.new) }
+    ensures later { I.faults input.old ≤ I.faults input.new }
 {
-    let mut at = 0;
-    let mut count = 0;
-    let mut first = None;
-    while at < input.len() {
-        let (_, rest) = input.split_at(at);
-        match skim_canonical(rest) {
-            Some(skim) => {
-                count += 1;
-                first = noted(first, is_sought(skim, track, time), count, at);
-                at += skim.length as usize;
-            }
-            None => return Err(at as u64),
+    let mut search = Search::new(alloc, track, time);
+    let mut room = room(alloc)?;
+    let mut total = 0;
+    while total <= LIMIT {
+        let count = read_piece(input, &mut room, LIMIT + 1 - total)?;
+        if count == 0 {
+            return Ok(search.answer(alloc)?);
+        }
+        total += count as u64;
+        if total <= LIMIT {
+            search.take(&room[..count])?;
         }
     }
-    Ok(first)
-}
-
-// The canonical text in front of these bytes, numbered by its place among all of them.
-fn written(alloc: Global, bytes: &[u8], track: u32, place: u32) -> Result<Option<Bytes>, NoMemory>
-    ensures some { IfOk result (λ answer. IfSome answer (λ text. IsWrittenAgain bytes.now place track text)) }
-    ensures none { IfOk result (λ answer. IfNone answer (BeginsWithNone bytes.now)) }
-{
-    match read_canonical(alloc, bytes)? {
-        Some(canon) => {
-            let text = put_fragment(alloc, place, track, &canon.fragment, &[])?;
-            Ok(Some(text))
-        }
-        None => Ok(None),
-    }
-}
-
-// The line that says where the input stops being canonical texts.
-fn refusal(alloc: Global, at: u64) -> Result<Bytes, NoMemory>
-    ensures { IfOk result (λ line. line ≡ place_line at) }
-{
-    let line = format!(in alloc; "error: input at {at}: 50 NotCanonical\n")?;
-    Ok(Bytes::from_vec(line.into_bytes()))
-}
-
-/// The first canonical text with that track_ID and time, numbered by its place; or where the input stops being such
-/// texts one after another. Samples are copied only of the text that is given.
-pub fn pick(alloc: Global, input: &[u8], track: u32, time: u64) -> Result<Answer, NoMemory>
-    requires { length input.now ≤ limit }
-    ensures { IfOk result (λ answer. IsDue track time input.now answer) }
-{
-    match first_text(input, track, time) {
-        Ok(Some((place, begin))) => {
-            let (_, rest) = input.split_at(begin);
-            match written(alloc, rest, track, place)? {
-                Some(text) => Ok(Answer::Found(text)),
-                None => unreachable!(),
-            }
-        }
-        Ok(None) => Ok(Answer::NotKept),
-        Err(at) => Ok(Answer::Refused(refusal(alloc, at)?)),
-    }
+    Err(InputFault::TooLong)
 }

@@ -6,12 +6,8 @@ use crate::answer::Answer;
 use crate::pick::pick;
 use crate::print::print;
 use crate::words::asked_of;
-use sm_ends::{InputFault, Sink, Source, read_input};
-use sm_model::NoMemory;
+use sm_ends::{InputFault, Sink, Source};
 use std::alloc::Global;
-
-// The most bytes that an input may have.
-const LIMIT: u64 = 268_435_456;
 
 // What the words and the input come to.
 fn answer_to<I: Source>(alloc: Global, words: &[String], input: &mut I) -> Answer
@@ -21,11 +17,8 @@ fn answer_to<I: Source>(alloc: Global, words: &[String], input: &mut I) -> Answe
     let Some((track, time)) = asked_of(words) else {
         return Answer::Words;
     };
-    match read_input(alloc, input, LIMIT) {
-        Ok(bytes) => match pick(alloc, bytes.as_slice(), track, time) {
-            Ok(answer) => answer,
-            Err(NoMemory) => Answer::Starved,
-        },
+    match pick(alloc, input, track, time) {
+        Ok(answer) => answer,
         Err(InputFault::Failed) => Answer::Unread,
         Err(InputFault::TooLong) => Answer::TooLong,
         Err(InputFault::NoMemory) => Answer::Starved,
@@ -34,9 +27,9 @@ fn answer_to<I: Source>(alloc: Global, words: &[String], input: &mut I) -> Answe
 
 /// Carries out the command that the words name, and gives the exit status.
 ///
-/// `pick TRACK TIME` reads canonical fragments one after another from `input` and writes the first one with that
-/// track_ID and time, in ticks of its track's timescale, numbered by its place among all of them. Every line, also that
-/// of a failure, goes to `output`.
+/// `pick TRACK TIME` reads the body of a push from `input`, with a header or without, and writes the canonical text of the first
+/// fragment with that track_ID and time, in ticks of its track's timescale, numbered by its place among all of them. Every
+/// line, also that of a failure, goes to `output`.
 pub fn tool<I: Source, O: Sink>(
     alloc: Global,
     words: &[String],

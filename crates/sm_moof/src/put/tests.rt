@@ -2,8 +2,8 @@ ghost use Rattle.std.specs.Prelude.{◌<◌, IfOk};
 ghost use Rattle.sm_model.specs.Fragments.{IsValid};
 
 use super::*;
-use crate::read_canonical;
-use sm_model::{Name, Samples};
+use crate::{is_one_box, read_fragment};
+use sm_model::{Defaults, Name, RawFragment, Samples};
 use std::test::Fail;
 
 // The canonical text of track 1 at time 0 with a duration of 2 and one sample of the byte 41.
@@ -49,19 +49,37 @@ fn fragment(alloc: Global, time: u32, duration: u32) -> Result<Fragment, NoMemor
     })
 }
 
+// What a text says whose moof has so many bytes.
+fn read_again(alloc: Global, text: &[u8], moof_len: usize) -> Result<RawFragment, Fail> {
+    let moof = text.get(..moof_len).ok_or("short")?;
+    let mdat = text.get(moof_len..).ok_or("short")?;
+    if !is_one_box(moof) || !is_one_box(mdat) {
+        return Err("no whole box".into());
+    }
+    let none = Defaults {
+        duration: 0,
+        size: 0,
+        flags: 0,
+    };
+    Ok(read_fragment(alloc, moof, mdat, &none)?)
+}
+
 #[test]
 fn a_fragment_is_written_and_read_again(rt: HostRuntime) -> Result<(), Fail> {
     let alloc = rt.alloc();
     let text = put_fragment(alloc, 1, 1, &fragment(alloc, 0, 2)?, &[])?;
     assert_eq!(rt; text.as_slice(), TEXT.as_slice());
-    let canon = read_canonical(alloc, text.as_slice())?.ok_or("no canonical text")?;
-    assert_eq!(rt; (canon.seq, canon.id, canon.length), (1, 1, 137));
-    assert_eq!(rt; canon.fragment.stream.as_bytes(), b"1".as_slice());
-    assert_eq!(rt; (canon.fragment.time, canon.fragment.duration), (0, 2));
-    assert_eq!(rt; canon.fragment.samples.len(), 1);
-    for sample in canon.fragment.samples.as_slice() {
-        assert_eq!(rt; sample.bytes.as_slice(), b"A".as_slice());
-    }
+    let raw = read_again(alloc, text.as_slice(), 128)?;
+    assert_eq!(rt; (raw.id, raw.time, raw.duration), (1, 0, 2));
+    assert_eq!(rt; raw.signed, false);
+    assert_eq!(rt; raw.ahead.len(), 0);
+    let samples = raw.samples.as_slice();
+    assert_eq!(rt; samples.len(), 1);
+    assert_eq!(rt;
+        (samples[0].duration, samples[0].flags, samples[0].offset),
+        (2, 0, 0)
+    );
+    assert_eq!(rt; samples[0].bytes.as_slice(), b"A".as_slice());
     Ok(())
 }
 
@@ -78,5 +96,29 @@ fn pairs_ahead_lengthen_the_moof(rt: HostRuntime) -> Result<(), Fail> {
     assert_eq!(rt; second.len(), 182);
     let third = put_fragment(alloc, 3, 1, &fragment(alloc, 40000000, 20000000)?, &[])?;
     assert_eq!(rt; third.len(), 137);
+    Ok(())
+}
+
+// 29 + 16 * 255 bytes more than without pairs: 128 + 4109 in the moof.
+#[test]
+fn as_many_pairs_as_a_byte_counts(rt: HostRuntime) -> Result<(), Fail> {
+    let alloc = rt.alloc();
+    let ahead = [(5, 7); 255];
+    let text = put_fragment(alloc, 1, 1, &fragment(alloc, 0, 2)?, &ahead)?;
+    assert_eq!(rt; text.len(), 4246);
+    let table = [
+        (0, b"\0\0\x10\x8dmoof".as_slice()),
+        (24, b"\0\0\x10\x75traf".as_slice()),
+        (64, b"\0\0\x10\x95".as_slice()),
+        (128, b"\0\0\x10\x0duuid\xd4\x80\x7e\xf2".as_slice()),
+        (152, b"\x01\0\0\0\xff".as_slice()),
+        (4237, b"\0\0\0\x09mdatA".as_slice()),
+    ];
+    for (at, want) in table {
+        let (_, found) = text.as_slice().split_at_checked(at).ok_or("short")?;
+        assert!(rt; found.starts_with(want), "{at}");
+    }
+    let raw = read_again(alloc, text.as_slice(), 4237)?;
+    assert_eq!(rt; raw.ahead.as_slice(), ahead.as_slice());
     Ok(())
 }

@@ -120,6 +120,7 @@ fn what_trun_and_tfhd_lack_comes_from_trex(rt: HostRuntime) -> Result<(), Fail> 
     let samples = raw.samples.as_slice();
     assert_eq!(rt; samples.len(), 1);
     assert_eq!(rt; samples[0].duration, 5);
+    assert_eq!(rt; samples[0].bytes.len(), 1);
     assert_eq!(rt; samples[0].flags, 9);
     assert_eq!(rt; samples[0].offset, 0);
     assert_eq!(rt; samples[0].bytes.as_slice(), b"A".as_slice());
@@ -145,6 +146,11 @@ fn times_of_32_and_of_64_bits(rt: HostRuntime) -> Result<(), Fail> {
     let moof = moof_of(alloc, &[TFHD, TRUN, &last])?;
     let raw = read(alloc, &moof, MDAT, &ZERO)??;
     assert_eq!(rt; (raw.time, raw.duration), (9223372036854775805, 2));
+
+    let late = tfxd(alloc, 9223372036854775806, 2)?;
+    let moof = moof_of(alloc, &[TFHD, TRUN, &late])?;
+    let fault = read(alloc, &moof, MDAT, &ZERO)?.err();
+    assert_eq!(rt; fault, Some(MoofFault::Refused(Cause::TimeTooLarge)));
     Ok(())
 }
 

@@ -1,17 +1,39 @@
-use Rattle.std.proofs.Common.{Some}
-use Rattle.sm_model.specs.Canonical.{BeginsWithNone}
-use Rattle.smooth.specs.Scan.{IsLookedThrough, IsWrittenAgain}
-use Rattle.smooth.proofs.Scanning.{picked, there}
+use Rattle.std.proofs.Common.{◌≡◌, ◌≤◌, ◌<◌, ◌+◌, ◌++◌, ℕ, List, take, subst, arith}
+use Rattle.smooth.specs.Answers.{limit}
+use Rattle.smooth.specs.Search.{Looks}
+use Rattle.smooth.proofs.Picking.{IsPiece, piece_taken, read_on, read_over, at_most, long}
 use Rattle.smooth.proofs.pick.pick.Goals as goal
 
-pub unreachable-requires : goal.unreachable-requires
-unreachable-requires c =
-    let l : IsLookedThrough c.args.input.now c.args.track c.args.time (Some (c.in-Ok-Some.place, c.in-Ok-Some.begin)) = rw c.in-Ok-Some.field-0-is at c.in-Ok-Some.ensures.whole in
-    let none : BeginsWithNone c.split_at.result.1.now = rw c.in-None.is at c.in_ok-text-in-Ok-Some.ensures.none in
-    there _ _ _ _ _ l (rw c.split_at.ensures.back at none)
+pub loop-total-preserved-in_ok-take : goal.loop-total-preserved-in_ok-take
+loop-total-preserved-in_ok-take g c =
+    let room : List ℕ = c.read_piece.new.room.items in
+    let piece : IsPiece (g.I.Source.left c.loop-total.input) (g.I.Source.left c.read_piece.new.input) c.loop-total.total c.in_ok-count.count room
+    = record { taken = c.in_ok-count.ensures.bytes.0; inside = c.in_ok-count.ensures.bound; within = omega (arith, c.in_ok-count.ensures.most) } in
+    let looks : (b : List ℕ) → Looks c.loop-total.search b → Looks c.take.new.self (b ++ take c.in_ok-count.count room)
+    = subst (λ (r : List ℕ). (b : List ℕ) → Looks c.loop-total.search b → Looks c.take.new.self (b ++ take c.in_ok-count.count r)) c.deref.ensures.value c.in_ok-take.ensures.looks in
+    record {
+      room = c.read_piece.ensures.room;
+      read = read_on _ _ _ _ _ c.loop-total.search c.take.new.self c.loop-total.total c.in_ok-count.count room c.loop-total.invariant.read piece (omega arith) looks c.in_ok-take.ensures.asked.0 c.in_ok-take.ensures.asked.1;
+      later = omega (arith, c.loop-total.invariant.later, c.read_piece.ensures.cause.later);
+    }
 
-pub returns-in-Some : goal.returns-in-Some
-returns-in-Some c =
-    let l : IsLookedThrough c.args.input.now c.args.track c.args.time (Some (c.in-Ok-Some.place, c.in-Ok-Some.begin)) = rw c.in-Ok-Some.field-0-is at c.in-Ok-Some.ensures.whole in
-    let text : IsWrittenAgain c.split_at.result.1.now c.in-Ok-Some.place c.args.track c.in-Some.text = rw c.in-Some.is at c.in_ok-text-in-Ok-Some.ensures.some in
-    picked _ _ _ _ _ _ l (rw c.split_at.ensures.back at text)
+pub returns-in_err-take-clause-memory : goal.returns-in_err-take-clause-memory
+returns-in_err-take-clause-memory g c =
+    let room : List ℕ = c.read_piece.new.room.items in
+    let piece : IsPiece (g.I.Source.left c.loop-total.input) (g.I.Source.left c.read_piece.new.input) c.loop-total.total c.in_ok-count.count room
+    = record { taken = c.in_ok-count.ensures.bytes.0; inside = c.in_ok-count.ensures.bound; within = omega (arith, c.in_ok-count.ensures.most) } in
+    λ _. at_most _ _ (c.loop-total.total + c.in_ok-count.count) (piece_taken _ _ _ _ _ c.loop-total.search c.loop-total.total c.in_ok-count.count room c.loop-total.invariant.read piece) (omega arith)
+
+pub loop-total-preserved : goal.loop-total-preserved
+loop-total-preserved g c =
+    let room : List ℕ = c.read_piece.new.room.items in
+    let piece : IsPiece (g.I.Source.left c.loop-total.input) (g.I.Source.left c.read_piece.new.input) c.loop-total.total c.in_ok-count.count room
+    = record { taken = c.in_ok-count.ensures.bytes.0; inside = c.in_ok-count.ensures.bound; within = omega (arith, c.in_ok-count.ensures.most) } in
+    record {
+      room = c.read_piece.ensures.room;
+      read = read_over _ _ _ _ _ c.loop-total.search c.loop-total.total c.in_ok-count.count room c.loop-total.invariant.read piece (omega arith);
+      later = omega (arith, c.loop-total.invariant.later, c.read_piece.ensures.cause.later);
+    }
+
+pub returns-clause-long : goal.returns-clause-long
+returns-clause-long g c = λ _. long _ _ c.loop-total.invariant.read.bytes c.loop-total.invariant.read.taken (omega (arith, c.loop-total.invariant.read.total_is))

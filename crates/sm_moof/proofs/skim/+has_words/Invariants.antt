@@ -1,5 +1,0 @@
-use Rattle.std.proofs.Common.{length}
-use Rattle.sm_moof.proofs.skim.+has_words.Given as goal
-
-abbrev pub decreases-has_words : goal.decreases-has_words
-decreases-has_words l = length l.words.now
