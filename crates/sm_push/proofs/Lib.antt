@@ -8,4 +8,5 @@ pub mod HeaderLemmas
 pub mod HeaderValid
 pub mod Boxes
 pub mod Splits
+pub mod Limits
 pub mod Valid

@@ -107,7 +107,7 @@ pub wait_made : (d : BoxDecision) → IsMade d → d ≡ Wait → ⊥
 wait_made d made e = let wait : IsMade Wait = rw e at made in wait
 
 -- a box that waits for its user type has room for it
-waits_for_user : (s : PushState) (h : List ℕ) (kind : List ℕ) (head size : ℕ) → by_kind s h kind head size ≡ Wait → (length h < head + 16) × (16 ≤ size - head)
+pub waits_for_user : (s : PushState) (h : List ℕ) (kind : List ℕ) (head size : ℕ) → by_kind s h kind head size ≡ Wait → (length h < head + 16) × (16 ≤ size - head)
 waits_for_user s h kind head size e =
     elim (cases_Bool (is kind (codes "uuid") && leb 16 (size - head))) [
       | inl first ↦ elim (cases_Bool (ltb (length h) (head + 16))) [

@@ -135,7 +135,7 @@ unfolding walk
 begins headerless k e = record { works = refl; clear = refl; count = refl; header = rw e refl; later = λ more. rw e refl }
 
 pub begins_partial : (headerless : Bool) (k : Kept) → k ≡ record { state = start headerless; held = []; skip = 0 } → IsPartial k
-begins_partial headerless k e = rw e (empty_partial (start headerless) [] 0 refl (record { stage = (tt, tt); moof = tt }))
+begins_partial headerless k e = rw e (empty_partial (start headerless) [] 0 refl (record { stage = (tt, tt, tt); moof = tt }))
 
 inside_at : (s : PushState) (x : ℕ) (h : List ℕ) (d : BoxDecision) (go : PushState → ℕ → Outcome) → IsOpen (length (x ∷ h)) d → at_box s (x ∷ h) d go ≡ ended s true
 inside_at s x h Wait go due = refl

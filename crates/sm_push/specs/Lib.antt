@@ -1,5 +1,6 @@
 pub mod Heads
 pub mod Answers
+pub mod Held
 pub mod Steps
 pub mod Standing
 pub mod Boxes

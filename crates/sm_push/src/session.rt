@@ -1,8 +1,9 @@
 //! A push session.
-ghost use Rattle.std.specs.Prelude.{◌≡◌, ◌↔◌, Bool, true, false, List, ℕ, [], IsTrue, IsErrOf, OnOk, OnErr};
+ghost use Rattle.std.specs.Prelude.{◌≡◌, ◌<◌, ◌↔◌, Bool, true, false, List, ℕ, [], IsTrue, IsErrOf, OnOk, OnErr};
 ghost use Rattle.sm_model.specs.Body.{body};
 ghost use Rattle.sm_model.specs.Body;
 ghost use Rattle.sm_model.specs.Header.{id_for};
+ghost use Rattle.sm_push.specs.Held.{held_bytes};
 ghost use Rattle.sm_push.specs.Standing.{Stands, Answers, Ends};
 
 use crate::fault::{PushFault, StepFault};
@@ -89,6 +90,8 @@ impl Push {
         ensures answers { (headerless : Bool) (b : List ℕ) → Stands headerless self.old b → Answers headerless b piece.now self.new result }
         ensures failed { IsErrOf result PushFault.Failed ↔ IsTrue self.old.failed }
         ensures fails { OnErr result (IsTrue self.new.failed) }
+        // An mdat of 16 MiB and its head, a moof of 2 MiB, and one box of a header that is not complete, of 1 MiB.
+        ensures holds { OnOk result (held_bytes self.new.kept < 19922960) }
     {
         if self.failed {
             return Err(PushFault::Failed);

@@ -1,5 +1,5 @@
 //! What whole boxes give, and leave for later ones.
-ghost use Rattle.std.specs.Prelude.{◌≡◌, length, drop, OnOk, IfOk, Some};
+ghost use Rattle.std.specs.Prelude.{◌≡◌, ◌≤◌, length, drop, OnOk, IfOk, Some};
 ghost use Rattle.sm_model.specs.Boxes.{IsOneBox, box_of};
 ghost use Rattle.sm_model.specs.Frag.{moof_run};
 ghost use Rattle.sm_model.specs.Moov.{no_defaults};
@@ -8,6 +8,7 @@ ghost use Rattle.sm_model.specs.Items.{given_of};
 ghost use Rattle.sm_model.specs.Items as items;
 ghost use Rattle.sm_model.specs.PushBoxes.{taken, passed, past, text_of, named, moof_taken, pending, track_in, mdat_taken, moov_taken, manifest_taken, header_taken};
 ghost use Rattle.sm_push.specs.Steps.{Takes, HoldsBoxes, AreBoxes};
+ghost use Rattle.sm_push.specs.Held.{most_of};
 
 use crate::fault::{StepFault, refuse};
 use crate::header::{HeaderFault, read_header};
@@ -53,6 +54,7 @@ fn take_moof(
     whole: Bytes,
 ) -> Result<Option<NewItem>, StepFault>
     requires whole { IsOneBox whole }
+    requires short { length whole ≤ most_of TopBox.Moof }
     requires boxes { HoldsBoxes state.old }
     ensures takes { Takes state.new result (moof_taken (moof_run no_defaults whole) state.old whole) }
     ensures boxes { OnOk result (HoldsBoxes state.new) }
@@ -165,6 +167,7 @@ fn take_moov(
     whole: Bytes,
 ) -> Result<Option<NewItem>, StepFault>
     requires whole { IsOneBox whole }
+    requires short { length whole ≤ most_of TopBox.Moov }
     requires boxes { HoldsBoxes state.old }
     ensures takes { Takes state.new result (moov_taken state.old.stage state.old whole) }
     ensures boxes { OnOk result (HoldsBoxes state.new) }
@@ -196,6 +199,7 @@ fn take_manifest(
     whole: Bytes,
 ) -> Result<Option<NewItem>, StepFault>
     requires whole { IsOneBox whole }
+    requires short { length whole ≤ most_of TopBox.Moov }
     requires boxes { HoldsBoxes state.old }
     ensures takes { Takes state.new result (manifest_taken state.old.stage state.old whole) }
     ensures boxes { OnOk result (HoldsBoxes state.new) }
@@ -230,6 +234,7 @@ pub(crate) fn take(
     whole: Bytes,
 ) -> Result<Option<NewItem>, StepFault>
     requires whole { IsOneBox whole }
+    requires short { length whole ≤ most_of sort }
     requires boxes { HoldsBoxes state.old }
     ensures takes { Takes state.new result (taken state.old sort whole) }
     ensures boxes { OnOk result (HoldsBoxes state.new) }

@@ -1,5 +1,5 @@
 //! Looking for one fragment in the body of a push, as its pieces come.
-ghost use Rattle.std.specs.Prelude.{◌≡◌, ◌≤◌, ◌<◌, ◌+◌, ◌++◌, ◌^◌, ℕ, List, length, slice_index_or, OnOk, IfOk, Some};
+ghost use Rattle.std.specs.Prelude.{◌≡◌, ◌≤◌, ◌<◌, ◌+◌, ◌++◌, ◌^◌, ℕ, true, List, [], length, slice_index_or, OnOk, IfOk, Some};
 ghost use Rattle.std.specs.Option.{option_or};
 ghost use Rattle.sm_model.specs.Items.{Given, first_from};
 ghost use Rattle.sm_model.specs.Body.{body_end};
@@ -72,7 +72,7 @@ fn refusal_line(alloc: Global, refusal: &Refusal) -> Result<Bytes, NoMemory>
 impl Search {
     /// A search for the first fragment with that track_ID and time, in ticks of its track's timescale. No bytes came yet.
     pub fn new(alloc: Global, track: u32, time: u64) -> Search
-        ensures looks { Looks result Rattle.std.specs.Prelude.[] }
+        ensures looks { Looks result [] }
         ensures track { result.track ≡ track }
         ensures time { result.time ≡ time }
     {
@@ -124,8 +124,8 @@ impl Search {
 
     // Why the bytes are no whole push, if they are none.
     fn refusal_at_end(&mut self) -> Result<Option<Refusal>, NoMemory>
-        ensures refusal { (b : List ℕ) → Looks self.old b → IfOk result (λ r. r ≡ body_end Rattle.std.specs.Prelude.true b) }
-        ensures asked { (self.new.track ≡ self.old.track) × (self.new.time ≡ self.old.time) × (self.new.found ≡ self.old.found) }
+        ensures refusal { (b : List ℕ) → Looks self.old b → IfOk result (λ r. r ≡ body_end true b) }
+        ensures asked { (self.new.track ≡ self.old.track) × (self.new.time ≡ self.old.time) × (self.new.found ≡ self.old.found) × (self.new.count ≡ self.old.count) }
     {
         if self.refusal.is_some() {
             return Ok(self.refusal);

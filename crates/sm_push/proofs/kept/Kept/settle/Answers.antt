@@ -1,9 +1,11 @@
-use Rattle.std.proofs.Common.{◌≡◌, ◌≤◌, subst, sym, refl, arith, length}
+use Rattle.std.proofs.Common.{◌≡◌, ◌≤◌, ℕ, List, subst, sym, refl, arith, length}
 use Rattle.sm_model.specs.declared.push.BoxDecision.TheVariants.{Take, Pass, Refuse}
 use Rattle.sm_model.specs.Boxes.{IsOneBox}
 use Rattle.sm_model.specs.PushHeads.{decision}
 use Rattle.sm_model.specs.PushBoxes.{taken}
 use Rattle.sm_push.specs.Steps.{Takes, HoldsBoxes}
+use Rattle.sm_push.specs.Held.{most_of}
+use Rattle.sm_push.proofs.Limits.{take_limited}
 use Rattle.sm_push.proofs.Stable.{taken_whole}
 use Rattle.sm_push.proofs.Steps.{passed_settles, refused_settles, box_settles, box_partial, empty_partial}
 use Rattle.sm_push.proofs.kept.Kept.settle.Goals as goal
@@ -14,6 +16,13 @@ take-requires-clause-whole c =
     let fits : length c.args.self.now.held ≤ c.in-Take.size = rw e at c.requires.fits in
     let whole : length c.args.self.now.held ≡ c.in-Take.size = omega arith in
     subst IsOneBox (sym c.take-whole.ensures.taken) (taken_whole c.args.self.now.state c.args.self.now.held c.in-Take.sort c.in-Take.size e whole)
+
+pub take-requires-clause-short : goal.take-requires-clause-short
+take-requires-clause-short c =
+    let e : decision c.args.self.now.state c.args.self.now.held ≡ Take c.in-Take.sort c.in-Take.size = cc in
+    let fits : length c.args.self.now.held ≤ c.in-Take.size = rw e at c.requires.fits in
+    let short : length c.args.self.now.held ≤ most_of c.in-Take.sort = omega (arith, fits, take_limited c.args.self.now.state c.args.self.now.held c.in-Take.sort c.in-Take.size e) in
+    subst (λ (b : List ℕ). length b ≤ most_of c.in-Take.sort) (sym c.take-whole.ensures.taken) short
 
 pub returns-in-Refuse-clause-settles : goal.returns-in-Refuse-clause-settles
 returns-in-Refuse-clause-settles c =

@@ -1,5 +1,6 @@
 use Rattle.std.proofs.Common.{refl, sym, subst}
 use Rattle.sm_push.specs.Standing.{Standing, Stands}
+use Rattle.sm_push.proofs.Limits.{held_is_little}
 use Rattle.sm_push.proofs.Steps.{fed, fed_refused}
 use Rattle.sm_push.proofs.session.Push.feed.Goals as goal
 
@@ -12,3 +13,6 @@ pub returns-in-Err-Refused-clause-answers : goal.returns-in-Err-Refused-clause-a
 returns-in-Err-Refused-clause-answers c headerless b stands =
     let old : Stands headerless (record { kept = c.self.inside.kept; count = c.self.inside.count; failed = c.self.inside.failed }) b = subst (λ (p : Standing). Stands headerless p b) (sym c.self.view_is) stands in
     fed_refused headerless (record { kept = c.self.inside.kept; count = c.self.inside.count; failed = c.self.inside.failed }) (record { kept = c.take_piece.new.self; count = c.self.inside.count; failed = c.self.inside.failed }) b c.args.piece.now c.take_piece.new.items c.in-Err-Refused.refusal old (rw c.in-Err-Refused.field-0-is at c.in-Err-Refused.ensures.gives)
+
+pub returns-in-Ok-clause-holds : goal.returns-in-Ok-clause-holds
+returns-in-Ok-clause-holds c = held_is_little c.take_piece.new.self c.in-Ok.ensures.partial
