@@ -37,6 +37,11 @@ pub record IsUnread (words : List (List ℕ)) (old new : End) : Type 0 where
   pub rose : Rose old.faults new.faults
   pub taken : TakesAtMost old.told new.told limit
 
+-- memory ran out
+pub record IsStarved (words : List (List ℕ)) (old new : End) : Type 0 where
+  pub asked_is : (track : ℕ) × (time : ℕ) × (asked words ≡ Some (track, time))
+  pub taken : TakesAtMost old.told new.told limit
+
 -- the answer that words and input have
 abbrev pub Means : List (List ℕ) → End → End → Answer → Type 0
 Means words old new (Found text) = IsRead words old new (Found text)
@@ -45,7 +50,7 @@ Means words old new NotKept = IsRead words old new NotKept
 Means words old new Words = IsUnasked words old new
 Means words old new TooLong = IsTooLong words old new
 Means words old new Unread = IsUnread words old new
-Means words old new Starved = TakesAtMost old.told new.told limit
+Means words old new Starved = IsStarved words old new
 
 -- the whole line went out, or a front of it where the sink failed
 abbrev pub Prints : Answer → End → End → ℕ → Type 0

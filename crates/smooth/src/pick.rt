@@ -1,7 +1,6 @@
 //! Picking a fragment out of an input.
-ghost use Rattle.std.specs.Prelude.{◌≡◌, ◌≤◌, ◌<◌, ◌+◌, ◌*◌, length, take, vec_len, IfOk, IfSome, OnOk, IsErrOf, min};
-ghost use Rattle.std.specs.Io.{ReadsAtMost};
-ghost use Rattle.std.specs.Io.KnownBytes.{ReadConsumes, Consumes, IsAtEnd};
+ghost use Rattle.std.specs.Prelude.{◌≡◌, ◌≤◌, ◌<◌, ◌+◌, length, vec_len, IfOk, IfSome, IsErrOf};
+ghost use Rattle.std.specs.Io.KnownBytes.{ReadConsumes};
 ghost use Rattle.sm_ends.specs.Faults.{HasCause, Rose};
 ghost use Rattle.sm_ends.specs.Moves.{TakesCount, TakesAtMost};
 ghost use Rattle.sm_ends.specs.declared.input.InputFault.TheVariants.{Failed as ReadFailed, NoMemory as NoRoom, TooLong};
@@ -46,9 +45,9 @@ fn read_piece<I: Source>(input: &mut I, room: &mut Vec<u8>, most: u64) -> Result
 
 /// Reads the input to its end, and picks the first fragment with that track_ID and time, in ticks of its track's timescale.
 ///
-/// It holds one piece of the input, what the push holds, and the fragment that was found. Whatever it answers, the input has
-/// lost exactly the bytes that were read: all of them for an answer, 268,435,457 where that is too long, and at most
-/// 268,435,456 where reading failed or memory ran out.
+/// It holds one piece of the input, all items that the piece completes, what the push holds, and the fragment that was found.
+/// Whatever it answers, the input has lost exactly the bytes that were read: all of them for an answer, 268,435,457 where that
+/// is too long, and at most 268,435,456 where reading failed or memory ran out.
 pub fn pick<I: Source>(
     alloc: Global,
     input: &mut I,
@@ -57,7 +56,6 @@ pub fn pick<I: Source>(
 ) -> Result<Answer, InputFault>
     ensures answer { IfOk result (λ answer. IsAnswered track time (I.left input.old) (I.left input.new) answer) }
 
-    // These are the faults.
     ensures long { IsErrOf result TooLong → IfSome (I.left input.old) (λ bytes. limit < length bytes) }
     ensures passed { IsErrOf result TooLong → TakesCount (I.left input.old) (I.left input.new) (limit + 1) }
     ensures failed { IsErrOf result ReadFailed → TakesAtMost (I.left input.old) (I.left input.new) limit }
