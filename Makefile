@@ -7,16 +7,17 @@ BENCH := crates/fragment_bench/out/fragment_bench
 
 # Picks the first audio fragment out of a sample push.
 run: build
-	./$(PROGRAM) pick 3 0 < examples/push.isml > /tmp/smooth-picked.frag
-	@wc -c /tmp/smooth-picked.frag
+	./$(PROGRAM) pick 3 0 < examples/push.isml > crates/smooth/out/picked.frag
+	@wc -c crates/smooth/out/picked.frag
 
 # The merge gate.
 test:
 	bash .ci/run
 
-# Proves and builds the program. `rt run` runs it as well: without words it refuses them, with status 2.
+# Proves and builds the program. `rt run` runs it as well, without words, which it refuses.
 build:
-	cd crates/smooth && { rt run < /dev/null > /dev/null; test $$? -eq 2; }
+	rm -f $(PROGRAM)
+	cd crates/smooth && { rt run < /dev/null > /dev/null; test -x out/smooth; }
 
 # Holds the program against a plain reference in Python, on the samples and on many inputs made of them.
 check: build

@@ -80,7 +80,7 @@ def main():
             print(difference)
     compared, differing, left = (sum(part) for part in zip(*((c, len(d), n) for d, c, n in parts)))
     print(f"{compared} compared, {differing} differ" + (f", {left} left when {SECONDS:.0f} s were over" if left else ""))
-    sys.exit(1 if differing else 0)
+    sys.exit(1 if differing or not compared else 0)
 
 
 if __name__ == "__main__":
