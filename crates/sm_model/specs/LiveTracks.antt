@@ -89,10 +89,14 @@ bitrate_of t = number_in (bitrate_text t.bitrate t.params)
 abbrev pub id_of : RawTrack → Option ℕ
 id_of t = number_in (value_of TrackId t.params)
 
+-- a timescale, where the text is one
+abbrev pub ticks_of : List ℕ → Option ℕ
+ticks_of b = if is_timescale b then number_of b else None
+
 -- in ticks a second; 10,000,000 where a ladder doesn't say it
 abbrev pub timescale_in : Option (List ℕ) → Option ℕ
 timescale_in None = Some 10000000
-timescale_in (Some text) = number_of text
+timescale_in (Some text) = ticks_of text
 
 abbrev pub timescale_of : RawTrack → Option ℕ
 timescale_of t = timescale_in (value_of TimeScale t.params)

@@ -155,7 +155,8 @@ timescale_known form t clean = said (value_of TimeScale t.params) (λ v e. clean
     said None fit = (10000000, omega arith, refl)
     said (Some v) fit =
         let parts = and_parts (is_number v) (ltb 0 (decimal_from 0 v)) (fit v refl) in
-        (decimal_from 0 v, ltb-true 0 (decimal_from 0 v) parts.1, number_known v parts.0)
+        let good : is_timescale v ≡ true = fit v refl in
+        (decimal_from 0 v, ltb-true 0 (decimal_from 0 v) parts.1, rw good (number_known v parts.0))
 
 -- what two clean tracks that stand apart differ and agree in
 kinds_equal : (a b : Kind) → not (is_kind a b) ≡ false → a ≡ b

@@ -36,7 +36,7 @@ use Rattle.sm_model.specs.TagText.{left_at}
 use Rattle.sm_tag.proofs.WrittenTags.{append_nil, Starts-again}
 use Rattle.sm_tag.proofs.WrittenNext.{next_finish}
 use Rattle.sm_smil.proofs.WrittenLines.{Leads, IsGood, Begins, in_switch, start_line, finish_line, on_start, on_finish, feed_read}
-use Rattle.sm_smil.proofs.WrittenValues.{IsWritable, decimal_number, decimal_again, option_again}
+use Rattle.sm_smil.proofs.WrittenValues.{IsWritable, decimal_number, decimal_again, timescale_fits, option_again}
 use Rattle.sm_smil.proofs.WrittenTracks.{Stage, walk_out, track_read, track_begins}
 
 -- what was read of a track is the track, without a fault
@@ -56,7 +56,7 @@ read_bitrate : (id : ℕ) (t : Track) (raw : RawTrack) → IsWritable id t → S
 read_bitrate id t raw fits s = rw s.bitrate (decimal_again t.bitrate fits.narrow.bitrate)
 
 read_timescale : (id : ℕ) (t : Track) (raw : RawTrack) → IsWritable id t → Stage id t 13 raw → timescale_of raw ≡ Some t.timescale
-read_timescale id t raw fits s = rw (s.said TimeScale) (decimal_again t.timescale fits.narrow.timescale)
+read_timescale id t raw fits s = rw (s.said TimeScale, timescale_fits t.timescale fits.narrow.timescale fits.track.ticks) (decimal_again t.timescale fits.narrow.timescale)
 
 read_private : (id : ℕ) (t : Track) (raw : RawTrack) → IsWritable id t → Stage id t 13 raw → bytes_in (value_of CodecPrivateData raw.params) ≡ t.private
 read_private id t raw fits s =
