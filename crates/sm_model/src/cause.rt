@@ -1,6 +1,6 @@
 //! Why what was received is refused.
 ghost use Rattle.std.specs.Prelude.{◌≡◌, IfOk};
-ghost use Rattle.sm_model.specs.Causes.{number_of, status_of, name_of, cause_line};
+ghost use Rattle.sm_model.specs.Causes.{cause_number, cause_status, cause_name, cause_line};
 
 use crate::{Bytes, NoMemory};
 use std::alloc::Global;
@@ -82,7 +82,7 @@ pub enum Cause {
 impl Cause {
     /// The number by which it is told.
     pub fn number(&self) -> u16
-        ensures { result ≡ number_of self.now }
+        ensures { result ≡ cause_number self.now }
     {
         match self {
             Cause::BadBox => 1,
@@ -110,7 +110,7 @@ impl Cause {
 
     /// The HTTP status of the reply that tells it.
     pub fn status(&self) -> u16
-        ensures { result ≡ status_of self.now }
+        ensures { result ≡ cause_status self.now }
     {
         match self {
             Cause::Protected => 415,
@@ -121,7 +121,7 @@ impl Cause {
 
     /// The name by which it is told.
     pub fn name(&self) -> &'static str
-        ensures { result.now ≡ name_of self.now }
+        ensures { result.now ≡ cause_name self.now }
     {
         match self {
             Cause::BadBox => "BadBox",
