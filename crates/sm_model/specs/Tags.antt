@@ -63,14 +63,14 @@ gives s lead.Stray m left rest = fails s (s.end - left)
 gives s lead.Run m left rest = (Text (s.end - left), record s { rest = rest })
 gives s lead.Tag m left rest = marks s m (s.end - left) rest
 
-abbrev pub goes_on : Left → Tag × Left → Option ℕ → Type 0
-goes_on s step (Some at) = step ≡ (Bad at, s)
-goes_on s step None =
+abbrev pub continues : Left → Tag × Left → Option ℕ → Type 0
+continues s step (Some at) = step ≡ (Bad at, s)
+continues s step None =
     (f : Lead × Markup × ℕ × List ℕ) × Founds (not (length s.open_names == 0)) s.rest f × (step ≡ gives s f.0 f.1 f.2 f.3)
 
 -- the next tag of what is left, and what is left behind it; behind a fault it is the fault again
 abbrev pub Next : Left → Tag → Left → Type 0
-Next s tag t = goes_on s (tag, t) s.bad
+Next s tag t = continues s (tag, t) s.bad
 
 abbrev pub is_last : Tag → Bool
 is_last End = true

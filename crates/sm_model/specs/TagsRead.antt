@@ -81,10 +81,10 @@ abbrev pub run_by : Bool → Tag → List Tag → List Tag
 run_by true tag tags = tag ∷ []
 run_by false tag tags = tag ∷ tags
 
-unfoldable pub run_in : ℕ → Left → List Tag
-run_in zero s = []
-run_in (suc n) s = run_by (is_last (next_in (suc n) s).0) (next_in (suc n) s).0 (run_in n (next_in (suc n) s).1)
+unfoldable pub tags_in : ℕ → Left → List Tag
+tags_in zero s = []
+tags_in (suc n) s = run_by (is_last (next_in (suc n) s).0) (next_in (suc n) s).0 (tags_in n (next_in (suc n) s).1)
 
 -- the tags of a whole text
 unfoldable pub tags_of : List ℕ → List Tag
-tags_of text = run_in (length text + 2) (begin text)
+tags_of text = tags_in (length text + 2) (begin text)

@@ -23,12 +23,12 @@ use Rattle.sm_model.specs.declared.track.Kind.TheVariants as kind
 use Rattle.sm_model.specs.declared.track.Track.{Track}
 use Rattle.sm_model.specs.Channels.{IsTrack, Agree, IsChannel, IsNarrowTrack}
 use Rattle.sm_model.specs.TagParts.{name_at}
-use Rattle.sm_model.specs.TagMarkup.{Markups, lead_at, finish_at, instruction_at, past}
+use Rattle.sm_model.specs.TagMarkup.{Markups, lead_at, finish_at, instruction_at, past_word}
 use Rattle.sm_model.specs.Tags.{Left, Founds, bare, marked, skipped, Next, ends, begin, without_zeros, without_mark}
-use Rattle.sm_model.specs.LiveTracks.{is_same, value_of, number_in, name_of, bitrate_of, timescale_of, bytes_in, numbers_of, track_of, ladder_track}
-use Rattle.sm_model.specs.LiveWalk.{Walk, start, walk}
-use Rattle.sm_model.specs.LiveFaults.{inner_faults, is_kind, clash, collide, lacks_part, collides_with, end_faults, tracks_faults, text_faults}
-use Rattle.sm_model.specs.LiveManifests.{bad_of, fault_of, judged, IsLadder}
+use Rattle.sm_model.specs.LiveTracks.{is_same, value_of, number_in, stream_name, bitrate_of, timescale_of, bytes_in, numbers_of, track_of, ladder_track}
+use Rattle.sm_model.specs.LiveWalk.{Walk, nothing_met, walk_tags}
+use Rattle.sm_model.specs.LiveFaults.{inner_faults, are_one_kind, clash, collide, lacks_part, collides_with, end_faults, tracks_faults, text_faults}
+use Rattle.sm_model.specs.LiveManifests.{bad_of, fault_of, tracks_or_fault, IsLadder}
 use Rattle.sm_model.specs.LiveText.{track_lines, tracks_lines, head_lines, foot_lines, live_text}
 use Rattle.sm_smil.proofs.Fit.{neither}
 use Rattle.sm_smil.proofs.OneReading.{one_ladder}
@@ -36,27 +36,27 @@ use Rattle.sm_model.specs.TagText.{left_at}
 use Rattle.sm_tag.proofs.WrittenTags.{append_nil, Starts-again}
 use Rattle.sm_tag.proofs.WrittenNext.{next_finish}
 use Rattle.sm_smil.proofs.WrittenLines.{Leads, IsGood, Begins, in_switch, start_line, finish_line, on_start, on_finish, feed_read}
-use Rattle.sm_smil.proofs.WrittenValues.{IsWritable, decimal_number, decimal_again, option_again}
+use Rattle.sm_smil.proofs.WrittenValues.{IsWritable, decimal_number, decimal_again, timescale_fits, option_again}
 use Rattle.sm_smil.proofs.WrittenTracks.{Stage, walk_out, track_read, track_begins}
 
 -- what was read of a track is the track, without a fault
 pub record IsRead (t : Track) (raw : RawTrack) : Type 0 where
   pub track : ladder_track raw ≡ t
-  pub name : name_of raw ≡ t.name
+  pub name : stream_name raw ≡ t.name
   pub kind : raw.kind ≡ t.kind
   pub bitrate : bitrate_of raw ≡ Some t.bitrate
   pub timescale : timescale_of raw ≡ Some t.timescale
   pub clean : inner_faults raw ≡ []
   pub whole : lacks_part Ladder raw ≡ false
 
-read_name : (id : ℕ) (t : Track) (raw : RawTrack) → Stage id t 13 raw → name_of raw ≡ t.name
+read_name : (id : ℕ) (t : Track) (raw : RawTrack) → Stage id t 13 raw → stream_name raw ≡ t.name
 read_name id t raw s = rw (s.said TrackName) refl
 
 read_bitrate : (id : ℕ) (t : Track) (raw : RawTrack) → IsWritable id t → Stage id t 13 raw → bitrate_of raw ≡ Some t.bitrate
 read_bitrate id t raw fits s = rw s.bitrate (decimal_again t.bitrate fits.narrow.bitrate)
 
 read_timescale : (id : ℕ) (t : Track) (raw : RawTrack) → IsWritable id t → Stage id t 13 raw → timescale_of raw ≡ Some t.timescale
-read_timescale id t raw fits s = rw (s.said TimeScale) (decimal_again t.timescale fits.narrow.timescale)
+read_timescale id t raw fits s = rw (s.said TimeScale, timescale_fits t.timescale fits.narrow.timescale fits.track.ticks) (decimal_again t.timescale fits.narrow.timescale)
 
 read_private : (id : ℕ) (t : Track) (raw : RawTrack) → IsWritable id t → Stage id t 13 raw → bytes_in (value_of CodecPrivateData raw.params) ≡ t.private
 read_private id t raw fits s =
@@ -99,12 +99,12 @@ is_read id t raw fits s = record {
   whole = rw s.bitrate refl;
 }
 
-kind_refl : (k : Kind) → is_kind k k ≡ true
+kind_refl : (k : Kind) → are_one_kind k k ≡ true
 kind_refl kind.Video = refl
 kind_refl kind.Audio = refl
 kind_refl kind.Text = refl
 
-kinds_same : (a b : Kind) → a ≡ b → is_kind a b ≡ true
+kinds_same : (a b : Kind) → a ≡ b → are_one_kind a b ≡ true
 kinds_same a b e = rw e (kind_refl b)
 
 -- tracks that agree don't collide
@@ -113,12 +113,12 @@ unfolding collide clash
 apart a b x y is it agree =
     rw (is.name, it.name, is.bitrate, it.bitrate, is.kind, it.kind, is.timescale, it.timescale) (tested (is_same a.name b.name) refl)
   where
-    tested : (same : Bool) → is_same a.name b.name ≡ same → ((same && (eqb a.bitrate b.bitrate || (not (is_kind a.kind b.kind) || not (eqb a.timescale b.timescale)))) || false) ≡ false
+    tested : (same : Bool) → is_same a.name b.name ≡ same → ((same && (eqb a.bitrate b.bitrate || (not (are_one_kind a.kind b.kind) || not (eqb a.timescale b.timescale)))) || false) ≡ false
     tested false e = refl
     tested true e =
         let named = (bytes_eq-Decides a.name b.name).0 e in
         let r : eqb a.bitrate b.bitrate ≡ false = ne_eqb a.bitrate b.bitrate (agree.apart named) in
-        let k : is_kind a.kind b.kind ≡ true = kinds_same a.kind b.kind (agree.kind named) in
+        let k : are_one_kind a.kind b.kind ≡ true = kinds_same a.kind b.kind (agree.kind named) in
         let t : eqb a.timescale b.timescale ≡ true = eq-eqb a.timescale b.timescale (agree.timescale named) in
         rw (r, k, t) refl
 
@@ -261,7 +261,7 @@ abbrev behind_second : List ℕ → List ℕ
 behind_second x = codes "<head/>\n<body>\n<switch>\n" ++ x
 
 first_line : (x : List ℕ) → instruction_at (codes "xml version=\"1.0\" encoding=\"utf-8\"?>\n" ++ behind_first x) ≡ Ok (markup.Skipped, 10 ∷ behind_first x)
-unfolding instruction_at past
+unfolding instruction_at past_word
 first_line x = refl
 
 lead_first : (cs : List ℕ) → lead_at false (60 ∷ cs) ≡ (lead.Tag, length (60 ∷ cs), cs)
@@ -285,13 +285,13 @@ head_next size end x =
     let second : Founds false (10 ∷ behind_first x) f = marked (lead_second (codes "smil xmlns=\"http://www.w3.org/2001/SMIL20/Language\">\n" ++ behind_second x)) (second_line x) (λ e. cc e) in
     (f, skipped (lead_first _) (sym (first_line x)) second, refl)
 
-head_read : (size : ℕ) (channel : List Track) (end : ℕ) (x : List ℕ) → Begins x → Leads size channel (left_at size end x in_switch) (walk_out []) → Leads size channel (first_left size end (head_lines ++ x)) start
+head_read : (size : ℕ) (channel : List Track) (end : ℕ) (x : List ℕ) → Begins x → Leads size channel (left_at size end x in_switch) (walk_out []) → Leads size channel (first_left size end (head_lines ++ x)) nothing_met
 head_read size channel end x begins go =
     let in_smil = codes "smil" ∷ [] in
     let in_body = codes "smil" ∷ codes "body" ∷ [] in
     let w1 : Walk = record { path = in_smil; other = None; done = []; current = None; over = None } in
     let w2 : Walk = record { path = in_body; other = None; done = []; current = None; over = None } in
-    on_start size channel _ _ (codes "smil") smil_attributes false (end - length (behind_first x)) start (head_next size end x)
+    on_start size channel _ _ (codes "smil") smil_attributes false (end - length (behind_first x)) nothing_met (head_next size end x)
     (feed_read size channel end (behind_second x) in_smil w1 (_, refl) (refl, refl)
     (start_line size channel end (codes "<body>\n<switch>\n" ++ x) in_smil (codes "head") [] true w1 (_, refl) (refl, refl) (refl, refl) (Starts-again (codes "head") [] true (10 ∷ (codes "<body>\n<switch>\n" ++ x)) (refl, refl) tt) (λ a.
     start_line size channel end (codes "<switch>\n" ++ x) in_smil (codes "body") [] false w1 (_, refl) (refl, refl) (refl, refl) (Starts-again (codes "body") [] false (10 ∷ (codes "<switch>\n" ++ x)) (refl, refl) tt) (λ b.
@@ -325,19 +325,19 @@ with_none [] = tt
 with_none (u ∷ us) = (tt, with_none us)
 
 -- the text leads to its channel
-leads_channel : (channel : List Track) → IsChannel channel → All IsNarrowTrack channel → Leads (length (live_text channel)) channel (begin (live_text channel)) start
+leads_channel : (channel : List Track) → IsChannel channel → All IsNarrowTrack channel → Leads (length (live_text channel)) channel (begin (live_text channel)) nothing_met
 unfolding live_text
 leads_channel channel is narrow =
     let x = tracks_lines 1 channel ++ foot_lines in
     let text = head_lines ++ x in
     let clean : without_zeros text ≡ text = no_zeros text (head_lines ++ (tracks_lines 1 channel ++ codes "</switch>\n</body>\n</smil>")) (ends_feed head_lines (tracks_lines 1 channel) (codes "</switch>\n</body>\n</smil>")) in
     let few = is.few in
-    let P : Left → Type 0 = λ s. Leads (length text) channel s start in
+    let P : Left → Type 0 = λ s. Leads (length text) channel s nothing_met in
     subst P (sym (begins_first text _ clean refl))
     (head_read (length text) channel (length text) x (tracks_begin 1 channel)
     (tracks_read (length text) channel (length text) [] [] channel 1 refl is.some is.few tt refl (writable 1 channel (omega arith) (recursion_from_All IsTrack channel is.each) (recursion_from_All IsNarrowTrack channel narrow)) (with_none channel) (agree_pairs channel is.agree)))
 
-judged_good : (channel : List Track) (size : ℕ) (tags : List Tag) → bad_of tags ≡ None → IsGood size channel (walk Ladder start tags) → judged ladder_track (fault_of Ladder size tags) (walk Ladder start tags).done ≡ Ok channel
+judged_good : (channel : List Track) (size : ℕ) (tags : List Tag) → bad_of tags ≡ None → IsGood size channel (walk_tags Ladder nothing_met tags) → tracks_or_fault ladder_track (fault_of Ladder size tags) (walk_tags Ladder nothing_met tags).done ≡ Ok channel
 judged_good channel size tags bad good = rw (bad, good.0) (ap Ok good.1)
 
 pub live_text_gives : (channel : List Track) → IsChannel channel → All IsNarrowTrack channel → (r : Result (List Track) ℕ) → IsLadder (live_text channel) r → r ≡ Ok channel

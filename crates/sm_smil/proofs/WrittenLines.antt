@@ -14,7 +14,7 @@ use Rattle.sm_model.specs.TagParts.{name_at}
 use Rattle.sm_model.specs.TagMarkup.{Markups, finish_at}
 use Rattle.sm_model.specs.Tags.{Left, Next, Runs, follows, closes}
 use Rattle.sm_model.specs.LiveTracks.{ladder_track}
-use Rattle.sm_model.specs.LiveWalk.{Walk, step, walk}
+use Rattle.sm_model.specs.LiveWalk.{Walk, step, walk_tags}
 use Rattle.sm_model.specs.LiveFaults.{faults_of, least_from}
 use Rattle.sm_model.specs.LiveManifests.{bad_of}
 use Rattle.sm_model.specs.LiveText.{param_line, opening_line, closing_line, element_name}
@@ -28,7 +28,7 @@ IsGood size channel w = (least_from None (faults_of Ladder size None w) ≡ None
 
 -- from what is left and what was walked over, the text gives this channel
 abbrev pub Leads : ℕ → List Track → Left → Walk → Type 0
-Leads size channel s w = (tags : List Tag) × Runs s tags × (bad_of tags ≡ None) × IsGood size channel (walk Ladder w tags)
+Leads size channel s w = (tags : List Tag) × Runs s tags × (bad_of tags ≡ None) × IsGood size channel (walk_tags Ladder w tags)
 
 pub on_start : (size : ℕ) (channel : List Track) (s t : Left) (name : List ℕ) (attributes : List Attribute) (empty : Bool) (at : ℕ) (w : Walk) → Next s (Start name attributes empty at) t → Leads size channel t (step Ladder w (Start name attributes empty at)) → Leads size channel s w
 on_start size channel s t name attributes empty at w next (tags, runs, bad, good) =
