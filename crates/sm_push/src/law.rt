@@ -8,6 +8,7 @@ ghost use Rattle.sm_push.specs.Boxes.{Splits, boxes_give};
 ghost use Rattle.sm_push.specs.Validity.{IsValidItem};
 
 use sm_box::law::{whole_is_read, whole_stays};
+use sm_model::law::read_is_sound;
 use sm_moov::law::timescales_are_positive;
 use sm_smil::{live_manifest_has_one_answer, live_manifests_are_valid};
 
@@ -47,4 +48,5 @@ pub fn items_are_valid()
     live_manifest_has_one_answer();
     live_manifests_are_valid();
     timescales_are_positive();
+    read_is_sound();
 }
