@@ -10,7 +10,8 @@ use Rattle.sm_model.specs.declared.track.Params.{Params}
 use Rattle.sm_model.specs.declared.track.Track.{Track}
 use Rattle.sm_model.specs.declared.smil.SmilTrack.{SmilTrack}
 use Rattle.sm_model.specs.declared.raw_track.ParamName.{ParamName}
-use Rattle.sm_model.specs.declared.raw_track.ParamName.TheVariants.{SystemBitrate, TrackId, TrackName, TimeScale, FourCc, CodecPrivateData, MaxWidth, MaxHeight, AudioTag, Channels, SamplingRate, BitsPerSample, PacketSize}
+use Rattle.sm_model.specs.declared.raw_track.ParamName.TheVariants.{SystemBitrate, TrackId, TrackName, TimeScale, FourCc, CodecPrivateData, MaxWidth, MaxHeight}
+use Rattle.sm_model.specs.declared.raw_track.ParamName.TheVariants.{AudioTag, Channels, SamplingRate, BitsPerSample, PacketSize}
 use Rattle.sm_model.specs.declared.raw_track.SmilParam.{SmilParam}
 use Rattle.sm_model.specs.declared.raw_track.RawTrack.{RawTrack}
 use Rattle.sm_model.specs.Digits.{is_number, number_of, decimal_from}

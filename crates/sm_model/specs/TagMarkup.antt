@@ -40,7 +40,8 @@ starting name r = r >>= λ x. Ok (Start name x.0 x.1, x.2)
 -- a start tag, behind `<`
 pub data Starts : List ℕ → Result (Markup × List ℕ) Stop → Type 0 where
   unnamed : {bytes : List ℕ} {e : Stop} → name_at bytes ≡ Err e → Starts bytes (Err e)
-  named : {bytes name rest : List ℕ} {r : Result (List Attribute × Bool × List ℕ) Stop} → name_at bytes ≡ Ok (name, rest) → Tails [] rest r → Starts bytes (starting name r)
+  named : {bytes name rest : List ℕ} {r : Result (List Attribute × Bool × List ℕ) Stop} → name_at bytes ≡ Ok (name, rest) → Tails [] rest r
+      → Starts bytes (starting name r)
 
 -- behind `<`: `?`, `!`, `/`, or a start tag
 abbrev pub Markups : List ℕ → Result (Markup × List ℕ) Stop → Type 0

@@ -1,5 +1,6 @@
 -- The parts of a tag, read from left to right: a part and the bytes behind it, or why none stands there.
-use Rattle.std.specs.Prelude.{◌≡◌, ℕ, Bool, true, false, List, [], ◌∷◌, ◌++◌, length, Option, Some, None, Result, Ok, Err, nat_lt, ◌==◌, ◌&&◌, ◌||◌, if◌then◌else◌, encode_utf8, codes, nat_eq, drop}
+use Rattle.std.specs.Prelude.{◌≡◌, ℕ, Bool, true, false, List, [], ◌∷◌, ◌++◌, length, Option, Some, None, Result, Ok, Err, nat_lt, ◌==◌, ◌&&◌, ◌||◌, if◌then◌else◌}
+use Rattle.std.specs.Prelude.{encode_utf8, codes, nat_eq, drop}
 use Rattle.std.specs.List.{starts_with}
 use Rattle.std.specs.Cmp.Lexicographic.{pointwise}
 use Rattle.sm_model.specs.declared.tag.Attribute.{Attribute}
@@ -63,19 +64,28 @@ number_at bytes = byte_at 35 bytes >>= λ rest. number_end (prefix is_digit rest
 -- behind `&`: the character that the reference stands for, and the bytes behind its `;`
 unfoldable pub reference_at : List ℕ → Result (ℕ × List ℕ) Stop
 reference_at bytes =
-    or_else (or_else (or_else (or_else (or_else (entity_at (codes "lt;") 60 bytes) (entity_at (codes "gt;") 62 bytes)) (entity_at (codes "amp;") 38 bytes)) (entity_at (codes "quot;") 34 bytes)) (entity_at (codes "apos;") 39 bytes)) (number_at bytes)
+    or_else
+    (or_else
+    (or_else (or_else (or_else (entity_at (codes "lt;") 60 bytes) (entity_at (codes "gt;") 62 bytes)) (entity_at (codes "amp;") 38 bytes))
+    (entity_at (codes "quot;") 34 bytes))
+    (entity_at (codes "apos;") 39 bytes))
+    (number_at bytes)
 
 -- a piece of a value in the quotes q: whether the value goes on, the bytes that the piece stands for, and what is behind it
 unfoldable pub piece_at : ℕ → List ℕ → Result (Bool × List ℕ × List ℕ) Stop
 piece_at q [] = Err short
 piece_at q (c ∷ cs) =
-    if c == q then Ok (false, [], cs) else if c == 60 then Err wrong else if c == 38 then (reference_at cs >>= λ x. Ok (true, encode_utf8 x.0, x.1)) else Ok (true, c ∷ [], cs)
+    if c == q then Ok (false, [], cs)
+    else if c == 60 then Err wrong
+    else if c == 38 then (reference_at cs >>= λ x. Ok (true, encode_utf8 x.0, x.1))
+    else Ok (true, c ∷ [], cs)
 
 -- behind the quote q and the bytes text of the value: the whole value, and what is behind the quote that ends it
 pub data Values (q : ℕ) : List ℕ → List ℕ → Result (List ℕ × List ℕ) Stop → Type 0 where
   refused : {text bytes : List ℕ} {e : Stop} → piece_at q bytes ≡ Err e → Values q text bytes (Err e)
   closed : {text bytes piece rest : List ℕ} → piece_at q bytes ≡ Ok (false, piece, rest) → Values q text bytes (Ok (text ++ piece, rest))
-  goes_on : {text bytes piece rest : List ℕ} {r : Result (List ℕ × List ℕ) Stop} → piece_at q bytes ≡ Ok (true, piece, rest) → Values q (text ++ piece) rest r → Values q text bytes r
+  goes_on : {text bytes piece rest : List ℕ} {r : Result (List ℕ × List ℕ) Stop} → piece_at q bytes ≡ Ok (true, piece, rest)
+      → Values q (text ++ piece) rest r → Values q text bytes r
 
 -- an attribute of that name stands in the list
 abbrev pub has_name : List ℕ → List Attribute → Bool
@@ -96,13 +106,17 @@ naming name r = r >>= λ x. Ok (record { name = name; value = x.0 }, x.1)
 -- an attribute
 pub data AttributeAt : List ℕ → Result (Attribute × List ℕ) Stop → Type 0 where
   unopened : {bytes : List ℕ} {e : Stop} → opening_at bytes ≡ Err e → AttributeAt bytes (Err e)
-  opened : {bytes name rest : List ℕ} {q : ℕ} {r : Result (List ℕ × List ℕ) Stop} → opening_at bytes ≡ Ok (name, q, rest) → Values q [] rest r → AttributeAt bytes (naming name r)
+  opened : {bytes name rest : List ℕ} {q : ℕ} {r : Result (List ℕ × List ℕ) Stop} → opening_at bytes ≡ Ok (name, q, rest) → Values q [] rest r
+      → AttributeAt bytes (naming name r)
 
 -- behind white space, if there is some: the tag's end, with whether the element is empty, or where an attribute is to stand
 abbrev pub mark_behind : Bool → List ℕ → Result (Option Bool × List ℕ) Stop
 mark_behind spaced [] = Err short
 mark_behind spaced (c ∷ cs) =
-    if c == 62 then Ok (Some false, cs) else if c == 47 then (byte_at 62 cs >>= λ rest. Ok (Some true, rest)) else if spaced then Ok (None, c ∷ cs) else Err wrong
+    if c == 62 then Ok (Some false, cs)
+    else if c == 47 then (byte_at 62 cs >>= λ rest. Ok (Some true, rest))
+    else if spaced then Ok (None, c ∷ cs)
+    else Err wrong
 
 -- the same behind a name or an attribute
 unfoldable pub mark_at : List ℕ → Result (Option Bool × List ℕ) Stop
@@ -114,5 +128,8 @@ pub data Tails : List Attribute → List ℕ → Result (List Attribute × Bool 
   unmarked : {seen : List Attribute} {bytes : List ℕ} {e : Stop} → mark_at bytes ≡ Err e → Tails seen bytes (Err e)
   ended : {seen : List Attribute} {bytes rest : List ℕ} {empty : Bool} → mark_at bytes ≡ Ok (Some empty, rest) → Tails seen bytes (Ok (seen, empty, rest))
   broken : {seen : List Attribute} {bytes rest : List ℕ} {e : Stop} → mark_at bytes ≡ Ok (None, rest) → AttributeAt rest (Err e) → Tails seen bytes (Err e)
-  twice : {seen : List Attribute} {bytes rest more : List ℕ} {a : Attribute} → mark_at bytes ≡ Ok (None, rest) → AttributeAt rest (Ok (a, more)) → has_name a.name seen ≡ true → Tails seen bytes (Err wrong)
-  another : {seen : List Attribute} {bytes rest more : List ℕ} {a : Attribute} {r : Result (List Attribute × Bool × List ℕ) Stop} → mark_at bytes ≡ Ok (None, rest) → AttributeAt rest (Ok (a, more)) → has_name a.name seen ≡ false → Tails (seen ++ a ∷ []) more r → Tails seen bytes r
+  twice : {seen : List Attribute} {bytes rest more : List ℕ} {a : Attribute} → mark_at bytes ≡ Ok (None, rest) → AttributeAt rest (Ok (a, more))
+      → has_name a.name seen ≡ true → Tails seen bytes (Err wrong)
+  another : {seen : List Attribute} {bytes rest more : List ℕ} {a : Attribute} {r : Result (List Attribute × Bool × List ℕ) Stop}
+      → mark_at bytes ≡ Ok (None, rest) → AttributeAt rest (Ok (a, more)) → has_name a.name seen ≡ false → Tails (seen ++ a ∷ []) more r
+      → Tails seen bytes r

@@ -11,3 +11,4 @@ pub mod Splits
 pub mod Limits
 pub mod Valid
 mod MoofLemmas
+pub mod WrittenHeader

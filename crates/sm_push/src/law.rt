@@ -1,16 +1,26 @@
 //! Laws of push bodies. Each is the contract of a function that does nothing.
-ghost use Rattle.std.specs.Prelude.{◌≡◌, ◌≤◌, ◌++◌, Bool, List, [], ℕ, length, map};
+ghost use Rattle.std.specs.Prelude.{◌≡◌, ◌≤◌, ◌++◌, Bool, List, [], ℕ, length, map, All, Ok};
 ghost use Rattle.sm_model.specs.Body.{body, IsFrontOf};
 ghost use Rattle.sm_model.specs.Body;
 ghost use Rattle.sm_model.specs.Boxes.{Box, IsBoxes, box_of};
 ghost use Rattle.std.specs.List.{AllByRecursion};
 ghost use Rattle.sm_push.specs.Boxes.{Splits, boxes_give};
 ghost use Rattle.sm_push.specs.Validity.{IsValidItem};
+ghost use Rattle.sm_push.specs.Written.{written_keys};
+ghost use Rattle.sm_model.specs.declared.track.Track.{Track};
+ghost use Rattle.sm_model.specs.Channels.{IsChannel, IsNarrowTrack};
+ghost use Rattle.sm_model.specs.Header.{header_of};
+ghost use Rattle.sm_model.specs.LiveText.{live_text};
+ghost use Rattle.sm_model.specs.MoovText.{bare_moov};
 
 use sm_box::law::{whole_is_read, whole_stays};
 use sm_model::law::read_is_sound;
 use sm_moov::law::timescales_are_positive;
 use sm_smil::{live_manifest_has_one_answer, live_manifests_are_valid};
+use sm_moov::law::{timescales_are_positive, written_moov_is_read};
+use sm_smil::{
+    live_manifest_has_one_answer, live_manifests_are_valid, live_text_is_read_as_its_channel,
+};
 
 /// What a front of the bytes gives is a front of what they give.
 pub fn front()
@@ -49,4 +59,14 @@ pub fn items_are_valid()
     live_manifests_are_valid();
     timescales_are_positive();
     read_is_sound();
+}
+
+/// A valid channel that was written as a header, its live manifest and its bare `moov`, is read as the channel again, whose
+/// tracks have the track_IDs 1, 2 and so on and no defaults. Each track of a real channel is narrow.
+pub fn written_header_is_read()
+    ensures { (channel : List Track) → IsChannel channel → All IsNarrowTrack channel
+        → header_of (live_text channel) (box_of (bare_moov channel)).body ≡ Ok (record { channel = channel; tracks = written_keys 1 channel }) }
+{
+    live_text_is_read_as_its_channel();
+    written_moov_is_read();
 }

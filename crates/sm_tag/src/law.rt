@@ -6,10 +6,13 @@ ghost use Rattle.sm_model.specs.declared.markup.Markup.TheVariants.{Start, Finis
 ghost use Rattle.sm_model.specs.TagMarkup.{Starts, finish_at};
 ghost use Rattle.sm_model.specs.TagText.{IsTagName, AreWritten, attributes_then, closing};
 ghost use Rattle.sm_model.specs.Tags.{TagsOf};
+ghost use Rattle.sm_model.specs.TagsRead.{tags_of};
 
-/// A text has one list of tags, so that what is said of some list of its tags is said of the one that [`crate::Tags`] reads.
+/// Every text has a list of tags, and no two. So what is said of some list of its tags is said of the one that
+/// [`crate::Tags`] reads.
 pub fn text_has_one_list_of_tags()
-    ensures { (text : List ℕ) (a b : List Tag) → TagsOf text a → TagsOf text b → a ≡ b }
+    ensures some { (text : List ℕ) → TagsOf text (tags_of text) }
+    ensures one { (text : List ℕ) (a b : List Tag) → TagsOf text a → TagsOf text b → a ≡ b }
 {}
 
 /// Tags that are written plainly are read as they are, whatever follows: the first clause is of a start tag behind its `<`, the
