@@ -100,14 +100,14 @@ wait_short s b e = wait_at s b (head_of b) refl (sym (decision_is s b) ∙ e)
 
 -- ---- all that is held
 
-most_le : (sort : TopBox) → most_of sort ≤ 16777232
+most_le : (sort : TopBox) → most_of sort ≤ 67108880
 most_le sorts.Moof = omega arith
 most_le sorts.Mdat = omega arith
 most_le sorts.Moov = omega arith
 most_le sorts.Manifest = omega arith
 most_le sorts.Other = omega arith
 
-begun_at : (s : PushState) (b : List ℕ) (d : BoxDecision) → decision s b ≡ d → IsOpen (length b) d → length b < 16777232
+begun_at : (s : PushState) (b : List ℕ) (d : BoxDecision) → decision s b ≡ d → IsOpen (length b) d → length b < 67108880
 begun_at s b Wait e o = omega (arith, wait_short s b e)
 begun_at s b (Refuse cause) e o = absurd o
 begun_at s b (Pass size) e o = absurd o
