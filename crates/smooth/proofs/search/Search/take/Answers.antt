@@ -15,9 +15,11 @@ loop-done-init c = record {
 }
 
 pub take_part-requires : goal.take_part-requires
-take_part-requires c =
-    (c.requires.0 ++ take c.loop-done.done c.args.piece.now, c.loop-done.invariant.looks c.requires.0 c.requires.1,
-    omega (arith, c.requires.2, c.loop-done.invariant.inside, length-append c.requires.0 (take c.loop-done.done c.args.piece.now), length-take c.loop-done.done c.args.piece.now, ap length (take_rest c.args.piece.now c.loop-done.done), length-drop c.loop-done.done c.args.piece.now, length-take c.min-count.result (take (length c.args.piece.now - c.loop-done.done) (drop c.loop-done.done c.args.piece.now))))
+take_part-requires c = (
+  c.requires.0 ++ take c.loop-done.done c.args.piece.now,
+  c.loop-done.invariant.looks c.requires.0 c.requires.1,
+  omega (arith, c.requires.2, c.loop-done.invariant.inside, length-append c.requires.0 (take c.loop-done.done c.args.piece.now), length-take c.loop-done.done c.args.piece.now, ap length (take_rest c.args.piece.now c.loop-done.done), length-drop c.loop-done.done c.args.piece.now, length-take c.min-count.result (take (length c.args.piece.now - c.loop-done.done) (drop c.loop-done.done c.args.piece.now))),
+)
 
 pub loop-done-preserved : goal.loop-done-preserved
 loop-done-preserved c = record {
