@@ -122,14 +122,15 @@ impl Push {
     }
 
     /// A piece of so many bytes, or fewer, gives one item at the most. It is at least 1, and no less than what is missing of
-    /// the box that was begun, once its head is there. It takes no memory.
+    /// the box that was begun, once its head is there. Of a push that has failed it is the greatest number. It takes no
+    /// memory.
     pub fn due(&self) -> u64
         ensures some { 0 < result }
         ensures few { (headerless : Bool) (b piece : List ℕ) → Stands headerless self.now b → length piece ≤ result
             → length (body headerless (b ++ piece)).items ≤ length (body headerless b).items + 1 }
     {
         if self.failed {
-            return 1;
+            return u64::MAX;
         }
         self.kept.due()
     }

@@ -1,5 +1,5 @@
-//! The standard streams as ends. They tell no bytes, since no contract knows what reaches or leaves the system.
-ghost use Rattle.std.specs.Prelude.{◌<◌, None, length, IfOk};
+//! Readers and writers as ends. They tell the bytes that their reader or writer tells: the standard streams tell none, since
+//! no contract knows what reaches or leaves the system.
 
 use sm_ends::{Failed, Sink, Source};
 use std::io::{Read, Write};
@@ -18,7 +18,7 @@ impl<R: Read> StdSource<R> {
 }
 
 impl<R: Read> Source for StdSource<R> {
-    ghost left = { λ _. None };
+    ghost left = { λ s. R.remaining s.reader };
 
     ghost faults = { λ s. s.faults };
 
@@ -47,7 +47,7 @@ impl<W: Write> StdSink<W> {
 }
 
 impl<W: Write> Sink for StdSink<W> {
-    ghost held = { λ _. None };
+    ghost held = { λ s. W.contents s.writer };
 
     ghost faults = { λ s. s.faults };
 

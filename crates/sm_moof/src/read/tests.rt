@@ -296,7 +296,7 @@ fn causes_in_their_order(rt: HostRuntime) -> Result<(), Fail> {
     ];
     for (first, second, third, cause) in table {
         let traf = boxed(alloc, b"traf", &[first, second, third])?;
-        assert_eq!(rt; refused(alloc, &[&traf], NO_MDAT)?, due(cause), "{cause}");
+        assert_eq!(rt; refused(alloc, &[&traf], NO_MDAT)?, due(cause));
     }
     let traf = boxed(alloc, b"traf", &[TFHD, &far, &time])?;
     assert_eq!(rt; refused(alloc, &[&traf], MDAT)?, due(Cause::SamplesOutside));
@@ -330,7 +330,7 @@ fn a_second_track(rt: HostRuntime) -> Result<(), Fail> {
     for (first, second, cause) in table {
         let moof = boxed(alloc, b"moof", &[first, second])?;
         let fault = read(alloc, &moof, NO_MDAT, &ZERO)?.err();
-        assert_eq!(rt; fault, due(cause), "{cause}");
+        assert_eq!(rt; fault, due(cause));
     }
     Ok(())
 }

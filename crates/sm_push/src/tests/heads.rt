@@ -29,13 +29,13 @@ const LARGEST_MOOF: &[u8] = b"\0\x20\0\0moof";
 const LARGE_MOOF: &[u8] = b"\0\x20\0\x01moof";
 
 // The body of an mdat is counted, and not its head.
-const LARGEST_MDAT: &[u8] = b"\x01\0\0\x08mdat";
+const LARGEST_MDAT: &[u8] = b"\x04\0\0\x08mdat";
 
-const LARGE_MDAT: &[u8] = b"\x01\0\0\x09mdat";
+const LARGE_MDAT: &[u8] = b"\x04\0\0\x09mdat";
 
-const LARGEST_WIDE_MDAT: &[u8] = b"\0\0\0\x01mdat\0\0\0\0\x01\0\0\x10";
+const LARGEST_WIDE_MDAT: &[u8] = b"\0\0\0\x01mdat\0\0\0\0\x04\0\0\x10";
 
-const LARGE_WIDE_MDAT: &[u8] = b"\0\0\0\x01mdat\0\0\0\0\x01\0\0\x11";
+const LARGE_WIDE_MDAT: &[u8] = b"\0\0\0\x01mdat\0\0\0\0\x04\0\0\x11";
 
 #[test]
 fn heads_alone(rt: HostRuntime) -> Result<(), Fail> {

@@ -50,7 +50,13 @@ fn of_samples(alloc: Global, count: u32, size: u32) -> Result<Vec<u8>, Fail> {
 #[test]
 fn samples_at_their_limits(rt: HostRuntime) -> Result<(), Fail> {
     let alloc = rt.alloc();
-    let taken = [(1, 0), (3, 5), (65_536, 0), (1, 67_108_864), (65_536, 256)];
+    let taken = [
+        (1, 0),
+        (3, 5),
+        (65_536, 0),
+        (1, 67_108_864),
+        (65_536, 1_024),
+    ];
     for (count, size) in taken {
         let text = of_samples(alloc, count, size)?;
         let (status, printed) = run(alloc, &["pick", "1", "0"], &text)?;
@@ -60,8 +66,8 @@ fn samples_at_their_limits(rt: HostRuntime) -> Result<(), Fail> {
     let refused: [(u32, u32, &[u8]); 4] = [
         (0, 0, b"error: input at 0: 16 NoSamples\n"),
         (65_537, 0, b"error: input at 0: 23 TooManySamples\n"),
-        (1, 16_777_217, b"error: input at 128: 2 BoxTooLarge\n"),
-        (65_536, 257, b"error: input at 1048688: 2 BoxTooLarge\n"),
+        (1, 67_108_865, b"error: input at 128: 2 BoxTooLarge\n"),
+        (65_536, 1_025, b"error: input at 1048688: 2 BoxTooLarge\n"),
     ];
     for (count, size, line) in refused {
         let text = of_samples(alloc, count, size)?;
