@@ -2,6 +2,7 @@
 //! text are. The definitions stand in `specs/`.
 #![tactic(auto)]
 
+mod address;
 mod bytes;
 mod cause;
 mod channel;
@@ -21,8 +22,10 @@ mod run;
 mod sample;
 mod smil;
 mod tag;
+mod target;
 mod track;
 
+pub use address::Address;
 pub use bytes::Bytes;
 pub use cause::{Cause, Refusal, put_cause};
 pub use channel::Channel;
@@ -41,6 +44,7 @@ pub use run::{Defaults, Pairs, RawFragment, Row, Rows, Run};
 pub use sample::{Sample, Samples};
 pub use smil::{Smil, SmilTrack};
 pub use tag::{Attribute, Attributes, Tag};
+pub use target::Target;
 pub use track::{Kind, Params, Track, is_fourcc};
 
 #[cfg(test)]

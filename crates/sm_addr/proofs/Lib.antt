@@ -1,0 +1,2 @@
+pub mod CutLaw
+pub mod Escapes
