@@ -1,12 +1,12 @@
-//! How the end of a message's body is told.
+//! How the bytes of a message body are framed.
 
-/// How the end of a message's body is told (RFC 9112, section 6).
+/// How the end of a message body is found (RFC 9112, 6).
 #[derive(Clone, Copy, Debug, PartialEq, Eq)]
 pub enum Framing {
     /// There is no body.
     None,
-    /// So many bytes follow the head.
+    /// So many bytes, by `Content-Length`.
     Counted(u64),
-    /// Chunks follow the head, each with its size before it.
+    /// Chunks, by `Transfer-Encoding`.
     Chunked,
 }

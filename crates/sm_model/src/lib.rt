@@ -2,11 +2,13 @@
 //! text are. The definitions stand in `specs/`.
 #![tactic(auto)]
 
+mod act;
 mod address;
 mod bytes;
 mod cause;
 mod channel;
 mod digits;
+mod entry;
 mod fragment;
 mod framing;
 mod header;
@@ -25,11 +27,13 @@ mod tag;
 mod target;
 mod track;
 
+pub use act::Act;
 pub use address::Address;
 pub use bytes::Bytes;
 pub use cause::{Cause, Refusal, put_cause};
 pub use channel::Channel;
 pub use digits::{decimal_up_to, number_of};
+pub use entry::Entry;
 pub use fragment::Fragment;
 pub use framing::Framing;
 pub use header::{Header, HeaderTrack, HeaderTracks};

@@ -1,15 +1,15 @@
-//! What a request is for.
+//! What a request asks for.
 
 use crate::{Address, Name};
 
-/// What a request is for, as its target tells ([MS-SSTR] 2.2.1, 2.2.3).
+/// What the target of a request names ([MS-SSTR] 2.2.1 and 2.2.3).
 #[derive(Debug, Drop)]
 pub enum Target {
-    /// The manifest.
+    /// The manifest of the presentation.
     Manifest,
-    /// The fragment at this address.
+    /// One fragment.
     Fragment(Address),
-    /// A push under this name.
+    /// The push of the encoder of this name.
     Streams(Name),
     /// None of these.
     Unknown,
