@@ -1,8 +1,8 @@
 -- The first `.isml/`.
 use Rattle.std.proofs.Common.{Bool, ◌≡◌, ℕ, ◌+◌, ◌-◌, ◌<◌, ◌≤◌, true, false, List, [], ◌∷◌, ◌++◌, length, take, drop, get_or, refl, ap, ◌∙◌, sym, arith, length-drop, append_assoc, Option, Some, None}
-use Rattle.std.specs.Prelude.{codes, nat_eq, option_map, suc, zero}
+use Rattle.std.specs.Prelude.{codes, nat_eq, option_map}
 use Rattle.std.specs.List.{starts_with}
-use Rattle.std.proofs.lemmas.List.{append-nil, take_more, drop-drop, take_all, length-take}
+use Rattle.std.proofs.lemmas.List.{append-nil, take_more, drop-drop, take_all}
 use Rattle.std.proofs.lemmas.Bool.{cond-true, cond-false}
 use Rattle.std.proofs.lemmas.Grind.{common_steps}
 use Rattle.sm_addr.specs.Paths.{cut_isml}
@@ -16,11 +16,11 @@ moved : (text : List ℕ) (i : ℕ) → i < length text → (r : Option (List �
 moved text i lt None = refl
 moved text i lt (Some p) = ap (λ (x : List ℕ). Some (x, p.1)) (sym (ap (λ t. t ++ p.0) (take_more text i 0 lt) ∙ append_assoc (take i text) (get_or text i 0 ∷ []) p.0))
 
-not_here : (x : ℕ) (rest : List ℕ) → starts_with nat_eq (x ∷ rest) (codes ".isml/") ≡ false
+pub not_here : (x : ℕ) (rest : List ℕ) → starts_with nat_eq (x ∷ rest) (codes ".isml/") ≡ false
     → cut_isml (x ∷ rest) ≡ option_map (λ (p : List ℕ × List ℕ). (x ∷ p.0, p.1)) (cut_isml rest)
 not_here x rest other = cond-false _ _ _ other
 
-is_here : (x : ℕ) (rest : List ℕ) → starts_with nat_eq (x ∷ rest) (codes ".isml/") ≡ true → cut_isml (x ∷ rest) ≡ Some ([], drop 6 (x ∷ rest))
+pub is_here : (x : ℕ) (rest : List ℕ) → starts_with nat_eq (x ∷ rest) (codes ".isml/") ≡ true → cut_isml (x ∷ rest) ≡ Some ([], drop 6 (x ∷ rest))
 is_here x rest here = cond-true _ _ _ here
 
 split_at : (text : List ℕ) (i : ℕ) → i < length text → drop i text ≡ get_or text i 0 ∷ drop (i + 1) text

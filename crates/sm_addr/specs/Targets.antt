@@ -1,9 +1,7 @@
 -- What a target names. [MS-SSTR] 2.2.1, 2.2.3.
-use Rattle.std.specs.Prelude.{ℕ, Bool, ◌||◌, ◌==◌, List, length, take, codes, Option, Some, None, option_and_then, if◌then◌else◌}
-use Rattle.std.specs.List.{before_first}
+use Rattle.std.specs.Prelude.{ℕ, ◌||◌, List, codes, Option, Some, None, option_and_then, if◌then◌else◌}
 use Rattle.std.specs.Str.{bytes_eq}
 use Rattle.percent_encoding.specs.Percent.{percent_decode}
-use Rattle.sm_model.specs.declared.address.Address.{Address}
 use Rattle.sm_model.specs.declared.target.Target.{Target}
 use Rattle.sm_model.specs.declared.target.Target.TheVariants.{Manifest, Fragment, Streams, Unknown}
 use Rattle.sm_model.specs.Digits.{number_of}

@@ -3,7 +3,6 @@ use Rattle.std.specs.Prelude.{ℕ, ◌<◌, ◌^◌, ◌≡◌, Bool, true, ◌|
 use Rattle.std.specs.List.{flat_map}
 use Rattle.std.specs.Char.{is_ascii_alphanumeric}
 use Rattle.percent_encoding.specs.Percent.{percent_encode_byte}
-use Rattle.sm_model.specs.declared.address.Address.{Address}
 use Rattle.sm_model.specs.declared.target.Target.{Target}
 use Rattle.sm_model.specs.declared.target.Target.TheVariants.{Manifest, Fragment, Streams, Unknown}
 use Rattle.sm_model.specs.Names.{is_name}

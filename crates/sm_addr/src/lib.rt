@@ -3,11 +3,13 @@
 #![tactic(auto)]
 
 mod cut;
+pub mod law;
 mod path;
 mod put;
 mod read;
+#[cfg(test)]
+mod tests;
 mod time;
-
 
 pub use put::put_target;
 pub use read::read_target;

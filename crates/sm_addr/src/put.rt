@@ -8,10 +8,18 @@ use sm_model::{Bytes, NoMemory, Target};
 use std::alloc::Global;
 
 /// What is escaped in a name: all but ASCII letters, digits, `_`, `-` and `.`.
-pub const NAME_ESCAPES: AsciiSet = ascii_set!(NON_ALPHANUMERIC.remove(b'_').remove(b'-').remove(b'.'));
+pub const NAME_ESCAPES: AsciiSet = ascii_set!(
+    NON_ALPHANUMERIC.remove(b'_').remove(b'-').remove(b'.')
+);
 
 /// What is escaped in a path: the same, but `/`.
-pub const PATH_ESCAPES: AsciiSet = ascii_set!(NON_ALPHANUMERIC.remove(b'_').remove(b'-').remove(b'.').remove(b'/'));
+pub const PATH_ESCAPES: AsciiSet = ascii_set!(
+    NON_ALPHANUMERIC
+        .remove(b'_')
+        .remove(b'-')
+        .remove(b'.')
+        .remove(b'/')
+);
 
 fn put(out: &mut Vec<u8>, piece: &[u8]) -> Result<(), NoMemory>
     ensures { OnOk result (out.new.items ≡ out.old.items ++ piece.now) }
@@ -20,7 +28,12 @@ fn put(out: &mut Vec<u8>, piece: &[u8]) -> Result<(), NoMemory>
     Ok(())
 }
 
-fn put_escaped(alloc: Global, out: &mut Vec<u8>, bytes: &[u8], escapes: AsciiSet) -> Result<(), NoMemory>
+fn put_escaped(
+    alloc: Global,
+    out: &mut Vec<u8>,
+    bytes: &[u8],
+    escapes: AsciiSet,
+) -> Result<(), NoMemory>
     ensures { OnOk result (out.new.items ≡ out.old.items ++ percent_encode escapes bytes.now) }
 {
     let mut text = String::new(alloc);

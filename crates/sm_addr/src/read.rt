@@ -36,7 +36,11 @@ fn fragment(alloc: Global, bitrate: u32, stream: &[u8], time: u64) -> Result<Tar
     ensures { IfOk result (λ target. target ≡ spec.fragment bitrate stream.now time) }
 {
     match Name::read(alloc, stream) {
-        Ok(stream) => Ok(Target::Fragment(Address { stream, bitrate, time })),
+        Ok(stream) => Ok(Target::Fragment(Address {
+            stream,
+            bitrate,
+            time,
+        })),
         Err(NameFault::Form { .. }) => Ok(Target::Unknown),
         Err(NameFault::NoMemory) => Err(NoMemory),
     }
@@ -105,7 +109,11 @@ fn target_in(alloc: Global, text: &[u8]) -> Result<Target, NoMemory>
 {
     match isml_at(text) {
         Some(at) => match behind(&text[..at], b"/") {
-            Some(path) => if is_short_path(path) { target_behind(alloc, &text[at + 6..]) } else { Ok(Target::Unknown) },
+            Some(path) => if is_short_path(path) {
+                target_behind(alloc, &text[at + 6..])
+            } else {
+                Ok(Target::Unknown)
+            },
             None => Ok(Target::Unknown),
         },
         None => Ok(Target::Unknown),

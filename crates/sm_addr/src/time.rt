@@ -31,5 +31,9 @@ pub fn time_of(text: &[u8]) -> Option<u64>
         return None;
     }
     let number = number_in(text);
-    if number < 18446744073709551616 { Some(number as u64) } else { None }
+    if number < 18446744073709551616 {
+        Some(number as u64)
+    } else {
+        None
+    }
 }

@@ -6,6 +6,7 @@ pub loop-at-preserved : goal.loop-at-preserved
 loop-at-preserved c = one_more c.args.text.now c.loop-at.at c.loop-at-test.true (tail_starts c.args.text.now c.loop-at.at _ c.if-starts_with.ensures.value) c.loop-at.invariant
 
 pub returns-then-starts_with : goal.returns-then-starts_with
-returns-then-starts_with c =
-    (tail_long c.args.text.now c.loop-at.at c.loop-at-test.true (c.if-starts_with.ensures.bound refl),
-      found_at c.args.text.now c.loop-at.at c.loop-at-test.true (tail_starts c.args.text.now c.loop-at.at _ c.if-starts_with.ensures.value) c.loop-at.invariant)
+returns-then-starts_with c = (
+  tail_long c.args.text.now c.loop-at.at c.loop-at-test.true (c.if-starts_with.ensures.bound refl),
+  found_at c.args.text.now c.loop-at.at c.loop-at-test.true (tail_starts c.args.text.now c.loop-at.at _ c.if-starts_with.ensures.value) c.loop-at.invariant,
+)

@@ -1,4 +1,4 @@
-use Rattle.std.proofs.Common.{get_or, take, arith, ℕ, ◌≡◌, ◌^◌, ◌*◌, ◌+◌}
+use Rattle.std.proofs.Common.{get_or, take, arith}
 use Rattle.std.proofs.lemmas.List.{take_more}
 use Rattle.std.proofs.lemmas.Grind.{pow_more}
 use Rattle.sm_model.proofs.DigitLemmas.{decimal_from-push}
