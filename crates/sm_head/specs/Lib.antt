@@ -1,0 +1,5 @@
+pub mod Fields
+pub mod Lengths
+pub mod Heads
+pub mod Judged
+pub mod Requests
