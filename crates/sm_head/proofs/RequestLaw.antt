@@ -62,7 +62,7 @@ spans_answer bytes end headers spans at (Ok Partial) never = absurd never
 spans_answer bytes end headers spans at (Err (fault.Refused cause)) is = inl (spans.len, subst (IsHeadAt bytes spans.len) is at)
 spans_answer bytes end headers spans at (Err fault.NoMemory) any = any
 
-window_is : (bytes : List ℕ) (end : ℕ) → end ≡ min (length bytes) 8192 → take end bytes ≡ window bytes
+pub window_is : (bytes : List ℕ) (end : ℕ) → end ≡ min (length bytes) 8192 → take end bytes ≡ window bytes
 window_is bytes end is = ⊎_elim (λ (small : length bytes < 8192). take_all end bytes (omega arith) ∙ sym (take_all 8192 bytes (omega arith))) (λ (big : 8192 ≤ length bytes). let e : end ≡ 8192 = omega arith in ap (λ n. take n bytes) e) (cases_lt (length bytes) 8192)
 
 pub refused_bad : (bytes : List ℕ) (end : ℕ) → end ≡ min (length bytes) 8192 → IsHopeless (take end bytes) → IsRefused bytes BadHead

@@ -3,3 +3,4 @@ pub mod Lengths
 pub mod Heads
 pub mod Judged
 pub mod Requests
+pub mod Responses

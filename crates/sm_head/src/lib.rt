@@ -6,6 +6,8 @@ mod fields;
 mod heads;
 mod length;
 mod request;
+mod response;
 
 pub use asked::{HeadFault, Verb};
 pub use request::{ReqHead, read_request};
+pub use response::{RespFault, RespHead, read_response};
