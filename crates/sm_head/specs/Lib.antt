@@ -4,3 +4,4 @@ pub mod Heads
 pub mod Judged
 pub mod Requests
 pub mod Responses
+pub mod Replies

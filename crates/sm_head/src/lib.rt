@@ -4,10 +4,13 @@
 mod asked;
 mod fields;
 mod heads;
+pub mod law;
 mod length;
+mod reply;
 mod request;
 mod response;
 
 pub use asked::{HeadFault, Verb};
+pub use reply::{CONTINUE, Content, NO_MEMORY, put_response};
 pub use request::{ReqHead, read_request};
 pub use response::{RespFault, RespHead, read_response};

@@ -1,7 +1,7 @@
 //! Replies written.
-ghost use Rattle.std.specs.Prelude.{◌≡◌, ◌++◌, true, length, decimal, codes, OnOk, IfOk};
+ghost use Rattle.std.specs.Prelude.{◌≡◌, ◌++◌, length, decimal, OnOk, IfOk};
+ghost use Rattle.http.specs.StatusCode.{IsStatusCode};
 ghost use Rattle.sm_head.specs.Replies.{kind_text, phrase, status_line, type_line, length_line, close_line, reply_head, reply_text};
-ghost use Rattle.sm_head.specs.declared.reply.Content.TheVariants.{Plain};
 
 use http::StatusCode;
 use sm_model::{Bytes, NoMemory};
@@ -18,6 +18,13 @@ pub enum Content {
     Plain,
 }
 
+/// The reply that tells want of memory, and closes: 500 with the line `33 NoMemory`. It stands ready, so it takes none.
+pub const NO_MEMORY: &[u8] = b"HTTP/1.1 500 Internal Server Error\r\nContent-Type: text/plain\r\nContent-Length: 12\r\n\
+    Connection: close\r\n\r\n33 NoMemory\n";
+
+/// What leaves a client that waits for it to send the body of its POST (RFC 9110, section 15.2.1).
+pub const CONTINUE: &[u8] = b"HTTP/1.1 100 Continue\r\n\r\n";
+
 fn put(out: &mut Vec<u8>, piece: &[u8]) -> Result<(), NoMemory>
     ensures { OnOk result (out.new.items ≡ out.old.items ++ piece.now) }
 {
@@ -32,17 +39,19 @@ fn put_number(alloc: Global, out: &mut Vec<u8>, number: u64) -> Result<(), NoMem
     put(out, text.as_bytes())
 }
 
-fn kind_text(kind: Content) -> &'static [u8]
-    ensures { result.now ≡ kind_text kind }
+fn put_kind(out: &mut Vec<u8>, kind: Content) -> Result<(), NoMemory>
+    ensures { OnOk result (out.new.items ≡ out.old.items ++ kind_text kind) }
 {
     match kind {
-        Content::Xml => b"text/xml",
-        Content::Mp4 => b"video/mp4",
-        Content::Plain => b"text/plain",
+        Content::Xml => put(out, b"text/xml"),
+        Content::Mp4 => put(out, b"video/mp4"),
+        Content::Plain => put(out, b"text/plain"),
     }
 }
 
+#[tactic(auto, unfolding(crate::specs::Replies::phrase))]
 fn put_phrase(out: &mut Vec<u8>, status: u16) -> Result<(), NoMemory>
+    requires { IsStatusCode status }
     ensures { OnOk result (out.new.items ≡ out.old.items ++ phrase status) }
 {
     match StatusCode::from_u16(status) {
@@ -50,11 +59,12 @@ fn put_phrase(out: &mut Vec<u8>, status: u16) -> Result<(), NoMemory>
             Some(reason) => put(out, reason.as_bytes()),
             None => Ok(()),
         },
-        Err(_) => Ok(()),
+        Err(_) => unreachable!(),
     }
 }
 
 fn put_status(alloc: Global, out: &mut Vec<u8>, status: u16) -> Result<(), NoMemory>
+    requires { IsStatusCode status }
     ensures { OnOk result (out.new.items ≡ out.old.items ++ status_line status) }
 {
     put(out, b"HTTP/1.1 ")?;
@@ -68,7 +78,7 @@ fn put_type(out: &mut Vec<u8>, kind: Content) -> Result<(), NoMemory>
     ensures { OnOk result (out.new.items ≡ out.old.items ++ type_line kind) }
 {
     put(out, b"Content-Type: ")?;
-    put(out, kind_text(kind))?;
+    put_kind(out, kind)?;
     put(out, b"\r\n")
 }
 
@@ -87,6 +97,7 @@ fn put_close(out: &mut Vec<u8>, close: bool) -> Result<(), NoMemory>
 }
 
 fn put_head(alloc: Global, out: &mut Vec<u8>, status: u16, kind: Content, count: u64, close: bool) -> Result<(), NoMemory>
+    requires { IsStatusCode status }
     ensures { OnOk result (out.new.items ≡ out.old.items ++ reply_head status kind count close) }
 {
     put_status(alloc, out, status)?;
@@ -98,8 +109,9 @@ fn put_head(alloc: Global, out: &mut Vec<u8>, status: u16, kind: Content, count:
 
 /// A whole reply (RFC 9112, section 4): the status line with the status's phrase, `Content-Type`, `Content-Length`, and
 /// `Connection: close` where the connection closes behind it, each line ended by CR LF, an empty line, and the body. A
-/// status without a phrase of its own gets an empty one.
+/// status, of three digits, without a phrase of its own gets an empty one.
 pub fn put_response(alloc: Global, status: u16, kind: Content, body: &[u8], close: bool) -> Result<Bytes, NoMemory>
+    requires { IsStatusCode status }
     ensures { IfOk result (λ text. text ≡ reply_text status kind body.now close) }
 {
     let mut out = Vec::new(alloc);
