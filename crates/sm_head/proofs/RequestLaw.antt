@@ -38,7 +38,7 @@ whole_head bytes end is headers spans within h at =
     let fits : spans.len ≤ length (take end bytes) = within.section.len_fits in
     let whole : bytes ≡ take end bytes ++ drop end bytes = sym (take-append-drop end bytes) in
     let d : drop spans.len bytes ≡ drop spans.len (take end bytes) ++ drop end bytes =
-      ap (drop spans.len) whole ∙ drop-append-le spans.len (take end bytes) (drop end bytes) fits in
+    ap (drop spans.len) whole ∙ drop-append-le spans.len (take end bytes) (drop end bytes) fits in
     record {
       h = h;
       reads = (at.reads.0, whole ∙ ap (λ b. b ++ drop end bytes) at.reads.1 ∙ append_assoc (print_request h) (drop spans.len (take end bytes)) (drop end bytes) ∙ ap (λ b. print_request h ++ b) (sym d));

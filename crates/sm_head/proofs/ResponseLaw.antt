@@ -41,7 +41,7 @@ whole_reply bytes end is headers spans within h at =
     let fits : spans.len ≤ length (take end bytes) = within.section.len_fits in
     let whole : bytes ≡ take end bytes ++ drop end bytes = sym (take-append-drop end bytes) in
     let d : drop spans.len bytes ≡ drop spans.len (take end bytes) ++ drop end bytes =
-      ap (drop spans.len) whole ∙ drop-append-le spans.len (take end bytes) (drop end bytes) fits in
+    ap (drop spans.len) whole ∙ drop-append-le spans.len (take end bytes) (drop end bytes) fits in
     record {
       h = h;
       reads = (at.reads.0, whole ∙ ap (λ b. b ++ drop end bytes) at.reads.1 ∙ append_assoc (print_response h) (drop spans.len (take end bytes)) (drop end bytes) ∙ ap (λ b. print_response h ++ b) (sym d));
@@ -57,7 +57,7 @@ pub spans_reply : (bytes : List ℕ) (end : ℕ) (headers : List HeaderSpan) (sp
     → (r : Result RespHead RespFault) → IsReplySpans (take end bytes) headers spans r → IsRespAnswer bytes r
 spans_reply bytes end headers spans at (Ok (Whole len status framing)) (same, code, is) =
     subst (λ (n : ℕ). IsReplyAt bytes n status (Some framing)) (sym same)
-      (subst (λ (s : ℕ). IsReplyAt bytes spans.len s (Some framing)) (sym code) (subst (IsReplyAt bytes spans.len spans.code) is at))
+    (subst (λ (s : ℕ). IsReplyAt bytes spans.len s (Some framing)) (sym code) (subst (IsReplyAt bytes spans.len spans.code) is at))
 spans_reply bytes end headers spans at (Ok Partial) never = absurd never
 spans_reply bytes end headers spans at (Err fault.Bad) is = inl (spans.len, spans.code, subst (IsReplyAt bytes spans.len spans.code) is at)
 spans_reply bytes end headers spans at (Err fault.NoMemory) never = absurd never
@@ -76,5 +76,7 @@ long_reply bytes end is long none = inr (subst HasNoResponse (window_is bytes en
 
 pub never_reply : (bytes : List ℕ) (end : ℕ) → end ≡ min (length bytes) 8192 → NeverHasResponse (take end bytes) → IsRespAnswer bytes (Err fault.Bad)
 never_reply bytes end is never =
-    inr (subst HasNoResponse (append-nil (take end bytes) ∙ window_is bytes end is) (never []),
-      λ u. subst NeverHasResponse (all_taken bytes end is u.short) never u.may.0 u.may.1 [] u.may.2)
+    inr (
+      subst HasNoResponse (append-nil (take end bytes) ∙ window_is bytes end is) (never []),
+      λ u. subst NeverHasResponse (all_taken bytes end is u.short) never u.may.0 u.may.1 [] u.may.2,
+    )

@@ -169,13 +169,25 @@ fn ask_push(target: Target, minor: u8, bytes: &[u8], fields: &[HeaderSpan]) -> R
         Some(framing) => {
             let close = closes(minor, bytes, fields);
             let expects = has_value(bytes, fields, b"expect", b"100-continue");
-            Ok(Asked { method: Verb::Post, target, framing, close, expects })
+            Ok(Asked {
+                method: Verb::Post,
+                target,
+                framing,
+                close,
+                expects,
+            })
         }
         None => Err(Cause::LengthRequired),
     }
 }
 
-fn ask(verb: Option<Verb>, target: Target, minor: u8, bytes: &[u8], fields: &[HeaderSpan]) -> Result<Asked, Cause>
+fn ask(
+    verb: Option<Verb>,
+    target: Target,
+    minor: u8,
+    bytes: &[u8],
+    fields: &[HeaderSpan],
+) -> Result<Asked, Cause>
     requires { All (IsHeaderWithin (length bytes.now)) fields.now }
     ensures { result ≡ spec.asked_by verb target minor (map (header_bytes bytes.now) fields.now) }
 {
@@ -185,7 +197,13 @@ fn ask(verb: Option<Verb>, target: Target, minor: u8, bytes: &[u8], fields: &[He
                 return Err(Cause::Method);
             }
             let close = closes(minor, bytes, fields);
-            Ok(Asked { method: Verb::Get, target, framing: Framing::None, close, expects: false })
+            Ok(Asked {
+                method: Verb::Get,
+                target,
+                framing: Framing::None,
+                close,
+                expects: false,
+            })
         }
         Some(Verb::Post) => {
             if !is_push(&target) {
@@ -200,7 +218,14 @@ fn ask(verb: Option<Verb>, target: Target, minor: u8, bytes: &[u8], fields: &[He
 /// What a head of this method, target, version and fields asks, or the first refusal that holds: more than 64 fields;
 /// fields that contradict each other, or a GET with a body; a method that the target doesn't take; an encoded body; a POST
 /// that tells no length.
-pub fn judge(alloc: Global, bytes: &[u8], method: &[u8], target: &[u8], minor: u8, fields: &[HeaderSpan]) -> Result<Asked, HeadFault>
+pub fn judge(
+    alloc: Global,
+    bytes: &[u8],
+    method: &[u8],
+    target: &[u8],
+    minor: u8,
+    fields: &[HeaderSpan],
+) -> Result<Asked, HeadFault>
     requires { All (IsHeaderWithin (length bytes.now)) fields.now }
     ensures { Tells (judged_by method.now target.now minor (map (header_bytes bytes.now) fields.now)) result }
 {

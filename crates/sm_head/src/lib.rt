@@ -9,6 +9,8 @@ mod length;
 mod reply;
 mod request;
 mod response;
+#[cfg(test)]
+mod tests;
 
 pub use asked::{HeadFault, Verb};
 pub use reply::{CONTINUE, Content, NO_MEMORY, put_response};

@@ -19,7 +19,8 @@ pub enum Content {
 }
 
 /// The reply that tells want of memory, and closes: 500 with the line `33 NoMemory`. It stands ready, so it takes none.
-pub const NO_MEMORY: &[u8] = b"HTTP/1.1 500 Internal Server Error\r\nContent-Type: text/plain\r\nContent-Length: 12\r\n\
+pub const NO_MEMORY: &[u8] =
+    b"HTTP/1.1 500 Internal Server Error\r\nContent-Type: text/plain\r\nContent-Length: 12\r\n\
     Connection: close\r\n\r\n33 NoMemory\n";
 
 /// What leaves a client that waits for it to send the body of its POST (RFC 9110, section 15.2.1).
@@ -93,10 +94,21 @@ fn put_length(alloc: Global, out: &mut Vec<u8>, count: u64) -> Result<(), NoMemo
 fn put_close(out: &mut Vec<u8>, close: bool) -> Result<(), NoMemory>
     ensures { OnOk result (out.new.items ≡ out.old.items ++ close_line close) }
 {
-    if close { put(out, b"Connection: close\r\n") } else { Ok(()) }
+    if close {
+        put(out, b"Connection: close\r\n")
+    } else {
+        Ok(())
+    }
 }
 
-fn put_head(alloc: Global, out: &mut Vec<u8>, status: u16, kind: Content, count: u64, close: bool) -> Result<(), NoMemory>
+fn put_head(
+    alloc: Global,
+    out: &mut Vec<u8>,
+    status: u16,
+    kind: Content,
+    count: u64,
+    close: bool,
+) -> Result<(), NoMemory>
     requires { IsStatusCode status }
     ensures { OnOk result (out.new.items ≡ out.old.items ++ reply_head status kind count close) }
 {
@@ -110,7 +122,13 @@ fn put_head(alloc: Global, out: &mut Vec<u8>, status: u16, kind: Content, count:
 /// A whole reply (RFC 9112, section 4): the status line with the status's phrase, `Content-Type`, `Content-Length`, and
 /// `Connection: close` where the connection closes behind it, each line ended by CR LF, an empty line, and the body. A
 /// status, of three digits, without a phrase of its own gets an empty one.
-pub fn put_response(alloc: Global, status: u16, kind: Content, body: &[u8], close: bool) -> Result<Bytes, NoMemory>
+pub fn put_response(
+    alloc: Global,
+    status: u16,
+    kind: Content,
+    body: &[u8],
+    close: bool,
+) -> Result<Bytes, NoMemory>
     requires { IsStatusCode status }
     ensures { IfOk result (λ text. text ≡ reply_text status kind body.now close) }
 {

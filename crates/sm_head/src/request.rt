@@ -29,14 +29,41 @@ pub enum ReqHead {
 }
 
 /// What the head asks that these spans cover.
-fn judge_spans(alloc: Global, bytes: &[u8], headers: &[HeaderSpan], spans: RequestSpans) -> Result<ReqHead, HeadFault>
+fn judge_spans(
+    alloc: Global,
+    bytes: &[u8],
+    headers: &[HeaderSpan],
+    spans: RequestSpans,
+) -> Result<ReqHead, HeadFault>
     requires { IsRequestWithin bytes.now headers.now spans }
     ensures { IsSpansAnswer bytes.now headers.now spans result }
 {
     let fields = &headers[..spans.headers];
-    match judge(alloc, bytes, spans.method.of(bytes), spans.path.of(bytes), spans.version, fields) {
-        Ok(Asked { method, target, framing, close, expects }) => {
-            Ok(ReqHead::Whole { length: spans.len as u64, method, target, framing, close, expects })
+    match judge(
+        alloc,
+        bytes,
+        spans.method.of(bytes),
+        spans.path.of(bytes),
+        spans.version,
+        fields,
+    ) {
+        Ok(
+            Asked {
+                method,
+                target,
+                framing,
+                close,
+                expects,
+            },
+        ) => {
+            Ok(ReqHead::Whole {
+                length: spans.len as u64,
+                method,
+                target,
+                framing,
+                close,
+                expects,
+            })
         }
         Err(fault) => Err(fault),
     }

@@ -7,8 +7,8 @@ ghost use Rattle.sm_head.specs.Responses.{IsReplySpans, IsRespAnswer};
 
 use crate::fields::{Lookup, look_up, same_text};
 use crate::length::read_length;
-use httparse::spans::{EMPTY_HEADER_SPAN, HeaderSpan, ResponseSpans, parse_response};
 use httparse::Status;
+use httparse::spans::{EMPTY_HEADER_SPAN, HeaderSpan, ResponseSpans, parse_response};
 use sm_model::Framing;
 use std::alloc::{AllocError, Global};
 use thiserror::Error;
@@ -52,7 +52,11 @@ fn coded_framing(transfer: Lookup<'_>) -> Option<Framing>
     ensures { (others : List (List ℕ)) → IsLookup transfer.entry others → result ≡ spec.reply_framing [] others }
 {
     match transfer {
-        Lookup::Once(value) => if same_text(value, b"chunked") { Some(Framing::Chunked) } else { None },
+        Lookup::Once(value) => if same_text(value, b"chunked") {
+            Some(Framing::Chunked)
+        } else {
+            None
+        },
         Lookup::Absent | Lookup::Several => None,
     }
 }
@@ -88,12 +92,20 @@ fn reply_by(status: u16, bytes: &[u8], fields: &[HeaderSpan]) -> Option<Framing>
     reply_framing(length, transfer)
 }
 
-fn answer_spans(bytes: &[u8], headers: &[HeaderSpan], spans: ResponseSpans) -> Result<RespHead, RespFault>
+fn answer_spans(
+    bytes: &[u8],
+    headers: &[HeaderSpan],
+    spans: ResponseSpans,
+) -> Result<RespHead, RespFault>
     requires { IsResponseWithin bytes.now headers.now spans }
     ensures { IsReplySpans bytes.now headers.now spans result }
 {
     match reply_by(spans.code, bytes, &headers[..spans.headers]) {
-        Some(framing) => Ok(RespHead::Whole { length: spans.len as u64, status: spans.code, framing }),
+        Some(framing) => Ok(RespHead::Whole {
+            length: spans.len as u64,
+            status: spans.code,
+            framing,
+        }),
         None => Err(RespFault::Bad),
     }
 }
@@ -113,7 +125,11 @@ pub fn read_response(alloc: Global, bytes: &[u8]) -> Result<RespHead, RespFault>
     let mut headers = vec![in alloc; EMPTY_HEADER_SPAN; 2732]?;
     match parse_response(window, headers.as_mut_slice()) {
         Ok(Status::Complete(spans)) => answer_spans(window, headers.as_slice(), spans),
-        Ok(Status::Partial) => if bytes.len() < 8192 { Ok(RespHead::Partial) } else { Err(RespFault::Bad) },
+        Ok(Status::Partial) => if bytes.len() < 8192 {
+            Ok(RespHead::Partial)
+        } else {
+            Err(RespFault::Bad)
+        },
         Err(_) => Err(RespFault::Bad),
     }
 }

@@ -8,5 +8,5 @@ abbrev pub invariant-loop-byte : goal.invariant-loop-byte
 invariant-loop-byte l = record {
   is : l.number ≡ digits_value 10 (take l.byte-index l.value);
   low : l.number < 10 ^ l.byte-index;
-  digits : list_all is_ascii_digit (take l.byte-index l.value) ≡ true
+  digits : list_all is_ascii_digit (take l.byte-index l.value) ≡ true;
 }

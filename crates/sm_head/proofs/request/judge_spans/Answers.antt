@@ -13,5 +13,5 @@ returns-in-Err c =
     let spans = c.args.spans in
     let pairs = map (header_bytes bytes) (take spans.headers c.args.headers.now) in
     let same = ap (λ m. judged_by m c.of-2.result.now spans.version pairs) c.of.ensures
-      ∙ ap (λ t. judged_by (span_bytes bytes spans.method) t spans.version pairs) c.of-2.ensures in
+    ∙ ap (λ t. judged_by (span_bytes bytes spans.method) t spans.version pairs) c.of-2.ensures in
     told_fault bytes c.args.headers.now spans c.in-Err.fault (subst (λ (j : Result Asked Cause). Tells j (Err c.in-Err.fault)) same c.in-Err.ensures)

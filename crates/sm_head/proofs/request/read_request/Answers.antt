@@ -11,8 +11,8 @@ returns-in-Whole c =
     let headers = c.judge_lines.new.headers in
     let same : c.as_slice.result.now ≡ headers = c.as_slice.ensures.value ∙ written c.in_ok-headers.headers.len headers _ (omega (arith, c.as_mut_slice.ensures.len, c.judge_lines.auto.headers)) in
     spans_answer bytes end headers c.in-Whole.spans
-      (whole_head bytes end c.min-end.ensures headers c.in-Whole.spans c.in-Whole.ensures.within c.in-Whole.ensures.shape.0 c.in-Whole.ensures.shape.1) c.judge_spans.result
-      (subst (λ (hs : List HeaderSpan). IsSpansAnswer (take end bytes) hs c.in-Whole.spans c.judge_spans.result) same c.judge_spans.ensures)
+    (whole_head bytes end c.min-end.ensures headers c.in-Whole.spans c.in-Whole.ensures.within c.in-Whole.ensures.shape.0 c.in-Whole.ensures.shape.1) c.judge_spans.result
+    (subst (λ (hs : List HeaderSpan). IsSpansAnswer (take end bytes) hs c.in-Whole.spans c.judge_spans.result) same c.judge_spans.ensures)
 
 pub returns-in-Bad : goal.returns-in-Bad
 returns-in-Bad c = refused_bad c.args.bytes.now c.min-end.result c.min-end.ensures c.in-Bad.ensures.shape

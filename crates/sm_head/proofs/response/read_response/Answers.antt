@@ -18,7 +18,7 @@ returns-in-Ok-Complete c =
     let within = rw c.in-Ok-Complete.field-0-is at c.in-Ok-Complete.ensures.within in
     let same : c.as_slice.result.now ≡ headers = c.as_slice.ensures.value ∙ written c.in_ok-headers.headers.len headers _ (omega (arith, c.as_mut_slice.ensures.len, c.parse_response.auto.headers)) in
     spans_reply bytes end headers spans (whole_reply bytes end c.min-end.ensures headers spans within whole.0 whole.1) c.answer_spans.result
-      (subst (λ (hs : List HeaderSpan). IsReplySpans (take end bytes) hs spans c.answer_spans.result) same c.answer_spans.ensures)
+    (subst (λ (hs : List HeaderSpan). IsReplySpans (take end bytes) hs spans c.answer_spans.result) same c.answer_spans.ensures)
 
 pub returns-in-Ok-Partial : goal.returns-in-Ok-Partial
 returns-in-Ok-Partial c =
@@ -29,4 +29,4 @@ pub returns : goal.returns
 returns c =
     let l = length-take c.min-end.result c.args.bytes.now in
     never_reply c.args.bytes.now c.min-end.result c.min-end.ensures
-      (c.in-Err.ensures.invalid (λ same. never_full _ (take c.min-end.result c.args.bytes.now) (omega (arith, c.as_mut_slice.ensures.len, c.in_ok-headers.ensures.len)) (omega arith) (c.in-Err.ensures.too_many (ap (λ (e : Error). Err e) same))))
+    (c.in-Err.ensures.invalid (λ same. never_full _ (take c.min-end.result c.args.bytes.now) (omega (arith, c.as_mut_slice.ensures.len, c.in_ok-headers.ensures.len)) (omega arith) (c.in-Err.ensures.too_many (ap (λ (e : Error). Err e) same))))
