@@ -1,2 +1,3 @@
 pub mod PartsLaw
 pub mod ActLaw
+pub mod FrontLaw

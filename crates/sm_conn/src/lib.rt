@@ -2,6 +2,7 @@
 #![tactic(auto)]
 
 mod conn;
+pub mod law;
 mod part;
 
 pub use conn::{Conn, State};
