@@ -47,8 +47,9 @@ least_some m (x ∷ xs) =
     placed_by : (n : ℕ) → ((n ≡ min m x) ⊎ Contains xs n) → (n ≡ m) ⊎ Contains (x ∷ xs) n
     placed_by n (inr c) = inr (stands_later x n xs c)
     placed_by n (inl e) = elim (min_either m x) [
-        inl f ↦ inl (e ∙ f)
-      | inr f ↦ inr (subst (λ (k : ℕ). Contains (x ∷ xs) k) (sym (e ∙ f)) (stands_first x xs)) ]
+      | inl f ↦ inl (e ∙ f)
+      | inr f ↦ inr (subst (λ (k : ℕ). Contains (x ∷ xs) k) (sym (e ∙ f)) (stands_first x xs))
+    ]
 
 least_there : (x : ℕ) (xs : List ℕ) → (n : ℕ) × (least_from None (x ∷ xs) ≡ Some n) × IsLeast n (x ∷ xs)
 least_there x xs =

@@ -1,6 +1,6 @@
 use Rattle.std.proofs.Common.{◌≡◌, ◌+◌, ◌++◌, drop}
 use Rattle.sm_model.specs.LiveText.{tracks_lines}
-use Rattle.sm_smil.proofs.put.put_tracks.Given as goal
+use Rattle.sm_smil.proofs.put.append_tracks.Given as goal
 
 abbrev pub invariant-loop-t : goal.invariant-loop-t
 invariant-loop-t l = record {
