@@ -2,7 +2,8 @@
 ghost use Rattle.std.specs.Prelude.{◌≡◌, ◌≤◌, ◌++◌, [], length, OnOk, IfOk, codes};
 ghost use Rattle.std.specs.Fmt.{decimal};
 ghost use Rattle.sm_model.specs.Channels.{IsChannel};
-ghost use Rattle.sm_model.specs.LiveText.{element_name, param_line, number_line, option_line, number_lines, opening_line, closing_line, track_lines, tracks_lines, live_text};
+ghost use Rattle.sm_model.specs.LiveText.{element_name, param_line, number_line, option_line, number_lines, opening_line, closing_line, track_lines, tracks_lines};
+ghost use Rattle.sm_model.specs.LiveText.{live_text};
 
 use sm_model::{Bytes, Channel, Kind, NoMemory, Params, Track};
 use std::alloc::Global;

@@ -37,7 +37,7 @@ either (Err wrong) s y e = inr e
 
 -- ---- bytes of a class
 
-split_is : (p : ℕ → Bool) (b : List ℕ) → b ≡ prefix p b ++ remaining p b
+pub split_is : (p : ℕ → Bool) (b : List ℕ) → b ≡ prefix p b ++ remaining p b
 split_is p [] = refl
 split_is p (c ∷ cs) = tested (p c) (split_is p cs)
   where
@@ -45,7 +45,7 @@ split_is p (c ∷ cs) = tested (p c) (split_is p cs)
     tested true h = ap (λ (l : List ℕ). c ∷ l) h
     tested false h = refl
 
-prefix_all : (p : ℕ → Bool) (b : List ℕ) → list_all p (prefix p b) ≡ true
+pub prefix_all : (p : ℕ → Bool) (b : List ℕ) → list_all p (prefix p b) ≡ true
 prefix_all p [] = refl
 prefix_all p (c ∷ cs) = tested (p c) refl (prefix_all p cs)
   where
@@ -94,7 +94,7 @@ quote_made (c ∷ cs) rest q e = tested (eqb c 34) (eqb c 39) refl refl e
 
 -- ---- references
 
-starts_made : (b word : List ℕ) → starts_with nat_eq b word ≡ true → b ≡ word ++ drop (length word) b
+pub starts_made : (b word : List ℕ) → starts_with nat_eq b word ≡ true → b ≡ word ++ drop (length word) b
 starts_made b word e = (starts_is Decides-eqb b word (starts_with nat_eq b word) refl).0 e
 
 word_made : (word b rest : List ℕ) → word_at word b ≡ Ok rest → b ≡ word ++ rest

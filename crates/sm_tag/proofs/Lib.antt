@@ -8,3 +8,4 @@ pub mod WrittenTags
 pub mod WrittenNext
 pub mod GrammarSound
 pub mod GrammarRead
+pub mod Standing

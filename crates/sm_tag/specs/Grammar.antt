@@ -1,9 +1,11 @@
 -- Of which bytes a tag is made, and what it says.
-use Rattle.std.specs.Prelude.{◌≡◌, ◌≢◌, ◌<◌, ◌⊎◌, ℕ, Bool, true, false, List, [], ◌∷◌, ◌++◌, length, codes, encode_utf8, nat_eq}
+use Rattle.std.specs.Prelude.{◌≡◌, ◌≢◌, ◌<◌, ◌⊎◌, ℕ, Bool, true, false, List, [], ◌∷◌, ◌++◌, length, drop, codes, encode_utf8, nat_eq}
 use Rattle.std.specs.List.{list_all, starts_with}
 use Rattle.sm_model.specs.declared.tag.Attribute.{Attribute}
 use Rattle.sm_model.specs.Digits.{is_digit, decimal_from}
-use Rattle.sm_model.specs.TagBytes.{is_space}
+use Rattle.sm_model.specs.declared.tag.Tag.{Tag}
+use Rattle.sm_model.specs.declared.tag.Tag.TheVariants as tags
+use Rattle.sm_model.specs.TagBytes.{is_space, is_text}
 use Rattle.sm_model.specs.TagParts.{is_scalar, has_name}
 use Rattle.sm_model.specs.TagText.{IsTagName, closing}
 
@@ -77,3 +79,16 @@ pub data UpTo (word : List ℕ) : List ℕ → Type 0 where
 pub data IsSkipped : List ℕ → Type 0 where
   comment : {text : List ℕ} → UpTo (codes "-->") text → IsSkipped (codes "<!--" ++ text)
   instruction : {text : List ℕ} → UpTo (codes "?>") text → IsSkipped (codes "<?" ++ text)
+
+-- text between tags: some bytes, of which none is `<`
+pub record IsRun (text : List ℕ) : Type 0 where
+  pub some : 0 < length text
+  pub plain : list_all is_text text ≡ true
+
+-- a tag stands at its place in the text, and so does text between tags, which goes up to the next `<`
+abbrev pub StandsIn : List ℕ → Tag → Type 0
+StandsIn text (tags.Start name attributes alone at) = (piece : List ℕ) × (rest : List ℕ) × IsStart piece name attributes alone × (drop at text ≡ piece ++ rest)
+StandsIn text (tags.Finish name at) = (piece : List ℕ) × (rest : List ℕ) × IsFinish piece name × (drop at text ≡ piece ++ rest)
+StandsIn text (tags.Text at) = (piece : List ℕ) × (rest : List ℕ) × IsRun piece × (drop at text ≡ piece ++ 60 ∷ rest)
+StandsIn text tags.End = Unit {0}
+StandsIn text (tags.Bad at) = Unit {0}
