@@ -44,7 +44,7 @@ pub end_act : (a : Mode) (p : Place) (k : Bool) (bytes : List ℕ) (n : ℕ) →
     → (items : List PartItem) (last : Mode) → Reads (behind_item k) (drop n bytes) items last → Reads a bytes ((ended k ∷ []) ++ items) last
 end_act a p k bytes n at frame small stops items last next =
     stopped a last bytes (ended k ∷ items) p k (take n bytes) (drop n bytes) items at (sym (take-append-drop n bytes)) stops next
-      (ap (λ i. i ++ (ended k ∷ items)) (sym (none_taken p bytes n frame small)))
+    (ap (λ i. i ++ (ended k ∷ items)) (sym (none_taken p bytes n frame small)))
 
 pub more_act : (a : Mode) (p q : Place) (k : Bool) (bytes : List ℕ) → a ≡ in_body p k → bytes ≡ [] → q ≡ p → p ≢ Ended → p ≢ Failed → Reads a bytes [] (in_body q k)
 more_act a p q k bytes at none same open_ fine =

@@ -32,7 +32,7 @@ not_hopeless z rest h reads hopeless =
     let front = hopeless.front ++ 10 ∷ [] in
     let more = hopeless.rest ++ drop 8192 z in
     let whole : z ≡ front ++ more =
-      sym (take-append-drop 8192 z) ∙ ap (λ b. b ++ drop 8192 z) (hopeless.splits ∙ sym (append_assoc hopeless.front (10 ∷ []) hopeless.rest)) ∙ append_assoc front hopeless.rest (drop 8192 z) in
+    sym (take-append-drop 8192 z) ∙ ap (λ b. b ++ drop 8192 z) (hopeless.splits ∙ sym (append_assoc hopeless.front (10 ∷ []) hopeless.rest)) ∙ append_assoc front hopeless.rest (drop 8192 z) in
     hopeless.never more h rest (subst (λ (b : List ℕ). ReadsRequest b h rest) whole reads)
 
 -- a head of at most 8,192 bytes lies in the first 8,192
@@ -144,10 +144,10 @@ longer p a b front rest x same stops fine = go (split a b front (x ∷ rest) sam
 body_joins : (p q : Place) (xs front k : List ℕ) (us ws tail : List PartItem) → q ≡ p → us ≡ data_items p xs → front ≡ xs ++ k → ws ≡ data_items q front ++ tail
     → (vs : List PartItem) × (ws ≡ us ++ vs)
 body_joins p q xs front k us ws tail same said is gives = (
-    data_items (place_after p xs) k ++ tail,
-    gives ∙ ap (λ (r : Place). data_items r front ++ tail) same ∙ ap (λ f. data_items p f ++ tail) is ∙ ap (λ d. d ++ tail) (data_on p xs k)
+  data_items (place_after p xs) k ++ tail,
+  gives ∙ ap (λ (r : Place). data_items r front ++ tail) same ∙ ap (λ f. data_items p f ++ tail) is ∙ ap (λ d. d ++ tail) (data_on p xs k)
       ∙ append_assoc (data_items p xs) (data_items (place_after p xs) k) tail ∙ ap (λ u. u ++ (data_items (place_after p xs) k ++ tail)) (sym said),
-  )
+)
 
 -- two ends of one body are one
 same_front : (p : Place) (a b c d : List ℕ) → a ++ b ≡ c ++ d → place_after p a ≡ Ended → place_after p c ≡ Ended → (a ≡ c) × (b ≡ d)
@@ -192,7 +192,7 @@ front_law a b c xs ys us ws (refused a1 b1 xs1 us1 k1 cause1 is1 refuse1 said1 l
     let z = kept_more a k1 k2 xs ys is1 is2 in
     let one = refused_once _ cause1 cause2 (refused_on (k1 ++ xs) ys cause1 refuse1) (subst (λ (b : List ℕ). IsRefused b cause2) z refuse2) in
     nothing_else us ws (said2 ∙ ap (λ (c : Cause). bad c ∷ []) (sym one) ∙ sym said1)
-front_law a b c xs ys us ws (refused a1 b1 xs1 us1 k1 cause1 is1 refuse1 said1 last1) (whole a2 c2 zs ws2 k2 rest2 h2 asked2 others2 is2 reads2 short2 judge2 inner2 said2) = 
+front_law a b c xs ys us ws (refused a1 b1 xs1 us1 k1 cause1 is1 refuse1 said1 last1) (whole a2 c2 zs ws2 k2 rest2 h2 asked2 others2 is2 reads2 short2 judge2 inner2 said2) =
     let z = kept_more a k1 k2 xs ys is1 is2 in
     absurd (refused_head _ rest2 h2 cause1 asked2 (refused_on (k1 ++ xs) ys cause1 refuse1) (subst (λ (b : List ℕ). ReadsRequest b h2 rest2) z reads2) (subst (λ (b : List ℕ). length b ≤ length rest2 + 8192) z short2) judge2)
 front_law a b c xs ys us ws (refused a1 b1 xs1 us1 k1 cause1 is1 refuse1 said1 last1) (body a2 c2 zs ws2 place2 close2 is2 still2 fine2 said2 last2) = absurd (cc (is1, is2))
@@ -200,18 +200,20 @@ front_law a b c xs ys us ws (refused a1 b1 xs1 us1 k1 cause1 is1 refuse1 said1 l
 front_law a b c xs ys us ws (refused a1 b1 xs1 us1 k1 cause1 is1 refuse1 said1 last1) (failed a2 c2 zs ws2 place2 close2 front2 x2 rest2 is2 splits2 still2 fine2 stops2 said2 last2) = absurd (cc (is1, is2))
 front_law a b c xs ys us ws (refused a1 b1 xs1 us1 k1 cause1 is1 refuse1 said1 last1) (shut a2 c2 zs ws2 is2 none2 last2) = absurd (cc (is1, is2))
 front_law a b c xs ys us ws (whole a1 b1 xs1 us1 k1 rest1 h1 asked1 others1 is1 reads1 short1 judge1 inner1 said1) (waiting a2 c2 zs ws2 k2 is2 wait2 none2 last2) = absurd (wait2.none h1 (rest1 ++ ys) (subst (λ (b : List ℕ). ReadsRequest b h1 (rest1 ++ ys)) (sym (kept_more a k1 k2 xs ys is1 is2)) (ReadsRequest-append (k1 ++ xs) h1 rest1 ys reads1)))
-front_law a b c xs ys us ws (whole a1 b1 xs1 us1 k1 rest1 h1 asked1 others1 is1 reads1 short1 judge1 inner1 said1) (refused a2 c2 zs ws2 k2 cause2 is2 refuse2 said2 last2) = 
+front_law a b c xs ys us ws (whole a1 b1 xs1 us1 k1 rest1 h1 asked1 others1 is1 reads1 short1 judge1 inner1 said1) (refused a2 c2 zs ws2 k2 cause2 is2 refuse2 said2 last2) =
     let z = kept_more a k1 k2 xs ys is1 is2 in
     absurd (refused_head _ (rest1 ++ ys) h1 cause2 asked1 (subst (λ (b : List ℕ). IsRefused b cause2) z refuse2) (ReadsRequest-append (k1 ++ xs) h1 rest1 ys reads1) (omega (arith, short1, length-append (k1 ++ xs) ys, length-append rest1 ys)) judge1)
-front_law a b c xs ys us ws (whole a1 b1 xs1 us1 k1 rest1 h1 asked1 others1 is1 reads1 short1 judge1 inner1 said1) (whole a2 c2 zs ws2 k2 rest2 h2 asked2 others2 is2 reads2 short2 judge2 inner2 said2) = 
+front_law a b c xs ys us ws (whole a1 b1 xs1 us1 k1 rest1 h1 asked1 others1 is1 reads1 short1 judge1 inner1 said1) (whole a2 c2 zs ws2 k2 rest2 h2 asked2 others2 is2 reads2 short2 judge2 inner2 said2) =
     let z = kept_more a k1 k2 xs ys is1 is2 in
     let same = request_unique _ h1 h2 (rest1 ++ ys) rest2 (ReadsRequest-append (k1 ++ xs) h1 rest1 ys reads1) (subst (λ (b : List ℕ). ReadsRequest b h2 rest2) z reads2) in
     let one : asked2 ≡ asked1 = same_asked asked1 asked2 (sym judge1 ∙ ap judged same.0 ∙ judge2) in
     let next : Reads (behind_head asked1) (rest1 ++ ys) others2 c
-      = subst (λ (b : List ℕ). Reads (behind_head asked1) b others2 c) (sym same.1) (subst (λ (k : Asked). Reads (behind_head k) rest2 others2 c) one inner2) in
-    let below = front_law _ b c rest1 ys others1 others2 inner1 next in
-    (below.0, said2 ∙ ap (λ (k : Asked). opening k ++ others2) one ∙ ap (λ o. opening asked1 ++ o) below.1 ∙ sym (append_assoc (opening asked1) others1 below.0)
-      ∙ ap (λ u. u ++ below.0) (sym said1))
+    = subst (λ (b : List ℕ). Reads (behind_head asked1) b others2 c) (sym same.1) (subst (λ (k : Asked). Reads (behind_head k) rest2 others2 c) one inner2) in
+    let below = front_law _ b c rest1 ys others1 others2 inner1 next in (
+      below.0,
+      said2 ∙ ap (λ (k : Asked). opening k ++ others2) one ∙ ap (λ o. opening asked1 ++ o) below.1 ∙ sym (append_assoc (opening asked1) others1 below.0)
+          ∙ ap (λ u. u ++ below.0) (sym said1),
+    )
 front_law a b c xs ys us ws (whole a1 b1 xs1 us1 k1 rest1 h1 asked1 others1 is1 reads1 short1 judge1 inner1 said1) (body a2 c2 zs ws2 place2 close2 is2 still2 fine2 said2 last2) = absurd (cc (is1, is2))
 front_law a b c xs ys us ws (whole a1 b1 xs1 us1 k1 rest1 h1 asked1 others1 is1 reads1 short1 judge1 inner1 said1) (stopped a2 c2 zs ws2 place2 close2 front2 rest2 others2 is2 splits2 stops2 inner2 said2) = absurd (cc (is1, is2))
 front_law a b c xs ys us ws (whole a1 b1 xs1 us1 k1 rest1 h1 asked1 others1 is1 reads1 short1 judge1 inner1 said1) (failed a2 c2 zs ws2 place2 close2 front2 x2 rest2 is2 splits2 still2 fine2 stops2 said2 last2) = absurd (cc (is1, is2))
@@ -220,39 +222,41 @@ front_law a b c xs ys us ws (body a1 b1 xs1 us1 place1 close1 is1 still1 fine1 s
 front_law a b c xs ys us ws (body a1 b1 xs1 us1 place1 close1 is1 still1 fine1 said1 last1) (refused a2 c2 zs ws2 k2 cause2 is2 refuse2 said2 last2) = absurd (cc (is1, is2))
 front_law a b c xs ys us ws (body a1 b1 xs1 us1 place1 close1 is1 still1 fine1 said1 last1) (whole a2 c2 zs ws2 k2 rest2 h2 asked2 others2 is2 reads2 short2 judge2 inner2 said2) = absurd (cc (is1, is2))
 front_law a b c xs ys us ws (body a1 b1 xs1 us1 place1 close1 is1 still1 fine1 said1 last1) (body a2 c2 zs ws2 place2 close2 is2 still2 fine2 said2 last2) = let same = same_place a place1 place2 is1 is2 in body_joins place1 place2 xs (xs ++ ys) ys us ws [] same said1 refl (said2 ∙ sym (append-nil _))
-front_law a b c xs ys us ws (body a1 b1 xs1 us1 place1 close1 is1 still1 fine1 said1 last1) (stopped a2 c2 zs ws2 place2 close2 front2 rest2 others2 is2 splits2 stops2 inner2 said2) = let same = same_place a place1 place2 is1 is2 in 
+front_law a b c xs ys us ws (body a1 b1 xs1 us1 place1 close1 is1 still1 fine1 said1 last1) (stopped a2 c2 zs ws2 place2 close2 front2 rest2 others2 is2 splits2 stops2 inner2 said2) = let same = same_place a place1 place2 is1 is2 in
     let l = beyond place1 xs ys front2 rest2 splits2 (at_place place1 place2 front2 Ended same stops2) still1 fine1 in
     body_joins place1 place2 xs front2 l.0 us ws (ended close2 ∷ others2) same said1 l.1 said2
-front_law a b c xs ys us ws (body a1 b1 xs1 us1 place1 close1 is1 still1 fine1 said1 last1) (failed a2 c2 zs ws2 place2 close2 front2 x2 rest2 is2 splits2 still2 fine2 stops2 said2 last2) = let same = same_place a place1 place2 is1 is2 in 
+front_law a b c xs ys us ws (body a1 b1 xs1 us1 place1 close1 is1 still1 fine1 said1 last1) (failed a2 c2 zs ws2 place2 close2 front2 x2 rest2 is2 splits2 still2 fine2 stops2 said2 last2) = let same = same_place a place1 place2 is1 is2 in
     let l = longer place1 xs ys front2 rest2 x2 splits2 (ap (λ (n : Place). next_place (place_after n front2) x2) (sym same) ∙ stops2) fine1 in
     body_joins place1 place2 xs front2 l.0 us ws (bad BadChunk ∷ []) same said1 l.1 said2
 front_law a b c xs ys us ws (body a1 b1 xs1 us1 place1 close1 is1 still1 fine1 said1 last1) (shut a2 c2 zs ws2 is2 none2 last2) = absurd (cc (is1, is2))
 front_law a b c xs ys us ws (stopped a1 b1 xs1 us1 place1 close1 front1 rest1 others1 is1 splits1 stops1 inner1 said1) (waiting a2 c2 zs ws2 k2 is2 wait2 none2 last2) = absurd (cc (is1, is2))
 front_law a b c xs ys us ws (stopped a1 b1 xs1 us1 place1 close1 front1 rest1 others1 is1 splits1 stops1 inner1 said1) (refused a2 c2 zs ws2 k2 cause2 is2 refuse2 said2 last2) = absurd (cc (is1, is2))
 front_law a b c xs ys us ws (stopped a1 b1 xs1 us1 place1 close1 front1 rest1 others1 is1 splits1 stops1 inner1 said1) (whole a2 c2 zs ws2 k2 rest2 h2 asked2 others2 is2 reads2 short2 judge2 inner2 said2) = absurd (cc (is1, is2))
-front_law a b c xs ys us ws (stopped a1 b1 xs1 us1 place1 close1 front1 rest1 others1 is1 splits1 stops1 inner1 said1) (body a2 c2 zs ws2 place2 close2 is2 still2 fine2 said2 last2) = let same = same_place a place1 place2 is1 is2 in let joins : xs ++ ys ≡ front1 ++ (rest1 ++ ys) = ap (λ n. n ++ ys) splits1 ∙ append_assoc front1 rest1 ys in 
+front_law a b c xs ys us ws (stopped a1 b1 xs1 us1 place1 close1 front1 rest1 others1 is1 splits1 stops1 inner1 said1) (body a2 c2 zs ws2 place2 close2 is2 still2 fine2 said2 last2) = let same = same_place a place1 place2 is1 is2 in let joins : xs ++ ys ≡ front1 ++ (rest1 ++ ys) = ap (λ n. n ++ ys) splits1 ∙ append_assoc front1 rest1 ys in
     absurd (still2 (ap (λ (n : Place). place_after n (xs ++ ys)) same ∙ over_ended place1 front1 (rest1 ++ ys) (xs ++ ys) joins stops1 (λ h. fine2 (ap (λ (n : Place). place_after n (xs ++ ys)) same ∙ h))))
-front_law a b c xs ys us ws (stopped a1 b1 xs1 us1 place1 close1 front1 rest1 others1 is1 splits1 stops1 inner1 said1) (stopped a2 c2 zs ws2 place2 close2 front2 rest2 others2 is2 splits2 stops2 inner2 said2) = let same = same_place a place1 place2 is1 is2 in let joins : xs ++ ys ≡ front1 ++ (rest1 ++ ys) = ap (λ n. n ++ ys) splits1 ∙ append_assoc front1 rest1 ys in 
+front_law a b c xs ys us ws (stopped a1 b1 xs1 us1 place1 close1 front1 rest1 others1 is1 splits1 stops1 inner1 said1) (stopped a2 c2 zs ws2 place2 close2 front2 rest2 others2 is2 splits2 stops2 inner2 said2) = let same = same_place a place1 place2 is1 is2 in let joins : xs ++ ys ≡ front1 ++ (rest1 ++ ys) = ap (λ n. n ++ ys) splits1 ∙ append_assoc front1 rest1 ys in
     let fronts = same_front place1 front1 (rest1 ++ ys) front2 rest2 (sym joins ∙ splits2) stops1 (at_place place1 place2 front2 Ended same stops2) in
     let one = same_close a close1 close2 is1 is2 in
     let next : Reads (behind_item close1) (rest1 ++ ys) others2 c
-      = subst (λ (n : List ℕ). Reads (behind_item close1) n others2 c) (sym fronts.1) (subst (λ (k : Bool). Reads (behind_item k) rest2 others2 c) one inner2) in
-    let below = front_law _ b c rest1 ys others1 others2 inner1 next in
-    (below.0, said2 ∙ ap (λ (n : Place). data_items n front2 ++ (ended close2 ∷ others2)) same ∙ ap (λ f. data_items place1 f ++ (ended close2 ∷ others2)) (sym fronts.0)
-      ∙ ap (λ (k : Bool). data_items place1 front1 ++ (ended k ∷ others2)) one
-      ∙ ap (λ o. data_items place1 front1 ++ (ended close1 ∷ o)) below.1 ∙ sym (append_assoc (data_items place1 front1) (ended close1 ∷ others1) below.0) ∙ ap (λ u. u ++ below.0) (sym said1))
-front_law a b c xs ys us ws (stopped a1 b1 xs1 us1 place1 close1 front1 rest1 others1 is1 splits1 stops1 inner1 said1) (failed a2 c2 zs ws2 place2 close2 front2 x2 rest2 is2 splits2 still2 fine2 stops2 said2 last2) = let same = same_place a place1 place2 is1 is2 in let joins : xs ++ ys ≡ front1 ++ (rest1 ++ ys) = ap (λ n. n ++ ys) splits1 ∙ append_assoc front1 rest1 ys in 
+    = subst (λ (n : List ℕ). Reads (behind_item close1) n others2 c) (sym fronts.1) (subst (λ (k : Bool). Reads (behind_item k) rest2 others2 c) one inner2) in
+    let below = front_law _ b c rest1 ys others1 others2 inner1 next in (
+      below.0,
+      said2 ∙ ap (λ (n : Place). data_items n front2 ++ (ended close2 ∷ others2)) same ∙ ap (λ f. data_items place1 f ++ (ended close2 ∷ others2)) (sym fronts.0)
+          ∙ ap (λ (k : Bool). data_items place1 front1 ++ (ended k ∷ others2)) one
+          ∙ ap (λ o. data_items place1 front1 ++ (ended close1 ∷ o)) below.1 ∙ sym (append_assoc (data_items place1 front1) (ended close1 ∷ others1) below.0) ∙ ap (λ u. u ++ below.0) (sym said1),
+    )
+front_law a b c xs ys us ws (stopped a1 b1 xs1 us1 place1 close1 front1 rest1 others1 is1 splits1 stops1 inner1 said1) (failed a2 c2 zs ws2 place2 close2 front2 x2 rest2 is2 splits2 still2 fine2 stops2 said2 last2) = let same = same_place a place1 place2 is1 is2 in let joins : xs ++ ys ≡ front1 ++ (rest1 ++ ys) = ap (λ n. n ++ ys) splits1 ∙ append_assoc front1 rest1 ys in
     absurd (not_both place1 front1 (rest1 ++ ys) front2 rest2 x2 (sym joins ∙ splits2) stops1
-      (λ h. still2 (ap (λ (n : Place). place_after n front2) same ∙ h)) (λ h. fine2 (ap (λ (n : Place). place_after n front2) same ∙ h)) (ap (λ (n : Place). next_place (place_after n front2) x2) (sym same) ∙ stops2))
+    (λ h. still2 (ap (λ (n : Place). place_after n front2) same ∙ h)) (λ h. fine2 (ap (λ (n : Place). place_after n front2) same ∙ h)) (ap (λ (n : Place). next_place (place_after n front2) x2) (sym same) ∙ stops2))
 front_law a b c xs ys us ws (stopped a1 b1 xs1 us1 place1 close1 front1 rest1 others1 is1 splits1 stops1 inner1 said1) (shut a2 c2 zs ws2 is2 none2 last2) = absurd (cc (is1, is2))
 front_law a b c xs ys us ws (failed a1 b1 xs1 us1 place1 close1 front1 x1 rest1 is1 splits1 still1 fine1 stops1 said1 last1) (waiting a2 c2 zs ws2 k2 is2 wait2 none2 last2) = absurd (cc (is1, is2))
 front_law a b c xs ys us ws (failed a1 b1 xs1 us1 place1 close1 front1 x1 rest1 is1 splits1 still1 fine1 stops1 said1 last1) (refused a2 c2 zs ws2 k2 cause2 is2 refuse2 said2 last2) = absurd (cc (is1, is2))
 front_law a b c xs ys us ws (failed a1 b1 xs1 us1 place1 close1 front1 x1 rest1 is1 splits1 still1 fine1 stops1 said1 last1) (whole a2 c2 zs ws2 k2 rest2 h2 asked2 others2 is2 reads2 short2 judge2 inner2 said2) = absurd (cc (is1, is2))
-front_law a b c xs ys us ws (failed a1 b1 xs1 us1 place1 close1 front1 x1 rest1 is1 splits1 still1 fine1 stops1 said1 last1) (body a2 c2 zs ws2 place2 close2 is2 still2 fine2 said2 last2) = let same = same_place a place1 place2 is1 is2 in let joins : xs ++ ys ≡ front1 ++ (x1 ∷ (rest1 ++ ys)) = ap (λ n. n ++ ys) splits1 ∙ append_assoc front1 (x1 ∷ rest1) ys in 
+front_law a b c xs ys us ws (failed a1 b1 xs1 us1 place1 close1 front1 x1 rest1 is1 splits1 still1 fine1 stops1 said1 last1) (body a2 c2 zs ws2 place2 close2 is2 still2 fine2 said2 last2) = let same = same_place a place1 place2 is1 is2 in let joins : xs ++ ys ≡ front1 ++ (x1 ∷ (rest1 ++ ys)) = ap (λ n. n ++ ys) splits1 ∙ append_assoc front1 (x1 ∷ rest1) ys in
     absurd (fine2 (ap (λ (n : Place). place_after n (xs ++ ys)) same ∙ fail_front place1 front1 (rest1 ++ ys) (xs ++ ys) x1 joins stops1))
-front_law a b c xs ys us ws (failed a1 b1 xs1 us1 place1 close1 front1 x1 rest1 is1 splits1 still1 fine1 stops1 said1 last1) (stopped a2 c2 zs ws2 place2 close2 front2 rest2 others2 is2 splits2 stops2 inner2 said2) = let same = same_place a place1 place2 is1 is2 in let joins : xs ++ ys ≡ front1 ++ (x1 ∷ (rest1 ++ ys)) = ap (λ n. n ++ ys) splits1 ∙ append_assoc front1 (x1 ∷ rest1) ys in 
+front_law a b c xs ys us ws (failed a1 b1 xs1 us1 place1 close1 front1 x1 rest1 is1 splits1 still1 fine1 stops1 said1 last1) (stopped a2 c2 zs ws2 place2 close2 front2 rest2 others2 is2 splits2 stops2 inner2 said2) = let same = same_place a place1 place2 is1 is2 in let joins : xs ++ ys ≡ front1 ++ (x1 ∷ (rest1 ++ ys)) = ap (λ n. n ++ ys) splits1 ∙ append_assoc front1 (x1 ∷ rest1) ys in
     absurd (not_both place1 front2 rest2 front1 (rest1 ++ ys) x1 (sym splits2 ∙ joins) (at_place place1 place2 front2 Ended same stops2) still1 fine1 stops1)
-front_law a b c xs ys us ws (failed a1 b1 xs1 us1 place1 close1 front1 x1 rest1 is1 splits1 still1 fine1 stops1 said1 last1) (failed a2 c2 zs ws2 place2 close2 front2 x2 rest2 is2 splits2 still2 fine2 stops2 said2 last2) = let same = same_place a place1 place2 is1 is2 in let joins : xs ++ ys ≡ front1 ++ (x1 ∷ (rest1 ++ ys)) = ap (λ n. n ++ ys) splits1 ∙ append_assoc front1 (x1 ∷ rest1) ys in 
+front_law a b c xs ys us ws (failed a1 b1 xs1 us1 place1 close1 front1 x1 rest1 is1 splits1 still1 fine1 stops1 said1 last1) (failed a2 c2 zs ws2 place2 close2 front2 x2 rest2 is2 splits2 still2 fine2 stops2 said2 last2) = let same = same_place a place1 place2 is1 is2 in let joins : xs ++ ys ≡ front1 ++ (x1 ∷ (rest1 ++ ys)) = ap (λ n. n ++ ys) splits1 ∙ append_assoc front1 (x1 ∷ rest1) ys in
     let l = longer place1 front1 (x1 ∷ (rest1 ++ ys)) front2 rest2 x2 (sym joins ∙ splits2) (ap (λ (n : Place). next_place (place_after n front2) x2) (sym same) ∙ stops2) fine1 in
     let m = longer place1 front2 (x2 ∷ rest2) front1 (rest1 ++ ys) x1 (sym splits2 ∙ joins) stops1 (λ h. fine2 (ap (λ (n : Place). place_after n front2) same ∙ h)) in
     let one : front2 ≡ front1 = both_longer front1 front2 l.0 m.0 l.1 m.1 in

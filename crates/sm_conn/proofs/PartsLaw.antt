@@ -103,24 +103,24 @@ body_on p shut_ xs ys a b c us vs at on said1 (body b' c' ys' vs' q shuts is sti
     let here : a ≡ in_body p shuts = let k : shut_ ≡ shuts = cc in at ∙ ap (λ z. in_body p z) k in
     let e : place_after q ys ≡ place_after p (xs ++ ys) = ap (λ (r : Place). place_after r ys) same ∙ sym (place_on p xs ys) in
     body a c (xs ++ ys) (us ++ vs) p shuts here (λ h. still (e ∙ h)) (λ h. fine (e ∙ h))
-      (ap (λ u. u ++ vs) said1 ∙ ap (λ v. data_items p xs ++ v) (said ∙ ap (λ (r : Place). data_items r ys) same) ∙ sym (data_on p xs ys))
-      (last ∙ ap (λ r. in_body r shuts) e)
+    (ap (λ u. u ++ vs) said1 ∙ ap (λ v. data_items p xs ++ v) (said ∙ ap (λ (r : Place). data_items r ys) same) ∙ sym (data_on p xs ys))
+    (last ∙ ap (λ r. in_body r shuts) e)
 body_on p shut_ xs ys a b c us vs at on said1 (stopped b' c' ys' vs' q shuts front rest others is splits stops inner said) =
     let same : q ≡ place_after p xs = cc in
     let here : a ≡ in_body p shuts = let k : shut_ ≡ shuts = cc in at ∙ ap (λ z. in_body p z) k in
     let e : place_after q front ≡ place_after p (xs ++ front) = ap (λ (r : Place). place_after r front) same ∙ sym (place_on p xs front) in
     stopped a c (xs ++ ys) (us ++ vs) p shuts (xs ++ front) rest others here (ap (λ n. xs ++ n) splits ∙ sym (append_assoc xs front rest)) (sym e ∙ stops) inner
-      (ap (λ u. u ++ vs) said1 ∙ ap (λ v. data_items p xs ++ v) (said ∙ ap (λ (r : Place). data_items r front ++ (ended shuts ∷ others)) same)
-        ∙ sym (append_assoc (data_items p xs) (data_items (place_after p xs) front) (ended shuts ∷ others)) ∙ ap (λ v. v ++ (ended shuts ∷ others)) (sym (data_on p xs front)))
+    (ap (λ u. u ++ vs) said1 ∙ ap (λ v. data_items p xs ++ v) (said ∙ ap (λ (r : Place). data_items r front ++ (ended shuts ∷ others)) same)
+    ∙ sym (append_assoc (data_items p xs) (data_items (place_after p xs) front) (ended shuts ∷ others)) ∙ ap (λ v. v ++ (ended shuts ∷ others)) (sym (data_on p xs front)))
 body_on p shut_ xs ys a b c us vs at on said1 (failed b' c' ys' vs' q shuts front x rest is splits still fine stops said last) =
     let same : q ≡ place_after p xs = cc in
     let here : a ≡ in_body p shuts = let k : shut_ ≡ shuts = cc in at ∙ ap (λ z. in_body p z) k in
     let e : place_after q front ≡ place_after p (xs ++ front) = ap (λ (r : Place). place_after r front) same ∙ sym (place_on p xs front) in
     failed a c (xs ++ ys) (us ++ vs) p shuts (xs ++ front) x rest here (ap (λ n. xs ++ n) splits ∙ sym (append_assoc xs front (x ∷ rest)))
-      (λ h. still (e ∙ h)) (λ h. fine (e ∙ h)) (ap (λ (r : Place). next_place r x) (sym e) ∙ stops)
-      (ap (λ u. u ++ vs) said1 ∙ ap (λ v. data_items p xs ++ v) (said ∙ ap (λ (r : Place). data_items r front ++ (bad BadChunk ∷ [])) same)
-        ∙ sym (append_assoc (data_items p xs) (data_items (place_after p xs) front) (bad BadChunk ∷ [])) ∙ ap (λ v. v ++ (bad BadChunk ∷ [])) (sym (data_on p xs front)))
-      last
+    (λ h. still (e ∙ h)) (λ h. fine (e ∙ h)) (ap (λ (r : Place). next_place r x) (sym e) ∙ stops)
+    (ap (λ u. u ++ vs) said1 ∙ ap (λ v. data_items p xs ++ v) (said ∙ ap (λ (r : Place). data_items r front ++ (bad BadChunk ∷ [])) same)
+    ∙ sym (append_assoc (data_items p xs) (data_items (place_after p xs) front) (bad BadChunk ∷ [])) ∙ ap (λ v. v ++ (bad BadChunk ∷ [])) (sym (data_on p xs front)))
+    last
 body_on p shut_ xs ys a b c us vs at on said1 (waiting b' c' ys' vs' k is wait none last) = absurd (cc)
 body_on p shut_ xs ys a b c us vs at on said1 (refused b' c' ys' vs' k cause is refuse said last) = absurd (cc)
 body_on p shut_ xs ys a b c us vs at on said1 (whole b' c' ys' vs' k rest h asked others is reads short judge inner said) = absurd (cc)
@@ -149,16 +149,16 @@ reads_on a b c xs ys us vs (refused a' b' xs' us' kept cause is refuse said last
 reads_on a b c xs ys us vs (whole a' b' xs' us' kept rest h asked others is reads short judge inner said) next =
     let joined = append_assoc kept xs ys in
     whole a c (xs ++ ys) (us ++ vs) kept (rest ++ ys) h asked (others ++ vs) is
-      (subst (λ (n : List ℕ). ReadsRequest n h (rest ++ ys)) joined (ReadsRequest-append (kept ++ xs) h rest ys reads))
-      (subst (λ (n : List ℕ). length n ≤ length (rest ++ ys) + 8192) joined (omega (arith, length-append (kept ++ xs) ys, length-append rest ys, short))) judge
-      (reads_on _ b c rest ys others vs inner next)
-      (ap (λ u. u ++ vs) said ∙ append_assoc (opening asked) others vs)
+    (subst (λ (n : List ℕ). ReadsRequest n h (rest ++ ys)) joined (ReadsRequest-append (kept ++ xs) h rest ys reads))
+    (subst (λ (n : List ℕ). length n ≤ length (rest ++ ys) + 8192) joined (omega (arith, length-append (kept ++ xs) ys, length-append rest ys, short))) judge
+    (reads_on _ b c rest ys others vs inner next)
+    (ap (λ u. u ++ vs) said ∙ append_assoc (opening asked) others vs)
 reads_on a b c xs ys us vs (body a' b' xs' us' place shuts is still fine said last) next = body_on place shuts xs ys a b c us vs is last said next
 reads_on a b c xs ys us vs (stopped a' b' xs' us' place shuts front rest others is splits stops inner said) next =
     stopped a c (xs ++ ys) (us ++ vs) place shuts front (rest ++ ys) (others ++ vs) is
-      (ap (λ n. n ++ ys) splits ∙ append_assoc front rest ys) stops
-      (reads_on _ b c rest ys others vs inner next)
-      (ap (λ u. u ++ vs) said ∙ append_assoc (data_items place front) (ended shuts ∷ others) vs)
+    (ap (λ n. n ++ ys) splits ∙ append_assoc front rest ys) stops
+    (reads_on _ b c rest ys others vs inner next)
+    (ap (λ u. u ++ vs) said ∙ append_assoc (data_items place front) (ended shuts ∷ others) vs)
 reads_on a b c xs ys us vs (failed a' b' xs' us' place shuts front x rest is splits still fine stops said last) next =
     let shut = shut_on ys b c vs last next in
     failed a c (xs ++ ys) (us ++ vs) place shuts front x (rest ++ ys) is (ap (λ n. n ++ ys) splits ∙ append_assoc front (x ∷ rest) ys) still fine stops (nothing_more us vs _ said shut.0) shut.1

@@ -45,7 +45,11 @@ impl Conn {
     pub fn new(alloc: Global) -> Result<Conn, NoMemory>
         ensures { IfOk result (λ conn. StandsFor conn [] []) }
     {
-        Ok(Conn { alloc, state: State::Head, kept: Vec::new(alloc) })
+        Ok(Conn {
+            alloc,
+            state: State::Head,
+            kept: Vec::new(alloc),
+        })
     }
 
     /// Where the connection stands behind an item that closes or not.
@@ -71,7 +75,13 @@ impl Conn {
     }
 
     /// Gives the parts of a head by itself.
-    fn open(parts: &mut Vec<Part>, method: Verb, target: Target, close: bool, expects: bool) -> Result<(), NoMemory>
+    fn open(
+        parts: &mut Vec<Part>,
+        method: Verb,
+        target: Target,
+        close: bool,
+        expects: bool,
+    ) -> Result<(), NoMemory>
         ensures { OnOk result ((framing : Framing) → joined parts.new.items
             ≡ joined parts.old.items ++ opening (record { method = method; target = target; framing = framing; close = close; expects = expects })) }
     {
@@ -87,7 +97,12 @@ impl Conn {
         Ok(())
     }
 
-    fn refuse(&mut self, parts: &mut Vec<Part>, bytes: &[u8], fault: HeadFault) -> Result<Option<usize>, NoMemory>
+    fn refuse(
+        &mut self,
+        parts: &mut Vec<Part>,
+        bytes: &[u8],
+        fault: HeadFault,
+    ) -> Result<Option<usize>, NoMemory>
         requires stands { self.old.state ≡ Head }
         requires read { IsReqAnswer bytes.now (Err fault) }
         ensures { IfOk result (λ used. ActGives self.old.state bytes.now (joined parts.old.items) used self.new (joined parts.new.items)) }
@@ -102,13 +117,25 @@ impl Conn {
         }
     }
 
-    fn take_head(&mut self, parts: &mut Vec<Part>, bytes: &[u8], head: ReqHead) -> Result<Option<usize>, NoMemory>
+    fn take_head(
+        &mut self,
+        parts: &mut Vec<Part>,
+        bytes: &[u8],
+        head: ReqHead,
+    ) -> Result<Option<usize>, NoMemory>
         requires stands { self.old.state ≡ Head }
         requires read { IsReqAnswer bytes.now (Ok head) }
         ensures { IfOk result (λ used. ActGives self.old.state bytes.now (joined parts.old.items) used self.new (joined parts.new.items)) }
     {
         match head {
-            ReqHead::Whole { length, method, target, framing, close, expects } => {
+            ReqHead::Whole {
+                length,
+                method,
+                target,
+                framing,
+                close,
+                expects,
+            } => {
                 Conn::open(parts, method, target, close, expects)?;
                 self.state = Conn::behind_head(method, framing, close);
                 Ok(Some(length as usize))

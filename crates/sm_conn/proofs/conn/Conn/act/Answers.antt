@@ -32,19 +32,27 @@ returns-in_ok-push-in-Body-step c =
     let b = c.in-Body in
     let at : mode_at c.args.self.now.state ≡ in_body b.framer.place b.close = ap mode_at b.is in
     let near : rank c.args.self.now.state ≡ 1 = ap rank b.is in
-    let g = c.in-Body-step.ensures in
-    (omega (arith, g.2), omega (arith, g.1, g.2), _, joined_push _ _ _ c.in_ok-push-in-Body-step.ensures.items,
-      body_act _ b.framer.place c.step.new.self.place b.close c.args.bytes.now _ c.in-Body-step.count at g.3 g.4 c.in_ok-from_slice-in-Body-step.ensures)
+    let g = c.in-Body-step.ensures in (
+      omega (arith, g.2),
+      omega (arith, g.1, g.2),
+      _,
+      joined_push _ _ _ c.in_ok-push-in-Body-step.ensures.items,
+      body_act _ b.framer.place c.step.new.self.place b.close c.args.bytes.now _ c.in-Body-step.count at g.3 g.4 c.in_ok-from_slice-in-Body-step.ensures,
+    )
 
 pub returns-in_ok-push-in-End : goal.returns-in_ok-push-in-End
 returns-in_ok-push-in-End c =
     let b = c.in-Body in
     let at : mode_at c.args.self.now.state ≡ in_body b.framer.place b.close = ap mode_at b.is in
     let near : rank c.args.self.now.state ≡ 1 = ap rank b.is in
-    let g = c.in-End.ensures in
-    (g.2, omega (arith, g.1, g.2, c.behind_item-self.ensures.low), _, joined_push _ _ _ c.in_ok-push-in-End.ensures.items,
+    let g = c.in-End.ensures in (
+      g.2,
+      omega (arith, g.1, g.2, c.behind_item-self.ensures.low),
+      _,
+      joined_push _ _ _ c.in_ok-push-in-End.ensures.items,
       λ items last next. end_act _ b.framer.place b.close c.args.bytes.now c.in-End.count at g.0 g.1 g.3 items last
-        (subst (λ (m : Mode). Reads m (drop c.in-End.count c.args.bytes.now) items last) c.behind_item-self.ensures.leads next))
+          (subst (λ (m : Mode). Reads m (drop c.in-End.count c.args.bytes.now) items last) c.behind_item-self.ensures.leads next),
+    )
 
 pub returns-in-More : goal.returns-in-More
 returns-in-More c =

@@ -7,7 +7,7 @@ abbrev pub invariant-loop-parts : goal.invariant-loop-parts
 invariant-loop-parts l = record {
   within : l.at ≤ length l.bytes;
   goes_on : (items : List PartItem) (last : Mode) → Reads (mode_at l.self.state) (drop l.at l.bytes) items last
-    → Reads (mode_at l.initial.self.state) l.bytes (joined l.parts.items ++ items) last
+      → Reads (mode_at l.initial.self.state) l.bytes (joined l.parts.items ++ items) last;
 }
 
 abbrev pub decreases-loop-parts : goal.decreases-loop-parts

@@ -17,10 +17,14 @@ returns-in_ok-open-in-Whole c =
     let at : mode_at c.args.self.now.state ≡ in_head [] = ap mode_at c.requires.stands in
     let near : rank c.args.self.now.state ≡ 0 = ap rank c.requires.stands in
     let is = subst (λ (r : ReqHead). IsReqAnswer bytes (Ok r)) w.is c.requires.read in
-    let asked : Asked = record { method = w.method; target = w.target; framing = w.framing; close = w.close; expects = w.expects } in
-    (is.fits, omega (arith, is.fits, is.some, c.behind_head-self.ensures.low), opening asked, c.in_ok-open-in-Whole.ensures w.framing,
+    let asked : Asked = record { method = w.method; target = w.target; framing = w.framing; close = w.close; expects = w.expects } in (
+      is.fits,
+      omega (arith, is.fits, is.some, c.behind_head-self.ensures.low),
+      opening asked,
+      c.in_ok-open-in-Whole.ensures w.framing,
       λ items last next. whole_act _ bytes w.length asked at is items last
-        (subst (λ (m : Mode). Reads m (drop w.length bytes) items last) (c.behind_head-self.ensures.leads w.target w.expects) next))
+          (subst (λ (m : Mode). Reads m (drop w.length bytes) items last) (c.behind_head-self.ensures.leads w.target w.expects) next),
+    )
 
 pub returns-in_ok-self-in-Partial : goal.returns-in_ok-self-in-Partial
 returns-in_ok-self-in-Partial c =
