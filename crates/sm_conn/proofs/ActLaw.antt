@@ -5,13 +5,13 @@ use Rattle.std.proofs.lemmas.List.{append-nil, length-take, take_all}
 use Rattle.std.proofs.lemmas.Grind.{flat_map-append}
 use Rattle.sm_body.specs.declared.place.Place.{Place}
 use Rattle.sm_body.specs.declared.place.Place.TheVariants.{Ended, Failed}
-use Rattle.sm_body.specs.Places.{start, place_after, body_from, is_data, next_place}
+use Rattle.sm_body.specs.Places.{place_after, body_from, is_data, next_place}
 use Rattle.sm_model.specs.declared.cause.Cause.{Cause}
 use Rattle.sm_model.specs.declared.cause.Cause.TheVariants.{BadChunk}
 use Rattle.sm_head.specs.declared.asked.Asked.{Asked}
 use Rattle.sm_head.specs.Requests.{IsWaiting, IsRefused, IsHeadAt}
 use Rattle.sm_conn.specs.declared.part.Part.{Part}
-use Rattle.sm_conn.specs.Parts.{PartItem, got, posted, continued, byte, ended, bad, Mode, in_head, in_body, closed, behind_item, opening, behind_head, Reads, waiting, refused, whole, body, stopped, failed}
+use Rattle.sm_conn.specs.Parts.{PartItem, byte, ended, bad, Mode, in_head, in_body, closed, behind_item, opening, behind_head, Reads, waiting, refused, whole, body, stopped, failed}
 use Rattle.sm_conn.specs.Stands.{items_of, joined, mode_from, mode_at}
 use Rattle.sm_conn.specs.declared.conn.State.{State}
 use Rattle.sm_conn.specs.declared.conn.State.TheVariants.{Head, Body, Closed}

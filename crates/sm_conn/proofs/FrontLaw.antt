@@ -1,20 +1,20 @@
 -- What the front of the bytes gives, the bytes give.
 use Rattle.std.specs.Prelude.{suc, zero, Bool, Result, Ok, Err}
-use Rattle.std.proofs.Common.{◌≡◌, ◌≢◌, ℕ, ◌+◌, ◌-◌, ◌<◌, ◌≤◌, ◌⊎◌, List, [], ◌∷◌, ◌++◌, length, take, drop, refl, ap, ◌∙◌, sym, subst, arith, inl, inr, ⊎_elim, append_assoc, length-append, length-drop, take-append-drop}
-use Rattle.std.proofs.lemmas.List.{append-nil, take-append-le, take_all}
+use Rattle.std.proofs.Common.{◌≡◌, ◌≢◌, ℕ, ◌+◌, ◌-◌, ◌≤◌, ◌⊎◌, List, [], ◌∷◌, ◌++◌, length, take, drop, refl, ap, ◌∙◌, sym, subst, arith, inl, inr, ⊎_elim, append_assoc, length-append, length-drop, take-append-drop}
+use Rattle.std.proofs.lemmas.List.{append-nil}
 use Rattle.std.proofs.lemmas.Grind.{common_steps}
 use Rattle.httparse.specs.Grammar.{RequestHead, print_request, ReadsRequest, HasNoRequest}
 use Rattle.httparse.proofs.GrammarLemmas.{ReadsRequest-append, request_unique}
 use Rattle.sm_body.specs.declared.place.Place.{Place}
 use Rattle.sm_body.specs.declared.place.Place.TheVariants.{Ended, Failed}
-use Rattle.sm_body.specs.Places.{start, place_after, body_from, next_place, is_data}
+use Rattle.sm_body.specs.Places.{place_after, next_place}
 use Rattle.sm_head.specs.Heads.{IsHopeless}
 use Rattle.sm_model.specs.declared.cause.Cause.{Cause}
 use Rattle.sm_model.specs.declared.cause.Cause.TheVariants.{BadChunk}
 use Rattle.sm_head.specs.declared.asked.Asked.{Asked}
 use Rattle.sm_head.specs.Judged.{judged}
-use Rattle.sm_head.specs.Requests.{window, IsWaiting, IsRefused, IsHeadAt, IsTooLong}
-use Rattle.sm_conn.specs.Parts.{PartItem, byte, ended, bad, Mode, in_head, in_body, closed, behind_item, opening, behind_head, Reads, waiting, refused, whole, body, stopped, failed, shut}
+use Rattle.sm_head.specs.Requests.{window, IsWaiting, IsRefused}
+use Rattle.sm_conn.specs.Parts.{PartItem, ended, bad, Mode, in_head, in_body, behind_item, opening, behind_head, Reads, waiting, refused, whole, body, stopped, failed, shut}
 use Rattle.sm_conn.proofs.PartsLaw.{data_items, data_on, place_on, refused_on, hopeless_on}
 
 -- a front of a list that two splits give

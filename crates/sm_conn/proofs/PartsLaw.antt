@@ -1,6 +1,6 @@
 -- What a connection reads, piece after piece.
 use Rattle.std.proofs.Common.{◌≡◌, ℕ, ◌+◌, ◌≤◌, List, [], ◌∷◌, ◌++◌, length, take, refl, ap, ◌∙◌, sym, subst, arith, inl, inr, append_assoc, length-append}
-use Rattle.std.specs.Prelude.{map, drop, Bool, Result, Ok, Err, if◌then◌else◌, suc, zero}
+use Rattle.std.specs.Prelude.{map, drop, Bool, Result, Err, if◌then◌else◌, suc, zero}
 use Rattle.std.proofs.lemmas.List.{map-append}
 use Rattle.std.proofs.lemmas.List.{append-nil, take-append-le, drop-append-le}
 use Rattle.std.proofs.lemmas.Grind.{common_steps}
@@ -12,8 +12,8 @@ use Rattle.sm_head.specs.Heads.{IsHopeless}
 use Rattle.sm_model.specs.declared.cause.Cause.{Cause}
 use Rattle.sm_model.specs.declared.cause.Cause.TheVariants.{BadChunk}
 use Rattle.sm_head.specs.declared.asked.Asked.{Asked}
-use Rattle.sm_head.specs.Requests.{window, IsWaiting, IsRefused, IsHeadAt, IsTooLong}
-use Rattle.sm_conn.specs.Parts.{PartItem, byte, ended, bad, Mode, in_head, in_body, closed, behind_item, opening, behind_head, Reads, waiting, refused, whole, body, stopped, failed, shut}
+use Rattle.sm_head.specs.Requests.{window, IsWaiting, IsRefused, IsHeadAt}
+use Rattle.sm_conn.specs.Parts.{PartItem, byte, ended, bad, Mode, in_head, in_body, closed, opening, Reads, waiting, refused, whole, body, stopped, failed, shut}
 
 -- what is hopeless stays so
 pub hopeless_on : (xs more : List ℕ) → IsHopeless xs → IsHopeless (xs ++ more)

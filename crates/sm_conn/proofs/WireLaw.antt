@@ -1,14 +1,15 @@
 -- What parts give, part by part.
-use Rattle.std.proofs.Common.{◌≡◌, ℕ, ◌+◌, Bool, true, false, List, [], ◌∷◌, ◌++◌, length, Option, Some, None, refl, sym, ◌∙◌, ap, subst, append_assoc, if◌then◌else◌}
+use Rattle.std.proofs.Common.{◌≡◌, ℕ, Bool, true, false, List, [], ◌∷◌, ◌++◌, length, Option, Some, None, refl, sym, ◌∙◌, ap, append_assoc, if◌then◌else◌}
 use Rattle.std.specs.Prelude.{map}
 use Rattle.std.proofs.lemmas.List.{append-nil, map-append}
 use Rattle.sm_model.specs.declared.cause.Cause.{Cause}
 use Rattle.sm_model.specs.declared.cause.Refusal.{Refusal}
+use Rattle.sm_model.specs.declared.header.HeaderTrack.{HeaderTrack}
 use Rattle.sm_model.specs.Items.{Given}
-use Rattle.sm_model.specs.Body.{Outcome, body, body_end, cut_off, walk, behind, refused, IsFrontOf}
+use Rattle.sm_model.specs.Body.{Outcome, body, body_end, cut_off, walk, led_by, refused, IsFrontOf}
 use Rattle.sm_model.specs.declared.target.Target.{Target}
 use Rattle.sm_conn.specs.Parts.{PartItem, got, continued, posted, byte, ended, bad}
-use Rattle.sm_conn.specs.Wire.{WireItem, Continue, Get, Header, Frag, End, Refuse, shown, unplaced, pushed, wire, Left}
+use Rattle.sm_conn.specs.Wire.{WireItem, Continue, Get, End, Refuse, shown, unplaced, pushed, wire, Left}
 
 -- a common front is taken away
 pub same_rest : {A : Type 0} (xs ys zs : List A) → xs ++ ys ≡ xs ++ zs → ys ≡ zs
@@ -107,9 +108,9 @@ module _ (front : (headerless : Bool) (p q : List ℕ) → IsFrontOf (body heade
   refusal_stays (continued ∷ parts) b r is = ap (λ (s : Option Refusal). pushed (body false b) s []) is
   refusal_stays (posted ∷ parts) b r is = ap (λ (s : Option Refusal). pushed (body false b) s []) is
 
-  pub refused_left : (b bytes : List ℕ) (before : List Given) (r : Refusal) (parts : List PartItem) → body false (b ++ bytes) ≡ behind ((body false b).items ++ before) (refused r)
+  pub refused_left : (b bytes : List ℕ) (before : List Given) (header : List HeaderTrack) (r : Refusal) (parts : List PartItem) → body false (b ++ bytes) ≡ led_by ((body false b).items ++ before) (refused header r)
       → Left (Some b) (map byte bytes ++ parts) (map shown before ++ Refuse r ∷ [])
-  refused_left b bytes before r parts is =
+  refused_left b bytes before header r parts is =
       let items : (body false (b ++ bytes)).items ≡ (body false b).items ++ before = ap (λ (o : Outcome). o.items) is ∙ append-nil ((body false b).items ++ before) in
       bytes_left b bytes before parts (Refuse r ∷ []) items (refusal_stays parts (b ++ bytes) r (ap (λ (o : Outcome). o.refusal) is))
 

@@ -1,5 +1,5 @@
 -- What the bytes that a connection has sent give: requests, and the headers and fragments of its pushes. RFC 9112, section 9.3; [MS-SSTR] 2.2.4.
-use Rattle.std.specs.Prelude.{◌≡◌, ℕ, Bool, true, false, List, [], ◌∷◌, ◌++◌, map, Option, Some, None, if◌then◌else◌}
+use Rattle.std.specs.Prelude.{◌≡◌, ℕ, Bool, false, List, [], ◌∷◌, ◌++◌, map, Option, Some, None, if◌then◌else◌}
 use Rattle.sm_model.specs.declared.track.Track.{Track}
 use Rattle.sm_model.specs.declared.fragment.Fragment.{Fragment}
 use Rattle.sm_model.specs.declared.cause.Cause.{Cause}
@@ -7,7 +7,7 @@ use Rattle.sm_model.specs.declared.cause.Refusal.{Refusal}
 use Rattle.sm_model.specs.declared.target.Target.{Target}
 use Rattle.sm_model.specs.Items.{Given}
 use Rattle.sm_model.specs.Items as given
-use Rattle.sm_model.specs.Body.{Outcome, body, body_end}
+use Rattle.sm_model.specs.Body.{Outcome, body, body_end, IsFrontOf}
 use Rattle.sm_conn.specs.Parts.{PartItem, got, posted, continued, byte, ended, bad, IsParts}
 
 pub data WireItem : Type 0 where
@@ -56,3 +56,7 @@ IsWire bytes items = (parts : List PartItem) × IsParts bytes parts × (items �
 abbrev pub Left : Option (List ℕ) → List PartItem → List WireItem → Type 0
 Left None parts items = wire None parts ≡ items
 Left (Some b) parts items = wire (Some b) parts ≡ map shown (body false b).items ++ items
+
+-- What a front of the bytes of a push gives begins what they give. This is a law of push bodies, and the laws on `wire` stand on it.
+abbrev pub BodiesGoOn : Type 0
+BodiesGoOn = (headerless : Bool) (p q : List ℕ) → IsFrontOf (body headerless p) (body headerless (p ++ q))

@@ -1,10 +1,10 @@
 -- A head in the window is a head of the bytes.
-use Rattle.std.proofs.Common.{◌≡◌, ◌≢◌, ℕ, ◌+◌, ◌-◌, ◌<◌, ◌≤◌, List, [], ◌∷◌, ◌++◌, length, take, drop, refl, ap, ◌∙◌, sym, subst, arith, append_assoc, length-append, length-drop, take-append-drop, ⊎_elim, inl, inr, Ok, Err}
+use Rattle.std.proofs.Common.{◌≡◌, ℕ, ◌<◌, ◌≤◌, List, [], ◌∷◌, ◌++◌, length, take, drop, refl, ap, ◌∙◌, sym, subst, arith, append_assoc, length-append, take-append-drop, ⊎_elim, inl, inr, Ok, Err}
 use Rattle.std.specs.Prelude.{map, min, Result}
 use Rattle.std.proofs.lemmas.Bool.{cases_lt}
 use Rattle.std.proofs.lemmas.List.{drop-append-le, take-append-le, length-take, take_all}
-use Rattle.httparse.specs.Grammar.{RequestHead, print_request, ReadsRequest, HasNoRequest}
-use Rattle.httparse.specs.Spans.{IsRequestAt, IsRequestWithin, span_bytes, header_bytes, name_and_value}
+use Rattle.httparse.specs.Grammar.{RequestHead, print_request, HasNoRequest}
+use Rattle.httparse.specs.Spans.{IsRequestAt, IsRequestWithin, span_bytes, name_and_value}
 use Rattle.httparse.specs.declared.spans.HeaderSpan.{HeaderSpan}
 use Rattle.httparse.specs.declared.spans.RequestSpans.{RequestSpans}
 use Rattle.sm_model.specs.declared.cause.Cause.TheVariants.{BadHead, HeadTooLarge}
@@ -14,7 +14,7 @@ use Rattle.sm_head.specs.declared.request.ReqHead.{ReqHead}
 use Rattle.sm_head.specs.declared.request.ReqHead.TheVariants.{Whole, Partial}
 use Rattle.sm_head.specs.Heads.{IsHopeless}
 use Rattle.sm_head.specs.Judged.{judged_by, judged, Tells}
-use Rattle.sm_head.specs.Requests.{window, IsHeadAt, IsRefused, IsTooLong, judged_spans, IsSpansAnswer, IsReqAnswer}
+use Rattle.sm_head.specs.Requests.{window, IsHeadAt, IsRefused, judged_spans, IsSpansAnswer, IsReqAnswer}
 use Rattle.sm_head.proofs.HeadLaw.{head_ends}
 
 -- what a slice of a `Vec` wrote is what the `Vec` holds

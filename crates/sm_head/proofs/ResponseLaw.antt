@@ -1,20 +1,16 @@
 -- Reply heads in the window, and their lengths.
-use Rattle.std.proofs.Common.{◌≡◌, ◌≢◌, ℕ, ◌+◌, ◌-◌, ◌*◌, ◌<◌, ◌≤◌, List, [], ◌∷◌, ◌++◌, length, take, drop, refl, ap, ◌∙◌, sym, subst, arith, append_assoc, length-append, take-append-drop, ⊎_elim, inl, inr, lit≤, Ok, Err, Some, None, Option}
+use Rattle.std.proofs.Common.{◌≡◌, ℕ, ◌+◌, ◌*◌, ◌<◌, ◌≤◌, List, [], ◌∷◌, ◌++◌, length, take, drop, ap, ◌∙◌, sym, subst, arith, append_assoc, length-append, take-append-drop, inl, inr, Ok, Err, Some}
 use Rattle.std.specs.Prelude.{map, min, Result}
-use Rattle.std.specs.List.{flat_map}
-use Rattle.std.proofs.lemmas.Bool.{cases_lt}
 use Rattle.std.proofs.lemmas.List.{drop-append-le, length-take, take_all, append-nil}
-use Rattle.httparse.specs.Grammar.{LineEnd, crlf, lf, print_end, print_field, print_section, ResponseHead, IsResponseHead, print_response, ReadsResponse, HasNoResponse, NeverHasResponse, MayBecomeResponse, status_code}
+use Rattle.httparse.specs.Grammar.{ResponseHead, IsResponseHead, print_response, HasNoResponse, NeverHasResponse, MayBecomeResponse}
 use Rattle.httparse.specs.Spans.{IsResponseAt, IsResponseWithin, ResponseExceeds, header_bytes, name_and_value}
 use Rattle.httparse.specs.declared.spans.HeaderSpan.{HeaderSpan}
 use Rattle.httparse.specs.declared.spans.ResponseSpans.{ResponseSpans}
-use Rattle.sm_model.specs.declared.framing.Framing.{Framing}
 use Rattle.sm_head.specs.declared.response.RespHead.{RespHead}
 use Rattle.sm_head.specs.declared.response.RespHead.TheVariants.{Whole, Partial}
 use Rattle.sm_head.specs.declared.response.RespFault.{RespFault}
 use Rattle.sm_head.specs.declared.response.RespFault.TheVariants as fault
-use Rattle.sm_head.specs.Requests.{window}
-use Rattle.sm_head.specs.Responses.{reply_by, answered, IsReplyAt, IsUnfinished, IsReplySpans, IsRespAnswer}
+use Rattle.sm_head.specs.Responses.{reply_by, IsReplyAt, IsUnfinished, IsReplySpans, IsRespAnswer}
 use Rattle.sm_head.proofs.HeadLaw.{fields_length, end_length}
 use Rattle.sm_head.proofs.RequestLaw.{window_is}
 

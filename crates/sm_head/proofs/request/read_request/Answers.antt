@@ -1,6 +1,6 @@
-use Rattle.std.proofs.Common.{◌≡◌, ◌∙◌, ap, arith, List, take, length, subst, sym}
+use Rattle.std.proofs.Common.{◌≡◌, ◌∙◌, arith, List, take, subst}
 use Rattle.httparse.specs.declared.spans.HeaderSpan.{HeaderSpan}
-use Rattle.sm_head.specs.Requests.{IsSpansAnswer, IsReqAnswer}
+use Rattle.sm_head.specs.Requests.{IsSpansAnswer}
 use Rattle.sm_head.proofs.RequestLaw.{written, whole_head, spans_answer, refused_bad, refused_full}
 use Rattle.sm_head.proofs.request.read_request.Goals as goal
 

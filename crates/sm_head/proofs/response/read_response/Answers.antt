@@ -1,9 +1,8 @@
-use Rattle.std.proofs.Common.{◌≡◌, ◌∙◌, ap, arith, List, take, length, subst, refl, Err, Ok, lit≤}
-use Rattle.std.proofs.lemmas.Grind.{common_steps}
+use Rattle.std.proofs.Common.{◌≡◌, ◌∙◌, ap, arith, List, take, subst, Err}
 use Rattle.std.proofs.lemmas.List.{length-take}
 use Rattle.httparse.specs.declared.Error.{Error}
 use Rattle.httparse.specs.declared.spans.HeaderSpan.{HeaderSpan}
-use Rattle.sm_head.specs.Responses.{IsReplySpans, IsRespAnswer}
+use Rattle.sm_head.specs.Responses.{IsReplySpans}
 use Rattle.sm_head.proofs.RequestLaw.{written}
 use Rattle.sm_head.proofs.ResponseLaw.{never_full, whole_reply, spans_reply, long_reply, never_reply}
 use Rattle.sm_head.proofs.response.read_response.Goals as goal

@@ -1,10 +1,10 @@
-use Rattle.std.proofs.Common.{◌≡◌, ◌≢◌, ◌∙◌, ap, sym, subst, arith, true, List, ℕ, [], ◌++◌, drop, refl}
+use Rattle.std.proofs.Common.{◌≡◌, ◌≢◌, ◌∙◌, ap, sym, subst, arith, true, List, [], ◌++◌, drop, refl}
 use Rattle.std.proofs.lemmas.List.{append-nil}
 use Rattle.sm_body.specs.declared.place.Place.{Place}
 use Rattle.sm_body.specs.declared.place.Place.TheVariants.{Failed}
 use Rattle.sm_conn.specs.declared.conn.State.{State}
 use Rattle.sm_conn.specs.Live.{is_live, hasnt_failed}
-use Rattle.sm_conn.specs.Parts.{PartItem, Mode, in_head, in_body, shut, Reads}
+use Rattle.sm_conn.specs.Parts.{PartItem, Mode, in_body, shut, Reads}
 use Rattle.sm_conn.specs.Stands.{mode_at, mode_from, rank}
 use Rattle.sm_conn.proofs.ActLaw.{joined_push, skip_act, body_act, end_act, more_act, bad_act}
 use Rattle.sm_conn.proofs.conn.Conn.act.Goals as goal

@@ -1,4 +1,4 @@
-use Rattle.std.proofs.Common.{◌≡◌, ap, subst, List, [], Err}
+use Rattle.std.proofs.Common.{◌≡◌, ap, subst, [], Err}
 use Rattle.sm_head.specs.declared.asked.HeadFault.{HeadFault}
 use Rattle.sm_head.specs.Requests.{IsReqAnswer}
 use Rattle.sm_conn.specs.Parts.{in_head}

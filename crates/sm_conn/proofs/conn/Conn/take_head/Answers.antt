@@ -1,11 +1,10 @@
-use Rattle.std.proofs.Common.{◌≡◌, ◌∙◌, ap, sym, subst, arith, List, [], ◌++◌, drop, refl, Ok}
+use Rattle.std.proofs.Common.{◌≡◌, ap, sym, subst, arith, [], drop, Ok}
 use Rattle.std.proofs.lemmas.List.{append-nil}
-use Rattle.std.specs.Prelude.{Result}
 use Rattle.sm_head.specs.declared.asked.Asked.{Asked}
 use Rattle.sm_head.specs.declared.request.ReqHead.{ReqHead}
 use Rattle.sm_head.specs.Requests.{IsReqAnswer}
 use Rattle.sm_conn.specs.declared.conn.State.{State}
-use Rattle.sm_conn.specs.Parts.{PartItem, Mode, in_head, Reads, opening}
+use Rattle.sm_conn.specs.Parts.{Mode, in_head, Reads, opening}
 use Rattle.sm_conn.specs.Stands.{mode_at, mode_from, rank}
 use Rattle.sm_conn.proofs.ActLaw.{whole_act, partial_act}
 use Rattle.sm_conn.proofs.conn.Conn.take_head.Goals as goal
