@@ -2,6 +2,7 @@
 
 PROGRAM := crates/smooth/out/smooth
 BENCH := crates/fragment_bench/out/fragment_bench
+CONN := crates/conn_bench/out/conn_bench
 
 .PHONY: run test build check bench clean
 
@@ -27,6 +28,8 @@ bench: build
 	cd crates/fragment_bench && rt run -- copy 1 1 1 > /dev/null
 	bash scripts/bench_push $(PROGRAM)
 	bash scripts/bench_fragment $(BENCH)
+	cd crates/conn_bench && rt run -- copy 1 1 > /dev/null
+	bash scripts/bench_conn $(CONN)
 
 clean:
 	rm -rf crates/*/out

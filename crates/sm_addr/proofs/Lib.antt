@@ -1,0 +1,4 @@
+pub mod CutLaw
+pub mod Escapes
+pub mod Without
+pub mod RoundTrip

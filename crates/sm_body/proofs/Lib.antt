@@ -1,0 +1,5 @@
+pub mod Runs
+pub mod LineLaw
+pub mod TextLaw
+pub mod BodyLaw
+pub mod PlainLaw

@@ -1,0 +1,4 @@
+pub mod PartsLaw
+pub mod ActLaw
+pub mod FrontLaw
+pub mod WireLaw

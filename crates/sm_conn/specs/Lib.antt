@@ -1,0 +1,4 @@
+pub mod Parts
+pub mod Live
+pub mod Stands
+pub mod Wire

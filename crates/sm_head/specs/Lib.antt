@@ -1,0 +1,7 @@
+pub mod Fields
+pub mod Lengths
+pub mod Heads
+pub mod Judged
+pub mod Requests
+pub mod Responses
+pub mod Replies

@@ -1,0 +1,18 @@
+//! Heads of HTTP/1.x messages: what a request asks or why it is refused, and replies both ways (RFC 9110, RFC 9112).
+#![tactic(auto)]
+
+mod asked;
+mod fields;
+mod heads;
+pub mod law;
+mod length;
+mod reply;
+mod request;
+mod response;
+#[cfg(test)]
+mod tests;
+
+pub use asked::{HeadFault, Verb};
+pub use reply::{CONTINUE, Content, NO_MEMORY, put_response};
+pub use request::{ReqHead, read_request};
+pub use response::{RespFault, RespHead, read_response};
