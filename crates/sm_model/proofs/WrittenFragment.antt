@@ -54,7 +54,7 @@ moof_text seq id f ahead le few =
 abbrev pub sample_text : List Sample → List ℕ
 sample_text ss = flat_map (λ s. s.bytes) ss
 
-pub mdat_text : (ss : List Sample) → sample_bytes ss ≤ 16777216 → IsText (8 + sample_bytes ss) (codes "mdat") (sample_text ss)
+pub mdat_text : (ss : List Sample) → sample_bytes ss ≤ 67108864 → IsText (8 + sample_bytes ss) (codes "mdat") (sample_text ss)
 mdat_text ss le = record { size_is = omega (arith, length-flat_map (λ s. s.bytes) ss); fits = omega (arith, le); kind_is = refl }
 
 -- each of the two texts is one whole box

@@ -48,7 +48,7 @@ pub enum TopBox {
 }
 
 /// What is done with a box, as its head says. Sizes are in bytes and count the head.
-#[derive(Clone, Copy, Debug, PartialEq, Eq)]
+#[derive(Debug, Drop, PartialEq, Eq)]
 pub enum BoxDecision {
     /// More of its head is needed.
     Wait,

@@ -15,7 +15,7 @@ use std::alloc::Global;
 use thiserror::Error;
 
 /// Why a fragment was not read.
-#[derive(Clone, Copy, Debug, PartialEq, Eq, Error)]
+#[derive(Debug, Drop, PartialEq, Eq, Error)]
 pub enum MoofFault {
     /// The first cause that holds, in the order in which they are listed with the definition of a fragment.
     #[error("{0}")]

@@ -37,7 +37,7 @@ within_limited : (sort : TopBox) (size counted most : ℕ) → (counted ≤ most
 within_limited sort size counted most le = cond_both (ltb most counted) _ _ IsLimited (λ _. tt) (λ e. le (ltb-false _ _ e))
 
 behind_limited : (sort : TopBox) (head size : ℕ) → head ≤ 16 → IsLimited (behind_moof sort head size)
-behind_limited sorts.Mdat head size h = within_limited sorts.Mdat size (size - head) 16777216 (λ le. omega arith)
+behind_limited sorts.Mdat head size h = within_limited sorts.Mdat size (size - head) 67108864 (λ le. omega arith)
 behind_limited sorts.Moof head size h = tt
 behind_limited sorts.Moov head size h = tt
 behind_limited sorts.Manifest head size h = tt
@@ -100,14 +100,14 @@ wait_short s b e = wait_at s b (head_of b) refl (sym (decision_is s b) ∙ e)
 
 -- ---- all that is held
 
-most_le : (sort : TopBox) → most_of sort ≤ 16777232
+most_le : (sort : TopBox) → most_of sort ≤ 67108880
 most_le sorts.Moof = omega arith
 most_le sorts.Mdat = omega arith
 most_le sorts.Moov = omega arith
 most_le sorts.Manifest = omega arith
 most_le sorts.Other = omega arith
 
-begun_at : (s : PushState) (b : List ℕ) (d : BoxDecision) → decision s b ≡ d → IsOpen (length b) d → length b < 16777232
+begun_at : (s : PushState) (b : List ℕ) (d : BoxDecision) → decision s b ≡ d → IsOpen (length b) d → length b < 67108880
 begun_at s b Wait e o = omega (arith, wait_short s b e)
 begun_at s b (Refuse cause) e o = absurd o
 begun_at s b (Pass size) e o = absurd o
@@ -127,6 +127,6 @@ pending_short : (moof : Option PendingMoof) → AreBoxes moof → pending_bytes 
 pending_short None h = omega arith
 pending_short (Some moof) h = h.1
 
-pub held_is_little : (k : Kept) → IsPartial k → held_bytes k < 19922960
+pub held_is_little : (k : Kept) → IsPartial k → held_bytes k < 70254608
 held_is_little k p =
     omega (arith, begun_at k.state k.held (decision k.state k.held) refl p.due, gathered_short k.state.stage p.boxes.stage, pending_short k.state.moof p.boxes.moof)

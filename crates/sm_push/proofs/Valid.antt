@@ -93,7 +93,7 @@ unfolding trun_fits
 fits_eight b e = (and_parts (leb 8 (length b)) (leb (version b) 1 && eqb (length b) (rows_at (number32_at 0 b) + number32_at 4 b * row_len (number32_at 0 b))) e).0
 
 -- a fragment that no cause refuses
-judged_valid : (d : Defaults) (m md : List ℕ) (trafs : Found) (t : Traf) (track : HeaderTrack) → first_cause (frag_lines trafs t m md (run_of d t)) ≡ None → length (box_of md).body ≤ 16777216
+judged_valid : (d : Defaults) (m md : List ℕ) (trafs : Found) (t : Traf) (track : HeaderTrack) → first_cause (frag_lines trafs t m md (run_of d t)) ≡ None → length (box_of md).body ≤ 67108864
     → IsValid (named track (raw_of (mdat_rest m md (run_of d t)) (run_of d t)))
 unfolding run_of raw_of
 judged_valid d m md trafs t track e short =
@@ -113,26 +113,26 @@ judged_valid d m md trafs t track e short =
     }
 
 judged_at : (d : Defaults) (m md : List ℕ) (trafs : Found) (t : Traf) (raw : RawFragment) (track : HeaderTrack) (o : Option Cause) → first_cause (frag_lines trafs t m md (run_of d t)) ≡ o
-    → option_map_or (λ c. Err c) o (Ok (raw_of (mdat_rest m md (run_of d t)) (run_of d t))) ≡ Ok raw → length (box_of md).body ≤ 16777216 → IsValid (named track raw)
+    → option_map_or (λ c. Err c) o (Ok (raw_of (mdat_rest m md (run_of d t)) (run_of d t))) ≡ Ok raw → length (box_of md).body ≤ 67108864 → IsValid (named track raw)
 judged_at d m md trafs t raw track (Some c) f e short = absurd cc
 judged_at d m md trafs t raw track None f e short =
     let same : raw_of (mdat_rest m md (run_of d t)) (run_of d t) ≡ raw = cc in
     subst (λ (r : RawFragment). IsValid (named track r)) same (judged_valid d m md trafs t track f short)
 
 traf_at : (d : Defaults) (m md : List ℕ) (trafs : Found) (raw : RawFragment) (track : HeaderTrack) (o : Option (List Box))
-    → option_map_or (λ ys. judged_frag d m md trafs (traf_of ys)) o (Err BadBox) ≡ Ok raw → length (box_of md).body ≤ 16777216 → IsValid (named track raw)
+    → option_map_or (λ ys. judged_frag d m md trafs (traf_of ys)) o (Err BadBox) ≡ Ok raw → length (box_of md).body ≤ 67108864 → IsValid (named track raw)
 unfolding judged_frag
 traf_at d m md trafs raw track None e short = absurd cc
 traf_at d m md trafs raw track (Some ys) e short = judged_at d m md trafs (traf_of ys) raw track _ refl e short
 
 moof_at : (d : Defaults) (m md : List ℕ) (raw : RawFragment) (track : HeaderTrack) (o : Option (List Box))
-    → option_map_or (λ xs. frag_in d m md (found (bodies (codes "traf") xs))) o (Err BadBox) ≡ Ok raw → length (box_of md).body ≤ 16777216 → IsValid (named track raw)
+    → option_map_or (λ xs. frag_in d m md (found (bodies (codes "traf") xs))) o (Err BadBox) ≡ Ok raw → length (box_of md).body ≤ 67108864 → IsValid (named track raw)
 unfolding frag_in
 moof_at d m md raw track None e short = absurd cc
 moof_at d m md raw track (Some xs) e short = traf_at d m md (found (bodies (codes "traf") xs)) raw track (boxes (found (bodies (codes "traf") xs)).first) e short
 
 -- what a moof and an mdat within the limit give
-pub frag_valid : (d : Defaults) (m md : List ℕ) (raw : RawFragment) (track : HeaderTrack) → frag d m md ≡ Ok raw → length (box_of md).body ≤ 16777216 → IsValid (named track raw)
+pub frag_valid : (d : Defaults) (m md : List ℕ) (raw : RawFragment) (track : HeaderTrack) → frag d m md ≡ Ok raw → length (box_of md).body ≤ 67108864 → IsValid (named track raw)
 unfolding frag
 frag_valid d m md raw track e short = moof_at d m md raw track (boxes (box_of m).body) e short
 
@@ -142,10 +142,10 @@ abbrev LimitIs : ℕ → BoxDecision → Type 0
 LimitIs counted Wait = Unit {0}
 LimitIs counted (Refuse cause) = Unit {0}
 LimitIs counted (Pass size) = Unit {0}
-LimitIs counted (Take sort size) = counted ≤ 16777216
+LimitIs counted (Take sort size) = counted ≤ 67108864
 
 behind_limit : (sort : TopBox) (head size : ℕ) → LimitIs (size - head) (behind_moof sort head size)
-behind_limit sorts.Mdat head size = cond_both (ltb 16777216 (size - head)) _ _ (LimitIs (size - head)) (λ _. tt) (λ e. ltb-false _ _ e)
+behind_limit sorts.Mdat head size = cond_both (ltb 67108864 (size - head)) _ _ (LimitIs (size - head)) (λ _. tt) (λ e. ltb-false _ _ e)
 behind_limit sorts.Moof head size = tt
 behind_limit sorts.Moov head size = tt
 behind_limit sorts.Manifest head size = tt
@@ -164,17 +164,17 @@ body_short : (b : List ℕ) → length (box_of b).body ≤ box_len b - head_len 
 unfolding box_of
 body_short b = omega (arith, length-take (box_len b - head_len b) (drop (head_len b) b))
 
-limit_at : (s : PushState) (b : List ℕ) (sort : TopBox) (size : ℕ) (hd : Head) → head_of b ≡ hd → by_head s b hd ≡ Take sort size → is_some s.moof ≡ true → size ≤ length b → length (box_of (take size b)).body ≤ 16777216
+limit_at : (s : PushState) (b : List ℕ) (sort : TopBox) (size : ℕ) (hd : Head) → head_of b ≡ hd → by_head s b hd ≡ Take sort size → is_some s.moof ≡ true → size ≤ length b → length (box_of (take size b)).body ≤ 67108864
 limit_at s b sort size heads.Short read e some le = absurd cc
 limit_at s b sort size heads.Bad read e some le = absurd cc
 limit_at s b sort size heads.OpenEnded read e some le = absurd cc
 limit_at s b sort size (heads.Whole kind head n) read e some le =
     let same : size ≡ n = subst (SizeIs n) e (kind_size s b kind head n) in
-    let within : n - head ≤ 16777216 = subst (LimitIs (n - head)) e (kind_limit s b kind head n some) in
+    let within : n - head ≤ 67108864 = subst (LimitIs (n - head)) e (kind_limit s b kind head n some) in
     let w = whole_is (take size b) kind head n (subst (λ (k : ℕ). head_of (take k b) ≡ heads.Whole kind head n) (sym same) (head_take b kind head n read (omega arith))) in
     omega (arith, body_short (take size b), w.head_is, w.size_is, within)
 
-limit : (s : PushState) (b : List ℕ) (sort : TopBox) (size : ℕ) → decision s b ≡ Take sort size → is_some s.moof ≡ true → size ≤ length b → length (box_of (take size b)).body ≤ 16777216
+limit : (s : PushState) (b : List ℕ) (sort : TopBox) (size : ℕ) → decision s b ≡ Take sort size → is_some s.moof ≡ true → size ≤ length b → length (box_of (take size b)).body ≤ 67108864
 limit s b sort size e some le = limit_at s b sort size (head_of b) refl (sym (decision_is s b) ∙ e) some le
 
 -- ---- all that a push gives
@@ -211,11 +211,11 @@ manifest_valid headers s b (Gathering manifest (Some moov)) =
 manifest_valid headers s b (Gathering manifest None) = tt
 manifest_valid headers s b (Complete tracks) = tt
 
-mdat_valid : (s : PushState) (b : List ℕ) (moof : Option PendingMoof) → (is_some moof ≡ true → length (box_of b).body ≤ 16777216) → StepIsValid (mdat_taken moof s b)
+mdat_valid : (s : PushState) (b : List ℕ) (moof : Option PendingMoof) → (is_some moof ≡ true → length (box_of b).body ≤ 67108864) → StepIsValid (mdat_taken moof s b)
 mdat_valid s b None h = tt
 mdat_valid s b (Some moof) h = step_valid s (frag moof.track.defaults moof.bytes b) moof (length b) (λ raw e. frag_valid moof.track.defaults moof.bytes b raw moof.track e (h refl))
 
-taken_valid : HeadersAreValid → (s : PushState) (b : List ℕ) (sort : TopBox) → (is_some s.moof ≡ true → length (box_of b).body ≤ 16777216) → StepIsValid (taken s sort b)
+taken_valid : HeadersAreValid → (s : PushState) (b : List ℕ) (sort : TopBox) → (is_some s.moof ≡ true → length (box_of b).body ≤ 67108864) → StepIsValid (taken s sort b)
 unfolding taken
 taken_valid headers s b sorts.Moof short = moof_valid s b _
 taken_valid headers s b sorts.Mdat short = mdat_valid s b s.moof short

@@ -7,10 +7,10 @@ use Rattle.sm_model.specs.declared.push.TopBox.{TopBox}
 use Rattle.sm_model.specs.declared.push.TopBox.TheVariants.{Moof, Mdat, Moov, Manifest, Other}
 use Rattle.sm_push.specs.declared.kept.Kept.{Kept}
 
--- the greatest box of a sort that is read; an mdat has at most 16,777,216 bytes behind a head of 16
+-- the greatest box of a sort that is read; an mdat has at most 67,108,864 bytes behind a head of 16
 abbrev pub most_of : TopBox → ℕ
 most_of Moof = 2097152
-most_of Mdat = 16777232
+most_of Mdat = 67108880
 most_of Moov = 1048576
 most_of Manifest = 1048576
 most_of Other = 0

@@ -17,7 +17,7 @@ use sm_smil::{SmilFault, live_manifest_has_one_answer, read_live_manifest};
 use std::alloc::Global;
 
 /// Why a header was not read.
-#[derive(Clone, Copy, Debug, PartialEq, Eq)]
+#[derive(Debug, Drop, PartialEq, Eq)]
 pub enum HeaderFault {
     Refused(Cause),
     NoMemory,

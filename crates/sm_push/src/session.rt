@@ -90,8 +90,8 @@ impl Push {
         ensures answers { (headerless : Bool) (b : List ℕ) → Stands headerless self.old b → Answers headerless b piece.now self.new result }
         ensures failed { IsErrOf result PushFault.Failed ↔ IsTrue self.old.failed }
         ensures fails { OnErr result (IsTrue self.new.failed) }
-        // An mdat of 16 MiB and its head, a moof of 2 MiB, and one box of a header that is not complete, of 1 MiB.
-        ensures holds { OnOk result (held_bytes self.new.kept < 19922960) }
+        // An mdat of 64 MiB and its head, a moof of 2 MiB, and one box of a header that is not complete, of 1 MiB.
+        ensures holds { OnOk result (held_bytes self.new.kept < 70254608) }
     {
         if self.failed {
             return Err(PushFault::Failed);

@@ -35,7 +35,7 @@ fn append_tfhd(out: &mut Vec<u8>, id: u32) -> Result<(), NoMemory>
 }
 
 fn append_row(out: &mut Vec<u8>, sample: &Sample) -> Result<(), NoMemory>
-    requires { length sample.now.bytes ≤ 16777216 }
+    requires { length sample.now.bytes ≤ 67108864 }
     ensures { OnOk result (out.new.items ≡ out.old.items ++ row sample.now) }
 {
     append_u32(out, sample.duration)?;
@@ -45,7 +45,7 @@ fn append_row(out: &mut Vec<u8>, sample: &Sample) -> Result<(), NoMemory>
 }
 
 fn append_rows(out: &mut Vec<u8>, samples: &[Sample]) -> Result<(), NoMemory>
-    requires { sample_bytes samples.now ≤ 16777216 }
+    requires { sample_bytes samples.now ≤ 67108864 }
     ensures { OnOk result (out.new.items ≡ out.old.items ++ flat_map row samples.now) }
 {
     for sample in samples {
@@ -61,7 +61,7 @@ fn append_trun(
     samples: &[Sample],
 ) -> Result<(), NoMemory>
     requires few { length samples.now ≤ 65536 }
-    requires short { sample_bytes samples.now ≤ 16777216 }
+    requires short { sample_bytes samples.now ≤ 67108864 }
     ensures { OnOk result (out.new.items ≡ out.old.items ++ trun start signed samples.now) }
 {
     let count = samples.len() as u32;

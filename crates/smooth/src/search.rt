@@ -128,7 +128,7 @@ impl Search {
         ensures asked { (self.new.track ≡ self.old.track) × (self.new.time ≡ self.old.time) × (self.new.found ≡ self.old.found) × (self.new.count ≡ self.old.count) }
     {
         if self.refusal.is_some() {
-            return Ok(self.refusal);
+            return Ok(self.refusal.take());
         }
         match self.push.end() {
             Ok(()) => Ok(None),
