@@ -1,0 +1,158 @@
+use crate::{Added, Catalog, Checked, Judged};
+use sm_model::{Address, Bytes, Channel, Kind, Name, Params, Track};
+use std::alloc::Global;
+use std::test::Fail;
+
+const SECOND: u64 = 10_000_000;
+
+fn track(alloc: Global, kind: Kind, name: &[u8], bitrate: u32) -> Result<Track, Fail> {
+    Ok(Track {
+        kind,
+        name: Name::read(alloc, name)?,
+        bitrate,
+        timescale: 10_000_000,
+        fourcc: Bytes::from_slice(alloc, b"")?,
+        private: Bytes::from_slice(alloc, b"")?,
+        numbers: Params {
+            width: None,
+            height: None,
+            tag: None,
+            channels: None,
+            rate: None,
+            bits: None,
+            packet: None,
+        },
+    })
+}
+
+// Video in two qualities, and audio.
+fn channel(alloc: Global) -> Result<Channel, Fail> {
+    let mut tracks = Vec::new(alloc);
+    tracks.push(track(alloc, Kind::Video, b"video", 350_000)?)?;
+    tracks.push(track(alloc, Kind::Video, b"video", 700_000)?)?;
+    tracks.push(track(alloc, Kind::Audio, b"audio", 64_000)?)?;
+    Ok(Channel::from_vec(tracks))
+}
+
+fn empty(alloc: Global) -> Result<Catalog, Fail> {
+    let channel = channel(alloc)?;
+    if !channel.is_valid() {
+        return Err("the channel is not valid".into());
+    }
+    Ok(Catalog::new(alloc, channel)?)
+}
+
+fn address(alloc: Global, stream: &[u8], bitrate: u32, time: u64) -> Result<Address, Fail> {
+    Ok(Address {
+        stream: Name::read(alloc, stream)?,
+        bitrate,
+        time,
+    })
+}
+
+fn add(catalog: &mut Catalog, at: &Address, duration: u64, place: u64) -> Result<(), Fail> {
+    if duration == 0 || duration > 1 << 62 || at.time >= 1 << 62 {
+        return Err("no span".into());
+    }
+    catalog.reserve(at)?;
+    match catalog.judge(at, duration) {
+        Judged::New => catalog.add(at, duration, place),
+        _ => return Err("not new".into()),
+    }
+    Ok(())
+}
+
+#[test]
+fn late_fragments_fill_holes(rt: HostRuntime) -> Result<(), Fail> {
+    let alloc = rt.alloc();
+    let mut catalog = empty(alloc)?;
+    let low = |time| address(alloc, b"video", 350_000, time);
+    let high = |time| address(alloc, b"video", 700_000, time);
+    add(&mut catalog, &low(0)?, 2 * SECOND, 1)?;
+    add(&mut catalog, &low(4 * SECOND)?, 2 * SECOND, 2)?;
+    let table: [(Address, u64, Judged, &str); 8] = [
+        (low(0)?, 2 * SECOND, Judged::Known { place: 1 }, "again"),
+        (high(0)?, 2 * SECOND, Judged::New, "another quality"),
+        (high(0)?, SECOND, Judged::Clash { kept: 2 * SECOND }, "another duration"),
+        (low(2 * SECOND)?, 2 * SECOND, Judged::New, "the hole"),
+        (low(2 * SECOND)?, 3 * SECOND, Judged::Overlap { end: 6 * SECOND }, "too long"),
+        (low(SECOND)?, SECOND, Judged::Overlap { end: 2 * SECOND }, "inside the first"),
+        (low(SECOND)?, 2 * SECOND, Judged::Overlap { end: 2 * SECOND }, "over its end"),
+        (address(alloc, b"sub", 1, 0)?, SECOND, Judged::NotDeclared, "no such stream"),
+    ];
+    for (at, duration, verdict, row) in &table {
+        assert_eq!(rt; catalog.judge(at, *duration), *verdict, "{row}");
+    }
+    let video = Name::read(alloc, b"video")?;
+    assert_eq!(rt; catalog.times_len(&video), 2);
+    assert_eq!(rt; catalog.listed_len(&video), 0);
+    for (i, time) in [4, 0, 2].into_iter().enumerate() {
+        add(&mut catalog, &high(time * SECOND)?, 2 * SECOND, 3 + i as u64)?;
+    }
+    assert!(rt; catalog.has_time(&low(2 * SECOND)?));
+    assert!(rt; !catalog.has_time(&low(SECOND)?));
+    assert_eq!(rt; catalog.place(&low(2 * SECOND)?), None);
+    add(&mut catalog, &low(2 * SECOND)?, 2 * SECOND, 6)?;
+    let copy = catalog.copy(alloc)?;
+    let listed = [(0, 2 * SECOND), (2 * SECOND, 2 * SECOND), (4 * SECOND, 2 * SECOND)];
+    assert_eq!(rt; copy.listed_times(&video), listed.as_slice());
+    assert_eq!(rt; copy.listed(&video, 1), Some((2 * SECOND, 2 * SECOND)));
+    assert_eq!(rt; copy.ahead(&video, 0, 0), Some((2 * SECOND, 2 * SECOND)));
+    assert_eq!(rt; copy.ahead(&video, 0, 1), Some((4 * SECOND, 2 * SECOND)));
+    assert_eq!(rt; copy.ahead(&video, 4 * SECOND, 0), None);
+    let last = Added { track: 0, time: 2 * SECOND, duration: 2 * SECOND, place: 6 };
+    assert_eq!(rt; copy.added(5), Some(last));
+    assert_eq!(rt; copy.added(6), None);
+    Ok(())
+}
+
+#[test]
+fn headers_are_checked_track_by_track(rt: HostRuntime) -> Result<(), Fail> {
+    let alloc = rt.alloc();
+    let catalog = empty(alloc)?;
+    assert_eq!(rt; catalog.check(&channel(alloc)?), Checked::Agreed);
+    let mut tracks = channel(alloc)?.into_vec();
+    tracks.push(track(alloc, Kind::Video, b"video", 1_400_000)?)?;
+    let longer = Channel::from_vec(tracks);
+    assert_eq!(rt; catalog.check(&longer), Checked::NotDeclared { index: 3 });
+    let mut other = track(alloc, Kind::Video, b"video", 350_000)?;
+    other.numbers.width = Some(320);
+    let mut tracks = Vec::new(alloc);
+    tracks.push(track(alloc, Kind::Audio, b"audio", 64_000)?)?;
+    tracks.push(other)?;
+    let changed = Channel::from_vec(tracks);
+    assert_eq!(rt; catalog.check(&changed), Checked::Clash { index: 1 });
+    Ok(())
+}
+
+// A walk over what is kept would take more than 10^11 looks here.
+#[test]
+fn long_events_are_searched_by_halves(rt: HostRuntime) -> Result<(), Fail> {
+    let alloc = rt.alloc();
+    let mut catalog = empty(alloc)?;
+    let mut tracks = [
+        address(alloc, b"video", 350_000, 0)?,
+        address(alloc, b"video", 700_000, 0)?,
+        address(alloc, b"audio", 64_000, 0)?,
+    ];
+    let mut place: u64 = 0;
+    for i in 0..262_144u64 {
+        for at in tracks.iter_mut() {
+            at.time = 2 * SECOND * i;
+            place = place.saturating_add(1);
+            add(&mut catalog, at, 2 * SECOND, place)?;
+        }
+    }
+    let mut wanted: u64 = 0;
+    for i in 0..262_144u64 {
+        for at in tracks.iter_mut() {
+            at.time = 2 * SECOND * i;
+            wanted = wanted.saturating_add(1);
+            assert_eq!(rt; catalog.place(at), Some(wanted));
+        }
+    }
+    let [video, _, audio] = &tracks;
+    assert_eq!(rt; catalog.listed_len(&video.stream), 262_144);
+    assert_eq!(rt; catalog.listed_len(&audio.stream), 262_144);
+    Ok(())
+}

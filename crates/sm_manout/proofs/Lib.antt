@@ -1,0 +1,3 @@
+pub mod Joined
+pub mod StreamLemmas
+pub mod Escapes
