@@ -43,13 +43,13 @@ abbrev pub start_of : Fragment → List (ℕ × ℕ) → ℕ
 start_of f ahead = moof_len f.samples ahead + 8
 
 abbrev pub moof_body : ℕ → ℕ → Fragment → List (ℕ × ℕ) → List ℕ
-moof_body seq id f ahead = text.mfhd seq ++ text.traf id (start_of f ahead) f ahead
+moof_body seq id f ahead = text.mfhd seq ++ text.traf_box id (start_of f ahead) f ahead
 
 pub moof_text : (seq id : ℕ) (f : Fragment) (ahead : List (ℕ × ℕ)) → length f.samples ≤ 65536 → length ahead ≤ 255 → IsText (moof_len f.samples ahead) (codes "moof") (moof_body seq id f ahead)
 moof_text seq id f ahead le few =
     let t = box_text_len (traf_size f ahead) (codes "traf") (traf_body id (start_of f ahead) f ahead) (traf_text id (start_of f ahead) f ahead le few) in
     let h = box_text_len 16 (codes "mfhd") (seq_body seq) (seq_text seq) in
-    record { size_is = omega (arith, t, h, length-append (text.mfhd seq) (text.traf id (start_of f ahead) f ahead)); fits = omega (arith, ahead_small ahead few); kind_is = refl }
+    record { size_is = omega (arith, t, h, length-append (text.mfhd seq) (text.traf_box id (start_of f ahead) f ahead)); fits = omega (arith, ahead_small ahead few); kind_is = refl }
 
 abbrev pub sample_text : List Sample → List ℕ
 sample_text ss = flat_map (λ s. s.bytes) ss
@@ -89,7 +89,7 @@ two_boxes seq id f ahead w =
 moof_boxes : (seq id : ℕ) (f : Fragment) (ahead : List (ℕ × ℕ)) → length f.samples ≤ 65536 → length ahead ≤ 255
     → boxes (moof_body seq id f ahead) ≡ Some (made 16 (codes "mfhd") (seq_body seq) ∷ made (traf_size f ahead) (codes "traf") (traf_body id (start_of f ahead) f ahead) ∷ [])
 moof_boxes seq id f ahead le few =
-    one_box 16 (codes "mfhd") (seq_body seq) (text.traf id (start_of f ahead) f ahead) (seq_text seq)
+    one_box 16 (codes "mfhd") (seq_body seq) (text.traf_box id (start_of f ahead) f ahead) (seq_text seq)
     ∙ ap (option_map (λ (xs : List Box). made 16 (codes "mfhd") (seq_body seq) ∷ xs))
     (boxes-end (traf_size f ahead) (codes "traf") (traf_body id (start_of f ahead) f ahead) (traf_text id (start_of f ahead) f ahead le few))
 

@@ -33,12 +33,12 @@ abbrev pub refused : Refusal → Outcome
 refused r = record { items = []; refusal = Some r; inside = false; header = [] }
 
 -- the items before, then the rest
-abbrev pub behind : List Given → Outcome → Outcome
-behind items o = record { items = items ++ o.items; refusal = o.refusal; inside = o.inside; header = o.header }
+abbrev pub led_by : List Given → Outcome → Outcome
+led_by items o = record { items = items ++ o.items; refusal = o.refusal; inside = o.inside; header = o.header }
 
 abbrev pub stepped : Step → ℕ → (PushState → ℕ → Outcome) → Outcome
 stepped (Err r) size go = refused r
-stepped (Ok step) size go = behind (option_to_list step.0) (go step.1 size)
+stepped (Ok step) size go = led_by (option_to_list step.0) (go step.1 size)
 
 -- the box at the front of the bytes; `go` reads on behind a box of that size
 abbrev pub at_box : PushState → List ℕ → BoxDecision → (PushState → ℕ → Outcome) → Outcome
@@ -53,12 +53,12 @@ walk s count [] = ended s (nat_lt 0 count || is_some s.moof)
 walk s (suc count) (x ∷ bytes) = walk s count bytes
 walk s zero (x ∷ bytes) = at_box s (x ∷ bytes) (decision s (x ∷ bytes)) (λ next size. walk next (size - 1) bytes)
 
-abbrev pub start : Bool → PushState
-start headerless = record { headerless = headerless; stage = Gathering None None; moof = None; at = 0 }
+abbrev pub push_start : Bool → PushState
+push_start headerless = record { headerless = headerless; stage = Gathering None None; moof = None; at = 0 }
 
 -- the bytes of a push so far
 abbrev pub body : Bool → List ℕ → Outcome
-body headerless bytes = walk (start headerless) 0 bytes
+body headerless bytes = walk (push_start headerless) 0 bytes
 
 -- what ends inside a box, or between a moof and its mdat, is cut off, at the number of its bytes
 abbrev pub cut_off : Bool → ℕ → Option Refusal → Option Refusal

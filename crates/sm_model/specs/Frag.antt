@@ -13,7 +13,7 @@ use Rattle.sm_model.specs.Numbers.{number32_at}
 use Rattle.sm_model.specs.Boxes.{Box, boxes, box_of}
 use Rattle.sm_model.specs.FragText.{tfxd_type, tfrf_type}
 use Rattle.sm_model.specs.Found.{Found, found, is_kind, bodies, user_bodies}
-use Rattle.sm_model.specs.Fields.{version, has, tfhd_fits, defaults_of, trun_fits, rows, start, tfxd_fits, tfxd_pair, tfrf_fits, pairs}
+use Rattle.sm_model.specs.Fields.{version, has, tfhd_fits, defaults_of, trun_fits, rows, data_offset, tfxd_fits, tfxd_pair, tfrf_fits, pairs}
 
 -- a condition, and the cause that it gives
 abbrev pub Line : Type 0
@@ -138,7 +138,7 @@ run_of d t = record {
   time = (tfxd_pair t.time.first).0;
   duration = (tfxd_pair t.time.first).1;
   signed = version t.run.first == 1;
-  start = start t.run.first;
+  start = data_offset t.run.first;
   samples = rows (defaults_of d t.head.first) t.run.first (number32_at 4 t.run.first);
   ahead = ahead_of t.ahead;
 }

@@ -86,16 +86,16 @@ header_taken (Err cause) s size = refuse s.at cause
 header_taken (Ok h) s size = Ok (Some (items.Header h.channel), staged s (Complete h.tracks) size)
 
 -- the text of a live server manifest box: it stands behind the user type, and version and flags
-abbrev pub text_of : List ℕ → List ℕ
-text_of box = drop 20 (box_of box).body
+abbrev pub manifest_text : List ℕ → List ℕ
+manifest_text box = drop 20 (box_of box).body
 
 abbrev pub moov_taken : HeaderStage → PushState → List ℕ → Step
-moov_taken (Gathering (Some manifest) moov) s box = header_taken (header_of (text_of manifest) (box_of box).body) s (length box)
+moov_taken (Gathering (Some manifest) moov) s box = header_taken (header_of (manifest_text manifest) (box_of box).body) s (length box)
 moov_taken (Gathering None moov) s box = Ok (None, staged s (Gathering None (Some box)) (length box))
 moov_taken (Complete tracks) s box = Ok (None, passed s (length box))
 
 abbrev pub manifest_taken : HeaderStage → PushState → List ℕ → Step
-manifest_taken (Gathering manifest (Some moov)) s box = header_taken (header_of (text_of box) (box_of moov).body) s (length box)
+manifest_taken (Gathering manifest (Some moov)) s box = header_taken (header_of (manifest_text box) (box_of moov).body) s (length box)
 manifest_taken (Gathering manifest None) s box = Ok (None, staged s (Gathering (Some box) None) (length box))
 manifest_taken (Complete tracks) s box = Ok (None, passed s (length box))
 

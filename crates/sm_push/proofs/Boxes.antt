@@ -11,7 +11,7 @@ use Rattle.sm_model.specs.declared.push.BoxDecision.TheVariants.{Wait, Refuse, P
 use Rattle.sm_model.specs.Boxes.{IsOneBox, starts_whole, box_of}
 use Rattle.sm_model.specs.PushHeads.{decision, by_kind, user_sort, kind_sort, is as is_kind}
 use Rattle.sm_model.specs.PushBoxes.{Step, taken, passed}
-use Rattle.sm_model.specs.Body.{Outcome, ended, behind, stepped, at_box, walk}
+use Rattle.sm_model.specs.Body.{Outcome, ended, led_by, stepped, at_box, walk}
 use Rattle.sm_model.proofs.BoxLemmas.{is_whole, size_of}
 use Rattle.sm_box.specs.Heads.{head_of}
 use Rattle.sm_box.specs.declared.head.Head.{Head}
@@ -119,7 +119,7 @@ rest_walk s (x ∷ xs) none = rest_walk_at s x xs (decision s (x ∷ xs)) (rest_
 
 step_walk : (step : Step) (size : ℕ) (go : PushState → Outcome) (go' : PushState → Outcome) → ((next : PushState) → go next ≡ go' next) → stepped step size (λ next _. go next) ≡ step_gives step go'
 step_walk (Err r) size go go' h = refl
-step_walk (Ok step) size go go' h = ap (behind (option_to_list step.0)) (h step.1)
+step_walk (Ok step) size go go' h = ap (led_by (option_to_list step.0)) (h step.1)
 
 box_walk : (s : PushState) (box more : List ℕ) (d : BoxDecision) → decision s box ≡ d → SizeIs (length box) d × IsMade d → (go' : PushState → Outcome) → ((next : PushState) → walk next 0 more ≡ go' next)
     → walk s 0 (box ++ more) ≡ box_gives s box d go'

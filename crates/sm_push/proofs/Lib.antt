@@ -10,3 +10,4 @@ pub mod Boxes
 pub mod Splits
 pub mod Limits
 pub mod Valid
+pub mod WrittenHeader

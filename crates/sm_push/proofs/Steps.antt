@@ -14,7 +14,7 @@ use Rattle.sm_model.specs.declared.push.BoxDecision.TheVariants.{Wait, Refuse, P
 use Rattle.sm_model.specs.Items.{Given}
 use Rattle.sm_model.specs.PushHeads.{decision}
 use Rattle.sm_model.specs.PushBoxes.{taken, passed}
-use Rattle.sm_model.specs.Body.{Outcome, ended, refused, behind, at_box, walk, start, body, body_end}
+use Rattle.sm_model.specs.Body.{Outcome, ended, refused, led_by, at_box, walk, push_start, body, body_end}
 use Rattle.sm_push.specs.declared.fault.StepFault.{StepFault}
 use Rattle.sm_push.specs.declared.fault.StepFault.TheVariants as faults
 use Rattle.sm_push.specs.declared.step.NewItem.{NewItem}
@@ -35,7 +35,7 @@ pub refused_settles : (s : PushState) (h more : List ℕ) (k : ℕ) (cause : Cau
 refused_settles s h more k cause here e = rw here (refuses s h more cause e)
 
 pub taken_settles : (s s' : PushState) (h h' more : List ℕ) (k size : ℕ) (sort : TopBox) (item : Option Given) → k ≡ 0 → decision s h ≡ Take sort size → FitsIn (length h) (decision s h) → size ≤ length h
-    → taken s sort h ≡ Ok (item, s') → h' ≡ [] → walk s k (h ++ more) ≡ behind (option_to_list item) (walk s' k (h' ++ more))
+    → taken s sort h ≡ Ok (item, s') → h' ≡ [] → walk s k (h ++ more) ≡ led_by (option_to_list item) (walk s' k (h' ++ more))
 taken_settles s s' h h' more k size sort item here e fits whole step empty =
     let le : length h ≤ size = rw e at fits in
     rw (here, empty) (takes s h more sort size e (omega arith) ∙ rw step refl)
@@ -103,26 +103,26 @@ wanted_rest k sort size n e le more len =
 
 -- what a loop over a piece keeps: done bytes of it are taken
 abbrev pub Taking : Kept → Kept → List ℕ → ℕ → List Given → Type 0
-Taking old new piece done items = (more : List ℕ) → rest_of old (piece ++ more) ≡ behind items (rest_of new (drop done piece ++ more))
+Taking old new piece done items = (more : List ℕ) → rest_of old (piece ++ more) ≡ led_by items (rest_of new (drop done piece ++ more))
 
 pub begun : (k : Kept) (piece : List ℕ) (items : List Given) → items ≡ [] → Taking k k piece 0 items
 begun k piece items e more = rw e refl
 
-behind-behind : (xs ys : List Given) (o : Outcome) → behind xs (behind ys o) ≡ behind (xs ++ ys) o
+behind-behind : (xs ys : List Given) (o : Outcome) → led_by xs (led_by ys o) ≡ led_by (xs ++ ys) o
 behind-behind xs ys o = ap (λ (zs : List Given). record { items = zs; refusal = o.refusal; inside = o.inside; header = o.header }) (sym (append_assoc xs ys o.items))
 
 pub goes_on : (old mid new : Kept) (piece part : List ℕ) (done count : ℕ) (items items' : List Given) (item : Option NewItem)
     → Taking old mid piece done items → part ≡ drop done piece → Advances mid new part (Ok (count, item)) → items' ≡ items ++ option_to_list (given_in item) → Taking old new piece (done + count) items'
 goes_on old mid new piece part done count items items' item before part_is step items_are more =
-    let after : rest_of mid (drop done piece ++ more) ≡ behind (option_to_list (given_in item)) (rest_of new (drop (done + count) piece ++ more)) =
+    let after : rest_of mid (drop done piece ++ more) ≡ led_by (option_to_list (given_in item)) (rest_of new (drop (done + count) piece ++ more)) =
     (rw (part_is, drop-drop count done piece) at (step more)) in
-    rw items_are (before more ∙ ap (behind items) after ∙ behind-behind items (option_to_list (given_in item)) _)
+    rw items_are (before more ∙ ap (led_by items) after ∙ behind-behind items (option_to_list (given_in item)) _)
 
 pub fault_gives : (old mid new : Kept) (piece part : List ℕ) (done : ℕ) (items : List Given) (fault : StepFault)
     → Taking old mid piece done items → part ≡ drop done piece → Advances mid new part (Err fault) → PieceGives old new piece items (Err fault)
 fault_gives old mid new piece part done items (faults.Refused r) before part_is step = λ more.
     let after : rest_of mid (drop done piece ++ more) ≡ refused r = rw part_is at (step more) in
-    before more ∙ ap (behind items) after
+    before more ∙ ap (led_by items) after
 fault_gives old mid new piece part done items faults.NoMemory before part_is step = tt
 
 pub all_taken : (old new : Kept) (piece : List ℕ) (done : ℕ) (items : List Given) → length piece ≤ done → Taking old new piece done items → PieceGives old new piece items (Ok tt)
@@ -130,12 +130,12 @@ all_taken old new piece done items le taking more = let none : drop done piece �
 
 -- ---- what a push stands for
 
-pub begins : (headerless : Bool) (k : Kept) → k ≡ record { state = start headerless; held = []; skip = 0 } → Stands headerless (record { kept = k; count = 0; failed = false }) []
+pub begins : (headerless : Bool) (k : Kept) → k ≡ record { state = push_start headerless; held = []; skip = 0 } → Stands headerless (record { kept = k; count = 0; failed = false }) []
 unfolding walk
 begins headerless k e = record { works = refl; clear = refl; count = refl; header = rw e refl; later = λ more. rw e refl }
 
-pub begins_partial : (headerless : Bool) (k : Kept) → k ≡ record { state = start headerless; held = []; skip = 0 } → IsPartial k
-begins_partial headerless k e = rw e (empty_partial (start headerless) [] 0 refl (record { stage = (tt, tt, tt); moof = tt }))
+pub begins_partial : (headerless : Bool) (k : Kept) → k ≡ record { state = push_start headerless; held = []; skip = 0 } → IsPartial k
+begins_partial headerless k e = rw e (empty_partial (push_start headerless) [] 0 refl (record { stage = (tt, tt, tt); moof = tt }))
 
 inside_at : (s : PushState) (x : ℕ) (h : List ℕ) (d : BoxDecision) (go : PushState → ℕ → Outcome) → IsOpen (length (x ∷ h)) d → at_box s (x ∷ h) d go ≡ ended s true
 inside_at s x h Wait go due = refl
@@ -171,24 +171,24 @@ pub fed : (headerless : Bool) (old new : Standing) (b piece : List ℕ) (items :
     → new.failed ≡ false → new.count ≡ min (old.count + length piece) (2 ^ 64 - 1) → Answers headerless b piece new (Ok items)
 fed headerless old new b piece items stands partial gives works counted =
     let none : rest_of new.kept [] ≡ ended new.kept.state _ = nothing_due new.kept partial in
-    let whole : body headerless (b ++ piece) ≡ behind ((body headerless b).items ++ items) (rest_of new.kept []) =
-    ap (body headerless) (ap (λ (xs : List ℕ). b ++ xs) (sym (append-nil piece))) ∙ stands.later (piece ++ []) ∙ ap (behind (body headerless b).items) (gives []) ∙ behind-behind (body headerless b).items items (rest_of new.kept []) in
-    let now : body headerless (b ++ piece) ≡ behind ((body headerless b).items ++ items) (ended new.kept.state _) = whole ∙ ap (behind ((body headerless b).items ++ items)) none in
+    let whole : body headerless (b ++ piece) ≡ led_by ((body headerless b).items ++ items) (rest_of new.kept []) =
+    ap (body headerless) (ap (λ (xs : List ℕ). b ++ xs) (sym (append-nil piece))) ∙ stands.later (piece ++ []) ∙ ap (led_by (body headerless b).items) (gives []) ∙ behind-behind (body headerless b).items items (rest_of new.kept []) in
+    let now : body headerless (b ++ piece) ≡ led_by ((body headerless b).items ++ items) (ended new.kept.state _) = whole ∙ ap (led_by ((body headerless b).items ++ items)) none in
     let items_are : (body headerless (b ++ piece)).items ≡ (body headerless b).items ++ items = ap (λ (o : Outcome). o.items) now ∙ append-nil _ in (
       record {
         works = works;
         clear = ap (λ (o : Outcome). o.refusal) now;
         count = omega (arith, counted, stands.count, length-append b piece);
         header = sym (ap (λ (o : Outcome). o.header) now);
-        later = λ more. ap (body headerless) (append_assoc b piece more) ∙ stands.later (piece ++ more) ∙ ap (behind (body headerless b).items) (gives more) ∙ behind-behind (body headerless b).items items (rest_of new.kept more) ∙ ap (λ (xs : List Given). behind xs (rest_of new.kept more)) (sym items_are);
+        later = λ more. ap (body headerless) (append_assoc b piece more) ∙ stands.later (piece ++ more) ∙ ap (led_by (body headerless b).items) (gives more) ∙ behind-behind (body headerless b).items items (rest_of new.kept more) ∙ ap (λ (xs : List Given). led_by xs (rest_of new.kept more)) (sym items_are);
       },
       items_are,
     )
 
 pub fed_refused : (headerless : Bool) (old new : Standing) (b piece : List ℕ) (items : List Given) (r : Refusal) → Stands headerless old b → PieceGives old.kept new.kept piece items (Err (faults.Refused r))
-    → body headerless (b ++ piece) ≡ behind ((body headerless b).items ++ items) (refused r)
+    → body headerless (b ++ piece) ≡ led_by ((body headerless b).items ++ items) (refused r)
 fed_refused headerless old new b piece items r stands gives =
-    ap (body headerless) (ap (λ (xs : List ℕ). b ++ xs) (sym (append-nil piece))) ∙ stands.later (piece ++ []) ∙ ap (behind (body headerless b).items) (gives []) ∙ behind-behind (body headerless b).items items (refused r)
+    ap (body headerless) (ap (λ (xs : List ℕ). b ++ xs) (sym (append-nil piece))) ∙ stands.later (piece ++ []) ∙ ap (led_by (body headerless b).items) (gives []) ∙ behind-behind (body headerless b).items items (refused r)
 
 -- the end, where the bytes may end
 pub ends_at : (headerless : Bool) (p : Standing) (b : List ℕ) (inside : Bool) → Stands headerless p b → (rest_of p.kept []).inside ≡ inside → (body headerless b).inside ≡ inside

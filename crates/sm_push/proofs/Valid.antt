@@ -43,7 +43,7 @@ use Rattle.sm_model.specs.Fragments.{IsValid, sample_bytes}
 use Rattle.sm_model.specs.Frag.{Line, first_cause, Traf, traf_of, frag_lines, run_of, mdat_rest, rest_of, raw_of, cut, judged_frag, frag_in, frag}
 use Rattle.sm_model.specs.Channels.{IsChannel}
 use Rattle.sm_model.specs.Header.{header_of}
-use Rattle.sm_model.specs.PushBoxes.{Step, passed, named, text_of, track_in, pending, moof_taken, fragment_taken, mdat_taken, header_taken, moov_taken, manifest_taken, taken}
+use Rattle.sm_model.specs.PushBoxes.{Step, passed, named, manifest_text, track_in, pending, moof_taken, fragment_taken, mdat_taken, header_taken, moov_taken, manifest_taken, taken}
 
 abbrev IsNot : Line → Type 0
 IsNot l = l.0 ≡ false
@@ -201,13 +201,13 @@ moof_valid s b (Ok run) = pending_valid s b (track_in s.stage run.id)
 
 moov_valid : HeadersAreValid → (s : PushState) (b : List ℕ) (stage : HeaderStage) → StepIsValid (moov_taken stage s b)
 moov_valid headers s b (Gathering (Some manifest) moov) =
-    header_valid s (header_of (text_of manifest) (box_of b).body) (length b) (headers (text_of manifest) (box_of b).body)
+    header_valid s (header_of (manifest_text manifest) (box_of b).body) (length b) (headers (manifest_text manifest) (box_of b).body)
 moov_valid headers s b (Gathering None moov) = tt
 moov_valid headers s b (Complete tracks) = tt
 
 manifest_valid : HeadersAreValid → (s : PushState) (b : List ℕ) (stage : HeaderStage) → StepIsValid (manifest_taken stage s b)
 manifest_valid headers s b (Gathering manifest (Some moov)) =
-    header_valid s (header_of (text_of b) (box_of moov).body) (length b) (headers (text_of b) (box_of moov).body)
+    header_valid s (header_of (manifest_text b) (box_of moov).body) (length b) (headers (manifest_text b) (box_of moov).body)
 manifest_valid headers s b (Gathering manifest None) = tt
 manifest_valid headers s b (Complete tracks) = tt
 

@@ -13,7 +13,7 @@ use Rattle.sm_model.specs.declared.push.BoxDecision.{BoxDecision}
 use Rattle.sm_model.specs.declared.push.BoxDecision.TheVariants.{Wait, Refuse, Pass, Take}
 use Rattle.sm_model.specs.PushHeads.{decision}
 use Rattle.sm_model.specs.PushBoxes.{Step, taken, passed}
-use Rattle.sm_model.specs.Body.{Outcome, ended, refused, behind, stepped, at_box, walk, IsFrontOf}
+use Rattle.sm_model.specs.Body.{Outcome, ended, refused, led_by, stepped, at_box, walk, IsFrontOf}
 use Rattle.sm_push.proofs.Stable.{IsMade, stable, decision-nil}
 
 pub walk-over : (s : PushState) (k : ℕ) (xs ys : List ℕ) → length xs ≤ k → walk s k (xs ++ ys) ≡ walk s (k - length xs) ys
@@ -55,14 +55,14 @@ takes s (x ∷ h) more sort size e whole =
   where
     goes_on : (step : Step) → stepped step size (λ next size. walk next (size - 1) (h ++ more)) ≡ stepped step size (λ next _. walk next 0 more)
     goes_on (Err r) = refl
-    goes_on (Ok step) = ap (behind (option_to_list step.0)) (walk-over step.1 (size - 1) h more (omega arith) ∙ ap (λ (n : ℕ). walk step.1 n more) (omega arith))
+    goes_on (Ok step) = ap (led_by (option_to_list step.0)) (walk-over step.1 (size - 1) h more (omega arith) ∙ ap (λ (n : ℕ). walk step.1 n more) (omega arith))
 
 -- ---- the law (front)
 
 nothing_front : (s : PushState) (inside : Bool) (o : Outcome) → IsFrontOf (ended s inside) o
 nothing_front s inside o = record { items = (o.items, refl); refusal = λ r e. absurd cc }
 
-behind_front : (items : List Given) (p b : Outcome) → IsFrontOf p b → IsFrontOf (behind items p) (behind items b)
+behind_front : (items : List Given) (p b : Outcome) → IsFrontOf p b → IsFrontOf (led_by items p) (led_by items b)
 behind_front items p b f = record {
   items = (f.items.0, ap (λ (xs : List Given). items ++ xs) f.items.1 ∙ sym (append_assoc items p.items f.items.0));
   refusal = λ r e. (ap (λ (xs : List Given). items ++ xs) (f.refusal r e).0, (f.refusal r e).1);

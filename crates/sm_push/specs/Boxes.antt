@@ -8,7 +8,7 @@ use Rattle.sm_model.specs.declared.push.BoxDecision.TheVariants.{Wait, Refuse, P
 use Rattle.sm_model.specs.Boxes.{IsOneBox, starts_whole}
 use Rattle.sm_model.specs.PushHeads.{decision}
 use Rattle.sm_model.specs.PushBoxes.{Step, taken, passed}
-use Rattle.sm_model.specs.Body.{Outcome, ended, refused, behind}
+use Rattle.sm_model.specs.Body.{Outcome, ended, refused, led_by}
 
 abbrev pub bytes_of : List (List ℕ) → List ℕ
 bytes_of boxes = flat_map (λ box. box) boxes
@@ -29,7 +29,7 @@ rest_inside (x ∷ rest) moof = true
 
 abbrev pub step_gives : Step → (PushState → Outcome) → Outcome
 step_gives (Err r) go = refused r
-step_gives (Ok step) go = behind (option_to_list step.0) (go step.1)
+step_gives (Ok step) go = led_by (option_to_list step.0) (go step.1)
 
 abbrev pub box_gives : PushState → List ℕ → BoxDecision → (PushState → Outcome) → Outcome
 box_gives s box Wait go = ended s true

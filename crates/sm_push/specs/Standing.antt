@@ -3,7 +3,7 @@ use Rattle.std.specs.Prelude.{◌≡◌, ℕ, ◌-◌, ◌<◌, ◌^◌, min, Bo
 use Rattle.std.specs.Option.{option_to_list}
 use Rattle.sm_model.specs.Items.{Given}
 use Rattle.sm_model.specs.PushHeads.{decision}
-use Rattle.sm_model.specs.Body.{Outcome, refused, behind, header_in, walk, body, body_end}
+use Rattle.sm_model.specs.Body.{Outcome, refused, led_by, header_in, walk, body, body_end}
 use Rattle.sm_push.specs.declared.fault.StepFault.{StepFault}
 use Rattle.sm_push.specs.declared.fault.StepFault.TheVariants as faults
 use Rattle.sm_push.specs.declared.fault.PushFault.{PushFault}
@@ -24,12 +24,12 @@ pub record IsPartial (k : Kept) : Type 0 where
   pub boxes : HoldsBoxes k.state
 
 abbrev pub Advances : Kept → Kept → List ℕ → Result (ℕ × Option NewItem) StepFault → Type 0
-Advances old new piece (Ok r) = (more : List ℕ) → rest_of old (piece ++ more) ≡ behind (option_to_list (given_in r.1)) (rest_of new (drop r.0 piece ++ more))
+Advances old new piece (Ok r) = (more : List ℕ) → rest_of old (piece ++ more) ≡ led_by (option_to_list (given_in r.1)) (rest_of new (drop r.0 piece ++ more))
 Advances old new piece (Err (faults.Refused r)) = (more : List ℕ) → rest_of old (piece ++ more) ≡ refused r
 Advances old new piece (Err faults.NoMemory) = Unit {0}
 
 abbrev pub Settles : Kept → Kept → Result (Option NewItem) StepFault → Type 0
-Settles old new (Ok item) = (more : List ℕ) → rest_of old more ≡ behind (option_to_list (given_in item)) (rest_of new more)
+Settles old new (Ok item) = (more : List ℕ) → rest_of old more ≡ led_by (option_to_list (given_in item)) (rest_of new more)
 Settles old new (Err (faults.Refused r)) = (more : List ℕ) → rest_of old more ≡ refused r
 Settles old new (Err faults.NoMemory) = Unit {0}
 
@@ -39,8 +39,8 @@ StaysInside k count = (more : List ℕ) → length more ≡ count → FitsIn (le
 
 -- the items of a piece
 abbrev pub PieceGives : Kept → Kept → List ℕ → List Given → Result (Unit {0}) StepFault → Type 0
-PieceGives old new piece items (Ok u) = (more : List ℕ) → rest_of old (piece ++ more) ≡ behind items (rest_of new more)
-PieceGives old new piece items (Err (faults.Refused r)) = (more : List ℕ) → rest_of old (piece ++ more) ≡ behind items (refused r)
+PieceGives old new piece items (Ok u) = (more : List ℕ) → rest_of old (piece ++ more) ≡ led_by items (rest_of new more)
+PieceGives old new piece items (Err (faults.Refused r)) = (more : List ℕ) → rest_of old (piece ++ more) ≡ led_by items (refused r)
 PieceGives old new piece items (Err faults.NoMemory) = Unit {0}
 
 -- what a push keeps, how many bytes came, and whether it gives nothing more
@@ -60,12 +60,12 @@ pub record Stands (headerless : Bool) (p : Standing) (b : List ℕ) : Type 0 whe
   pub clear : (body headerless b).refusal ≡ None
   pub count : p.count ≡ min (length b) (2 ^ 64 - 1)
   pub header : header_in p.kept.state.stage ≡ (body headerless b).header
-  pub later : (more : List ℕ) → body headerless (b ++ more) ≡ behind (body headerless b).items (rest_of p.kept more)
+  pub later : (more : List ℕ) → body headerless (b ++ more) ≡ led_by (body headerless b).items (rest_of p.kept more)
 
 -- the answer to a piece is what the bytes with the piece give beyond what the bytes give
 abbrev pub Answers : Bool → List ℕ → List ℕ → Standing → Result (List Given) PushFault → Type 0
 Answers headerless b piece new (Ok items) = Stands headerless new (b ++ piece) × ((body headerless (b ++ piece)).items ≡ (body headerless b).items ++ items)
-Answers headerless b piece new (Err (pushes.Refused before r)) = body headerless (b ++ piece) ≡ behind ((body headerless b).items ++ before) (refused r)
+Answers headerless b piece new (Err (pushes.Refused before r)) = body headerless (b ++ piece) ≡ led_by ((body headerless b).items ++ before) (refused r)
 Answers headerless b piece new (Err pushes.Failed) = ⊥
 Answers headerless b piece new (Err pushes.NoMemory) = Unit {0}
 

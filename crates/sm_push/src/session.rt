@@ -37,7 +37,7 @@ impl Model for Push {
 }
 
 fn start(alloc: Global, headerless: bool) -> Kept
-    ensures { result ≡ record { state = Body.start headerless; held = []; skip = 0 } }
+    ensures { result ≡ record { state = Body.push_start headerless; held = []; skip = 0 } }
 {
     Kept {
         state: PushState {

@@ -6,7 +6,7 @@ ghost use Rattle.sm_model.specs.Moov.{no_defaults};
 ghost use Rattle.sm_model.specs.Header.{header_of};
 ghost use Rattle.sm_model.specs.Items.{given_of};
 ghost use Rattle.sm_model.specs.Items as items;
-ghost use Rattle.sm_model.specs.PushBoxes.{taken, passed, past, text_of, named, moof_taken, pending, track_in, mdat_taken, moov_taken, manifest_taken, header_taken};
+ghost use Rattle.sm_model.specs.PushBoxes.{taken, passed, past, manifest_text, named, moof_taken, pending, track_in, mdat_taken, moov_taken, manifest_taken, header_taken};
 ghost use Rattle.sm_push.specs.Steps.{Takes, HoldsBoxes, AreBoxes};
 ghost use Rattle.sm_push.specs.Held.{most_of};
 
@@ -38,7 +38,7 @@ pub(crate) fn pass(state: &mut PushState, size: u64)
 // The text of a live server manifest box, behind the user type, and version and flags.
 fn text_of(manifest: &[u8]) -> &[u8]
     requires { IsOneBox manifest.now }
-    ensures { result.now ≡ text_of manifest.now }
+    ensures { result.now ≡ manifest_text manifest.now }
 {
     let body = body_of(manifest);
     if body.len() < 20 {
@@ -135,7 +135,7 @@ fn complete(
     requires manifest { IsOneBox manifest.now }
     requires moov { IsOneBox moov.now }
     requires moof { AreBoxes state.old.moof }
-    ensures takes { Takes state.new result (header_taken (header_of (text_of manifest.now) (box_of moov.now).body) state.old size) }
+    ensures takes { Takes state.new result (header_taken (header_of (manifest_text manifest.now) (box_of moov.now).body) state.old size) }
     ensures boxes { OnOk result (HoldsBoxes state.new) }
 {
     match read_header(alloc, text_of(manifest), body_of(moov)) {

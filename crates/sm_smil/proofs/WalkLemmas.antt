@@ -9,7 +9,7 @@ use Rattle.sm_model.specs.declared.track.Kind.{Kind}
 use Rattle.sm_model.specs.declared.raw_track.Form.{Form}
 use Rattle.sm_model.specs.declared.raw_track.RawTrack.{RawTrack}
 use Rattle.sm_model.specs.LiveTracks.{is_same}
-use Rattle.sm_model.specs.LiveWalk.{Walk, start, is_switch, track_kind, kind_in, enters, begins, with_current, passes, meets, starts, finishes, step, walk, first_place}
+use Rattle.sm_model.specs.LiveWalk.{Walk, nothing_met, is_switch, track_kind, kind_in, enters, begins, with_current, passes, meets, begins_element, ends_element, step, walk_tags, first_place}
 
 -- at most 64 tracks have ended, and fewer where one hasn't, which then is open
 pub record Fits (w : Walk) : Type 0 where
@@ -76,14 +76,14 @@ keeps_fits w v p keeps longer fits = record {
       (omega (arith, old.0, longer), rw keeps.done old.1);
 }
 
-starts_fits : (form : Form) (w : Walk) (name : List ℕ) (attributes : List Attribute) (empty : Bool) (at : ℕ) → Fits w → Fits (starts form w name attributes empty at)
+starts_fits : (form : Form) (w : Walk) (name : List ℕ) (attributes : List Attribute) (empty : Bool) (at : ℕ) → Fits w → Fits (begins_element form w name attributes empty at)
 starts_fits form w name attributes empty at fits = tested (track_kind w.path name) (λ k e. at_switch w.path name k e)
   where
     tested : (o : Option Kind) → ((k : Kind) → o ≡ Some k → length w.path ≡ 3) → Fits (record (meets form w name attributes empty at o) { path = enters empty name w.path })
     tested None len = keeps_fits w _ _ (passes_keeps form w name attributes at) (entered empty name w.path) fits
     tested (Some k) len = begins_fits w name empty _ fits (len k refl)
 
-finishes_fits : (w : Walk) (p : List (List ℕ)) → length w.path ≤ length p + 1 → Fits w → Fits (finishes w p)
+finishes_fits : (w : Walk) (p : List (List ℕ)) → length w.path ≤ length p + 1 → Fits w → Fits (ends_element w p)
 finishes_fits w p longer fits = tested (eqb (length p) 3) refl
   where
     joined : (o : Option RawTrack) → w.current ≡ o → length (w.done ++ option_to_list o) ≤ 64
@@ -108,9 +108,9 @@ step_fits form w (Text at) fits = fits
 step_fits form w End fits = fits
 step_fits form w (Bad at) fits = fits
 
-walk_fits : (form : Form) (w : Walk) (tags : List Tag) → Fits w → Fits (walk form w tags)
+walk_fits : (form : Form) (w : Walk) (tags : List Tag) → Fits w → Fits (walk_tags form w tags)
 walk_fits form w [] fits = fits
 walk_fits form w (t ∷ ts) fits = walk_fits form (step form w t) ts (step_fits form w t fits)
 
-pub few_tracks : (form : Form) (tags : List Tag) (w : Walk) → w ≡ walk form start tags → length w.done ≤ 64
-few_tracks form tags w is = rw is (walk_fits form start tags (record { few = omega arith; inside = λ t e. cc e })).few
+pub few_tracks : (form : Form) (tags : List Tag) (w : Walk) → w ≡ walk_tags form nothing_met tags → length w.done ≤ 64
+few_tracks form tags w is = rw is (walk_fits form nothing_met tags (record { few = omega arith; inside = λ t e. cc e })).few

@@ -381,7 +381,7 @@ fn ladders_need_no_ids(rt: HostRuntime) -> Result<(), Fail> {
 
 #[test]
 fn bad_ladders_have_the_place(rt: HostRuntime) -> Result<(), Fail> {
-    let rows: [(&[u8], u64); 9] = [
+    let rows: [(&[u8], u64); 11] = [
         // a trackID that is none
         (
             b"<smil><body><switch><video systemBitrate='1'><param name='trackID' value='x'/></video></switch></body></smil>",
@@ -415,6 +415,15 @@ fn bad_ladders_have_the_place(rt: HostRuntime) -> Result<(), Fail> {
         (
             b"<smil><body><switch><video systemBitrate='1'><param name='TimeScale' value='1'/></video><video systemBitrate='2'><param name='TimeScale' value='x'/></video></switch></body></smil>",
             113,
+        ),
+        // also one that is a number
+        (
+            b"<smil><body><switch><video systemBitrate=\"1\"/><video systemBitrate=\"2\"><param name=\"TimeScale\" value=\"0\"/></video></switch></body></smil>",
+            71,
+        ),
+        (
+            b"<smil><body><switch><video systemBitrate='1'/><video systemBitrate='2'><param name='TimeScale' value='00'/></video></switch></body></smil>",
+            71,
         ),
         // no bitrate
         (b"<smil><body><switch><video/></switch></body></smil>", 20),

@@ -180,7 +180,7 @@ Founds-unique inside {bytes = bytes} (skipped {more = x} e m h) (skipped {more =
     let one = pairs {a = Skipped} {c = Skipped} {b = x} {d = z} (Ok (Skipped, x)) refl (same_markup inside bytes (Ok (Skipped, x)) (Ok (Skipped, z)) e m f n) in
     Founds-unique inside h (rw (← one.1) at k)
 
-steps : (s : Left) (bad : Option ℕ) (a b : Tag × Left) → tags.goes_on s a bad → tags.goes_on s b bad → a ≡ b
+steps : (s : Left) (bad : Option ℕ) (a b : Tag × Left) → tags.continues s a bad → tags.continues s b bad → a ≡ b
 steps s (Some at) a b h k = h ∙ sym k
 steps s None a b h k =
     let one = Founds-unique _ h.1 k.1 in
