@@ -2,7 +2,7 @@
 ghost use Rattle.std.specs.Prelude.{◌≡◌, ◌==◌, ◌&&◌, is_none};
 ghost use Rattle.std.specs.List.{position};
 ghost use Rattle.sm_model.specs.LiveTracks.{is_same};
-ghost use Rattle.sm_model.specs.LiveFaults.{is_kind};
+ghost use Rattle.sm_model.specs.LiveFaults.{are_one_kind};
 ghost use Rattle.sm_log.specs.Adds.{track_at};
 ghost use Rattle.sm_log.specs.Headers.{are_same_numbers, are_same_params, is_same_track, differs, checked_by, check};
 
@@ -11,7 +11,7 @@ use sm_log::Checked;
 use sm_model::{Kind, Params, Track};
 
 fn is_kind(a: Kind, b: Kind) -> bool
-    ensures { result ≡ is_kind a b }
+    ensures { result ≡ are_one_kind a b }
 {
     match (a, b) {
         (Kind::Video, Kind::Video) | (Kind::Audio, Kind::Audio) | (Kind::Text, Kind::Text) => true,

@@ -4,7 +4,7 @@ use Rattle.std.specs.List.{position}
 use Rattle.sm_model.specs.declared.track.Track.{Track}
 use Rattle.sm_model.specs.declared.track.Params.{Params}
 use Rattle.sm_model.specs.LiveTracks.{is_same}
-use Rattle.sm_model.specs.LiveFaults.{is_kind}
+use Rattle.sm_model.specs.LiveFaults.{are_one_kind}
 use Rattle.sm_log.specs.declared.verdict.Checked.{Checked}
 use Rattle.sm_log.specs.declared.verdict.Checked.TheVariants as checked
 use Rattle.sm_log.specs.Adds.{track_at}
@@ -22,7 +22,7 @@ are_same_params a b =
 -- whether all but name and bitrate are equal
 abbrev pub is_same_track : Track → Track → Bool
 is_same_track a b =
-    is_kind a.kind b.kind && (a.timescale == b.timescale && (is_same a.fourcc b.fourcc && (is_same a.private b.private && are_same_params a.numbers b.numbers)))
+    are_one_kind a.kind b.kind && (a.timescale == b.timescale && (is_same a.fourcc b.fourcc && (is_same a.private b.private && are_same_params a.numbers b.numbers)))
 
 abbrev pub differs : Track → Option Track → Bool
 differs t None = true

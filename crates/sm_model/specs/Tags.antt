@@ -51,7 +51,8 @@ starts s name attributes empty at rest =
     if (s.begun && length s.open_names == 0) || nat_le 32 (length s.open_names) then fails s at
     else (
       Start name attributes empty at,
-      record s { rest = rest; begun = true; open_names = if empty then s.open_names else s.open_names ++ name ∷ [] })
+      record s { rest = rest; begun = true; open_names = if empty then s.open_names else s.open_names ++ name ∷ [] },
+    )
 
 -- an end tag has the name of the innermost open element
 abbrev pub finishes : Left → List ℕ → ℕ → List ℕ → Tag × Left

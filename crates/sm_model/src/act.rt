@@ -17,10 +17,7 @@ pub enum Act {
     Frag(Fragment),
     /// The end of a push, with how many of its fragments were kept and how many were known before. Each count stands
     /// still at its last value.
-    End {
-        kept: u64,
-        known: u64,
-    },
+    End { kept: u64, known: u64 },
     /// What came is refused.
     Refuse(Refusal),
 }

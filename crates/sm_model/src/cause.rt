@@ -40,10 +40,16 @@ pub enum Cause {
     UnknownTrack,
     /// The channel has no track of this stream and bitrate.
     #[error("the channel does not declare a track")]
-    NotDeclared { stream: Name, bitrate: u32 },
+    NotDeclared {
+        stream: Name,
+        bitrate: u32,
+    },
     /// The channel's track of this stream and bitrate has other fields.
     #[error("a track differs from the declared one")]
-    DeclClash { stream: Name, bitrate: u32 },
+    DeclClash {
+        stream: Name,
+        bitrate: u32,
+    },
     /// A sample encryption box stands in the `traf`, or a track of the live server manifest has an encrypted sample entry.
     #[error("the samples are protected")]
     Protected,
@@ -73,7 +79,10 @@ pub enum Cause {
     NoMdat,
     /// The stream has this start with another duration. Both are in ticks of the track's timescale.
     #[error("the start is kept with a duration of {kept}, not {given}")]
-    DurationClash { kept: u64, given: u64 },
+    DurationClash {
+        kept: u64,
+        given: u64,
+    },
     /// The fragment's span overlaps one that the stream has.
     #[error("the fragment overlaps one that ends at {end}")]
     Overlap {
@@ -330,9 +339,7 @@ fn put_values(alloc: Global, cause: &Cause) -> Result<String, NoMemory>
         Cause::DeclClash { stream, bitrate } => {
             format!(in alloc; " {} {bitrate}", stream.as_str())?
         }
-        Cause::DurationClash { kept, given } => {
-            format!(in alloc; " kept {kept} given {given}")?
-        }
+        Cause::DurationClash { kept, given } => { format!(in alloc; " kept {kept} given {given}")? }
         Cause::Overlap { end } => format!(in alloc; " end {end}")?,
         _ => String::new(alloc),
     })
