@@ -155,7 +155,7 @@ fn lacks_levels(is_open: bool, stream: &RawStream) -> bool
     !is_open && stream.levels.as_slice().is_empty()
 }
 
-#[tactic(auto, using(crate::proofs::Levels::least_from_append))]
+#[tactic(auto, using(crate::proofs::Least::least_from_append))]
 fn note_stream(fault: &mut Option<u64>, is_open: bool, earlier: &[RawStream], stream: &RawStream)
     ensures { fault.new ≡ least_from fault.old (stream_faults is_open earlier.now stream.now) }
 {
@@ -182,7 +182,7 @@ fn note_open(fault: &mut Option<u64>, earlier: &[RawStream], current: &Option<Ra
 }
 
 /// The least place of a fault in a text whose tags were walked over up to a tag at fault, if there is one, or the end.
-#[tactic(auto, using(crate::proofs::Levels::least_from_append))]
+#[tactic(auto, using(crate::proofs::Least::least_from_append))]
 pub fn fault_of(bad: Option<u64>, walk: &Walk) -> Option<u64>
     ensures { result ≡ least_from None (faults_of bad walk.now) }
 {

@@ -33,8 +33,8 @@ pub fn read_manifest(alloc: Global, text: &[u8]) -> Result<Listing, ManFault>
     ensures { Answers result (IsManifest text.now) }
 {
     let (walk, bad) = walk_over(alloc, Tags::new(alloc, text))?;
-    if let Some(at) = fault_of(bad, &walk) {
-        return Err(ManFault::Bad { at });
+    match fault_of(bad, &walk) {
+        Some(at) => Err(ManFault::Bad { at }),
+        None => Ok(read_of(alloc, &walk)?),
     }
-    Ok(read_of(alloc, &walk)?)
 }

@@ -165,10 +165,10 @@ fn put_run(times: &mut Vec<(u64, u64)>, start: u64, duration: u64, r: u32) -> Re
     requires { start + duration * r < 2 ^ 64 }
     ensures { OnOk result (times.new.items ≡ times.old.items ++ expand start duration r) }
 {
-    let mut start = start;
+    let mut next = start;
     for _time in 0..r {
-        times.push((start, duration))?;
-        start += duration;
+        times.push((next, duration))?;
+        next += duration;
     }
     Ok(())
 }
@@ -184,9 +184,9 @@ pub fn times_of(alloc: Global, times: &[RawTime]) -> Result<Vec<(u64, u64)>, NoM
         let Some((start, duration, r)) = time_in(false, end, count, &times[i], &times[i + 1..]) else {
             return Ok(Vec::new(alloc));
         };
-        put_run(&mut all, start, duration, r)?;
         end = start + duration * (r as u64);
         count += r as u64;
+        put_run(&mut all, start, duration, r)?;
     }
     Ok(all)
 }
