@@ -60,7 +60,7 @@ times_more o end count i cs c start d r all within is e =
     let behind = drop (i + 1) cs in
     let e' : time_in o end count c behind ≡ Some (start, d, r) = ap (λ (ys : List RawTime). time_in o end count c ys) (sym (rest (length cs - (i + 1)) (i + 1) cs (omega arith))) ∙ e in
     let head : times_in o end count (c ∷ behind) ≡ with_times (expand start d r) (times_in o (start + d * r) (count + r) behind) =
-        ap (λ (t : Option (ℕ × ℕ × ℕ)). or_fault c.at t (λ x. with_times (expand x.0 x.1 x.2) (times_in o (x.0 + x.1 * x.2) (count + x.2) behind))) e' in
+    ap (λ (t : Option (ℕ × ℕ × ℕ)). or_fault c.at t (λ x. with_times (expand x.0 x.1 x.2) (times_in o (x.0 + x.1 * x.2) (count + x.2) behind))) e' in
     let whole' : drop i cs ≡ c ∷ behind = cons_at cs i c within ∙ ap (λ (x : RawTime). x ∷ behind) (sym is) in
     sym (with_both all (expand start d r) _) ∙ ap (with_times all) (sym head) ∙ ap (λ (ys : List RawTime). with_times all (times_in o end count ys)) (sym whole')
 
@@ -71,7 +71,7 @@ times_at_fault o end count i cs c all within is e =
     let behind = drop (i + 1) cs in
     let e' : time_in o end count c behind ≡ None = ap (λ (ys : List RawTime). time_in o end count c ys) (sym (rest (length cs - (i + 1)) (i + 1) cs (omega arith))) ∙ e in
     let head : times_in o end count (c ∷ behind) ≡ Err c.at =
-        ap (λ (t : Option (ℕ × ℕ × ℕ)). or_fault c.at t (λ x. with_times (expand x.0 x.1 x.2) (times_in o (x.0 + x.1 * x.2) (count + x.2) behind))) e' in
+    ap (λ (t : Option (ℕ × ℕ × ℕ)). or_fault c.at t (λ x. with_times (expand x.0 x.1 x.2) (times_in o (x.0 + x.1 * x.2) (count + x.2) behind))) e' in
     let whole' : drop i cs ≡ c ∷ behind = cons_at cs i c within ∙ ap (λ (x : RawTime). x ∷ behind) (sym is) in
     ap (λ (ys : List RawTime). with_times all (times_in o end count ys)) whole' ∙ ap (with_times all) head
 

@@ -7,10 +7,10 @@ ghost use Rattle.sm_model.specs.LiveTracks.{is_same};
 ghost use Rattle.std.specs.List.{list_any};
 
 use crate::note::{note, note_if, note_option};
+use crate::raw::{RawLevel, RawRoot, RawStream};
 use crate::text::{is_pattern, kind_in_type, narrow_in, narrow_or};
 use crate::times::note_times;
 use crate::walk::Walk;
-use crate::raw::{RawLevel, RawRoot, RawStream};
 use sm_model::{Bytes, Name};
 
 fn is_two(number: Option<u32>) -> bool

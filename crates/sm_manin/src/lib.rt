@@ -15,3 +15,6 @@ mod walk;
 pub use fault::ManFault;
 pub use listing::{Level, Levels, Listing, StreamListing, Streams};
 pub use read::read_manifest;
+
+#[cfg(test)]
+mod tests;

@@ -126,15 +126,29 @@ fn is_target_byte(c: u8) -> bool
 }
 
 // One byte, where this text begins.
-fn pattern_step(skip: u64, bitrate: bool, start: bool, c: u8, text: &[u8]) -> Option<(u64, bool, bool)>
+fn pattern_step(
+    skip: u64,
+    bitrate: bool,
+    start: bool,
+    c: u8,
+    text: &[u8],
+) -> Option<(u64, bool, bool)>
     ensures { result ≡ pattern_step skip bitrate start c text.now }
 {
     if 0 < skip {
         Some((skip - 1, bitrate, start))
     } else if is_bitrate_field(text) {
-        if bitrate { None } else { Some((8, true, start)) }
+        if bitrate {
+            None
+        } else {
+            Some((8, true, start))
+        }
     } else if is_start_field(text) {
-        if start { None } else { Some((11, bitrate, true)) }
+        if start {
+            None
+        } else {
+            Some((11, bitrate, true))
+        }
     } else if is_target_byte(c) {
         Some((0, bitrate, start))
     } else {
@@ -150,8 +164,13 @@ pub fn is_pattern(text: &[u8]) -> bool
     let mut bitrate = false;
     let mut start = false;
     for i in 0..text.len() {
-        let Some((next, has_bitrate, has_start)) =
-            pattern_step(skip, bitrate, start, text[i], &text[i..]) else {
+        let Some((next, has_bitrate, has_start)) = pattern_step(
+            skip,
+            bitrate,
+            start,
+            text[i],
+            &text[i..],
+        ) else {
             return false;
         };
         skip = next;

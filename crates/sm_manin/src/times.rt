@@ -4,8 +4,8 @@ ghost use Rattle.sm_model.specs.LiveFaults.{least_from};
 ghost use Rattle.sm_manin.specs.RunTimes.{start_in, until, duration_in, checked_count, count_in, fits, checked_time, is_before, is_unsettled, unsettled_time, time_in, expand, times_in, fault_in, times_or_none};
 
 use crate::note::note;
-use crate::text::{wide_in, wide_number_of};
 use crate::raw::RawTime;
+use crate::text::{wide_in, wide_number_of};
 use sm_model::{Bytes, NoMemory, number_of};
 use std::alloc::Global;
 
@@ -141,7 +141,13 @@ pub fn time_in(
     if is_unsettled(is_open, start.unwrap_or(0), &time.d, behind) {
         unsettled_time(end, start, r)
     } else {
-        checked_time(end, count, start, duration_in(start.unwrap_or(0), &time.d, behind), r)
+        checked_time(
+            end,
+            count,
+            start,
+            duration_in(start.unwrap_or(0), &time.d, behind),
+            r,
+        )
     }
 }
 
@@ -151,7 +157,8 @@ pub fn note_times(fault: &mut Option<u64>, is_open: bool, times: &[RawTime])
     let mut end: u64 = 0;
     let mut count: u64 = 0;
     for i in 0..times.len() {
-        let Some((start, duration, r)) = time_in(is_open, end, count, &times[i], &times[i + 1..]) else {
+        let Some((start, duration, r)) = time_in(is_open, end, count, &times[i], &times[i + 1..])
+        else {
             note(fault, times[i].at);
             return;
         };
@@ -181,7 +188,8 @@ pub fn times_of(alloc: Global, times: &[RawTime]) -> Result<Vec<(u64, u64)>, NoM
     let mut end: u64 = 0;
     let mut count: u64 = 0;
     for i in 0..times.len() {
-        let Some((start, duration, r)) = time_in(false, end, count, &times[i], &times[i + 1..]) else {
+        let Some((start, duration, r)) = time_in(false, end, count, &times[i], &times[i + 1..])
+        else {
             return Ok(Vec::new(alloc));
         };
         end = start + duration * (r as u64);

@@ -113,7 +113,11 @@ fn listing_of(alloc: Global, timescale: u32, stream: &RawStream) -> Result<Strea
     })
 }
 
-fn streams_of(alloc: Global, timescale: u32, streams: &[RawStream]) -> Result<Vec<StreamListing>, NoMemory>
+fn streams_of(
+    alloc: Global,
+    timescale: u32,
+    streams: &[RawStream],
+) -> Result<Vec<StreamListing>, NoMemory>
     requires names { All (λ s. is_name (name_of s) ≡ true) streams.now }
     requires levels { All (λ s. length s.levels < 2 ^ 32) streams.now }
     ensures { IfOk result (λ v. v.items ≡ map (listing_of timescale) streams.now) }

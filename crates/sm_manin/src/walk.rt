@@ -39,11 +39,7 @@ fn attribute_of<'a>(name: &[u8], attributes: &'a [Attribute]) -> Option<&'a [u8]
     None
 }
 
-fn copied(
-    alloc: Global,
-    name: &[u8],
-    attributes: &[Attribute],
-) -> Result<Option<Bytes>, NoMemory>
+fn copied(alloc: Global, name: &[u8], attributes: &[Attribute]) -> Result<Option<Bytes>, NoMemory>
     ensures { IfOk result (λ copy. copy ≡ attribute_of name.now attributes.now) }
 {
     match attribute_of(name, attributes) {

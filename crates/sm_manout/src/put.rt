@@ -60,8 +60,7 @@ pub fn put_text(out: &mut Vec<u8>, name: &[u8], value: &[u8]) -> Result<(), NoMe
 }
 
 /// What is escaped in a name: all but ASCII letters, digits, `_`, `-` and `.`.
-const NAME_ESCAPES: AsciiSet =
-    ascii_set!(NON_ALPHANUMERIC.remove(b'_').remove(b'-').remove(b'.'));
+const NAME_ESCAPES: AsciiSet = ascii_set!(NON_ALPHANUMERIC.remove(b'_').remove(b'-').remove(b'.'));
 
 /// A name as it stands in an address.
 #[tactic(auto, using(crate::proofs::Escapes::name_escaped))]

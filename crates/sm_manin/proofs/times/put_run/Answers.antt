@@ -10,4 +10,5 @@ overflow_add-next c =
 pub loop-time-preserved : goal.loop-time-preserved
 loop-time-preserved c = (
   ap (λ n. n + c.args.duration) c.loop-time.invariant.0 ∙ next_start c.args.start c.args.duration c.loop-time._time,
-  rw c.in_ok-push.ensures.items (run_more c.loop-time.times.items c.loop-time.next c.args.duration c.loop-time._time c.args.r c.loop-time-test.true ∙ c.loop-time.invariant.1))
+  rw c.in_ok-push.ensures.items (run_more c.loop-time.times.items c.loop-time.next c.args.duration c.loop-time._time c.args.r c.loop-time-test.true ∙ c.loop-time.invariant.1),
+)
