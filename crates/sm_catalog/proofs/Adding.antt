@@ -1,38 +1,18 @@
 -- A catalog to which a fragment was added.
-use Rattle.std.proofs.Common.{◌≡◌, ◌≢◌, ◌≤◌, ◌<◌, ◌+◌, ◌-◌, ℕ, zero, suc, Bool, true, false, not, ◌&&◌, ◌||◌, cond, eqb, ltb, min, List, [], ◌∷◌, ◌++◌, length, map, filter, get_or, set, Option, Some, None, is_some, refl, sym, ap, subst, ◌∙◌, All, AllPairs, inl, inr, ◌⊎◌, arith}
-use Rattle.std.proofs.lemmas.Bool.{eqb-true, eqb-false, ltb-true, ltb-false, eq-eqb, ne_eqb, and_parts, and_cases, and_from, cases_eq, cases_order, false_from_ne_true}
-use Rattle.std.proofs.lemmas.List.{get_or-set_same, get_or-set_other, length-set, length-map, map_push, length_push, get_or-map, get_or_default}
-use Rattle.std.proofs.lemmas.List.Elements.{All-push}
-use Rattle.std.proofs.lemmas.List.Sums.{sum_by-set}
-use Rattle.std.proofs.Math.Seq.{map-set_same}
-use Rattle.std.proofs.lemmas.List.Quantifiers.{position-Some, all_pairs_push}
+use Rattle.std.proofs.Common.{◌≡◌, ◌≢◌, ◌<◌, ℕ, zero, suc, Bool, true, false, ◌&&◌, ◌||◌, cond, eqb, List, [], ◌∷◌, ◌++◌, length, map, filter, get_or, refl, sym, ap, subst, ◌∙◌, AllPairs, inl, inr, arith}
+use Rattle.std.proofs.lemmas.Bool.{cases_order, false_from_ne_true}
+use Rattle.std.proofs.lemmas.List.{length-map, get_or-map}
+use Rattle.std.proofs.lemmas.List.Quantifiers.{all_pairs_push}
 use Rattle.std.proofs.lemmas.Slice.Eq.{bytes_eq-Decides}
-use Rattle.std.specs.List.{AllByRecursion, list_any, list_all, position, sum_by}
-use Rattle.sm_model.specs.declared.address.Address.{Address}
+use Rattle.std.specs.List.{AllByRecursion, list_any}
 use Rattle.sm_model.specs.declared.track.Track.{Track}
-use Rattle.sm_log.specs.declared.verdict.Decision.{Decision}
-use Rattle.sm_log.specs.declared.verdict.Decision.TheVariants as decision
-use Rattle.sm_log.specs.declared.verdict.Judged.TheVariants as judged
 use Rattle.sm_model.specs.Channels.{IsChannel, Agree}
 use Rattle.sm_model.specs.LiveTracks.{is_same}
-use Rattle.sm_log.specs.Times.{entry_at, with_entry, decision, AreSorted}
-use Rattle.sm_log.specs.Adds.{Add, is_at, track_at, tracks_of, names_from, names_of, place_of, times_from, times_of, is_kept, is_listed, listed, judged_by, known_or_new, verdict}
-use Rattle.sm_timeline.specs.Lines.{Entries, more, count_at}
+use Rattle.sm_log.specs.Adds.{names_from, names_of}
 use Rattle.sm_log.proofs.Choice.{chosen}
-use Rattle.sm_log.proofs.Entries.{sorted_with}
-use Rattle.sm_log.proofs.Added.{new_means, there_means}
-use Rattle.sm_catalog.specs.declared.added.Added.{Added}
-use Rattle.sm_catalog.specs.Content.{Lane, spare_of}
-use Rattle.sm_catalog.specs.Kept.{is_track, places_of}
-use Rattle.sm_log.proofs.Entries.{or_place}
-use Rattle.sm_catalog.specs.Whole.{address_in, add_in, adds_in, spares_in, IsLane, IsWhole}
-use Rattle.sm_log.proofs.Snoc.{times_snoc, place_snoc, sorted_times_from, kept_snoc}
-use Rattle.sm_catalog.proofs.Snoc.{places_snoc}
-use Rattle.sm_log.proofs.Entries.{entry_with}
-use Rattle.sm_catalog.proofs.Listing.{filter_with, filter_same}
-use Rattle.sm_catalog.proofs.Counting.{passing, passing_most, all_by_count, all_same, count_same, HasBitrate, DifferInBitrate, count_flip, not_all}
-use Rattle.sm_catalog.proofs.Lookups.{is_the, is_named, FoundTrack, found_track}
-use Rattle.sm_log.proofs.New.{IsNew, is_new}
+use Rattle.sm_catalog.specs.Content.{Lane}
+use Rattle.sm_catalog.proofs.Counting.{DifferInBitrate}
+use Rattle.sm_catalog.proofs.Lookups.{is_the, is_named}
 
 -- ---- names
 
@@ -69,10 +49,10 @@ lanes_apart channel lanes i j d names hi hj ne = λ same.
     let at : (k : ℕ) → k < length lanes → get_or (map (λ (l : Lane). l.name) lanes) k d.name ≡ (get_or lanes k d).name = λ k h. get_or-map (λ (l : Lane). l.name) lanes k d d.name h in
     let len : length (map (λ (l : Lane). l.name) lanes) ≡ length lanes = length-map lanes (λ (l : Lane). l.name) in
     elim (cases_order i j) [
-      inl e ↦ absurd (ne e)
-    | inr o ↦ elim o [
-        inl less ↦ apart i j d.name less (omega (arith, len, hj)) (at i hi ∙ same ∙ sym (at j hj))
-      | inr less ↦ apart j i d.name less (omega (arith, len, hi)) (at j hj ∙ sym same ∙ sym (at i hi))
+      | inl e ↦ absurd (ne e)
+      | inr o ↦ elim o [
+        | inl less ↦ apart i j d.name less (omega (arith, len, hj)) (at i hi ∙ same ∙ sym (at j hj))
+        | inr less ↦ apart j i d.name less (omega (arith, len, hi)) (at j hj ∙ sym same ∙ sym (at i hi))
       ]
     ]
 
@@ -80,10 +60,10 @@ lanes_apart channel lanes i j d names hi hj ne = λ same.
 pub tracks_apart : (channel : List Track) (i j : ℕ) (d : Track) → IsChannel channel → i < length channel → j < length channel → i ≢ j → (get_or channel i d).name ≡ (get_or channel j d).name → (get_or channel i d).bitrate ≡ (get_or channel j d).bitrate → ⊥
 tracks_apart channel i j d valid hi hj ne name bitrate =
     elim (cases_order i j) [
-      inl e ↦ ne e
-    | inr o ↦ elim o [
-        inl less ↦ (valid.agree i j d less hj).apart name bitrate
-      | inr less ↦ (valid.agree j i d less hi).apart (sym name) (sym bitrate)
+      | inl e ↦ ne e
+      | inr o ↦ elim o [
+        | inl less ↦ (valid.agree i j d less hj).apart name bitrate
+        | inr less ↦ (valid.agree j i d less hi).apart (sym name) (sym bitrate)
       ]
     ]
 

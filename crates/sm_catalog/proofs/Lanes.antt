@@ -1,31 +1,20 @@
 -- The streams of a catalog to which a fragment was added.
-use Rattle.std.proofs.Common.{◌≡◌, ◌≢◌, ◌≤◌, ◌<◌, ◌+◌, ◌-◌, ℕ, zero, suc, Bool, true, false, not, ◌&&◌, ◌||◌, cond, eqb, ltb, min, List, [], ◌∷◌, ◌++◌, length, map, filter, get_or, set, Option, Some, None, is_some, refl, sym, ap, subst, ◌∙◌, All, AllPairs, inl, inr, ◌⊎◌, arith}
-use Rattle.std.proofs.lemmas.Bool.{eqb-true, eqb-false, eq-eqb, ne_eqb, and_parts, and_left, and_right, cases_eq, false_from_ne_true}
-use Rattle.std.proofs.lemmas.List.{get_or-set_same, get_or-set_other, length-set, length-map, map_push, length_push, get_or_default}
-use Rattle.std.proofs.lemmas.List.Elements.{All-push}
-use Rattle.std.proofs.lemmas.List.Sums.{sum_by-set}
-use Rattle.std.proofs.Math.Seq.{map-set_same}
-use Rattle.std.proofs.lemmas.List.Quantifiers.{position-Some}
-use Rattle.std.specs.List.{AllByRecursion, list_any, list_all, position, sum_by}
-use Rattle.sm_model.specs.declared.address.Address.{Address}
+use Rattle.std.proofs.Common.{◌≡◌, ◌≢◌, ◌≤◌, ◌+◌, ℕ, Bool, true, false, ◌&&◌, ◌||◌, cond, eqb, List, [], ◌∷◌, ◌++◌, length, filter, Some, None, is_some, refl, sym, ap, subst, ◌∙◌, arith}
+use Rattle.std.proofs.lemmas.Bool.{eqb-true, eqb-false, eq-eqb, ne_eqb, and_left, and_right}
 use Rattle.sm_model.specs.declared.track.Track.{Track}
 use Rattle.sm_model.specs.Channels.{IsChannel}
 use Rattle.sm_model.specs.LiveTracks.{is_same}
-use Rattle.sm_log.specs.Times.{entry_at, with_entry, AreSorted}
-use Rattle.sm_log.specs.Adds.{Add, is_at, track_at, tracks_of, names_of, place_of, times_from, times_of, is_kept, is_listed, listed}
-use Rattle.sm_timeline.specs.Lines.{Entries, more, count_at}
-use Rattle.sm_log.proofs.Choice.{chosen}
-use Rattle.sm_catalog.specs.declared.added.Added.{Added}
-use Rattle.sm_catalog.specs.Content.{Lane, spare_of}
-use Rattle.sm_catalog.specs.Kept.{is_track, places_of}
-use Rattle.sm_catalog.specs.Whole.{address_in, add_in, adds_in, spares_in, IsLane, IsWhole}
+use Rattle.sm_log.specs.Times.{entry_at, with_entry}
+use Rattle.sm_log.specs.Adds.{Add, is_at, tracks_of, place_of, times_of, is_kept, is_listed, listed}
+use Rattle.sm_timeline.specs.Lines.{more, count_at}
+use Rattle.sm_catalog.specs.Content.{Lane}
+use Rattle.sm_catalog.specs.Whole.{IsLane}
 use Rattle.sm_log.proofs.Snoc.{times_snoc, sorted_times_from, kept_snoc}
-use Rattle.sm_catalog.proofs.Snoc.{places_snoc}
 use Rattle.sm_catalog.proofs.Listing.{filter_with, filter_same}
 use Rattle.sm_catalog.proofs.Counting.{passing, passing_most, all_by_count, all_same, count_same, HasBitrate, DifferInBitrate, count_flip, not_all}
-use Rattle.sm_catalog.proofs.Lookups.{is_the, is_named, FoundTrack, found_track, declared_any}
-use Rattle.sm_catalog.proofs.Adding.{same_name, differ_names, not_same, lanes_apart, tracks_apart, differ_in_bitrate, has_bitrate}
-use Rattle.sm_log.proofs.New.{IsNew, is_new}
+use Rattle.sm_catalog.proofs.Lookups.{is_named}
+use Rattle.sm_catalog.proofs.Adding.{same_name, differ_in_bitrate}
+use Rattle.sm_log.proofs.New.{IsNew}
 
 -- ---- the same stream
 
@@ -104,18 +93,18 @@ lane_added channel adds l m a valid lane to name new has =
     let times : times_of s adds' ≡ with_entry a.address.time a.duration (times_of s adds) = times_snoc s [] adds a ∙ rw (same_name a.address.stream s name) refl in
     let value : (w : ℕ) → entry_at a.address.time (times_of s adds) ≡ Some w → w ≡ a.duration = subst (λ (n : List ℕ). (w : ℕ) → entry_at a.address.time (times_of n adds) ≡ Some w → w ≡ a.duration) name new.value in
     let count : (t : ℕ) → count_at t m.times m.counts ≡ passing (is_kept adds' s t) (tracks_of s channel) = λ t.
-        to.count t ∙ ap (λ (n : ℕ). cond (eqb a.address.time t) (more n) (count_at t l.times l.counts)) (lane.counts a.address.time)
-        ∙ ap (λ (n : ℕ). cond (eqb a.address.time t) (more (passing (is_kept adds s a.address.time) (tracks_of s channel))) n) (lane.counts t)
-        ∙ ap (λ (n : ℕ). cond (eqb a.address.time t) n (passing (is_kept adds s t) (tracks_of s channel))) (small (passing (is_kept adds s a.address.time) (tracks_of s channel)) (omega (arith, few, old_most)))
-        ∙ sym (counts_now channel adds a s t name new.free differ has) in
+    to.count t ∙ ap (λ (n : ℕ). cond (eqb a.address.time t) (more n) (count_at t l.times l.counts)) (lane.counts a.address.time)
+    ∙ ap (λ (n : ℕ). cond (eqb a.address.time t) (more (passing (is_kept adds s a.address.time) (tracks_of s channel))) n) (lane.counts t)
+    ∙ ap (λ (n : ℕ). cond (eqb a.address.time t) n (passing (is_kept adds s t) (tracks_of s channel))) (small (passing (is_kept adds s a.address.time) (tracks_of s channel)) (omega (arith, few, old_most)))
+    ∙ sym (counts_now channel adds a s t name new.free differ has) in
     let off : is_listed channel adds s (a.address.time, a.duration) ≡ false = not_all (is_kept adds s a.address.time) a.address.bitrate (tracks_of s channel) (λ tr e. not_kept adds a s tr name new.free e) has in
     let step = filter_with (is_listed channel adds s) (is_listed channel adds' s) a.address.time a.duration (times_of s adds) (sorted_times_from s [] adds tt) (λ x ne. all_same (is_kept adds s x.0) (is_kept adds' s x.0) (tracks_of s channel) (λ tr. kept_elsewhen adds a s x.0 tr ne)) off value in
     let now : eqb (count_at a.address.time m.times m.counts) l.tracks ≡ is_listed channel adds' s (a.address.time, a.duration) =
-        ap (λ (n : ℕ). eqb n l.tracks) (count a.address.time) ∙ ap (λ (n : ℕ). eqb (passing (is_kept adds' s a.address.time) (tracks_of s channel)) n) lane.tracks ∙ sym (all_by_count (is_kept adds' s a.address.time) (tracks_of s channel)) in
+    ap (λ (n : ℕ). eqb n l.tracks) (count a.address.time) ∙ ap (λ (n : ℕ). eqb (passing (is_kept adds' s a.address.time) (tracks_of s channel)) n) lane.tracks ∙ sym (all_by_count (is_kept adds' s a.address.time) (tracks_of s channel)) in
     let listing : m.listed ≡ listed channel adds' s =
-        to.listed ∙ ap (λ (b : Bool). cond b (with_entry a.address.time a.duration l.listed) l.listed) now
-        ∙ ap (λ (ls : List (ℕ × ℕ)). cond (is_listed channel adds' s (a.address.time, a.duration)) (with_entry a.address.time a.duration ls) ls) lane.listed
-        ∙ sym (ap (λ (ts : List (ℕ × ℕ)). filter (is_listed channel adds' s) ts) times ∙ step) in
+    to.listed ∙ ap (λ (b : Bool). cond b (with_entry a.address.time a.duration l.listed) l.listed) now
+    ∙ ap (λ (ls : List (ℕ × ℕ)). cond (is_listed channel adds' s (a.address.time, a.duration)) (with_entry a.address.time a.duration ls) ls) lane.listed
+    ∙ sym (ap (λ (ts : List (ℕ × ℕ)). filter (is_listed channel adds' s) ts) times ∙ step) in
     record {
       times = to.times ∙ ap (λ (ts : List (ℕ × ℕ)). with_entry a.address.time a.duration ts) lane.times ∙ sym times ∙ ap (λ (n : List ℕ). times_of n adds') (sym to.name);
       counts = λ t. count t ∙ ap (λ (n : List ℕ). passing (is_kept adds' n t) (tracks_of n channel)) (sym to.name);

@@ -1,7 +1,7 @@
 -- What looking for tracks and streams by name says.
-use Rattle.std.proofs.Common.{◌≡◌, ◌≢◌, ◌≤◌, ◌<◌, ◌+◌, ℕ, zero, suc, Bool, true, false, not, ◌&&◌, ◌||◌, cond, eqb, ltb, List, [], ◌∷◌, ◌++◌, length, map, filter, get_or, Option, Some, None, is_some, is_none, refl, sym, ap, subst, ◌∙◌, All, inl, inr, arith}
-use Rattle.std.proofs.lemmas.Bool.{eqb-true, eqb-false, ltb-true, ltb-false, eq-eqb, and_parts, and_cases, and_from}
-use Rattle.std.proofs.lemmas.List.Elements.{recursion_from_All, All-get_or}
+use Rattle.std.proofs.Common.{◌≡◌, ◌≤◌, ◌<◌, ◌+◌, ℕ, zero, suc, Bool, true, false, not, ◌&&◌, ◌||◌, cond, eqb, ltb, List, [], ◌∷◌, ◌++◌, length, map, get_or, Option, Some, None, is_some, is_none, refl, sym, ap, subst, ◌∙◌, All, arith}
+use Rattle.std.proofs.lemmas.Bool.{eqb-true, ltb-false, and_parts}
+use Rattle.std.proofs.lemmas.List.Elements.{recursion_from_All}
 use Rattle.std.proofs.lemmas.List.Quantifiers.{position-Some}
 use Rattle.std.proofs.lemmas.Slice.Eq.{bytes_eq-Decides}
 use Rattle.std.specs.List.{AllByRecursion, list_any, position, prefix_len}
@@ -11,7 +11,7 @@ use Rattle.sm_log.specs.declared.verdict.Decision.{Decision}
 use Rattle.sm_log.specs.declared.verdict.Judged.TheVariants as judged
 use Rattle.sm_model.specs.LiveTracks.{is_same}
 use Rattle.sm_log.specs.Times.{entry_at, with_entry, decision}
-use Rattle.sm_log.specs.Adds.{Add, is_at, track_at, is_declared, tracks_of, names_from, names_of, place_of, times_from, times_of, listed, judged_by, verdict}
+use Rattle.sm_log.specs.Adds.{Add, track_at, names_from, names_of, place_of, times_from, times_of, listed, judged_by, verdict}
 use Rattle.sm_timeline.specs.Lines.{Entries}
 use Rattle.sm_catalog.specs.declared.added.Added.{Added}
 use Rattle.sm_catalog.specs.Content.{Lane}

@@ -1,15 +1,11 @@
 -- One add more: times, places, and what is kept.
-use Rattle.std.proofs.Common.{◌≡◌, ◌≢◌, ◌≤◌, ◌<◌, ◌+◌, ℕ, Bool, true, false, ◌&&◌, ◌||◌, cond, eqb, ltb, List, [], ◌∷◌, ◌++◌, Option, Some, None, is_some, refl, sym, ap, ◌∙◌, arith}
-use Rattle.std.proofs.lemmas.Bool.{eqb-true, eqb-false, ltb-true, ltb-false, eq-eqb, ne_eqb}
-use Rattle.std.specs.List.{AllByRecursion}
-use Rattle.sm_model.specs.declared.address.Address.{Address}
-use Rattle.sm_model.specs.declared.track.Track.{Track}
+use Rattle.std.proofs.Common.{◌≡◌, ℕ, Bool, true, false, ◌&&◌, cond, eqb, List, [], ◌∷◌, ◌++◌, Option, Some, None, refl, ◌∙◌}
 use Rattle.sm_model.specs.LiveTracks.{is_same}
 use Rattle.sm_log.specs.Times.{entry_at, with_entry, AreSorted}
-use Rattle.sm_log.specs.Adds.{Add, is_at, place_of, times_from, times_of, is_kept}
+use Rattle.sm_log.specs.Adds.{Add, place_of}
 use Rattle.sm_log.proofs.Choice.{chosen}
-use Rattle.sm_log.proofs.Entries.{no_later, all_later, sorted_with}
-use Rattle.sm_catalog.specs.Kept.{is_track, places_from, places_of}
+use Rattle.sm_log.proofs.Entries.{sorted_with}
+use Rattle.sm_catalog.specs.Kept.{is_track, places_from}
 use Rattle.sm_log.proofs.Entries.{or_place}
 use Rattle.sm_log.proofs.Entries.{or_place, entry_with}
 

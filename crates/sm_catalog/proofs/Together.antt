@@ -1,34 +1,31 @@
 -- A catalog as a whole, to which a fragment was added.
-use Rattle.std.proofs.Common.{◌≡◌, ◌≢◌, ◌≤◌, ◌<◌, ◌+◌, ◌-◌, ℕ, zero, suc, Bool, true, false, not, ◌&&◌, ◌||◌, cond, eqb, ltb, min, List, [], ◌∷◌, ◌++◌, length, map, filter, get_or, set, Option, Some, None, is_some, refl, sym, ap, subst, ◌∙◌, All, AllPairs, inl, inr, ◌⊎◌, arith}
-use Rattle.std.proofs.lemmas.Bool.{eqb-true, eqb-false, eq-eqb, ne_eqb, and_parts, and_from, and_left, and_right, cases_eq, false_from_ne_true}
-use Rattle.std.proofs.lemmas.List.{get_or-set_same, get_or-set_other, length-set, length-map, map_push, length_push, get_or_default, get_or-map}
+use Rattle.std.proofs.Common.{◌≡◌, ◌≢◌, ◌≤◌, ◌<◌, ◌+◌, ◌-◌, ℕ, zero, suc, Bool, true, false, cond, eqb, List, [], ◌∷◌, ◌++◌, length, map, get_or, set, Some, refl, sym, ap, subst, ◌∙◌, All, inl, inr, ◌⊎◌, arith}
+use Rattle.std.proofs.lemmas.Bool.{eqb-true, eq-eqb, and_parts, and_from, cases_eq, false_from_ne_true}
+use Rattle.std.proofs.lemmas.List.{get_or-set_same, get_or-set_other, length-set, length-map, map_push, length_push, get_or-map}
 use Rattle.std.proofs.lemmas.List.Elements.{All-push, AllZip-get_or, length_all_zip, All-from_recursion, recursion_from_All}
 use Rattle.std.proofs.lemmas.List.Sums.{sum_by-set, sum_by-cons}
 use Rattle.std.proofs.Math.Seq.{map-set_same}
 use Rattle.std.proofs.lemmas.List.Quantifiers.{position-Some}
 use Rattle.std.proofs.lemmas.Slice.Eq.{bytes_eq-Decides}
-use Rattle.std.specs.List.{AllByRecursion, list_any, list_all, position, sum_by}
+use Rattle.std.specs.List.{AllByRecursion, position, sum_by}
 use Rattle.sm_model.specs.declared.address.Address.{Address}
 use Rattle.sm_model.specs.declared.track.Track.{Track}
 use Rattle.sm_model.specs.Channels.{IsChannel}
 use Rattle.sm_model.specs.LiveTracks.{is_same}
-use Rattle.sm_log.specs.Times.{entry_at, with_entry, AreSorted}
-use Rattle.sm_log.specs.Adds.{Add, is_at, track_at, tracks_of, names_of, place_of, times_from, times_of, is_kept, is_listed, listed}
+use Rattle.sm_log.specs.Times.{with_entry}
+use Rattle.sm_log.specs.Adds.{Add, tracks_of, names_of, times_of, is_kept, listed}
 use Rattle.sm_timeline.specs.Lines.{Entries, more, count_at}
-use Rattle.sm_log.proofs.Choice.{chosen}
 use Rattle.sm_catalog.specs.declared.added.Added.{Added}
-use Rattle.sm_catalog.specs.Content.{Lane, spare_of, HaveMoreRoom, HasMoreRoom, IsCopy, AreCopies, IsFresh}
+use Rattle.sm_catalog.specs.Content.{Lane, spare_of, HaveMoreRoom, IsCopy, AreCopies, IsFresh}
 use Rattle.sm_catalog.specs.Kept.{is_track, places_of}
 use Rattle.sm_catalog.specs.Whole.{address_in, add_in, adds_in, spares_in, IsLane, IsWhole}
-use Rattle.sm_log.proofs.Snoc.{times_snoc, sorted_times_from, kept_snoc}
 use Rattle.sm_catalog.proofs.Snoc.{places_snoc}
-use Rattle.sm_catalog.proofs.Listing.{filter_with, filter_same}
-use Rattle.sm_catalog.proofs.Counting.{passing, passing_most, all_by_count, all_same, count_same, HasBitrate, DifferInBitrate, count_flip, not_all}
+use Rattle.sm_catalog.proofs.Counting.{passing, HasBitrate}
 use Rattle.sm_log.specs.declared.verdict.Decision.TheVariants as decision
 use Rattle.sm_log.specs.Times.{decision}
-use Rattle.sm_catalog.proofs.Lookups.{is_the, is_named, FoundTrack, found_track, declared_any, found_lane}
-use Rattle.sm_catalog.proofs.Adding.{same_name, differ_names, not_same, lanes_apart, tracks_apart, differ_in_bitrate, has_bitrate}
-use Rattle.sm_log.proofs.New.{IsNew, is_new}
+use Rattle.sm_catalog.proofs.Lookups.{is_the, FoundTrack, found_track, declared_any, found_lane}
+use Rattle.sm_catalog.proofs.Adding.{same_name, differ_names, lanes_apart, tracks_apart, has_bitrate}
+use Rattle.sm_log.proofs.New.{IsNew}
 use Rattle.sm_catalog.proofs.Lanes.{IsAddedTo, lane_added, lane_other}
 
 -- ---- spares
@@ -81,25 +78,25 @@ adds_more [] added x k d p e = absurd cc
 adds_more (t ∷ ts) added x k d p e =
     let found = found_track x.stream x.bitrate (t ∷ ts) k e in
     let is : address_in (t ∷ ts) k x.time ≡ x =
-        address_is (t ∷ ts) k x.time t found.within
-        ∙ ap (λ (s : List ℕ). record { stream = s; bitrate = (get_or (t ∷ ts) k t).bitrate; time = x.time }) (found.name t)
-        ∙ ap (λ (r : ℕ). record { stream = x.stream; bitrate = r; time = x.time }) (found.bitrate t) in
+    address_is (t ∷ ts) k x.time t found.within
+    ∙ ap (λ (s : List ℕ). record { stream = s; bitrate = (get_or (t ∷ ts) k t).bitrate; time = x.time }) (found.name t)
+    ∙ ap (λ (r : ℕ). record { stream = x.stream; bitrate = r; time = x.time }) (found.bitrate t) in
     map_push (add_in (t ∷ ts)) added _ ∙ ap (λ (a : Address). adds_in (t ∷ ts) added ++ (record { address = a; duration = d; place = p }) ∷ []) is
 
 pub whole_added : (channel : List Track) (added : List Added) (kept : List Entries) (lanes : List Lane) (reserved capacity more k j d p : ℕ) (x : Address) (e : Entries) (m : Lane)
     → IsWhole channel added kept lanes reserved capacity → IsPut channel kept lanes x d p k j e m → IsNew (adds_in channel added) x d → capacity ≤ more
     → IsWhole channel (added ++ (record { track = k; time = x.time; duration = d; place = p }) ∷ []) (set kept k e) (set lanes j m) (reserved - 1) more
 whole_added channel added kept lanes reserved capacity more k j d p x e m whole put new enough = record {
-    valid = whole.valid;
-    within = All-push (λ (y : Added). y.track < length channel) added y whole.within found.within;
-    as_many = length-set kept k e ∙ whole.as_many;
-    places = λ i f t h. ap (λ (l : List (ℕ × ℕ)). l) (place_now i f t h);
-    names = map-set_same (λ (l : Lane). l.name) lanes j m m (put.added m).name ∙ whole.names;
-    each = λ i l h. each_now i l (rw (length-set lanes j m) at h);
-    rooms = λ i q l t f h w same. rooms_now i q l t f (rw (length-set lanes j m) at h) w same;
-    sum = omega (arith, summed, (put.added m).spare, whole.sum);
-    room = omega (arith, length_push added y, summed, (put.added m).spare, whole.sum, whole.room, enough);
-  }
+  valid = whole.valid;
+  within = All-push (λ (y : Added). y.track < length channel) added y whole.within found.within;
+  as_many = length-set kept k e ∙ whole.as_many;
+  places = λ i f t h. ap (λ (l : List (ℕ × ℕ)). l) (place_now i f t h);
+  names = map-set_same (λ (l : Lane). l.name) lanes j m m (put.added m).name ∙ whole.names;
+  each = λ i l h. each_now i l (rw (length-set lanes j m) at h);
+  rooms = λ i q l t f h w same. rooms_now i q l t f (rw (length-set lanes j m) at h) w same;
+  sum = omega (arith, summed, (put.added m).spare, whole.sum);
+  room = omega (arith, length_push added y, summed, (put.added m).spare, whole.sum, whole.room, enough);
+}
   where
     y : Added
     y = record { track = k; time = x.time; duration = d; place = p }
@@ -153,9 +150,9 @@ whole_added channel added kept lanes reserved capacity more k j d p x e m whole 
 
     place_now : (i : ℕ) (f : Entries) (t : Track) → i < length channel → (get_or (set kept k e) i f).entries ≡ places_of (get_or channel i t).name (get_or channel i t).bitrate (adds_in channel (added ++ y ∷ []))
     place_now i f t h = elim (cases_eq i k) [
-        inl at ↦ subst (λ (n : ℕ). (get_or (set kept k e) n f).entries ≡ places_of (get_or channel n t).name (get_or channel n t).bitrate (adds_in channel (added ++ y ∷ []))) (sym at) (place_here f t)
+      | inl at ↦ subst (λ (n : ℕ). (get_or (set kept k e) n f).entries ≡ places_of (get_or channel n t).name (get_or channel n t).bitrate (adds_in channel (added ++ y ∷ []))) (sym at) (place_here f t)
       | inr ne ↦ place_there i f t h ne
-      ]
+    ]
 
     -- ---- streams
 
@@ -176,9 +173,9 @@ whole_added channel added kept lanes reserved capacity more k j d p x e m whole 
 
     each_now : (i : ℕ) (l : Lane) → i < length lanes → IsLane channel (adds_in channel (added ++ y ∷ [])) (get_or (set lanes j m) i l)
     each_now i l h = elim (cases_eq i j) [
-        inl at ↦ subst (λ (n : ℕ). IsLane channel (adds_in channel (added ++ y ∷ [])) (get_or (set lanes j m) n l)) (sym at) (lane_here l)
+      | inl at ↦ subst (λ (n : ℕ). IsLane channel (adds_in channel (added ++ y ∷ [])) (get_or (set lanes j m) n l)) (sym at) (lane_here l)
       | inr ne ↦ lane_there i l h ne
-      ]
+    ]
 
     -- ---- room
 
@@ -190,8 +187,8 @@ whole_added channel added kept lanes reserved capacity more k j d p x e m whole 
         let spare = ap (λ (n : Lane). n.spare) is in
         let less = (put.added l).spare in
         elim (cases_eq q k) [
-          inl at ↦ subst (λ (n : ℕ). (get_or (set lanes j m) j l).spare ≤ (get_or (set kept k e) n f).room) (sym at) (omega (arith, spare, less, ap (λ (n : Entries). n.room) (get_or-set_same kept k e f within_kept), put.room f, subst (λ (n : ℕ). (get_or lanes j l).spare ≤ (get_or kept n f).room) at was))
-        | inr ne ↦ omega (arith, spare, less, was, ap (λ (n : Entries). n.room) (get_or-set_other kept k q e f ne))
+          | inl at ↦ subst (λ (n : ℕ). (get_or (set lanes j m) j l).spare ≤ (get_or (set kept k e) n f).room) (sym at) (omega (arith, spare, less, ap (λ (n : Entries). n.room) (get_or-set_same kept k e f within_kept), put.room f, subst (λ (n : ℕ). (get_or lanes j l).spare ≤ (get_or kept n f).room) at was))
+          | inr ne ↦ omega (arith, spare, less, was, ap (λ (n : Entries). n.room) (get_or-set_other kept k q e f ne))
         ]
 
     rooms_there : (i q : ℕ) (l : Lane) (t : Track) (f : Entries) → i < length lanes → q < length channel → i ≢ j → (get_or channel q t).name ≡ (get_or (set lanes j m) i l).name → (get_or (set lanes j m) i l).spare ≤ (get_or (set kept k e) q f).room
@@ -201,15 +198,15 @@ whole_added channel added kept lanes reserved capacity more k j d p x e m whole 
         let was = whole.rooms i q l t f h w name in
         let spare = ap (λ (n : Lane). n.spare) is in
         elim (cases_eq q k) [
-          inl at ↦ absurd (lanes_apart channel lanes i j l whole.names h within_lanes ne (sym name ∙ ap (λ (n : ℕ). (get_or channel n t).name) at ∙ found.name t ∙ sym (stream l)))
-        | inr apart ↦ omega (arith, spare, was, ap (λ (n : Entries). n.room) (get_or-set_other kept k q e f apart))
+          | inl at ↦ absurd (lanes_apart channel lanes i j l whole.names h within_lanes ne (sym name ∙ ap (λ (n : ℕ). (get_or channel n t).name) at ∙ found.name t ∙ sym (stream l)))
+          | inr apart ↦ omega (arith, spare, was, ap (λ (n : Entries). n.room) (get_or-set_other kept k q e f apart))
         ]
 
     rooms_now : (i q : ℕ) (l : Lane) (t : Track) (f : Entries) → i < length lanes → q < length channel → (get_or channel q t).name ≡ (get_or (set lanes j m) i l).name → (get_or (set lanes j m) i l).spare ≤ (get_or (set kept k e) q f).room
     rooms_now i q l t f h w same = elim (cases_eq i j) [
-        inl at ↦ subst (λ (n : ℕ). (get_or channel q t).name ≡ (get_or (set lanes j m) n l).name → (get_or (set lanes j m) n l).spare ≤ (get_or (set kept k e) q f).room) (sym at) (rooms_here q l t f w) same
+      | inl at ↦ subst (λ (n : ℕ). (get_or channel q t).name ≡ (get_or (set lanes j m) n l).name → (get_or (set lanes j m) n l).spare ≤ (get_or (set kept k e) q f).room) (sym at) (rooms_here q l t f w) same
       | inr ne ↦ rooms_there i q l t f h w ne same
-      ]
+    ]
 
 -- ---- before the add
 
@@ -239,16 +236,16 @@ room_there channel added kept (l ∷ lanes) reserved capacity k j x f whole e at
 
 pub whole_roomier : (channel : List Track) (added : List Added) (kept more : List Entries) (lanes : List Lane) (reserved capacity larger : ℕ) → IsWhole channel added kept lanes reserved capacity → HaveMoreRoom kept more → capacity ≤ larger → IsWhole channel added more lanes reserved larger
 whole_roomier channel added kept more lanes reserved capacity larger whole roomier enough = record {
-    valid = whole.valid;
-    within = whole.within;
-    as_many = roomier.as_many ∙ whole.as_many;
-    places = λ k d t h. (roomier.each k d (inside k h)).entries ∙ whole.places k d t h;
-    names = whole.names;
-    each = whole.each;
-    rooms = λ j k l t f h w same. omega (arith, whole.rooms j k l t f h w same, (roomier.each k f (inside k w)).room);
-    sum = whole.sum;
-    room = omega (arith, whole.room, enough);
-  }
+  valid = whole.valid;
+  within = whole.within;
+  as_many = roomier.as_many ∙ whole.as_many;
+  places = λ k d t h. (roomier.each k d (inside k h)).entries ∙ whole.places k d t h;
+  names = whole.names;
+  each = whole.each;
+  rooms = λ j k l t f h w same. omega (arith, whole.rooms j k l t f h w same, (roomier.each k f (inside k w)).room);
+  sum = whole.sum;
+  room = omega (arith, whole.room, enough);
+}
   where
     inside : (k : ℕ) → k < length channel → k < length kept
     inside k h = omega (arith, whole.as_many)
@@ -268,16 +265,16 @@ pub whole_raised : (channel : List Track) (added : List Added) (kept : List Entr
     → ((k : ℕ) (d : Entries) (t : Track) → k < length channel → is_same (get_or channel k t).name s ≡ true → m.spare ≤ (get_or kept k d).room)
     → length added + (reserved + extra) ≤ capacity → IsWhole channel added kept (set lanes j m) (reserved + extra) capacity
 whole_raised channel added kept lanes reserved capacity j extra s m whole at raised rooms enough = record {
-    valid = whole.valid;
-    within = whole.within;
-    as_many = whole.as_many;
-    places = whole.places;
-    names = map-set_same (λ (l : Lane). l.name) lanes j m m (raised m).name ∙ whole.names;
-    each = λ i l h. each_now i l (rw (length-set lanes j m) at h);
-    rooms = λ i q l t f h w same. rooms_now i q l t f (rw (length-set lanes j m) at h) w same;
-    sum = omega (arith, summed, (raised m).spare, whole.sum);
-    room = enough;
-  }
+  valid = whole.valid;
+  within = whole.within;
+  as_many = whole.as_many;
+  places = whole.places;
+  names = map-set_same (λ (l : Lane). l.name) lanes j m m (raised m).name ∙ whole.names;
+  each = λ i l h. each_now i l (rw (length-set lanes j m) at h);
+  rooms = λ i q l t f h w same. rooms_now i q l t f (rw (length-set lanes j m) at h) w same;
+  sum = omega (arith, summed, (raised m).spare, whole.sum);
+  room = enough;
+}
   where
     within_lanes : j < length lanes
     within_lanes = (position-Some (λ (l : Lane). is_same l.name s) lanes j m at).0
@@ -302,9 +299,9 @@ whole_raised channel added kept lanes reserved capacity j extra s m whole at rai
 
     each_now : (i : ℕ) (l : Lane) → i < length lanes → IsLane channel (adds_in channel added) (get_or (set lanes j m) i l)
     each_now i l h = elim (cases_eq i j) [
-        inl e ↦ subst (λ (n : ℕ). IsLane channel (adds_in channel added) (get_or (set lanes j m) n l)) (sym e) (subst (IsLane channel (adds_in channel added)) (sym (get_or-set_same lanes j m l within_lanes)) (lane_same l))
+      | inl e ↦ subst (λ (n : ℕ). IsLane channel (adds_in channel added) (get_or (set lanes j m) n l)) (sym e) (subst (IsLane channel (adds_in channel added)) (sym (get_or-set_same lanes j m l within_lanes)) (lane_same l))
       | inr ne ↦ subst (IsLane channel (adds_in channel added)) (sym (get_or-set_other lanes j i m l ne)) (whole.each i l h)
-      ]
+    ]
 
     rooms_here : (q : ℕ) (l : Lane) (t : Track) (f : Entries) → q < length channel → (get_or channel q t).name ≡ (get_or (set lanes j m) j l).name → (get_or (set lanes j m) j l).spare ≤ (get_or kept q f).room
     rooms_here q l t f w same =
@@ -314,11 +311,11 @@ whole_raised channel added kept lanes reserved capacity j extra s m whole at rai
 
     rooms_now : (i q : ℕ) (l : Lane) (t : Track) (f : Entries) → i < length lanes → q < length channel → (get_or channel q t).name ≡ (get_or (set lanes j m) i l).name → (get_or (set lanes j m) i l).spare ≤ (get_or kept q f).room
     rooms_now i q l t f h w same = elim (cases_eq i j) [
-        inl e ↦ subst (λ (n : ℕ). (get_or channel q t).name ≡ (get_or (set lanes j m) n l).name → (get_or (set lanes j m) n l).spare ≤ (get_or kept q f).room) (sym e) (rooms_here q l t f w) same
+      | inl e ↦ subst (λ (n : ℕ). (get_or channel q t).name ≡ (get_or (set lanes j m) n l).name → (get_or (set lanes j m) n l).spare ≤ (get_or kept q f).room) (sym e) (rooms_here q l t f w) same
       | inr ne ↦
           let is : get_or (set lanes j m) i l ≡ get_or lanes i l = get_or-set_other lanes j i m l ne in
           omega (arith, ap (λ (n : Lane). n.spare) is, whole.rooms i q l t f h w (same ∙ ap (λ (n : Lane). n.name) is))
-      ]
+    ]
 
 -- spares only rise
 pub spares_rise : (s n : List ℕ) (lanes : List Lane) (j extra : ℕ) (m d : Lane) → position (λ (l : Lane). is_same l.name s) lanes ≡ Some j → IsRaised (get_or lanes j d) m extra → spare_of n (spares_in lanes) ≤ spare_of n (spares_in (set lanes j m))
@@ -362,16 +359,16 @@ copied_spares (l ∷ ls) (m ∷ ms) e = (e.0.spare, copied_spares ls ms e.1)
 pub whole_copied : (channel : List Track) (added : List Added) (kept kept' : List Entries) (lanes lanes' : List Lane) (reserved capacity larger : ℕ) → IsWhole channel added kept lanes reserved capacity
     → map (λ (e : Entries). e.entries) kept' ≡ map (λ (e : Entries). e.entries) kept → AreCopies lanes lanes' → length added ≤ larger → IsWhole channel added kept' lanes' 0 larger
 whole_copied channel added kept kept' lanes lanes' reserved capacity larger whole same copies enough = record {
-    valid = whole.valid;
-    within = whole.within;
-    as_many = as_many ∙ whole.as_many;
-    places = λ k d t h. place k d (inside k h) ∙ whole.places k d t h;
-    names = copied_names lanes lanes' copies ∙ whole.names;
-    each = λ i l h. each_now i l (omega (arith, as_long, h));
-    rooms = λ j k l t f h w e. let none = spare_none j l h in omega (arith, none);
-    sum = sum_none lanes' (copied_spares lanes lanes' copies);
-    room = omega (arith, enough);
-  }
+  valid = whole.valid;
+  within = whole.within;
+  as_many = as_many ∙ whole.as_many;
+  places = λ k d t h. place k d (inside k h) ∙ whole.places k d t h;
+  names = copied_names lanes lanes' copies ∙ whole.names;
+  each = λ i l h. each_now i l (omega (arith, as_long, h));
+  rooms = λ j k l t f h w e. let none = spare_none j l h in omega (arith, none);
+  sum = sum_none lanes' (copied_spares lanes lanes' copies);
+  room = omega (arith, enough);
+}
   where
     as_many : length kept' ≡ length kept
     as_many = omega (arith, length-map kept' (λ (e : Entries). e.entries), length-map kept (λ (e : Entries). e.entries), ap length same)
@@ -413,16 +410,16 @@ fresh_spares channel (l ∷ ls) all = (all.0.spare, fresh_spares channel ls all.
 
 pub whole_new : (channel : List Track) (added : List Added) (kept : List Entries) (lanes : List Lane) (capacity : ℕ) → IsChannel channel → added ≡ [] → length kept ≡ length channel → All (λ (e : Entries). e.entries ≡ []) kept → map (λ (l : Lane). l.name) lanes ≡ names_of channel → All (IsFresh channel) lanes → IsWhole channel added kept lanes 0 capacity
 whole_new channel added kept lanes capacity valid none as_many empty names fresh = subst (λ (as' : List Added). IsWhole channel as' kept lanes 0 capacity) (sym none) (record {
-    valid = valid;
-    within = λ k d h. absurd (omega (arith, h));
-    as_many = as_many;
-    places = λ k d t h. empty k d (omega (arith, as_many, h));
-    names = names;
-    each = λ i l h. lane (get_or lanes i l) (fresh i l h);
-    rooms = λ j k l t f h w e. omega (arith, (fresh j l h).spare);
-    sum = sum_none lanes (fresh_spares channel lanes (recursion_from_All (IsFresh channel) lanes fresh));
-    room = omega arith;
-  })
+  valid = valid;
+  within = λ k d h. absurd (omega (arith, h));
+  as_many = as_many;
+  places = λ k d t h. empty k d (omega (arith, as_many, h));
+  names = names;
+  each = λ i l h. lane (get_or lanes i l) (fresh i l h);
+  rooms = λ j k l t f h w e. omega (arith, (fresh j l h).spare);
+  sum = sum_none lanes (fresh_spares channel lanes (recursion_from_All (IsFresh channel) lanes fresh));
+  room = omega arith;
+})
   where
     lane : (l : Lane) → IsFresh channel l → IsLane channel [] l
     lane l is = record {

@@ -12,6 +12,5 @@ pub use added::Added;
 pub use catalog::Catalog;
 pub use sm_log::{Checked, Judged};
 
-
 #[cfg(test)]
 mod tests;

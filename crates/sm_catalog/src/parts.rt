@@ -84,7 +84,11 @@ pub fn copy_streams(alloc: Global, streams: &[Stream]) -> Result<Vec<Stream>, No
 }
 
 /// Makes room for at least two more places of each track of that stream.
-pub fn reserve_places(channel: &[Track], kept: &mut Vec<ByTime>, name: &[u8]) -> Result<(), NoMemory>
+pub fn reserve_places(
+    channel: &[Track],
+    kept: &mut Vec<ByTime>,
+    name: &[u8],
+) -> Result<(), NoMemory>
     requires { length kept.old.items ≡ length channel.now }
     ensures more { HaveMoreRoom kept.old.items kept.new.items }
     ensures ok { OnOk result ((k : ℕ) (d : Entries) (t : Track) → k < length channel.now → is_same (slice_index_or channel.now k t).name name.now ≡ true → 2 ≤ (slice_index_or kept.new.items k d).room) }

@@ -114,7 +114,11 @@ impl Stream {
         }
         let next = start + first;
         let second = self.listed_at(next)?;
-        if index == 1 { Some((next, second)) } else { None }
+        if index == 1 {
+            Some((next, second))
+        } else {
+            None
+        }
     }
 
     /// Makes room for at least two fragments more, and counts it as spare. It needs that the catalog has that room elsewhere.

@@ -62,47 +62,118 @@ fn add(catalog: &mut Catalog, at: &Address, duration: u64, place: u64) -> Result
     Ok(())
 }
 
+// The two times of a stream with a hole between them, in the lower quality.
+fn with_hole(alloc: Global) -> Result<Catalog, Fail> {
+    let mut catalog = empty(alloc)?;
+    for (time, place) in [(0, 1), (4 * SECOND, 2)] {
+        let at = address(alloc, b"video", 350_000, time)?;
+        add(&mut catalog, &at, 2 * SECOND, place)?;
+    }
+    Ok(catalog)
+}
+
+const ROWS: [(&[u8], u32, u64, u64, Judged, &str); 8] = [
+    (
+        b"video",
+        350_000,
+        0,
+        20_000_000,
+        Judged::Known { place: 1 },
+        "again",
+    ),
+    (
+        b"video",
+        700_000,
+        0,
+        20_000_000,
+        Judged::New,
+        "another quality",
+    ),
+    (
+        b"video",
+        700_000,
+        0,
+        10_000_000,
+        Judged::Clash { kept: 20_000_000 },
+        "another duration",
+    ),
+    (
+        b"video",
+        350_000,
+        20_000_000,
+        20_000_000,
+        Judged::New,
+        "the hole",
+    ),
+    (
+        b"video",
+        350_000,
+        20_000_000,
+        30_000_000,
+        Judged::Overlap { end: 60_000_000 },
+        "too long",
+    ),
+    (
+        b"video",
+        350_000,
+        10_000_000,
+        10_000_000,
+        Judged::Overlap { end: 20_000_000 },
+        "inside the first",
+    ),
+    (
+        b"video",
+        350_000,
+        10_000_000,
+        20_000_000,
+        Judged::Overlap { end: 20_000_000 },
+        "over its end",
+    ),
+    (
+        b"sub",
+        1,
+        0,
+        10_000_000,
+        Judged::NotDeclared,
+        "no such stream",
+    ),
+];
+
+#[test]
+fn verdicts_are_by_start_and_span(rt: HostRuntime) -> Result<(), Fail> {
+    let alloc = rt.alloc();
+    let catalog = with_hole(alloc)?;
+    for (stream, bitrate, time, duration, verdict, row) in ROWS {
+        let at = address(alloc, stream, bitrate, time)?;
+        assert_eq!(rt; catalog.judge(&at, duration), verdict, "{row}");
+    }
+    Ok(())
+}
+
 #[test]
 fn late_fragments_fill_holes(rt: HostRuntime) -> Result<(), Fail> {
     let alloc = rt.alloc();
-    let mut catalog = empty(alloc)?;
-    let low = |time| address(alloc, b"video", 350_000, time);
-    let high = |time| address(alloc, b"video", 700_000, time);
-    add(&mut catalog, &low(0)?, 2 * SECOND, 1)?;
-    add(&mut catalog, &low(4 * SECOND)?, 2 * SECOND, 2)?;
-    let table: [(Address, u64, Judged, &str); 8] = [
-        (low(0)?, 2 * SECOND, Judged::Known { place: 1 }, "again"),
-        (high(0)?, 2 * SECOND, Judged::New, "another quality"),
-        (high(0)?, SECOND, Judged::Clash { kept: 2 * SECOND }, "another duration"),
-        (low(2 * SECOND)?, 2 * SECOND, Judged::New, "the hole"),
-        (low(2 * SECOND)?, 3 * SECOND, Judged::Overlap { end: 6 * SECOND }, "too long"),
-        (low(SECOND)?, SECOND, Judged::Overlap { end: 2 * SECOND }, "inside the first"),
-        (low(SECOND)?, 2 * SECOND, Judged::Overlap { end: 2 * SECOND }, "over its end"),
-        (address(alloc, b"sub", 1, 0)?, SECOND, Judged::NotDeclared, "no such stream"),
-    ];
-    for (at, duration, verdict, row) in &table {
-        assert_eq!(rt; catalog.judge(at, *duration), *verdict, "{row}");
+    let mut catalog = with_hole(alloc)?;
+    for (bitrate, time) in [(700_000, 4), (700_000, 0), (700_000, 2), (350_000, 2)] {
+        let at = address(alloc, b"video", bitrate, time * SECOND)?;
+        add(&mut catalog, &at, 2 * SECOND, 3)?;
     }
-    let video = Name::read(alloc, b"video")?;
-    assert_eq!(rt; catalog.times_len(&video), 2);
-    assert_eq!(rt; catalog.listed_len(&video), 0);
-    for (i, time) in [4, 0, 2].into_iter().enumerate() {
-        add(&mut catalog, &high(time * SECOND)?, 2 * SECOND, 3 + i as u64)?;
-    }
-    assert!(rt; catalog.has_time(&low(2 * SECOND)?));
-    assert!(rt; !catalog.has_time(&low(SECOND)?));
-    assert_eq!(rt; catalog.place(&low(2 * SECOND)?), None);
-    add(&mut catalog, &low(2 * SECOND)?, 2 * SECOND, 6)?;
     let copy = catalog.copy(alloc)?;
-    let listed = [(0, 2 * SECOND), (2 * SECOND, 2 * SECOND), (4 * SECOND, 2 * SECOND)];
+    let video = Name::read(alloc, b"video")?;
+    let listed = [
+        (0, 2 * SECOND),
+        (2 * SECOND, 2 * SECOND),
+        (4 * SECOND, 2 * SECOND),
+    ];
     assert_eq!(rt; copy.listed_times(&video), listed.as_slice());
-    assert_eq!(rt; copy.listed(&video, 1), Some((2 * SECOND, 2 * SECOND)));
-    assert_eq!(rt; copy.ahead(&video, 0, 0), Some((2 * SECOND, 2 * SECOND)));
     assert_eq!(rt; copy.ahead(&video, 0, 1), Some((4 * SECOND, 2 * SECOND)));
-    assert_eq!(rt; copy.ahead(&video, 4 * SECOND, 0), None);
-    let last = Added { track: 0, time: 2 * SECOND, duration: 2 * SECOND, place: 6 };
+    let last = Added {
+        track: 0,
+        time: 2 * SECOND,
+        duration: 2 * SECOND,
+        place: 3,
+    };
     assert_eq!(rt; copy.added(5), Some(last));
-    assert_eq!(rt; copy.added(6), None);
     Ok(())
 }
 
@@ -110,18 +181,18 @@ fn late_fragments_fill_holes(rt: HostRuntime) -> Result<(), Fail> {
 fn headers_are_checked_track_by_track(rt: HostRuntime) -> Result<(), Fail> {
     let alloc = rt.alloc();
     let catalog = empty(alloc)?;
-    assert_eq!(rt; catalog.check(&channel(alloc)?), Checked::Agreed);
     let mut tracks = channel(alloc)?.into_vec();
     tracks.push(track(alloc, Kind::Video, b"video", 1_400_000)?)?;
     let longer = Channel::from_vec(tracks);
     assert_eq!(rt; catalog.check(&longer), Checked::NotDeclared { index: 3 });
-    let mut other = track(alloc, Kind::Video, b"video", 350_000)?;
-    other.numbers.width = Some(320);
+    let mut other = track(alloc, Kind::Audio, b"audio", 64_000)?;
+    other.numbers.rate = Some(44_100);
     let mut tracks = Vec::new(alloc);
-    tracks.push(track(alloc, Kind::Audio, b"audio", 64_000)?)?;
     tracks.push(other)?;
-    let changed = Channel::from_vec(tracks);
-    assert_eq!(rt; catalog.check(&changed), Checked::Clash { index: 1 });
+    assert_eq!(rt;
+        catalog.check(&Channel::from_vec(tracks)),
+        Checked::Clash { index: 0 }
+    );
     Ok(())
 }
 

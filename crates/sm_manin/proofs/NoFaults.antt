@@ -24,11 +24,11 @@ no_places : (xs : List ℕ) → least_from None xs ≡ None → xs ≡ []
 no_places [] e = refl
 no_places (x ∷ xs) e = absurd (some_least xs x e)
 
-left_none : (xs ys : List ℕ) → xs ++ ys ≡ [] → xs ≡ []
+pub left_none : (xs ys : List ℕ) → xs ++ ys ≡ [] → xs ≡ []
 left_none [] ys e = refl
 left_none (x ∷ xs) ys e = absurd cc
 
-right_none : (xs ys : List ℕ) → xs ++ ys ≡ [] → ys ≡ []
+pub right_none : (xs ys : List ℕ) → xs ++ ys ≡ [] → ys ≡ []
 right_none [] ys e = e
 right_none (x ∷ xs) ys e = absurd cc
 

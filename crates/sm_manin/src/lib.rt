@@ -3,6 +3,7 @@
 
 mod fault;
 mod judge;
+pub mod law;
 mod listing;
 mod note;
 mod raw;

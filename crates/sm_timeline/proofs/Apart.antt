@@ -1,8 +1,8 @@
 -- Times that are apart, and what overlaps a span whose start isn't among them.
 use Rattle.std.proofs.Common.{◌≡◌, ◌≤◌, ◌<◌, ◌+◌, ℕ, zero, suc, Bool, true, false, cond, eqb, ltb, List, [], ◌∷◌, length, get_or, Some, None, refl, ◌∙◌, arith}
-use Rattle.std.proofs.lemmas.Bool.{eqb-false, ltb-true, ltb-false, lt-ltb, le-ltb, and_from, and_left, and_right}
+use Rattle.std.proofs.lemmas.Bool.{eqb-false, ltb-true, ltb-false}
 use Rattle.std.specs.List.{AllByRecursion}
-use Rattle.sm_log.specs.Times.{entry_at, AreSorted, AreTimes, IsSpan, do_overlap, overlapped_end}
+use Rattle.sm_log.specs.Times.{entry_at, AreTimes, IsSpan, do_overlap, overlapped_end}
 use Rattle.sm_timeline.specs.Places.{place_in}
 use Rattle.sm_log.specs.Times.{ends}
 use Rattle.sm_log.proofs.Apart.{is_over, not_before, not_behind, passed, met, none_behind, all_behind}

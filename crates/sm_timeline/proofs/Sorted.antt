@@ -1,14 +1,13 @@
 -- Entries that are sorted, and the place of a start among them.
-use Rattle.std.proofs.Common.{◌≡◌, ◌≢◌, ◌≤◌, ◌<◌, ◌+◌, ℕ, zero, suc, Bool, true, false, cond, eqb, ltb, List, [], Option, ◌∷◌, length, get_or, Some, None, refl, sym, ap, subst, ◌∙◌, arith, add-one}
+use Rattle.std.proofs.Common.{◌≡◌, ◌≢◌, ◌≤◌, ◌<◌, ◌+◌, ℕ, zero, suc, Bool, true, false, cond, eqb, ltb, List, [], ◌∷◌, length, get_or, Some, None, refl, ap, subst, ◌∙◌, arith, add-one}
 use Rattle.std.proofs.lemmas.Bool.{eqb-true, eqb-false, ltb-true, ltb-false, eq-eqb}
 use Rattle.std.proofs.lemmas.List.{get_or_default}
-use Rattle.std.specs.Option.{IfSome}
 use Rattle.std.specs.List.{AllByRecursion, AllWithin, insert}
 use Rattle.std.specs.List.Sorted.{IsNonDecreasingBy}
 use Rattle.sm_log.specs.Times.{entry_at, with_entry, AreSorted}
 use Rattle.sm_timeline.specs.Places.{place_in}
 use Rattle.sm_log.proofs.Choice.{chosen}
-use Rattle.sm_log.proofs.Entries.{no_later, all_later, all_with, sorted_with, stays}
+use Rattle.sm_log.proofs.Entries.{no_later, all_later}
 
 -- ---- places
 

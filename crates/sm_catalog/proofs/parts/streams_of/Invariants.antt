@@ -1,4 +1,4 @@
-use Rattle.std.proofs.Common.{◌≡◌, map, take, drop, All}
+use Rattle.std.proofs.Common.{◌≡◌, map, drop, All}
 use Rattle.sm_log.specs.Adds.{names_from, names_of}
 use Rattle.sm_catalog.specs.Content.{Lane, IsFresh}
 use Rattle.sm_catalog.proofs.parts.streams_of.Given as goal

@@ -7,13 +7,12 @@ use Rattle.std.specs.List.{position}
 use Rattle.sm_log.specs.declared.verdict.Judged.TheVariants as judged
 use Rattle.sm_model.specs.LiveTracks.{is_same}
 use Rattle.sm_log.specs.Times.{entry_at, with_entry}
-use Rattle.sm_log.specs.Adds.{Add, verdict}
+use Rattle.sm_log.specs.Adds.{verdict}
 use Rattle.sm_timeline.specs.Lines.{Entries}
-use Rattle.sm_catalog.specs.declared.added.Added.{Added}
 use Rattle.sm_catalog.specs.Content.{Content, Lane, spare_of}
-use Rattle.sm_catalog.specs.Whole.{adds_in, spares_in, IsWhole}
+use Rattle.sm_catalog.specs.Whole.{adds_in, spares_in}
 use Rattle.sm_catalog.proofs.Lookups.{is_the, no_track, found_track, not_declared, none_named, undeclared}
-use Rattle.sm_log.proofs.New.{IsNew, is_new}
+use Rattle.sm_log.proofs.New.{is_new}
 use Rattle.sm_catalog.proofs.Adding.{not_same}
 use Rattle.sm_catalog.proofs.Lanes.{IsAddedTo}
 use Rattle.sm_catalog.proofs.Together.{IsPut, whole_added, adds_more, rooms_there, decided_there, room_there, spare_at, spare_set, spare_other}

@@ -1,8 +1,8 @@
-use Rattle.std.proofs.Common.{◌≡◌, [], Some, None, filter, refl, sym, ap, ◌∙◌}
+use Rattle.std.proofs.Common.{◌≡◌, Some, None, sym, ap, ◌∙◌}
 use Rattle.std.specs.List.{position, slice_get}
 use Rattle.sm_model.specs.LiveTracks.{is_same}
 use Rattle.sm_log.specs.Times.{entry_at}
-use Rattle.sm_log.specs.Adds.{listed, ahead, behind, times_of}
+use Rattle.sm_log.specs.Adds.{listed, ahead, behind}
 use Rattle.sm_catalog.specs.Content.{Content, Lane}
 use Rattle.sm_catalog.specs.Whole.{adds_in}
 use Rattle.sm_catalog.proofs.Lookups.{none_named, no_times, found_lane}

@@ -1,4 +1,4 @@
-use Rattle.std.proofs.Common.{◌≡◌, ℕ, List, [], Some, None, is_some, sym, ap, ◌∙◌}
+use Rattle.std.proofs.Common.{◌≡◌, ℕ, List, Some, None, is_some, sym, ap, ◌∙◌}
 use Rattle.std.specs.List.{position}
 use Rattle.sm_model.specs.LiveTracks.{is_same}
 use Rattle.sm_log.specs.Times.{entry_at}

@@ -1,12 +1,7 @@
-use Rattle.std.proofs.Common.{◌≡◌, ℕ, true, false, cond, Option, Some, None, is_some, refl, sym, ap, ◌∙◌}
+use Rattle.std.proofs.Common.{◌≡◌, ℕ, Option, Some, None, is_some, sym, ap, ◌∙◌}
 use Rattle.std.specs.List.{position}
-use Rattle.sm_log.specs.declared.verdict.Judged.{Judged}
-use Rattle.sm_log.specs.declared.verdict.Judged.TheVariants as judged
-use Rattle.sm_log.specs.declared.verdict.Decision.{Decision}
-use Rattle.sm_log.specs.declared.verdict.Decision.TheVariants as decision
 use Rattle.sm_model.specs.LiveTracks.{is_same}
-use Rattle.sm_log.specs.Times.{decision}
-use Rattle.sm_log.specs.Adds.{track_at, place_of, times_of, judged_by, known_or_new, verdict}
+use Rattle.sm_log.specs.Adds.{track_at, judged_by, verdict}
 use Rattle.sm_catalog.specs.Content.{Content, Lane}
 use Rattle.sm_catalog.specs.Whole.{adds_in}
 use Rattle.sm_catalog.proofs.Lookups.{is_the, no_track, found_track, not_declared, none_named, found_lane, kept_place, undeclared, verdict_is}

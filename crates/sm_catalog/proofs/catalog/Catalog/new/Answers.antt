@@ -1,4 +1,4 @@
-use Rattle.std.proofs.Common.{◌≡◌, List, length, map, All}
+use Rattle.std.proofs.Common.{◌≡◌, length, map, All}
 use Rattle.sm_log.specs.Adds.{names_of}
 use Rattle.sm_catalog.specs.Content.{Lane, IsFresh}
 use Rattle.sm_catalog.proofs.Together.{whole_new}
