@@ -20,7 +20,7 @@ use Rattle.sm_model.specs.FragText as text
 use Rattle.sm_model.specs.Boxes.{Box, boxes, box_of, IsOneBox}
 use Rattle.sm_model.specs.Fragments.{sample_bytes}
 use Rattle.sm_model.specs.Found.{found, bodies, is_kind}
-use Rattle.sm_model.specs.Frag.{first_cause, Traf, traf_of, bad_lines, other_lines, moof_lines, last_lines, run_of, judged_moof, run_in, moof_run, rest_of, mdat_rest, sizes, raw_of, last, frag}
+use Rattle.sm_model.specs.Frag.{finish, first_cause, Traf, traf_of, bad_lines, other_lines, moof_lines, last_lines, run_of, judged_moof, run_in, moof_run, rest_of, mdat_rest, sizes, raw_of, last, frag}
 use Rattle.sm_model.specs.Steps.{and_then}
 use Rattle.sm_model.specs.Written.{IsWritten, row_of, run_again, raw_again}
 use Rattle.sm_model.proofs.OrderLemmas.{frag_in_two}
@@ -158,7 +158,7 @@ rest_again seq id f ahead w =
 
 last_again : (seq id : ℕ) (f : Fragment) (ahead : List (ℕ × ℕ)) → IsWritten id f ahead
     → last (text.moof seq id f ahead) (text.mdat f.samples) (run_again id (start_of f ahead) f ahead) ≡ Ok (raw_again id f ahead)
-unfolding last raw_of
+unfolding finish raw_of
 last_again seq id f ahead w =
     let m = text.moof seq id f ahead in
     let md = text.mdat f.samples in

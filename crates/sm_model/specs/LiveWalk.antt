@@ -149,7 +149,7 @@ with_current form attributes at (Some t) = Some (with_element form attributes at
 -- another element: the outermost one is smil, and a child of a track may be a param
 abbrev pub passes : Form → Walk → List ℕ → List Attribute → ℕ → Walk
 passes form w name attributes at =
-    if length w.path == 0 then (if is_same name (codes "smil") then w else record w { other = Some at })
+    if length w.path == 0 then (if is_same name (codes "smil") then w else record w { other = first_place w.other at })
     else if length w.path == 4 && is_same name (codes "param") then record w { current = with_current form attributes at w.current }
     else w
 

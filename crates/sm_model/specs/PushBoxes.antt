@@ -15,7 +15,7 @@ use Rattle.sm_model.specs.declared.push.PushState.{PushState}
 use Rattle.sm_model.specs.declared.push.TopBox.{TopBox}
 use Rattle.sm_model.specs.declared.push.TopBox.TheVariants.{Moof, Mdat, Moov, Manifest, Other}
 use Rattle.sm_model.specs.Boxes.{box_of}
-use Rattle.sm_model.specs.Frag.{frag, moof_run}
+use Rattle.sm_model.specs.Frag.{finish, moof_run}
 use Rattle.sm_model.specs.Moov.{no_defaults}
 use Rattle.sm_model.specs.Header.{header_of, track_with}
 use Rattle.sm_model.specs.Items.{Given}
@@ -50,11 +50,16 @@ abbrev pub track_in : HeaderStage → ℕ → Option HeaderTrack
 track_in (Complete tracks) id = track_with id tracks
 track_in (Gathering manifest moov) id = Some (record { id = id; stream = decimal id; bitrate = id; defaults = no_defaults })
 
+-- what the moof of a track says, with the track's defaults, waits for the mdat
+abbrev pub awaited : Result Run Cause → HeaderTrack → PushState → List ℕ → Step
+awaited (Err cause) track s box = refuse s.at cause
+awaited (Ok run) track s box = Ok (None, awaiting s (Some (record { run = run; size = length box; at = s.at; track = track })) (length box))
+
 abbrev pub pending : Option HeaderTrack → PushState → List ℕ → Step
 pending None s box = refuse s.at UnknownTrack
-pending (Some track) s box = Ok (None, awaiting s (Some (record { bytes = box; at = s.at; track = track })) (length box))
+pending (Some track) s box = awaited (moof_run track.defaults box) track s box
 
--- what a moof shows by itself is refused at once, and then a track that the header doesn't name
+-- what a moof shows by itself is refused at once, and then a track that the header doesn't name; no cause depends on defaults
 abbrev pub moof_taken : Result Run Cause → PushState → List ℕ → Step
 moof_taken (Err cause) s box = refuse s.at cause
 moof_taken (Ok run) s box = pending (track_in s.stage run.id) s box
@@ -77,7 +82,7 @@ fragment_taken (Ok raw) moof s size = Ok (Some (items.Frag raw.id (named moof.tr
 
 abbrev pub mdat_taken : Option PendingMoof → PushState → List ℕ → Step
 mdat_taken None s box = Ok (None, passed s (length box))
-mdat_taken (Some moof) s box = fragment_taken (frag moof.track.defaults moof.bytes box) moof s (length box)
+mdat_taken (Some moof) s box = fragment_taken (finish moof.size box moof.run) moof s (length box)
 
 -- ---- the header, at the later of its two boxes
 

@@ -12,7 +12,7 @@ ghost use Rattle.sm_model.specs.Fragments.{IsWide, sample_bytes};
 ghost use Rattle.sm_model.specs.FragText as text;
 ghost use Rattle.sm_model.specs.FragText.{tfxd_type, tfrf_type, moof_len, ahead_len};
 ghost use Rattle.sm_model.specs.Fields.{tfxd};
-ghost use Rattle.sm_model.specs.Frag.{frag, moof_run, last, traf};
+ghost use Rattle.sm_model.specs.Frag.{frag, moof_run, finish, last, traf};
 ghost use Rattle.sm_model.specs.Sound.{IsSoundRun, IsSoundFragment, LieInOrder};
 ghost use Rattle.sm_model.specs.Steps.{and_then};
 ghost use Rattle.sm_model.specs.TrackId.{track_id};
@@ -44,6 +44,7 @@ pub fn track_id_is_of_run()
 /// and its samples' bytes lie one after another in the body of the `mdat`, from the place that the `moof` says on.
 pub fn read_is_sound()
     ensures run { (d : Defaults) (m : List ℕ) (run : Run) → moof_run d m ≡ Ok run → IsSoundRun run }
+    ensures finish { (size : ℕ) (md : List ℕ) (run : Run) (raw : RawFragment) → IsSoundRun run → finish size md run ≡ Ok raw → IsSoundFragment md raw }
     ensures fragment { (d : Defaults) (m md : List ℕ) (raw : RawFragment) → frag d m md ≡ Ok raw → IsSoundFragment md raw }
     ensures in_order { (d : Defaults) (m md : List ℕ) (raw : RawFragment) → frag d m md ≡ Ok raw → LieInOrder d m md raw }
 {}

@@ -1,6 +1,7 @@
 //! A bare `moov` written.
 ghost use Rattle.std.specs.Prelude.{◌≡◌, ◌≤◌, ◌<◌, ◌^◌, ◌+◌, ◌*◌, ◌++◌, length, OnOk, IfOk};
-ghost use Rattle.sm_model.specs.MoovText.{zeros, mvhd, tkhd, mdhd, sample_type, entry, stsd, stbl, minf, mdia, bare_trak, bare_traks, bare_trex, bare_trexes, bare_mvex, bare_moov};
+ghost use Rattle.sm_model.specs.MoovText.{zeros, mvhd, tkhd, mdhd, sample_type, entry, stsd, stbl, minf, mdia, bare_trak, bare_traks, bare_trex, bare_trexes};
+ghost use Rattle.sm_model.specs.MoovText.{bare_mvex, bare_moov};
 
 use sm_box::{append_head, append_u32};
 use sm_model::{Bytes, Channel, Kind, NoMemory, Track};

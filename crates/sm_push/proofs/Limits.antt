@@ -3,7 +3,6 @@ use Rattle.std.proofs.Common.{◌≡◌, ◌≤◌, ◌<◌, ◌+◌, ◌-◌, �
 use Rattle.std.specs.Prelude.{is_some, codes}
 use Rattle.std.proofs.lemmas.Bool.{cond_both, ltb-true, ltb-false}
 use Rattle.sm_model.specs.declared.push.PushState.{PushState}
-use Rattle.sm_model.specs.declared.push.PendingMoof.{PendingMoof}
 use Rattle.sm_model.specs.declared.push.HeaderStage.{HeaderStage}
 use Rattle.sm_model.specs.declared.push.HeaderStage.TheVariants.{Gathering, Complete}
 use Rattle.sm_model.specs.declared.push.TopBox.{TopBox}
@@ -18,8 +17,8 @@ use Rattle.sm_box.specs.declared.head.Head.{Head}
 use Rattle.sm_box.specs.declared.head.Head.TheVariants as heads
 use Rattle.sm_push.specs.declared.kept.Kept.{Kept}
 use Rattle.sm_push.specs.Heads.{by_head, IsOpen}
-use Rattle.sm_push.specs.Held.{most_of, box_bytes, gathered_bytes, pending_bytes, held_bytes}
-use Rattle.sm_push.specs.Steps.{IsBoxIn, AreNotBoth, AreGathered, AreBoxes}
+use Rattle.sm_push.specs.Held.{most_of, box_bytes, gathered_bytes, kept_bytes}
+use Rattle.sm_push.specs.Steps.{IsBoxIn, AreNotBoth, AreGathered}
 use Rattle.sm_push.specs.Standing.{IsPartial}
 use Rattle.sm_push.proofs.HeadLemmas.{decision_is}
 use Rattle.sm_push.proofs.Fronts.{whole_is}
@@ -113,7 +112,7 @@ begun_at s b (Refuse cause) e o = absurd o
 begun_at s b (Pass size) e o = absurd o
 begun_at s b (Take sort size) e o = omega (arith, take_limited s b sort size e, most_le sort, o)
 
-both_gathered : (manifest moov : Option (List ℕ)) → IsBoxIn manifest → IsBoxIn moov → AreNotBoth manifest moov → box_bytes manifest + box_bytes moov ≤ 1048576
+both_gathered : (manifest moov : Option (List ℕ)) → IsBoxIn 1048576 manifest → IsBoxIn 1048576 moov → AreNotBoth manifest moov → box_bytes manifest + box_bytes moov ≤ 1048576
 both_gathered None None p q n = omega arith
 both_gathered None (Some b) p q n = omega (arith, q.1)
 both_gathered (Some a) None p q n = omega (arith, p.1)
@@ -123,10 +122,6 @@ gathered_short : (stage : HeaderStage) → AreGathered stage → gathered_bytes 
 gathered_short (Gathering manifest moov) h = both_gathered manifest moov h.0 h.1 h.2
 gathered_short (Complete tracks) h = omega arith
 
-pending_short : (moof : Option PendingMoof) → AreBoxes moof → pending_bytes moof ≤ 2097152
-pending_short None h = omega arith
-pending_short (Some moof) h = h.1
-
-pub held_is_little : (k : Kept) → IsPartial k → held_bytes k < 70254608
+pub held_is_little : (k : Kept) → IsPartial k → kept_bytes k < 68157456
 held_is_little k p =
-    omega (arith, begun_at k.state k.held (decision k.state k.held) refl p.due, gathered_short k.state.stage p.boxes.stage, pending_short k.state.moof p.boxes.moof)
+    omega (arith, begun_at k.state k.held (decision k.state k.held) refl p.due, gathered_short k.state.stage p.boxes.stage)

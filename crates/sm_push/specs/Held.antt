@@ -1,8 +1,7 @@
--- How many bytes of its push a push holds.
+-- How many bytes of its push body a push holds.
 use Rattle.std.specs.Prelude.{ℕ, ◌+◌, List, length, Option, Some, None}
 use Rattle.sm_model.specs.declared.push.HeaderStage.{HeaderStage}
 use Rattle.sm_model.specs.declared.push.HeaderStage.TheVariants.{Gathering, Complete}
-use Rattle.sm_model.specs.declared.push.PendingMoof.{PendingMoof}
 use Rattle.sm_model.specs.declared.push.TopBox.{TopBox}
 use Rattle.sm_model.specs.declared.push.TopBox.TheVariants.{Moof, Mdat, Moov, Manifest, Other}
 use Rattle.sm_push.specs.declared.kept.Kept.{Kept}
@@ -23,10 +22,6 @@ abbrev pub gathered_bytes : HeaderStage → ℕ
 gathered_bytes (Gathering manifest moov) = box_bytes manifest + box_bytes moov
 gathered_bytes (Complete tracks) = 0
 
-abbrev pub pending_bytes : Option PendingMoof → ℕ
-pending_bytes None = 0
-pending_bytes (Some moof) = length moof.bytes
-
--- of the box that was begun, of the header, and of a moof that waits for its mdat
-abbrev pub held_bytes : Kept → ℕ
-held_bytes k = length k.held + (gathered_bytes k.state.stage + pending_bytes k.state.moof)
+-- of the box that was begun, and of a header that is not complete
+abbrev pub kept_bytes : Kept → ℕ
+kept_bytes k = length k.held + gathered_bytes k.state.stage

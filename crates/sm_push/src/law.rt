@@ -14,6 +14,7 @@ ghost use Rattle.sm_model.specs.LiveText.{live_text};
 ghost use Rattle.sm_model.specs.MoovText.{bare_moov};
 
 use sm_box::law::{whole_is_read, whole_stays};
+use sm_model::law::read_is_sound;
 use sm_moov::law::{timescales_are_positive, written_moov_is_read};
 use sm_smil::{
     live_manifest_has_one_answer, live_manifests_are_valid, live_text_is_read_as_its_channel,
@@ -55,6 +56,7 @@ pub fn items_are_valid()
     live_manifest_has_one_answer();
     live_manifests_are_valid();
     timescales_are_positive();
+    read_is_sound();
 }
 
 /// A valid channel that was written as a header, its live manifest and its bare `moov`, is read as the channel again, whose

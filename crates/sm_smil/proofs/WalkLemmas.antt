@@ -23,7 +23,7 @@ switch_len (a ∷ b ∷ []) e = cc
 switch_len (a ∷ b ∷ c ∷ []) e = refl
 switch_len (a ∷ b ∷ c ∷ d ∷ rest) e = cc
 
-at_switch : (path : List (List ℕ)) (name : List ℕ) (k : Kind) → track_kind path name ≡ Some k → length path ≡ 3
+pub at_switch : (path : List (List ℕ)) (name : List ℕ) (k : Kind) → track_kind path name ≡ Some k → length path ≡ 3
 at_switch path name k e = tested (is_switch path) refl e
   where
     tested : (b : Bool) → is_switch path ≡ b → cond b (kind_in name) None ≡ Some k → length path ≡ 3
@@ -61,7 +61,7 @@ was_open form attributes at (Some u) t e = (u, refl)
 passes_keeps : (form : Form) (w : Walk) (name : List ℕ) (attributes : List Attribute) (at : ℕ) → Keeps w (passes form w name attributes at)
 passes_keeps form w name attributes at = tested (eqb (length w.path) 0) (is_same name (codes "smil")) (eqb (length w.path) 4 && is_same name (codes "param"))
   where
-    tested : (a b c : Bool) → Keeps w (cond a (cond b w (record w { other = Some at })) (cond c (record w { current = with_current form attributes at w.current }) w))
+    tested : (a b c : Bool) → Keeps w (cond a (cond b w (record w { other = first_place w.other at })) (cond c (record w { current = with_current form attributes at w.current }) w))
     tested true true c = record { done = refl; current = λ t e. (t, e) }
     tested true false c = record { done = refl; current = λ t e. (t, e) }
     tested false b true = record { done = refl; current = λ t e. was_open form attributes at w.current t e }

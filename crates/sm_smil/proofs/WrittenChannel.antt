@@ -409,7 +409,7 @@ pub live_text_gives : (channel : List Track) → IsChannel channel → All IsNar
 live_text_gives channel is narrow r read =
     let size = length (live_text channel) in
     let good = leads_channel Ladder (IsGood ladder_track Ladder channel size) channel is narrow
-        (λ xs are none. record { none = no_faults Ladder channel size xs is are none; tracks = ladder_map 1 xs channel are }) in
+    (λ xs are none. record { none = no_faults Ladder channel size xs is are none; tracks = ladder_map 1 xs channel are }) in
     one_ladder (live_text channel) r (Ok channel) read (good.0, good.1, sym (given ladder_track Ladder channel size good.0 good.2 good.3))
 
 pub live_text_pushes : (channel : List Track) → IsChannel channel → All IsNarrowTrack channel → (r : Result (List SmilTrack) ℕ) → IsLiveManifest (live_text channel) r → r ≡ Ok (untimed_tracks 1 channel)
@@ -417,5 +417,5 @@ live_text_pushes channel is narrow r read =
     let size = length (live_text channel) in
     let wanted = untimed_tracks 1 channel in
     let good = leads_channel Pushed (IsGood smil_track Pushed wanted size) channel is narrow
-        (λ xs are none. record { none = no_faults Pushed channel size xs is are none; tracks = pushed_map 1 xs channel are }) in
+    (λ xs are none. record { none = no_faults Pushed channel size xs is are none; tracks = pushed_map 1 xs channel are }) in
     one_live_manifest (live_text channel) r (Ok wanted) read (good.0, good.1, sym (given smil_track Pushed wanted size good.0 good.2 good.3))

@@ -3,8 +3,10 @@ ghost use Rattle.std.specs.Prelude.{◌≡◌, ◌++◌, [], None, option_map, o
 ghost use Rattle.std.specs.List.{list_all};
 ghost use Rattle.hex.specs.Hex.{is_hex_digit};
 ghost use Rattle.sm_model.specs.Digits.{is_number};
-ghost use Rattle.sm_model.specs.LiveTracks.{value_of, is_private, is_timescale, is_fit, kind_name, stream_name, bitrate_text, number_in, bitrate_of, track_id_of, ticks_of, timescale_in, timescale_of};
-ghost use Rattle.sm_model.specs.LiveFaults.{is_invalid, misfits, inner_faults, are_equal, do_differ, are_one_kind, clash, share_id, collide, lacks_id, lacks_part, collides_with, end_faults, tracks_faults, open_faults, text_faults, faults_of, sooner, least_from};
+ghost use Rattle.sm_model.specs.LiveTracks.{value_of, is_private, is_timescale, is_fit, kind_name, stream_name, bitrate_text, number_in, bitrate_of, track_id_of};
+ghost use Rattle.sm_model.specs.LiveTracks.{ticks_of, timescale_in, timescale_of};
+ghost use Rattle.sm_model.specs.LiveFaults.{is_invalid, misfits, inner_faults, are_equal, do_differ, are_one_kind, clash, share_id, collide, lacks_id, lacks_part};
+ghost use Rattle.sm_model.specs.LiveFaults.{collides_with, end_faults, tracks_faults, open_faults, text_faults, faults_of, sooner, least_from};
 
 use crate::names::value_of;
 use crate::walk::Walk;

@@ -1,5 +1,5 @@
 //! Laws of live manifests and ladders. Each is proved once, and there is nothing to run.
-ghost use Rattle.std.specs.Prelude.{◌≡◌, ℕ, List, All, Result, Ok};
+ghost use Rattle.std.specs.Prelude.{◌≡◌, ◌↔◌, ℕ, List, All, Result, Ok, length};
 ghost use Rattle.sm_model.specs.declared.track.Track.{Track};
 ghost use Rattle.sm_model.specs.declared.smil.SmilTrack.{SmilTrack};
 ghost use Rattle.sm_model.specs.Channels.{IsChannel, IsNarrowTrack, IsSmil};
@@ -7,6 +7,11 @@ ghost use Rattle.sm_model.specs.LiveManifests.{IsLiveManifest, IsLadder};
 ghost use Rattle.sm_model.specs.LiveRead.{live_manifest};
 ghost use Rattle.sm_model.specs.LiveText.{live_text};
 ghost use Rattle.sm_smil.specs.Untimed.{untimed_tracks};
+ghost use Rattle.sm_smil.specs.Ruled.{IsRuled};
+ghost use Rattle.sm_model.specs.declared.tag.Tag.{Tag};
+ghost use Rattle.sm_model.specs.declared.raw_track.Form.TheVariants.{Pushed, Ladder};
+ghost use Rattle.sm_model.specs.Tags.{TagsOf};
+ghost use Rattle.sm_model.specs.LiveTracks.{smil_track, ladder_track};
 
 /// The live manifest of a valid channel is read as that channel: as a ladder, and as a pushed header, where its tracks have
 /// the track_IDs 1, 2 and so on, and no timescale yet. Each track of a real channel is narrow.
@@ -35,4 +40,13 @@ pub fn live_manifest_has_one_answer()
 /// The tracks that a live manifest says are valid: a valid channel once each has a timescale and each name has one.
 pub fn live_manifests_are_valid()
     ensures { (text : List ℕ) (tracks : List SmilTrack) → IsLiveManifest text (Ok tracks) → IsSmil tracks }
+{}
+
+/// What a live manifest and a ladder say is what the rule says: the tracks are the elements video, audio and textstream that
+/// stand in smil, body and switch, and of all that is at fault the least place counts.
+pub fn live_manifests_are_by_rule()
+    ensures pushed { (text : List ℕ) (r : Result (List SmilTrack) ℕ)
+        → IsLiveManifest text r ↔ ((tags : List Tag) × TagsOf text tags × IsRuled smil_track Pushed (length text) tags r) }
+    ensures ladder { (text : List ℕ) (r : Result (List Track) ℕ)
+        → IsLadder text r ↔ ((tags : List Tag) × TagsOf text tags × IsRuled ladder_track Ladder (length text) tags r) }
 {}

@@ -12,8 +12,8 @@ mod walk;
 
 pub use fault::SmilFault;
 pub use law::{
-    live_manifest_has_one_answer, live_manifests_are_valid, live_text_is_read_as_its_channel,
-    text_has_one_reading,
+    live_manifest_has_one_answer, live_manifests_are_by_rule, live_manifests_are_valid,
+    live_text_is_read_as_its_channel, text_has_one_reading,
 };
 pub use put::put_live_manifest;
 pub use read::{read_ladder, read_live_manifest};

@@ -213,7 +213,7 @@ impl Walk {
     {
         if self.path.is_empty() {
             if name != b"smil".as_slice() {
-                self.other = Some(at);
+                keep_first(&mut self.other, at);
             }
             return Ok(());
         }

@@ -12,17 +12,17 @@ use Rattle.sm_model.specs.TagMarkup.{Starts, unnamed, named, Markups, lead_at}
 use Rattle.sm_model.specs.Tags as tags
 use Rattle.sm_model.specs.Tags.{Left, Founds, bare, lost, stray, marked, skipped, Next, gives, Runs, ends, follows}
 
-abbrev ok_or : {A : Type 0} → A → Result A Stop → A
+abbrev pub ok_or : {A : Type 0} → A → Result A Stop → A
 ok_or d (Ok x) = x
 ok_or d (Err e) = d
 
 -- two facts on what one step gives
-pairs : {A B : Type 0} {a c : A} {b d : B} (r : Result (A × B) Stop) → r ≡ Ok (a, b) → r ≡ Ok (c, d) → (a ≡ c) × (b ≡ d)
+pub pairs : {A B : Type 0} {a c : A} {b d : B} (r : Result (A × B) Stop) → r ≡ Ok (a, b) → r ≡ Ok (c, d) → (a ≡ c) × (b ≡ d)
 pairs {A = A} {B = B} {a = a} {b = b} r e f =
     let same = ap (ok_or (a, b)) (sym e ∙ f) in
     (ap (λ (p : A × B). p.0) same, ap (λ (p : A × B). p.1) same)
 
-triples : {A B C : Type 0} {a x : A} {b y : B} {c z : C} (r : Result (A × B × C) Stop) → r ≡ Ok (a, b, c) → r ≡ Ok (x, y, z) → (a ≡ x) × (b ≡ y) × (c ≡ z)
+pub triples : {A B C : Type 0} {a x : A} {b y : B} {c z : C} (r : Result (A × B × C) Stop) → r ≡ Ok (a, b, c) → r ≡ Ok (x, y, z) → (a ≡ x) × (b ≡ y) × (c ≡ z)
 triples {A = A} {B = B} {C = C} {a = a} {b = b} {c = c} r e f =
     let same = ap (ok_or (a, b, c)) (sym e ∙ f) in
     (ap (λ (p : A × B × C). p.0) same, ap (λ (p : A × B × C). p.1) same, ap (λ (p : A × B × C). p.2) same)

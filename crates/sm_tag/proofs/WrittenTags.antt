@@ -34,7 +34,7 @@ Values-plain (c ∷ v) plain text rest =
     let P : List ℕ → Type 0 = λ t. Values 34 text (c ∷ v ++ 34 ∷ rest) (Ok (t, rest)) in
     subst P (append_assoc text (c ∷ []) v) (goes_on (plain_piece c (v ++ 34 ∷ rest) parts.0) (Values-plain v parts.1 (text ++ c ∷ []) rest))
 
-front_until : (p : ℕ → Bool) (xs : List ℕ) (c : ℕ) (more : List ℕ) → list_all p xs ≡ true → p c ≡ false → prefix p (xs ++ c ∷ more) ≡ xs
+pub front_until : (p : ℕ → Bool) (xs : List ℕ) (c : ℕ) (more : List ℕ) → list_all p xs ≡ true → p c ≡ false → prefix p (xs ++ c ∷ more) ≡ xs
 front_until p [] c more all stop = rw stop refl
 front_until p (x ∷ xs) c more all stop =
     let h = and_parts (p x) (list_all p xs) all in
@@ -42,14 +42,14 @@ front_until p (x ∷ xs) c more all stop =
     let goes : p x ≡ true = h.0 in
     rw (goes, rest) refl
 
-behind_until : (p : ℕ → Bool) (xs : List ℕ) (c : ℕ) (more : List ℕ) → list_all p xs ≡ true → p c ≡ false → remaining p (xs ++ c ∷ more) ≡ c ∷ more
+pub behind_until : (p : ℕ → Bool) (xs : List ℕ) (c : ℕ) (more : List ℕ) → list_all p xs ≡ true → p c ≡ false → remaining p (xs ++ c ∷ more) ≡ c ∷ more
 behind_until p [] c more all stop = rw stop refl
 behind_until p (x ∷ xs) c more all stop =
     let h = and_parts (p x) (list_all p xs) all in
     let goes : p x ≡ true = h.0 in
     rw goes (behind_until p xs c more h.1 stop)
 
-name_again : (n : List ℕ) (stop : ℕ) (rest : List ℕ) → IsTagName n → is_tag_byte stop ≡ false → name_at (n ++ stop ∷ rest) ≡ Ok (n, stop ∷ rest)
+pub name_again : (n : List ℕ) (stop : ℕ) (rest : List ℕ) → IsTagName n → is_tag_byte stop ≡ false → name_at (n ++ stop ∷ rest) ≡ Ok (n, stop ∷ rest)
 unfolding name_at
 name_again [] stop rest is ends = absurd is
 name_again (c ∷ cs) stop rest is ends =
@@ -100,7 +100,7 @@ pub append_nil : {A : Type 0} (xs : List A) → xs ++ [] ≡ xs
 append_nil [] = refl
 append_nil (x ∷ xs) = ap (λ l. x ∷ l) (append_nil xs)
 
-append_push : (xs : List Attribute) (a : Attribute) (ys : List Attribute) → (xs ++ a ∷ []) ++ ys ≡ xs ++ a ∷ ys
+pub append_push : (xs : List Attribute) (a : Attribute) (ys : List Attribute) → (xs ++ a ∷ []) ++ ys ≡ xs ++ a ∷ ys
 append_push [] a ys = refl
 append_push (x ∷ xs) a ys = ap (λ l. x ∷ l) (append_push xs a ys)
 
