@@ -1,11 +1,11 @@
 -- What a text without fault says of its streams.
-use Rattle.std.proofs.Common.{◌≡◌, ◌+◌, ◌<◌, ◌≤◌, ◌^◌, ℕ, suc, Bool, true, false, not, cond, leb, ◌||◌, List, [], ◌∷◌, ◌++◌, length, Option, Some, None, All, min, refl, sym, ap, ◌∙◌, arith}
+use Rattle.std.proofs.Common.{◌≡◌, ◌+◌, ◌<◌, ◌≤◌, ◌^◌, ℕ, Bool, true, false, not, leb, ◌||◌, List, [], ◌∷◌, ◌++◌, length, Option, Some, None, All, min, refl, arith}
 use Rattle.std.proofs.lemmas.Bool.{leb-false}
 use Rattle.std.proofs.lemmas.List.{length-append}
 use Rattle.std.proofs.lemmas.List.Elements.{All-from_recursion}
 use Rattle.std.specs.List.{AllByRecursion, list_any}
 use Rattle.std.specs.Option.{is_none, option_to_list}
-use Rattle.sm_model.specs.LiveFaults.{least_from, sooner}
+use Rattle.sm_model.specs.LiveFaults.{least_from}
 use Rattle.sm_model.specs.Names.{is_name}
 use Rattle.sm_model.specs.LiveTracks.{is_same}
 use Rattle.sm_manin.specs.Values.{narrow_or, kind_in_type}

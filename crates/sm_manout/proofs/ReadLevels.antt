@@ -1,7 +1,7 @@
 -- The qualities of a stream are read as its tracks.
-use Rattle.std.proofs.Common.{◌≡◌, ◌≢◌, ◌<◌, ◌≤◌, ◌+◌, ◌^◌, ℕ, suc, Bool, true, false, ◌&&◌, ◌||◌, cond, eqb, leb, List, [], ◌∷◌, ◌++◌, length, filter, Option, Some, None, is_none, unwrap_or, refl, sym, ap, subst, ◌∙◌, append_assoc, arith}
+use Rattle.std.proofs.Common.{◌≡◌, ◌≢◌, ◌<◌, ◌≤◌, ◌+◌, ◌^◌, ℕ, suc, Bool, true, false, cond, eqb, leb, List, [], ◌∷◌, ◌++◌, length, filter, Option, Some, None, refl, sym, ap, subst, ◌∙◌, append_assoc, arith}
 use Rattle.std.specs.Prelude.{codes, decimal}
-use Rattle.std.specs.List.{AllByRecursion, list_all, list_any}
+use Rattle.std.specs.List.{AllByRecursion, list_any}
 use Rattle.std.proofs.lemmas.Bool.{ne_eqb, lt-leb}
 use Rattle.std.proofs.lemmas.List.{append-nil}
 use Rattle.hex.specs.Hex.{encode_upper}
@@ -11,7 +11,7 @@ use Rattle.sm_model.specs.declared.track.Track.{Track}
 use Rattle.sm_model.specs.Channels.{IsTrack, IsNarrowTrack, IsNarrowOption}
 use Rattle.sm_model.specs.Digits.{number_of}
 use Rattle.sm_model.specs.LiveTracks.{is_same}
-use Rattle.sm_model.specs.TagText.{AreWritten, attributes_then, closing, left_at}
+use Rattle.sm_model.specs.TagText.{attributes_then, closing, left_at}
 use Rattle.sm_tag.proofs.WrittenTags.{Starts-again}
 use Rattle.sm_smil.proofs.WrittenValues.{decimal_again, fourcc_plain, private_plain}
 use Rattle.sm_catalog.proofs.Counting.{DifferInBitrate}
@@ -23,7 +23,7 @@ use Rattle.sm_manin.specs.Values.{narrow_in}
 use Rattle.sm_manin.specs.ManifestFaults.{at_if, are_equal_bitrates, is_level_at_fault, level_faults}
 use Rattle.sm_manin.specs.Listings.{level_in, levels_from, with_level}
 use Rattle.sm_manin.proofs.NoFaults.{left_none, right_none}
-use Rattle.sm_manout.specs.ManifestText.{attribute, number_attribute, option_attribute, text_attribute, number_attributes, level_line, level_lines}
+use Rattle.sm_manout.specs.ManifestText.{attribute, number_attribute, text_attribute, number_attributes, level_line, level_lines}
 use Rattle.sm_manout.specs.ReadAgain.{levels_again}
 use Rattle.sm_manout.proofs.ReadValues.{wide_plain}
 use Rattle.sm_manout.proofs.ReadLines.{Leads, Begins, start_line, attr, attribute_text, option_attr, option_text, text_attr, text_text, attributes_join, Spells, spells_join, spells_then, Written, and_then, one_written, option_written, text_written, all_written}
@@ -79,11 +79,11 @@ unfolding level_line
 level_text index t x =
     let y = closing true (10 ∷ x) in
     let numbers : (number_attributes t.numbers ++ codes "/>\n") ++ x ≡ attributes_then (number_attrs t.numbers) y =
-        spells_then (number_attributes t.numbers) (codes "/>\n") x y (number_attrs t.numbers) (numbers_text t.numbers) refl in
+    spells_then (number_attributes t.numbers) (codes "/>\n") x y (number_attrs t.numbers) (numbers_text t.numbers) refl in
     let private : (attribute (codes "CodecPrivateData") (encode_upper t.private) ++ (number_attributes t.numbers ++ codes "/>\n")) ++ x ≡ attributes_then (attr (codes "CodecPrivateData") (encode_upper t.private) ∷ number_attrs t.numbers) y =
-        spells_then (attribute (codes "CodecPrivateData") (encode_upper t.private)) _ x _ (attr (codes "CodecPrivateData") (encode_upper t.private) ∷ []) (attribute_text (codes "CodecPrivateData") (encode_upper t.private)) numbers in
+    spells_then (attribute (codes "CodecPrivateData") (encode_upper t.private)) _ x _ (attr (codes "CodecPrivateData") (encode_upper t.private) ∷ []) (attribute_text (codes "CodecPrivateData") (encode_upper t.private)) numbers in
     let fourcc = spells_then (text_attribute (codes "FourCC") t.fourcc) _ x _ (text_attr (codes "FourCC") t.fourcc) (text_text (codes "FourCC") t.fourcc) private
-        ∙ sym (attributes_join (text_attr (codes "FourCC") t.fourcc) (attr (codes "CodecPrivateData") (encode_upper t.private) ∷ number_attrs t.numbers) y) in
+    ∙ sym (attributes_join (text_attr (codes "FourCC") t.fourcc) (attr (codes "CodecPrivateData") (encode_upper t.private) ∷ number_attrs t.numbers) y) in
     let bitrate = spells_then (number_attribute (codes "Bitrate") t.bitrate) _ x _ (attr (codes "Bitrate") (decimal t.bitrate) ∷ []) (attribute_text (codes "Bitrate") (decimal t.bitrate)) fourcc in
     let all = spells_then (number_attribute (codes "Index") index) _ x _ (attr (codes "Index") (decimal index) ∷ []) (attribute_text (codes "Index") (decimal index)) bitrate in
     ap (λ (l : List ℕ). 60 ∷ codes "QualityLevel" ++ l) all

@@ -1,6 +1,6 @@
 -- The lines of a manifest, read one after another.
-use Rattle.std.proofs.Common.{◌≡◌, ◌-◌, ◌+◌, ◌<◌, ◌^◌, ℕ, Bool, true, false, ◌||◌, cond, List, [], ◌∷◌, ◌++◌, length, take, Option, Some, None, Ok, refl, sym, ap, subst, ◌∙◌, append_assoc}
-use Rattle.std.specs.Prelude.{codes, decimal}
+use Rattle.std.proofs.Common.{◌≡◌, ◌-◌, ◌<◌, ◌^◌, ℕ, Bool, true, false, ◌||◌, cond, List, [], ◌∷◌, ◌++◌, length, take, Option, Some, None, Ok, refl, sym, ap, subst, ◌∙◌, append_assoc}
+use Rattle.std.specs.Prelude.{decimal}
 use Rattle.std.specs.List.{list_all, list_any}
 use Rattle.sm_model.specs.declared.tag.Attribute.{Attribute}
 use Rattle.sm_model.specs.declared.tag.Tag.{Tag}
@@ -13,7 +13,7 @@ use Rattle.sm_model.specs.TagParts.{has_name}
 use Rattle.sm_model.specs.Tags.{Left, Next, Runs, follows, closes}
 use Rattle.sm_model.specs.TagText.{is_plain, IsTagName, AreWritten, attributes_then, closing, left_at, IsOpen}
 use Rattle.sm_manin.specs.ManifestWalk.{Walk, step, walk}
-use Rattle.sm_manout.specs.ManifestText.{attribute, number_attribute, option_attribute, text_attribute}
+use Rattle.sm_manout.specs.ManifestText.{attribute, option_attribute, text_attribute}
 use Rattle.sm_tag.proofs.WrittenTags.{append_nil}
 use Rattle.sm_tag.proofs.WrittenNext.{next_feed, next_start, next_finish}
 use Rattle.sm_manout.proofs.ReadValues.{wide_plain}

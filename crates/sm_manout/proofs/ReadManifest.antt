@@ -1,11 +1,10 @@
 -- The manifest of a channel is read as its streams.
-use Rattle.std.proofs.Common.{◌≡◌, ◌<◌, ◌≤◌, ◌+◌, ◌-◌, ◌^◌, ℕ, suc, Bool, true, false, ◌||◌, cond, List, [], ◌∷◌, ◌++◌, length, map, filter, take, Option, Some, None, Result, Ok, refl, sym, ap, subst, ◌∙◌, append_assoc, All, AllPairs, arith}
+use Rattle.std.proofs.Common.{◌≡◌, ◌<◌, ◌≤◌, ◌-◌, ℕ, Bool, true, false, ◌||◌, cond, List, [], ◌∷◌, ◌++◌, length, map, filter, Option, Some, None, Ok, refl, sym, ap, subst, ◌∙◌, append_assoc, All, arith}
 use Rattle.std.specs.Prelude.{codes}
 use Rattle.std.specs.List.{AllByRecursion, list_any}
 use Rattle.std.proofs.lemmas.List.{append-nil, length-append, map-append}
 use Rattle.std.proofs.lemmas.List.Elements.{recursion_from_All}
 use Rattle.std.proofs.lemmas.Slice.Eq.{bytes_eq-Decides}
-use Rattle.sm_model.specs.declared.tag.Tag.{Tag}
 use Rattle.sm_model.specs.declared.tag.Tag.TheVariants.{Start, End}
 use Rattle.sm_model.specs.declared.markup.Markup.{Markup}
 use Rattle.sm_model.specs.declared.markup.Markup.TheVariants as markup
@@ -19,7 +18,7 @@ use Rattle.sm_model.specs.LiveFaults.{least_from}
 use Rattle.sm_model.specs.LiveManifests.{bad_of}
 use Rattle.sm_model.specs.TagParts.{name_at}
 use Rattle.sm_model.specs.TagMarkup.{Markups, lead_at, finish_at, instruction_at, past_word}
-use Rattle.sm_model.specs.Tags.{Left, Founds, bare, marked, skipped, Next, ends, begin, without_zeros, without_mark, TagsOf}
+use Rattle.sm_model.specs.Tags.{Left, Founds, bare, marked, skipped, Next, ends, begin, without_zeros, without_mark}
 use Rattle.sm_model.specs.TagText.{left_at}
 use Rattle.sm_log.specs.Adds.{tracks_of}
 use Rattle.sm_log.specs.Times.{AreTimes}
@@ -33,13 +32,13 @@ use Rattle.sm_manin.specs.declared.listing.StreamListing.{StreamListing}
 use Rattle.sm_manin.specs.declared.listing.Listing.{Listing}
 use Rattle.sm_manin.specs.declared.raw.RawStream.{RawStream}
 use Rattle.sm_manin.specs.ManifestWalk.{Walk, none_met, root_of}
-use Rattle.sm_manin.specs.ManifestFaults.{name_of, is_root_at_fault, root_faults, stream_faults, streams_faults, faults_of}
+use Rattle.sm_manin.specs.ManifestFaults.{name_of, is_root_at_fault, stream_faults, streams_faults, faults_of}
 use Rattle.sm_manin.specs.Listings.{listing_of, look_of, read_of}
 use Rattle.sm_manin.specs.ManifestRead.{judged, IsManifest}
 use Rattle.sm_manin.proofs.NoFaults.{left_none, right_none}
 use Rattle.sm_manout.specs.ManifestText.{stream_lines, streams_lines, manifest_head, manifest_foot, manifest}
-use Rattle.sm_manout.specs.ReadAgain.{stream_again, streams_again, listing_again}
-use Rattle.sm_manout.proofs.ReadLines.{Leads, Begins, on_start, on_finish, feed_read, attr}
+use Rattle.sm_manout.specs.ReadAgain.{streams_again, listing_again}
+use Rattle.sm_manout.proofs.ReadLines.{Leads, Begins, on_start, on_finish, feed_read}
 use Rattle.sm_manout.proofs.ReadLevels.{root_attributes, in_root, walk_out, IsFit}
 use Rattle.sm_manout.proofs.ReadStreams.{IsStream, IsRead, stream_begins, stream_read, stream_clean, stream_says, stream_named}
 
@@ -171,10 +170,10 @@ stands_more channel times earlier ts t done s stands is read low new =
       few = omega (arith, stands.few, length-append earlier (t ∷ []), length-append done (s ∷ []));
       clean = clean_push [] done s stands.clean clean;
       says =
-        ap (λ (l : List StreamListing). l ++ streams_again channel times (earlier ++ t ∷ []) ts) (map-append (listing_of 10000000) done (s ∷ []))
-        ∙ append_assoc (map (listing_of 10000000) done) (listing_of 10000000 s ∷ []) (streams_again channel times (earlier ++ t ∷ []) ts)
-        ∙ ap (λ (y : StreamListing). map (listing_of 10000000) done ++ (y ∷ streams_again channel times (earlier ++ t ∷ []) ts)) says
-        ∙ (rw new at stands.says);
+          ap (λ (l : List StreamListing). l ++ streams_again channel times (earlier ++ t ∷ []) ts) (map-append (listing_of 10000000) done (s ∷ []))
+          ∙ append_assoc (map (listing_of 10000000) done) (listing_of 10000000 s ∷ []) (streams_again channel times (earlier ++ t ∷ []) ts)
+          ∙ ap (λ (y : StreamListing). map (listing_of 10000000) done ++ (y ∷ streams_again channel times (earlier ++ t ∷ []) ts)) says
+          ∙ (rw new at stands.says);
     }
 
 streams_read : (Good : Walk → Type 0) (size end at : ℕ) (channel : List Track) (times : List ℕ → List (ℕ × ℕ)) (earlier rest : List Track) (done : List RawStream) → IsReadable channel times → earlier ++ rest ≡ channel → AllByRecursion IsFit rest → Stands channel times earlier rest done
@@ -302,10 +301,10 @@ judged_good listing w bad is g =
 pub written_is_read : (channel : List Track) (times : List ℕ → List (ℕ × ℕ)) → IsChannel channel → All IsNarrowTrack channel → ((name : List ℕ) → AreTimes (times name)) → ((name : List ℕ) → length (times name) ≤ 262144) → IsManifest (manifest channel times) (Ok (listing_again channel times))
 written_is_read channel times is narrow apart short =
     let readable : IsReadable channel times = record {
-          channel_is = is;
-          fits = all_fit channel (recursion_from_All IsTrack channel is.each) (recursion_from_All IsNarrowTrack channel narrow);
-          apart = apart;
-          short = short;
-        } in
+      channel_is = is;
+      fits = all_fit channel (recursion_from_All IsTrack channel is.each) (recursion_from_All IsNarrowTrack channel narrow);
+      apart = apart;
+      short = short;
+    } in
     let led = leads_all channel times readable in
     (led.0, led.1, judged_good (listing_again channel times) _ (bad_of led.0) led.2 led.3)

@@ -1,14 +1,13 @@
 -- The lines of runs are read as the times that the runs were made of.
-use Rattle.std.proofs.Common.{◌≡◌, ◌+◌, ◌*◌, ◌<◌, ◌≤◌, ◌^◌, ◌&&◌, ℕ, zero, suc, Bool, true, false, cond, eqb, leb, ltb, List, [], ◌∷◌, ◌++◌, length, Option, Some, None, Ok, refl, sym, ap, subst, ◌∙◌, append_assoc, arith, add-one}
+use Rattle.std.proofs.Common.{◌≡◌, ◌+◌, ◌*◌, ◌<◌, ◌≤◌, ◌^◌, ℕ, zero, suc, Bool, true, false, cond, eqb, leb, ltb, List, [], ◌∷◌, ◌++◌, length, Option, Some, None, Ok, refl, sym, ap, ◌∙◌, append_assoc, arith, add-one}
 use Rattle.std.specs.Prelude.{decimal}
 use Rattle.std.specs.List.{AllByRecursion}
-use Rattle.std.proofs.lemmas.Bool.{and_parts, and_from, eqb-true, lt-ltb, le-leb}
-use Rattle.std.proofs.lemmas.List.{append-nil}
+use Rattle.std.proofs.lemmas.Bool.{and_parts, eqb-true, lt-ltb, le-leb}
 use Rattle.sm_model.specs.Digits.{number_of}
 use Rattle.sm_log.specs.Times.{AreTimes, IsSpan, ends}
 use Rattle.sm_smil.proofs.WrittenValues.{decimal_again}
 use Rattle.sm_manin.specs.declared.raw.RawTime.{RawTime}
-use Rattle.sm_manin.specs.RunTimes.{start_in, count_in, fits, time_in, times_in, expand, with_times, or_fault}
+use Rattle.sm_manin.specs.RunTimes.{count_in, fits, time_in, times_in, expand, with_times, or_fault}
 use Rattle.sm_manout.specs.ManifestText.{TimeRun, follows, runs_from, runs}
 use Rattle.sm_manout.proofs.ReadValues.{wide_again}
 

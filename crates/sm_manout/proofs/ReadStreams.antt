@@ -1,10 +1,9 @@
 -- A stream is read as what was written of it.
-use Rattle.std.proofs.Common.{◌≡◌, ◌≢◌, ◌<◌, ◌≤◌, ◌+◌, ◌*◌, ◌^◌, ℕ, zero, suc, Bool, true, false, not, ◌&&◌, ◌||◌, cond, eqb, leb, List, [], ◌∷◌, ◌++◌, length, filter, Option, Some, None, Ok, is_none, refl, sym, ap, subst, ◌∙◌, append_assoc, arith}
+use Rattle.std.proofs.Common.{◌≡◌, ◌<◌, ◌≤◌, ◌+◌, ◌*◌, ◌^◌, ℕ, zero, suc, Bool, true, false, cond, eqb, leb, List, [], ◌∷◌, ◌++◌, length, Some, None, Ok, refl, sym, ap, subst, ◌∙◌, append_assoc, arith}
 use Rattle.std.specs.Prelude.{codes, decimal}
 use Rattle.std.specs.List.{AllByRecursion, list_any}
 use Rattle.std.proofs.lemmas.Bool.{lt-leb, ne_eqb}
 use Rattle.std.proofs.lemmas.List.{append-nil}
-use Rattle.std.proofs.lemmas.Slice.Eq.{bytes_eq-Decides}
 use Rattle.sm_model.specs.declared.tag.Attribute.{Attribute}
 use Rattle.sm_model.specs.declared.markup.Markup.TheVariants as markup
 use Rattle.sm_model.specs.declared.track.Track.{Track}
@@ -17,24 +16,22 @@ use Rattle.sm_model.specs.TagParts.{name_at}
 use Rattle.sm_model.specs.TagText.{attributes_then, closing, left_at}
 use Rattle.sm_log.specs.Adds.{tracks_of}
 use Rattle.sm_log.specs.Times.{AreTimes}
-use Rattle.sm_log.proofs.Choice.{chosen}
 use Rattle.sm_tag.proofs.WrittenTags.{Starts-again}
 use Rattle.sm_smil.proofs.WrittenValues.{decimal_again, name_plain}
-use Rattle.sm_catalog.proofs.Counting.{DifferInBitrate, passing_most}
-use Rattle.sm_manin.specs.declared.listing.StreamListing.{StreamListing}
+use Rattle.sm_catalog.proofs.Counting.{DifferInBitrate}
 use Rattle.sm_manin.specs.declared.raw.RawLevel.{RawLevel}
 use Rattle.sm_manin.specs.declared.raw.RawStream.{RawStream}
 use Rattle.sm_manin.specs.declared.raw.RawTime.{RawTime}
-use Rattle.sm_manin.specs.Values.{narrow_or, kind_in_type}
+use Rattle.sm_manin.specs.Values.{narrow_or}
 use Rattle.sm_manin.specs.ManifestWalk.{Walk, time_of}
-use Rattle.sm_manin.specs.RunTimes.{times_in, fault_in, times_or_none}
-use Rattle.sm_manin.specs.ManifestFaults.{at_if, name_of, is_stream_at_fault, lacks_levels, level_faults, stream_faults}
+use Rattle.sm_manin.specs.RunTimes.{times_in}
+use Rattle.sm_manin.specs.ManifestFaults.{name_of, is_stream_at_fault, level_faults, stream_faults}
 use Rattle.sm_manin.specs.Listings.{levels_of, listing_of}
 use Rattle.sm_manout.specs.ManifestText.{TimeRun, attribute, number_attribute, run_line, run_lines, runs, level_lines, url, stream_opening, stream_lines}
 use Rattle.sm_manout.specs.ReadAgain.{stream_again}
 use Rattle.sm_manout.proofs.ReadValues.{wide_plain, kind_again, kind_plain, url_plain, url_again}
 use Rattle.sm_manout.proofs.ReadLines.{Leads, Begins, start_line, finish_line, attr, attribute_text, spells_then, Spells, Written, and_then, one_written, none_written, all_written}
-use Rattle.sm_manout.proofs.ReadRuns.{count_text, IsRunTime, AreRunTimes, run_times_push, RunsFit, times_again, all_runs_again, all_runs_fit}
+use Rattle.sm_manout.proofs.ReadRuns.{IsRunTime, AreRunTimes, run_times_push, RunsFit, times_again, all_runs_again, all_runs_fit}
 use Rattle.sm_manout.proofs.ReadLevels.{in_root, in_stream, walk_out, walk_in, AreLevels, levels_len, IsFit, lines_of, lines_are, nothing_apart, levels_read, levels_value, lines_begin}
 
 -- ---- the lines of runs
@@ -55,7 +52,7 @@ unfolding run_line
 run_text r x =
     let y = closing true (10 ∷ x) in
     let count : (cond (eqb r.count 1) [] (number_attribute (codes "r") r.count) ++ codes "/>\n") ++ x ≡ attributes_then (count_attr (eqb r.count 1) r.count) y =
-        spells_then (cond (eqb r.count 1) [] (number_attribute (codes "r") r.count)) (codes "/>\n") x y (count_attr (eqb r.count 1) r.count) (count_spells (eqb r.count 1) r.count) refl in
+    spells_then (cond (eqb r.count 1) [] (number_attribute (codes "r") r.count)) (codes "/>\n") x y (count_attr (eqb r.count 1) r.count) (count_spells (eqb r.count 1) r.count) refl in
     let duration = spells_then (number_attribute (codes "d") r.duration) _ x _ (attr (codes "d") (decimal r.duration) ∷ []) (attribute_text (codes "d") (decimal r.duration)) count in
     let start = spells_then (number_attribute (codes "t") r.start) _ x _ (attr (codes "t") (decimal r.start) ∷ []) (attribute_text (codes "t") (decimal r.start)) duration in
     ap (λ (l : List ℕ). 60 ∷ codes "c" ++ l) start
@@ -144,7 +141,7 @@ unfolding stream_opening
 opening_text t chunks levels x =
     let y = closing false (10 ∷ x) in
     let e : (attribute (codes "Url") (url t.name) ++ codes ">\n") ++ x ≡ attributes_then (attr (codes "Url") (url t.name) ∷ []) y =
-        spells_then (attribute (codes "Url") (url t.name)) (codes ">\n") x y (attr (codes "Url") (url t.name) ∷ []) (attribute_text (codes "Url") (url t.name)) refl in
+    spells_then (attribute (codes "Url") (url t.name)) (codes ">\n") x y (attr (codes "Url") (url t.name) ∷ []) (attribute_text (codes "Url") (url t.name)) refl in
     let d = spells_then (number_attribute (codes "QualityLevels") levels) _ x _ (attr (codes "QualityLevels") (decimal levels) ∷ []) (attribute_text (codes "QualityLevels") (decimal levels)) e in
     let c = spells_then (number_attribute (codes "Chunks") chunks) _ x _ (attr (codes "Chunks") (decimal chunks) ∷ []) (attribute_text (codes "Chunks") (decimal chunks)) d in
     let b = spells_then (number_attribute (codes "TimeScale") t.timescale) _ x _ (attr (codes "TimeScale") (decimal t.timescale) ∷ []) (attribute_text (codes "TimeScale") (decimal t.timescale)) c in
@@ -177,7 +174,7 @@ raw_stream t at ls cs = record {
   name = Some t.name;
   timescale = Some (decimal t.timescale);
   levels = ls;
-  times = cs
+  times = cs;
 }
 
 opening_read : (Good : Walk → Type 0) (size end : ℕ) (x : List ℕ) (at : ℕ) (done : List RawStream) (t : Track) (chunks levels : ℕ) → Begins x → IsFit t → chunks < 2 ^ 64 → levels < 2 ^ 64

@@ -23,7 +23,7 @@ stream_again channel times t = record {
   timescale = t.timescale;
   pattern = url t.name;
   levels = levels_again [] 0 (tracks_of t.name channel);
-  times = times
+  times = times;
 }
 
 -- the streams whose first tracks stand in the second list, behind the tracks of the first

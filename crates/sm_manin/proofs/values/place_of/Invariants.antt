@@ -1,5 +1,4 @@
 use Rattle.std.proofs.Common.{◌≡◌, ◌++◌, ℕ, take, drop}
-use Rattle.sm_manin.specs.declared.listing.Level.{Level}
 use Rattle.sm_manin.specs.Listings.{with_level}
 use Rattle.sm_manin.proofs.values.place_of.Given as goal
 
