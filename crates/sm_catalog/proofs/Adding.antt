@@ -40,12 +40,14 @@ names_apart ns [] apart = apart
 names_apart ns (t ∷ ts) apart =
     chosen (list_any (λ (n : List ℕ). is_same n t.name) ns) (λ l. AllPairs (λ (a b : List ℕ). a ≢ b) l) (names_from ns ts) (names_from (ns ++ t.name ∷ []) ts)
     (λ _. names_apart ns ts apart)
-    (λ is. names_apart (ns ++ t.name ∷ []) ts (all_pairs_push (λ (a b : List ℕ). a ≢ b) ns t.name apart (λ k d h e. let no = none_at (λ (n : List ℕ). is_same n t.name) ns k d is h in let yes = same_name (get_or ns k d) t.name e in absurd cc)))
+    (λ is. names_apart (ns ++ t.name ∷ []) ts (all_pairs_push (λ (a b : List ℕ). a ≢ b) ns t.name apart
+    (λ k d h e. let no = none_at (λ (n : List ℕ). is_same n t.name) ns k d is h in let yes = same_name (get_or ns k d) t.name e in absurd cc)))
 
 -- two streams have different names
 pub lanes_apart : (channel : List Track) (lanes : List Lane) (i j : ℕ) (d : Lane) → map (λ (l : Lane). l.name) lanes ≡ names_of channel → i < length lanes → j < length lanes → i ≢ j → (get_or lanes i d).name ≢ (get_or lanes j d).name
 lanes_apart channel lanes i j d names hi hj ne = λ same.
-    let apart : AllPairs (λ (a b : List ℕ). a ≢ b) (map (λ (l : Lane). l.name) lanes) = subst (λ (ns : List (List ℕ)). AllPairs (λ (a b : List ℕ). a ≢ b) ns) (sym names) (names_apart [] channel (λ a b e h k. absurd (omega (arith, k)))) in
+    let apart : AllPairs (λ (a b : List ℕ). a ≢ b) (map (λ (l : Lane). l.name) lanes) = subst (λ (ns : List (List ℕ)). AllPairs (λ (a b : List ℕ). a ≢ b) ns) (sym names)
+    (names_apart [] channel (λ a b e h k. absurd (omega (arith, k)))) in
     let at : (k : ℕ) → k < length lanes → get_or (map (λ (l : Lane). l.name) lanes) k d.name ≡ (get_or lanes k d).name = λ k h. get_or-map (λ (l : Lane). l.name) lanes k d d.name h in
     let len : length (map (λ (l : Lane). l.name) lanes) ≡ length lanes = length-map lanes (λ (l : Lane). l.name) in
     elim (cases_order i j) [
@@ -57,7 +59,8 @@ lanes_apart channel lanes i j d names hi hj ne = λ same.
     ]
 
 -- two tracks have different addresses
-pub tracks_apart : (channel : List Track) (i j : ℕ) (d : Track) → IsChannel channel → i < length channel → j < length channel → i ≢ j → (get_or channel i d).name ≡ (get_or channel j d).name → (get_or channel i d).bitrate ≡ (get_or channel j d).bitrate → ⊥
+pub tracks_apart : (channel : List Track) (i j : ℕ) (d : Track) → IsChannel channel → i < length channel → j < length channel → i ≢ j → (get_or channel i d).name ≡ (get_or channel j d).name
+    → (get_or channel i d).bitrate ≡ (get_or channel j d).bitrate → ⊥
 tracks_apart channel i j d valid hi hj ne name bitrate =
     elim (cases_order i j) [
       | inl e ↦ ne e
@@ -89,6 +92,7 @@ pub has_bitrate : (s : List ℕ) (r : ℕ) (ts : List Track) → list_any (is_th
 has_bitrate s r [] = refl
 has_bitrate s r (t ∷ ts) = by_test (is_named s t) (has_bitrate s r ts)
   where
-    by_test : (b : Bool) → list_any (is_the s r) ts ≡ list_any (λ (u : Track). eqb u.bitrate r) (filter (is_named s) ts) → ((b && eqb t.bitrate r) || list_any (is_the s r) ts) ≡ list_any (λ (u : Track). eqb u.bitrate r) (cond b (t ∷ filter (is_named s) ts) (filter (is_named s) ts))
+    by_test : (b : Bool) → list_any (is_the s r) ts ≡ list_any (λ (u : Track). eqb u.bitrate r) (filter (is_named s) ts)
+        → ((b && eqb t.bitrate r) || list_any (is_the s r) ts) ≡ list_any (λ (u : Track). eqb u.bitrate r) (cond b (t ∷ filter (is_named s) ts) (filter (is_named s) ts))
     by_test true rest = ap (λ (x : Bool). eqb t.bitrate r || x) rest
     by_test false rest = rest

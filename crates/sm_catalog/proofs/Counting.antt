@@ -78,7 +78,8 @@ count_flip p q r (t ∷ ts) is off differ has = by_test (eqb t.bitrate r) refl h
     step true rest = omega (arith, rest)
     step false rest = rest
 
-    by_test : (b : Bool) → eqb t.bitrate r ≡ b → (b || list_any (λ (u : Track). eqb u.bitrate r) ts) ≡ true → (HasBitrate r ts → passing q ts ≡ passing p ts + 1) → length (cond (q t) (t ∷ filter q ts) (filter q ts)) ≡ length (cond (p t) (t ∷ filter p ts) (filter p ts)) + 1
+    by_test : (b : Bool) → eqb t.bitrate r ≡ b → (b || list_any (λ (u : Track). eqb u.bitrate r) ts) ≡ true → (HasBitrate r ts → passing q ts ≡ passing p ts + 1)
+        → length (cond (q t) (t ∷ filter q ts) (filter q ts)) ≡ length (cond (p t) (t ∷ filter p ts) (filter p ts)) + 1
     by_test true e has rest =
         let at : t.bitrate ≡ r = eqb-true t.bitrate r e in
         let was : p t ≡ false = off t at in

@@ -65,7 +65,8 @@ counts_now : (channel : List Track) (adds : List Add) (a : Add) (s : List ℕ) (
     → passing (is_kept (adds ++ a ∷ []) s t) (tracks_of s channel) ≡ cond (eqb a.address.time t) (passing (is_kept adds s a.address.time) (tracks_of s channel) + 1) (passing (is_kept adds s t) (tracks_of s channel))
 counts_now channel adds a s t name free differ has = by_test (eqb a.address.time t) refl
   where
-    by_test : (b : Bool) → eqb a.address.time t ≡ b → passing (is_kept (adds ++ a ∷ []) s t) (tracks_of s channel) ≡ cond b (passing (is_kept adds s a.address.time) (tracks_of s channel) + 1) (passing (is_kept adds s t) (tracks_of s channel))
+    by_test : (b : Bool) → eqb a.address.time t ≡ b → passing (is_kept (adds ++ a ∷ []) s t) (tracks_of s channel) ≡ cond b (passing (is_kept adds s a.address.time) (tracks_of s channel) + 1)
+        (passing (is_kept adds s t) (tracks_of s channel))
     by_test true is =
         let at : a.address.time ≡ t = eqb-true a.address.time t is in
         ap (λ (u : ℕ). passing (is_kept (adds ++ a ∷ []) s u) (tracks_of s channel)) (sym at)
@@ -83,7 +84,8 @@ pub record IsAddedTo (l m : Lane) (a : Add) : Type 0 where
   pub spare : m.spare + 1 ≡ l.spare
   pub backed : m.spare ≤ m.room
 
-pub lane_added : (channel : List Track) (adds : List Add) (l m : Lane) (a : Add) → IsChannel channel → IsLane channel adds l → IsAddedTo l m a → a.address.stream ≡ l.name → IsNew adds a.address a.duration → HasBitrate a.address.bitrate (tracks_of l.name channel) → IsLane channel (adds ++ a ∷ []) m
+pub lane_added : (channel : List Track) (adds : List Add) (l m : Lane) (a : Add) → IsChannel channel → IsLane channel adds l → IsAddedTo l m a → a.address.stream ≡ l.name → IsNew adds a.address a.duration
+    → HasBitrate a.address.bitrate (tracks_of l.name channel) → IsLane channel (adds ++ a ∷ []) m
 lane_added channel adds l m a valid lane to name new has =
     let s = l.name in
     let adds' = adds ++ a ∷ [] in
@@ -98,9 +100,11 @@ lane_added channel adds l m a valid lane to name new has =
     ∙ ap (λ (n : ℕ). cond (eqb a.address.time t) n (passing (is_kept adds s t) (tracks_of s channel))) (small (passing (is_kept adds s a.address.time) (tracks_of s channel)) (omega (arith, few, old_most)))
     ∙ sym (counts_now channel adds a s t name new.free differ has) in
     let off : is_listed channel adds s (a.address.time, a.duration) ≡ false = not_all (is_kept adds s a.address.time) a.address.bitrate (tracks_of s channel) (λ tr e. not_kept adds a s tr name new.free e) has in
-    let step = filter_with (is_listed channel adds s) (is_listed channel adds' s) a.address.time a.duration (times_of s adds) (sorted_times_from s [] adds tt) (λ x ne. all_same (is_kept adds s x.0) (is_kept adds' s x.0) (tracks_of s channel) (λ tr. kept_elsewhen adds a s x.0 tr ne)) off value in
+    let step = filter_with (is_listed channel adds s) (is_listed channel adds' s) a.address.time a.duration (times_of s adds) (sorted_times_from s [] adds tt)
+    (λ x ne. all_same (is_kept adds s x.0) (is_kept adds' s x.0) (tracks_of s channel) (λ tr. kept_elsewhen adds a s x.0 tr ne)) off value in
     let now : eqb (count_at a.address.time m.times m.counts) l.tracks ≡ is_listed channel adds' s (a.address.time, a.duration) =
-    ap (λ (n : ℕ). eqb n l.tracks) (count a.address.time) ∙ ap (λ (n : ℕ). eqb (passing (is_kept adds' s a.address.time) (tracks_of s channel)) n) lane.tracks ∙ sym (all_by_count (is_kept adds' s a.address.time) (tracks_of s channel)) in
+    ap (λ (n : ℕ). eqb n l.tracks) (count a.address.time) ∙ ap (λ (n : ℕ). eqb (passing (is_kept adds' s a.address.time) (tracks_of s channel)) n) lane.tracks
+    ∙ sym (all_by_count (is_kept adds' s a.address.time) (tracks_of s channel)) in
     let listing : m.listed ≡ listed channel adds' s =
     to.listed ∙ ap (λ (b : Bool). cond b (with_entry a.address.time a.duration l.listed) l.listed) now
     ∙ ap (λ (ls : List (ℕ × ℕ)). cond (is_listed channel adds' s (a.address.time, a.duration)) (with_entry a.address.time a.duration ls) ls) lane.listed
@@ -126,7 +130,8 @@ lane_other channel adds l a lane other =
     record {
       times = lane.times ∙ sym times;
       counts = λ t. lane.counts t ∙ sym (count_same (is_kept adds s t) (is_kept adds' s t) (tracks_of s channel) (λ tr. kept_elsewhere adds a s t tr other));
-      listed = lane.listed ∙ sym (ap (λ (ts : List (ℕ × ℕ)). filter (is_listed channel adds' s) ts) times ∙ filter_same (is_listed channel adds s) (is_listed channel adds' s) (times_of s adds) (λ x. all_same (is_kept adds s x.0) (is_kept adds' s x.0) (tracks_of s channel) (λ tr. kept_elsewhere adds a s x.0 tr other)));
+      listed = lane.listed ∙ sym (ap (λ (ts : List (ℕ × ℕ)). filter (is_listed channel adds' s) ts) times
+          ∙ filter_same (is_listed channel adds s) (is_listed channel adds' s) (times_of s adds) (λ x. all_same (is_kept adds s x.0) (is_kept adds' s x.0) (tracks_of s channel) (λ tr. kept_elsewhere adds a s x.0 tr other)));
       tracks = lane.tracks;
       backed = lane.backed;
     }

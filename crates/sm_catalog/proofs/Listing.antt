@@ -31,7 +31,8 @@ front_with t v (y ∷ ys) all =
 
 past_with : (t v : ℕ) (y : ℕ × ℕ) (ys : List (ℕ × ℕ)) → y.0 < t → with_entry t v (y ∷ ys) ≡ y ∷ with_entry t v ys
 past_with t v y ys less =
-    chosen (ltb t y.0) (λ l. l ≡ y ∷ with_entry t v ys) ((t, v) ∷ y ∷ ys) (cond (eqb y.0 t) (y ∷ ys) (y ∷ with_entry t v ys)) (λ is. absurd (omega (arith, ltb-true t y.0 is, less))) (λ _. chosen (eqb y.0 t) (λ l. l ≡ y ∷ with_entry t v ys) (y ∷ ys) (y ∷ with_entry t v ys) (λ e. absurd (omega (arith, eqb-true y.0 t e, less))) (λ _. refl))
+    chosen (ltb t y.0) (λ l. l ≡ y ∷ with_entry t v ys) ((t, v) ∷ y ∷ ys) (cond (eqb y.0 t) (y ∷ ys) (y ∷ with_entry t v ys)) (λ is. absurd (omega (arith, ltb-true t y.0 is, less)))
+    (λ _. chosen (eqb y.0 t) (λ l. l ≡ y ∷ with_entry t v ys) (y ∷ ys) (y ∷ with_entry t v ys) (λ e. absurd (omega (arith, eqb-true y.0 t e, less))) (λ _. refl))
 
 -- a time t more, at which the test was false and alone may have changed
 pub filter_with : (p q : ℕ × ℕ → Bool) (t v : ℕ) (xs : List (ℕ × ℕ)) → AreSorted xs → ((x : ℕ × ℕ) → x.0 ≢ t → q x ≡ p x) → p (t, v) ≡ false → ((w : ℕ) → entry_at t xs ≡ Some w → w ≡ v)
@@ -43,7 +44,8 @@ filter_with p q t v (x ∷ xs) sorted same off kept = by_test (ltb t x.0) (eqb x
     behind true is ys all = rw (front_with t v (filter p ys) (all_filter (λ (y : ℕ × ℕ). t < y.0) p ys all), filter_behind p q t ys same all) refl
     behind false is ys all = filter_behind p q t ys same all
 
-    step : (a b : Bool) → x.0 < t → cond a (x ∷ cond b (with_entry t v (filter p xs)) (filter p xs)) (cond b (with_entry t v (filter p xs)) (filter p xs)) ≡ cond b (with_entry t v (cond a (x ∷ filter p xs) (filter p xs))) (cond a (x ∷ filter p xs) (filter p xs))
+    step : (a b : Bool) → x.0 < t → cond a (x ∷ cond b (with_entry t v (filter p xs)) (filter p xs)) (cond b (with_entry t v (filter p xs)) (filter p xs)) ≡ cond b (with_entry t v (cond a (x ∷ filter p xs) (filter p xs)))
+        (cond a (x ∷ filter p xs) (filter p xs))
     step true true less = sym (past_with t v x (filter p xs) less)
     step true false less = refl
     step false true less = refl

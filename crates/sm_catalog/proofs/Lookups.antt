@@ -159,7 +159,8 @@ other_stream s (t ∷ ts) (suc k) time h e = by_or (is_same t.name s) e (λ k'. 
     by_or true e rest = absurd cc
     by_or false e rest = rest e
 
-no_times_from : (s : List ℕ) (channel : List Track) (ts : List (ℕ × ℕ)) (added : List Added) → AllByRecursion (λ (x : Added). x.track < length channel) added → list_any (is_named s) channel ≡ false → times_from s ts (adds_in channel added) ≡ ts
+no_times_from : (s : List ℕ) (channel : List Track) (ts : List (ℕ × ℕ)) (added : List Added) → AllByRecursion (λ (x : Added). x.track < length channel) added → list_any (is_named s) channel ≡ false
+    → times_from s ts (adds_in channel added) ≡ ts
 no_times_from s channel ts [] all e = refl
 no_times_from s channel ts (x ∷ added) all e =
     let other = other_stream s channel x.track x.time all.0 e in
@@ -168,7 +169,8 @@ no_times_from s channel ts (x ∷ added) all e =
 pub no_times : (s : List ℕ) (channel : List Track) (added : List Added) → All (λ (x : Added). x.track < length channel) added → list_any (is_named s) channel ≡ false → times_of s (adds_in channel added) ≡ []
 no_times s channel added all e = no_times_from s channel [] added (recursion_from_All (λ (x : Added). x.track < length channel) added all) e
 
-other_address : (s : List ℕ) (r t : ℕ) (channel : List Track) (k time : ℕ) → k < length channel → list_any (is_the s r) channel ≡ false → (is_same (address_in channel k time).stream s && (eqb (address_in channel k time).bitrate r && eqb (address_in channel k time).time t)) ≡ false
+other_address : (s : List ℕ) (r t : ℕ) (channel : List Track) (k time : ℕ) → k < length channel → list_any (is_the s r) channel ≡ false
+    → (is_same (address_in channel k time).stream s && (eqb (address_in channel k time).bitrate r && eqb (address_in channel k time).time t)) ≡ false
 other_address s r t [] k time h e = absurd (omega arith)
 other_address s r t (u ∷ us) zero time h e = by_or (is_same u.name s) (eqb u.bitrate r) e
   where
@@ -197,7 +199,8 @@ no_place x channel added all e =
 
 -- ---- what a catalog has
 
-pub kept_place : (x : Address) (channel : List Track) (added : List Added) (kept : List Entries) (lanes : List Lane) (reserved capacity k : ℕ) (e : Entries) (o : Option ℕ) → IsWhole channel added kept lanes reserved capacity → position (is_the x.stream x.bitrate) channel ≡ Some k → e ≡ get_or kept k e → o ≡ entry_at x.time e.entries → o ≡ place_of x (adds_in channel added)
+pub kept_place : (x : Address) (channel : List Track) (added : List Added) (kept : List Entries) (lanes : List Lane) (reserved capacity k : ℕ) (e : Entries) (o : Option ℕ) → IsWhole channel added kept lanes reserved capacity
+    → position (is_the x.stream x.bitrate) channel ≡ Some k → e ≡ get_or kept k e → o ≡ entry_at x.time e.entries → o ≡ place_of x (adds_in channel added)
 kept_place x [] added kept lanes reserved capacity k e o whole at is value = absurd cc
 kept_place x (t ∷ ts) added kept lanes reserved capacity k e o whole at is value =
     let found = found_track x.stream x.bitrate (t ∷ ts) k at in
@@ -212,7 +215,8 @@ pub record FoundLane (s : List ℕ) (channel : List Track) (adds : List Add) (l 
   pub times : l.times ≡ times_of s adds
   pub listed : l.listed ≡ listed channel adds s
 
-pub found_lane : (s : List ℕ) (channel : List Track) (added : List Added) (kept : List Entries) (lanes : List Lane) (reserved capacity j : ℕ) (l : Lane) → IsWhole channel added kept lanes reserved capacity → position (λ (m : Lane). is_same m.name s) lanes ≡ Some j → l ≡ get_or lanes j l → FoundLane s channel (adds_in channel added) l
+pub found_lane : (s : List ℕ) (channel : List Track) (added : List Added) (kept : List Entries) (lanes : List Lane) (reserved capacity j : ℕ) (l : Lane) → IsWhole channel added kept lanes reserved capacity
+    → position (λ (m : Lane). is_same m.name s) lanes ≡ Some j → l ≡ get_or lanes j l → FoundLane s channel (adds_in channel added) l
 found_lane s channel added kept lanes reserved capacity j l whole at is =
     let h = position-Some (λ (m : Lane). is_same m.name s) lanes j l at in
     let name : l.name ≡ s = (bytes_eq-Decides l.name s).0 (rw (← is) at h.1) in
@@ -228,7 +232,8 @@ found_lane s channel added kept lanes reserved capacity j l whole at is =
 pub undeclared : (channel : List Track) (adds : List Add) (x : Address) (d : ℕ) → is_some (track_at x.stream x.bitrate channel) ≡ false → judged.NotDeclared ≡ verdict channel adds x d
 undeclared channel adds x d e = rw e refl
 
-pub verdict_is : (channel : List Track) (adds : List Add) (x : Address) (d : ℕ) (ts : List (ℕ × ℕ)) (is : Decision) → is_some (track_at x.stream x.bitrate channel) ≡ true → ts ≡ times_of x.stream adds → is ≡ decision ts x.time d → judged_by (place_of x adds) is ≡ verdict channel adds x d
+pub verdict_is : (channel : List Track) (adds : List Add) (x : Address) (d : ℕ) (ts : List (ℕ × ℕ)) (is : Decision) → is_some (track_at x.stream x.bitrate channel) ≡ true → ts ≡ times_of x.stream adds → is ≡ decision ts x.time d
+    → judged_by (place_of x adds) is ≡ verdict channel adds x d
 verdict_is channel adds x d ts is declared times e =
     rw declared (ap (judged_by (place_of x adds)) e ∙ ap (λ (l : List (ℕ × ℕ)). judged_by (place_of x adds) (decision l x.time d)) times)
 
@@ -271,5 +276,6 @@ some_any p (x ∷ xs) k e = let h = position-Some p (x ∷ xs) k x e in any_at p
 pub name_there : (ls : List Lane) (t : Track) (ts : List Track) (k : ℕ) → position (λ (l : Lane). is_same l.name t.name) ls ≡ Some k → names_from (map (λ (l : Lane). l.name) ls) (t ∷ ts) ≡ names_from (map (λ (l : Lane). l.name) ls) ts
 name_there ls t ts k e = rw (any_map t.name ls ∙ some_any (λ (l : Lane). is_same l.name t.name) ls k e) refl
 
-pub name_new : (ls : List Lane) (t : Track) (ts : List Track) → position (λ (l : Lane). is_same l.name t.name) ls ≡ None → names_from (map (λ (l : Lane). l.name) ls) (t ∷ ts) ≡ names_from (map (λ (l : Lane). l.name) ls ++ t.name ∷ []) ts
+pub name_new : (ls : List Lane) (t : Track) (ts : List Track) → position (λ (l : Lane). is_same l.name t.name) ls ≡ None
+    → names_from (map (λ (l : Lane). l.name) ls) (t ∷ ts) ≡ names_from (map (λ (l : Lane). l.name) ls ++ t.name ∷ []) ts
 name_new ls t ts e = rw (any_map t.name ls ∙ nowhere (λ (l : Lane). is_same l.name t.name) ls e) refl

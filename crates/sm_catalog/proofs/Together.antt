@@ -30,7 +30,8 @@ use Rattle.sm_catalog.proofs.Lanes.{IsAddedTo, lane_added, lane_other}
 
 -- ---- spares
 
-pub spare_first : (s : List ℕ) (lanes : List Lane) (j : ℕ) (d : Lane) → j < length lanes → is_same (get_or lanes j d).name s ≡ true → ((k : ℕ) → k < j → is_same (get_or lanes k d).name s ≡ false) → spare_of s (spares_in lanes) ≡ (get_or lanes j d).spare
+pub spare_first : (s : List ℕ) (lanes : List Lane) (j : ℕ) (d : Lane) → j < length lanes → is_same (get_or lanes j d).name s ≡ true → ((k : ℕ) → k < j → is_same (get_or lanes k d).name s ≡ false)
+    → spare_of s (spares_in lanes) ≡ (get_or lanes j d).spare
 spare_first s [] j d h is before = absurd (omega arith)
 spare_first s (l ∷ lanes) zero d h is before = rw is refl
 spare_first s (l ∷ lanes) (suc j) d h is before =
@@ -73,7 +74,8 @@ pub record IsPut (channel : List Track) (kept : List Entries) (lanes : List Lane
   pub added : (l : Lane) → IsAddedTo (get_or lanes j l) m (record { address = x; duration = d; place = p })
 
 -- the list of adds has it at its end
-pub adds_more : (channel : List Track) (added : List Added) (x : Address) (k d p : ℕ) → position (is_the x.stream x.bitrate) channel ≡ Some k → adds_in channel (added ++ (record { track = k; time = x.time; duration = d; place = p }) ∷ []) ≡ adds_in channel added ++ (record { address = x; duration = d; place = p }) ∷ []
+pub adds_more : (channel : List Track) (added : List Added) (x : Address) (k d p : ℕ) → position (is_the x.stream x.bitrate) channel ≡ Some k
+    → adds_in channel (added ++ (record { track = k; time = x.time; duration = d; place = p }) ∷ []) ≡ adds_in channel added ++ (record { address = x; duration = d; place = p }) ∷ []
 adds_more [] added x k d p e = absurd cc
 adds_more (t ∷ ts) added x k d p e =
     let found = found_track x.stream x.bitrate (t ∷ ts) k e in
@@ -133,7 +135,8 @@ whole_added channel added kept lanes reserved capacity more k j d p x e m whole 
     others : (i : ℕ) (t : Track) → i < length channel → i ≢ k → is_track (get_or channel i t).name (get_or channel i t).bitrate a ≡ false
     others i t h ne = false_from_ne_true _ (λ yes.
         let parts = and_parts (is_same x.stream (get_or channel i t).name) (eqb x.bitrate (get_or channel i t).bitrate) yes in
-        tracks_apart channel i k t whole.valid h found.within ne (sym ((bytes_eq-Decides x.stream (get_or channel i t).name).0 parts.0) ∙ sym (found.name t)) (sym (eqb-true x.bitrate (get_or channel i t).bitrate parts.1) ∙ sym (found.bitrate t)))
+        tracks_apart channel i k t whole.valid h found.within ne (sym ((bytes_eq-Decides x.stream (get_or channel i t).name).0 parts.0) ∙ sym (found.name t))
+        (sym (eqb-true x.bitrate (get_or channel i t).bitrate parts.1) ∙ sym (found.bitrate t)))
 
     place_here : (f : Entries) (t : Track) → (get_or (set kept k e) k f).entries ≡ places_of (get_or channel k t).name (get_or channel k t).bitrate (adds_in channel (added ++ y ∷ []))
     place_here f t =
@@ -187,11 +190,13 @@ whole_added channel added kept lanes reserved capacity more k j d p x e m whole 
         let spare = ap (λ (n : Lane). n.spare) is in
         let less = (put.added l).spare in
         elim (cases_eq q k) [
-          | inl at ↦ subst (λ (n : ℕ). (get_or (set lanes j m) j l).spare ≤ (get_or (set kept k e) n f).room) (sym at) (omega (arith, spare, less, ap (λ (n : Entries). n.room) (get_or-set_same kept k e f within_kept), put.room f, subst (λ (n : ℕ). (get_or lanes j l).spare ≤ (get_or kept n f).room) at was))
+          | inl at ↦ subst (λ (n : ℕ). (get_or (set lanes j m) j l).spare ≤ (get_or (set kept k e) n f).room) (sym at)
+              (omega (arith, spare, less, ap (λ (n : Entries). n.room) (get_or-set_same kept k e f within_kept), put.room f, subst (λ (n : ℕ). (get_or lanes j l).spare ≤ (get_or kept n f).room) at was))
           | inr ne ↦ omega (arith, spare, less, was, ap (λ (n : Entries). n.room) (get_or-set_other kept k q e f ne))
         ]
 
-    rooms_there : (i q : ℕ) (l : Lane) (t : Track) (f : Entries) → i < length lanes → q < length channel → i ≢ j → (get_or channel q t).name ≡ (get_or (set lanes j m) i l).name → (get_or (set lanes j m) i l).spare ≤ (get_or (set kept k e) q f).room
+    rooms_there : (i q : ℕ) (l : Lane) (t : Track) (f : Entries) → i < length lanes → q < length channel → i ≢ j → (get_or channel q t).name ≡ (get_or (set lanes j m) i l).name
+        → (get_or (set lanes j m) i l).spare ≤ (get_or (set kept k e) q f).room
     rooms_there i q l t f h w ne same =
         let is : get_or (set lanes j m) i l ≡ get_or lanes i l = get_or-set_other lanes j i m l ne in
         let name : (get_or channel q t).name ≡ (get_or lanes i l).name = same ∙ ap (λ (n : Lane). n.name) is in
@@ -202,7 +207,8 @@ whole_added channel added kept lanes reserved capacity more k j d p x e m whole 
           | inr apart ↦ omega (arith, spare, was, ap (λ (n : Entries). n.room) (get_or-set_other kept k q e f apart))
         ]
 
-    rooms_now : (i q : ℕ) (l : Lane) (t : Track) (f : Entries) → i < length lanes → q < length channel → (get_or channel q t).name ≡ (get_or (set lanes j m) i l).name → (get_or (set lanes j m) i l).spare ≤ (get_or (set kept k e) q f).room
+    rooms_now : (i q : ℕ) (l : Lane) (t : Track) (f : Entries) → i < length lanes → q < length channel → (get_or channel q t).name ≡ (get_or (set lanes j m) i l).name
+        → (get_or (set lanes j m) i l).spare ≤ (get_or (set kept k e) q f).room
     rooms_now i q l t f h w same = elim (cases_eq i j) [
       | inl at ↦ subst (λ (n : ℕ). (get_or channel q t).name ≡ (get_or (set lanes j m) n l).name → (get_or (set lanes j m) n l).spare ≤ (get_or (set kept k e) q f).room) (sym at) (rooms_here q l t f w) same
       | inr ne ↦ rooms_there i q l t f h w ne same
@@ -234,7 +240,8 @@ room_there channel added kept (l ∷ lanes) reserved capacity k j x f whole e at
 
 -- ---- more room
 
-pub whole_roomier : (channel : List Track) (added : List Added) (kept more : List Entries) (lanes : List Lane) (reserved capacity larger : ℕ) → IsWhole channel added kept lanes reserved capacity → HaveMoreRoom kept more → capacity ≤ larger → IsWhole channel added more lanes reserved larger
+pub whole_roomier : (channel : List Track) (added : List Added) (kept more : List Entries) (lanes : List Lane) (reserved capacity larger : ℕ) → IsWhole channel added kept lanes reserved capacity → HaveMoreRoom kept more
+    → capacity ≤ larger → IsWhole channel added more lanes reserved larger
 whole_roomier channel added kept more lanes reserved capacity larger whole roomier enough = record {
   valid = whole.valid;
   within = whole.within;
@@ -291,7 +298,8 @@ whole_raised channel added kept lanes reserved capacity j extra s m whole at rai
         let lane = whole.each j l within_lanes in
         record {
           times = r.times ∙ lane.times ∙ ap (λ (n : List ℕ). times_of n (adds_in channel added)) (sym r.name);
-          counts = λ t. ap (λ (ts : List (ℕ × ℕ)). count_at t ts m.counts) r.times ∙ ap (λ (cs : List ℕ). count_at t (get_or lanes j l).times cs) r.counts ∙ lane.counts t ∙ ap (λ (n : List ℕ). passing (is_kept (adds_in channel added) n t) (tracks_of n channel)) (sym r.name);
+          counts = λ t. ap (λ (ts : List (ℕ × ℕ)). count_at t ts m.counts) r.times ∙ ap (λ (cs : List ℕ). count_at t (get_or lanes j l).times cs) r.counts ∙ lane.counts t
+              ∙ ap (λ (n : List ℕ). passing (is_kept (adds_in channel added) n t) (tracks_of n channel)) (sym r.name);
           listed = r.listed ∙ lane.listed ∙ ap (λ (n : List ℕ). listed channel (adds_in channel added) n) (sym r.name);
           tracks = r.tracks ∙ lane.tracks ∙ ap (λ (n : List ℕ). length (tracks_of n channel)) (sym r.name);
           backed = r.backed;
@@ -318,7 +326,8 @@ whole_raised channel added kept lanes reserved capacity j extra s m whole at rai
     ]
 
 -- spares only rise
-pub spares_rise : (s n : List ℕ) (lanes : List Lane) (j extra : ℕ) (m d : Lane) → position (λ (l : Lane). is_same l.name s) lanes ≡ Some j → IsRaised (get_or lanes j d) m extra → spare_of n (spares_in lanes) ≤ spare_of n (spares_in (set lanes j m))
+pub spares_rise : (s n : List ℕ) (lanes : List Lane) (j extra : ℕ) (m d : Lane) → position (λ (l : Lane). is_same l.name s) lanes ≡ Some j → IsRaised (get_or lanes j d) m extra
+    → spare_of n (spares_in lanes) ≤ spare_of n (spares_in (set lanes j m))
 spares_rise s n lanes j extra m d at raised = rising lanes j raised
   where
     rising : (ls : List Lane) (i : ℕ) → IsRaised (get_or ls i d) m extra → spare_of n (spares_in ls) ≤ spare_of n (spares_in (set ls i m))
@@ -392,7 +401,8 @@ whole_copied channel added kept kept' lanes lanes' reserved capacity larger whol
         let lane = whole.each i l h in
         record {
           times = is.times ∙ lane.times ∙ ap (λ (n : List ℕ). times_of n (adds_in channel added)) (sym is.name);
-          counts = λ t. ap (λ (ts : List (ℕ × ℕ)). count_at t ts (get_or lanes' i l).counts) is.times ∙ ap (λ (cs : List ℕ). count_at t (get_or lanes i l).times cs) is.counts ∙ lane.counts t ∙ ap (λ (n : List ℕ). passing (is_kept (adds_in channel added) n t) (tracks_of n channel)) (sym is.name);
+          counts = λ t. ap (λ (ts : List (ℕ × ℕ)). count_at t ts (get_or lanes' i l).counts) is.times ∙ ap (λ (cs : List ℕ). count_at t (get_or lanes i l).times cs) is.counts ∙ lane.counts t
+              ∙ ap (λ (n : List ℕ). passing (is_kept (adds_in channel added) n t) (tracks_of n channel)) (sym is.name);
           listed = is.listed ∙ lane.listed ∙ ap (λ (n : List ℕ). listed channel (adds_in channel added) n) (sym is.name);
           tracks = is.tracks ∙ lane.tracks ∙ ap (λ (n : List ℕ). length (tracks_of n channel)) (sym is.name);
           backed = omega (arith, is.spare);
@@ -408,7 +418,8 @@ fresh_spares : (channel : List Track) (ls : List Lane) → AllByRecursion (IsFre
 fresh_spares channel [] all = tt
 fresh_spares channel (l ∷ ls) all = (all.0.spare, fresh_spares channel ls all.1)
 
-pub whole_new : (channel : List Track) (added : List Added) (kept : List Entries) (lanes : List Lane) (capacity : ℕ) → IsChannel channel → added ≡ [] → length kept ≡ length channel → All (λ (e : Entries). e.entries ≡ []) kept → map (λ (l : Lane). l.name) lanes ≡ names_of channel → All (IsFresh channel) lanes → IsWhole channel added kept lanes 0 capacity
+pub whole_new : (channel : List Track) (added : List Added) (kept : List Entries) (lanes : List Lane) (capacity : ℕ) → IsChannel channel → added ≡ [] → length kept ≡ length channel → All (λ (e : Entries). e.entries ≡ []) kept
+    → map (λ (l : Lane). l.name) lanes ≡ names_of channel → All (IsFresh channel) lanes → IsWhole channel added kept lanes 0 capacity
 whole_new channel added kept lanes capacity valid none as_many empty names fresh = subst (λ (as' : List Added). IsWhole channel as' kept lanes 0 capacity) (sym none) (record {
   valid = valid;
   within = λ k d h. absurd (omega (arith, h));

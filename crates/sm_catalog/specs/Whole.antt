@@ -37,9 +37,11 @@ pub record IsWhole (channel : List Track) (added : List Added) (kept : List Entr
   pub valid : IsChannel channel
   pub within : All (λ x. x.track < length channel) added
   pub as_many : length kept ≡ length channel
-  pub places : (k : ℕ) (d : Entries) (e : Track) → k < length channel → (slice_index_or kept k d).entries ≡ places_of (slice_index_or channel k e).name (slice_index_or channel k e).bitrate (adds_in channel added)
+  pub places : (k : ℕ) (d : Entries) (e : Track) → k < length channel
+      → (slice_index_or kept k d).entries ≡ places_of (slice_index_or channel k e).name (slice_index_or channel k e).bitrate (adds_in channel added)
   pub names : map (λ l. l.name) lanes ≡ names_of channel
   pub each : All (IsLane channel (adds_in channel added)) lanes
-  pub rooms : (j k : ℕ) (d : Lane) (e : Track) (f : Entries) → j < length lanes → k < length channel → (slice_index_or channel k e).name ≡ (slice_index_or lanes j d).name → (slice_index_or lanes j d).spare ≤ (slice_index_or kept k f).room
+  pub rooms : (j k : ℕ) (d : Lane) (e : Track) (f : Entries) → j < length lanes → k < length channel
+      → (slice_index_or channel k e).name ≡ (slice_index_or lanes j d).name → (slice_index_or lanes j d).spare ≤ (slice_index_or kept k f).room
   pub sum : reserved ≡ sum_by (λ l. l.spare) lanes
   pub room : length added + reserved ≤ capacity

@@ -91,7 +91,8 @@ pub fn reserve_places(
 ) -> Result<(), NoMemory>
     requires { length kept.old.items ≡ length channel.now }
     ensures more { HaveMoreRoom kept.old.items kept.new.items }
-    ensures ok { OnOk result ((k : ℕ) (d : Entries) (t : Track) → k < length channel.now → is_same (slice_index_or channel.now k t).name name.now ≡ true → 2 ≤ (slice_index_or kept.new.items k d).room) }
+    ensures ok { OnOk result ((k : ℕ) (d : Entries) (t : Track) → k < length channel.now → is_same (slice_index_or channel.now k t).name name.now ≡ true
+        → 2 ≤ (slice_index_or kept.new.items k d).room) }
 {
     for i in 0..kept.len() {
         if channel[i].name.as_bytes() == name {

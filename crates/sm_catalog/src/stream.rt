@@ -27,7 +27,15 @@ impl Model for Stream {
 
     ghost Value = { Lane };
 
-    ghost view = { λ s. record { name = s.name; tracks = s.tracks; times = s.timeline.times; counts = s.timeline.counts; listed = s.listed.entries; room = min s.timeline.spare s.listed.room; spare = s.spare } };
+    ghost view = { λ s. record {
+      name = s.name;
+      tracks = s.tracks;
+      times = s.timeline.times;
+      counts = s.timeline.counts;
+      listed = s.listed.entries;
+      room = min s.timeline.spare s.listed.room;
+      spare = s.spare;
+    } };
 
     ghost invariant = { λ s. IsLaneInside s.spare (min s.timeline.spare s.listed.room) s.listed.entries };
 }
@@ -146,8 +154,10 @@ impl Stream {
         ensures name { self.new.name ≡ self.old.name }
         ensures tracks { self.new.tracks ≡ self.old.tracks }
         ensures times { self.new.times ≡ with_entry time duration self.old.times }
-        ensures count { (start : ℕ) → count_at start self.new.times self.new.counts ≡ (if time == start then more (count_at time self.old.times self.old.counts) else count_at start self.old.times self.old.counts) }
-        ensures listed { self.new.listed ≡ (if count_at time self.new.times self.new.counts == self.old.tracks then with_entry time duration self.old.listed else self.old.listed) }
+        ensures count { (start : ℕ) → count_at start self.new.times self.new.counts ≡
+            (if time == start then more (count_at time self.old.times self.old.counts) else count_at start self.old.times self.old.counts) }
+        ensures listed { self.new.listed ≡ (if count_at time self.new.times self.new.counts == self.old.tracks
+            then with_entry time duration self.old.listed else self.old.listed) }
         ensures spare { self.new.spare + 1 ≡ self.old.spare }
         ensures backed { self.new.spare ≤ self.new.room }
     {

@@ -31,7 +31,8 @@ still_apart ts t d span times (inl new) = apart_added ts t d span times new
 still_apart ts t d span times (inr there) =
     subst AreTimes (sym (stays t d d ts (sorted_times ts times) (there_means ts t d there))) times
 
-pub apart_more : (channel : List Track) (earlier : List Add) (a : Add) → verdict channel earlier a.address a.duration ≡ judged.New → IsSpan (a.address.time, a.duration) → ((s : List ℕ) → AreTimes (times_of s earlier)) → (s : List ℕ) → AreTimes (times_of s (earlier ++ a ∷ []))
+pub apart_more : (channel : List Track) (earlier : List Add) (a : Add) → verdict channel earlier a.address a.duration ≡ judged.New → IsSpan (a.address.time, a.duration) → ((s : List ℕ) → AreTimes (times_of s earlier)) → (s : List ℕ)
+    → AreTimes (times_of s (earlier ++ a ∷ []))
 apart_more channel earlier a new span times s =
     subst AreTimes (sym (times_snoc s [] earlier a)) (chosen (is_same a.address.stream s) AreTimes (with_entry a.address.time a.duration (times_of s earlier)) (times_of s earlier)
     (λ same. let is = is_new channel earlier a.address a.duration (new_declared channel earlier a.address a.duration new) new in
@@ -67,7 +68,8 @@ times_stay s t d ts [] sorted e = e
 times_stay s t d ts (a ∷ more) sorted e =
     let next = cond (is_same a.address.stream s) (with_entry a.address.time a.duration ts) ts in
     let sorted' : AreSorted next = chosen (is_same a.address.stream s) AreSorted (with_entry a.address.time a.duration ts) ts (λ _. sorted_with a.address.time a.duration ts sorted) (λ _. sorted) in
-    let still : entry_at t next ≡ Some d = chosen (is_same a.address.stream s) (λ (l : List (ℕ × ℕ)). entry_at t l ≡ Some d) (with_entry a.address.time a.duration ts) ts (λ _. entry_with t a.address.time a.duration ts sorted ∙ rw e (by_test (eqb a.address.time t))) (λ _. e) in
+    let still : entry_at t next ≡ Some d = chosen (is_same a.address.stream s) (λ (l : List (ℕ × ℕ)). entry_at t l ≡ Some d) (with_entry a.address.time a.duration ts) ts
+    (λ _. entry_with t a.address.time a.duration ts sorted ∙ rw e (by_test (eqb a.address.time t))) (λ _. e) in
     times_stay s t d next more sorted' still
   where
     by_test : (b : Bool) → cond b (or_place (Some d) (Some a.duration)) (Some d) ≡ Some d
@@ -81,7 +83,8 @@ filter_entry p t d (x ∷ ts) sorted e = by_test (p x) (eqb x.0 t) refl refl e (
     pair : eqb x.0 t ≡ true → x.1 ≡ d → x ≡ (t, d)
     pair u v = ap (λ (n : ℕ). (n, x.1)) (eqb-true x.0 t u) ∙ ap (λ (n : ℕ). (t, n)) v
 
-    by_test : (b c : Bool) → p x ≡ b → eqb x.0 t ≡ c → entry_at t (cond b (x ∷ filter p ts) (filter p ts)) ≡ Some d → (entry_at t (filter p ts) ≡ Some d → (entry_at t ts ≡ Some d) × (p (t, d) ≡ true)) → (cond c (Some x.1) (entry_at t ts) ≡ Some d) × (p (t, d) ≡ true)
+    by_test : (b c : Bool) → p x ≡ b → eqb x.0 t ≡ c → entry_at t (cond b (x ∷ filter p ts) (filter p ts)) ≡ Some d → (entry_at t (filter p ts) ≡ Some d → (entry_at t ts ≡ Some d) × (p (t, d) ≡ true))
+        → (cond c (Some x.1) (entry_at t ts) ≡ Some d) × (p (t, d) ≡ true)
     by_test true true is u e rest =
         let here : Some x.1 ≡ Some d = rw u at e in
         let value : x.1 ≡ d = cc in
@@ -121,5 +124,7 @@ listed_stay channel adds more s t d e =
     let sorted = sorted_times_from s [] adds tt in
     let was = filter_entry (is_listed channel adds s) t d (times_of s adds) sorted e in
     let there : entry_at t (times_of s (adds ++ more)) ≡ Some d = ap (λ (ts : List (ℕ × ℕ)). entry_at t ts) (times_join s [] adds more) ∙ times_stay s t d (times_of s adds) more sorted was.0 in
-    let kept : is_listed channel (adds ++ more) s (t, d) ≡ true = all_stay (is_kept adds s t) (is_kept (adds ++ more) s t) (tracks_of s channel) (λ tr k. some_stays (place_of (record { stream = s; bitrate = tr.bitrate; time = t }) adds) (place_of (record { stream = s; bitrate = tr.bitrate; time = t }) (adds ++ more)) (λ p is. places_stay adds more (record { stream = s; bitrate = tr.bitrate; time = t }) p is) k) was.1 in
+    let kept : is_listed channel (adds ++ more) s (t, d) ≡ true = all_stay (is_kept adds s t) (is_kept (adds ++ more) s t) (tracks_of s channel)
+    (λ tr k. some_stays (place_of (record { stream = s; bitrate = tr.bitrate; time = t }) adds) (place_of (record { stream = s; bitrate = tr.bitrate; time = t }) (adds ++ more))
+    (λ p is. places_stay adds more (record { stream = s; bitrate = tr.bitrate; time = t }) p is) k) was.1 in
     entry_filter (is_listed channel (adds ++ more) s) t d (times_of s (adds ++ more)) there kept

@@ -60,7 +60,8 @@ channel_stays (Keep f) log more = refl
 
 -- ---- times are apart
 
-one_more_by : (channel : Option (List Track)) (earlier : List Add) (place : ℕ) (f : Fragment) → IsValid f → verdict_by channel earlier (address_of f) f.duration ≡ judged.New → ((s : List ℕ) → AreTimes (times_of s earlier)) → (s : List ℕ) → AreTimes (times_of s (earlier ++ (record { address = address_of f; duration = f.duration; place = place }) ∷ []))
+one_more_by : (channel : Option (List Track)) (earlier : List Add) (place : ℕ) (f : Fragment) → IsValid f → verdict_by channel earlier (address_of f) f.duration ≡ judged.New → ((s : List ℕ) → AreTimes (times_of s earlier))
+    → (s : List ℕ) → AreTimes (times_of s (earlier ++ (record { address = address_of f; duration = f.duration; place = place }) ∷ []))
 one_more_by None earlier place f valid new times s = absurd cc
 one_more_by (Some channel) earlier place f valid new times s =
     apart_more channel earlier (record { address = address_of f; duration = f.duration; place = place }) new (valid.lasts, valid.ends) times s
@@ -122,7 +123,8 @@ kept_stays a place [] more k e = absurd cc
 kept_stays a place (Declare tracks ∷ log) more k e = kept_stays a (suc place) log more k e
 kept_stays a place (Keep f ∷ log) more k e = by_test (is_kept_at a f) e (λ h. kept_stays a (suc place) log more k h)
   where
-    by_test : (b : Bool) → cond b (Some (place, f)) (kept_from a (suc place) log) ≡ Some k → (kept_from a (suc place) log ≡ Some k → kept_from a (suc place) (log ++ more) ≡ Some k) → cond b (Some (place, f)) (kept_from a (suc place) (log ++ more)) ≡ Some k
+    by_test : (b : Bool) → cond b (Some (place, f)) (kept_from a (suc place) log) ≡ Some k → (kept_from a (suc place) log ≡ Some k → kept_from a (suc place) (log ++ more) ≡ Some k)
+        → cond b (Some (place, f)) (kept_from a (suc place) (log ++ more)) ≡ Some k
     by_test true e rest = e
     by_test false e rest = rest e
 
@@ -136,7 +138,8 @@ kept_place a place [] = refl
 kept_place a place (Declare tracks ∷ log) = kept_place a (suc place) log
 kept_place a place (Keep f ∷ log) = by_test (is_kept_at a f) (kept_place a (suc place) log)
   where
-    by_test : (b : Bool) → place_of a (adds_from (suc place) log) ≡ place_in (kept_from a (suc place) log) → cond b (Some place) (place_of a (adds_from (suc place) log)) ≡ place_in (cond b (Some (place, f)) (kept_from a (suc place) log))
+    by_test : (b : Bool) → place_of a (adds_from (suc place) log) ≡ place_in (kept_from a (suc place) log)
+        → cond b (Some place) (place_of a (adds_from (suc place) log)) ≡ place_in (cond b (Some (place, f)) (kept_from a (suc place) log))
     by_test true rest = refl
     by_test false rest = rest
 
@@ -150,7 +153,8 @@ kept_behind a place (Declare tracks ∷ log) more e =
     kept_behind a (suc place) log more e ∙ ap (λ (n : ℕ). kept_from a n more) (omega arith)
 kept_behind a place (Keep f ∷ log) more e = by_test (is_kept_at a f) e (λ h. kept_behind a (suc place) log more h ∙ ap (λ (n : ℕ). kept_from a n more) (omega arith))
   where
-    by_test : (b : Bool) → cond b (Some (place, f)) (kept_from a (suc place) log) ≡ None → (kept_from a (suc place) log ≡ None → kept_from a (suc place) (log ++ more) ≡ kept_from a (place + suc (length log)) more) → cond b (Some (place, f)) (kept_from a (suc place) (log ++ more)) ≡ kept_from a (place + suc (length log)) more
+    by_test : (b : Bool) → cond b (Some (place, f)) (kept_from a (suc place) log) ≡ None → (kept_from a (suc place) log ≡ None → kept_from a (suc place) (log ++ more) ≡ kept_from a (place + suc (length log)) more)
+        → cond b (Some (place, f)) (kept_from a (suc place) (log ++ more)) ≡ kept_from a (place + suc (length log)) more
     by_test true e rest = absurd cc
     by_test false e rest = rest e
 

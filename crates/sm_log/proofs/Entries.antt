@@ -20,14 +20,16 @@ all_later a b (x ∷ xs) h all = (omega (arith, all.0, h), all_later a b xs h al
 pub all_with : (P : ℕ × ℕ → Type 0) (start value : ℕ) (xs : List (ℕ × ℕ)) → P (start, value) → AllByRecursion P xs → AllByRecursion P (with_entry start value xs)
 all_with P start value [] p all = (p, tt)
 all_with P start value (x ∷ xs) p all =
-    chosen (ltb start x.0) (λ l. AllByRecursion P l) ((start, value) ∷ x ∷ xs) (cond (eqb x.0 start) (x ∷ xs) (x ∷ with_entry start value xs)) (λ is. (p, all)) (λ is. chosen (eqb x.0 start) (λ l. AllByRecursion P l) (x ∷ xs) (x ∷ with_entry start value xs) (λ e. all) (λ e. (all.0, all_with P start value xs p all.1)))
+    chosen (ltb start x.0) (λ l. AllByRecursion P l) ((start, value) ∷ x ∷ xs) (cond (eqb x.0 start) (x ∷ xs) (x ∷ with_entry start value xs)) (λ is. (p, all))
+    (λ is. chosen (eqb x.0 start) (λ l. AllByRecursion P l) (x ∷ xs) (x ∷ with_entry start value xs) (λ e. all) (λ e. (all.0, all_with P start value xs p all.1)))
 
 pub sorted_with : (start value : ℕ) (xs : List (ℕ × ℕ)) → AreSorted xs → AreSorted (with_entry start value xs)
 sorted_with start value [] sorted = (tt, tt)
 sorted_with start value (x ∷ xs) sorted =
     chosen (ltb start x.0) AreSorted ((start, value) ∷ x ∷ xs) (cond (eqb x.0 start) (x ∷ xs) (x ∷ with_entry start value xs))
     (λ is. let less : start < x.0 = ltb-true start x.0 is in ((less, all_later start x.0 xs (omega (arith, less)) sorted.0), sorted))
-    (λ is. chosen (eqb x.0 start) AreSorted (x ∷ xs) (x ∷ with_entry start value xs) (λ e. sorted) (λ e. let apart = eqb-false x.0 start e in let least = ltb-false start x.0 is in (all_with (λ (y : ℕ × ℕ). x.0 < y.0) start value xs (omega (arith, apart, least)) sorted.0, sorted_with start value xs sorted.1)))
+    (λ is. chosen (eqb x.0 start) AreSorted (x ∷ xs) (x ∷ with_entry start value xs) (λ e. sorted)
+    (λ e. let apart = eqb-false x.0 start e in let least = ltb-false start x.0 is in (all_with (λ (y : ℕ × ℕ). x.0 < y.0) start value xs (omega (arith, apart, least)) sorted.0, sorted_with start value xs sorted.1)))
 
 -- one that stands there stays
 pub stays : (start value kept : ℕ) (xs : List (ℕ × ℕ)) → AreSorted xs → entry_at start xs ≡ Some kept → with_entry start value xs ≡ xs

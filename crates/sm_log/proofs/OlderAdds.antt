@@ -34,6 +34,7 @@ older_new ts t d o times e = by_entry (entry_at t ts) e
 pub older_verdict_new : (channel : List Track) (adds : List Add) (x : Address) (d : ℕ) → AreTimes (times_of x.stream adds) → older_verdict channel adds x d ≡ judged.New → verdict channel adds x d ≡ judged.New
 older_verdict_new channel adds x d times e = by_test (is_some (track_at x.stream x.bitrate channel)) e
   where
-    by_test : (b : Bool) → cond b (judged_by (place_of x adds) (older_decision (times_of x.stream adds) x.time d)) judged.NotDeclared ≡ judged.New → cond b (judged_by (place_of x adds) (decision (times_of x.stream adds) x.time d)) judged.NotDeclared ≡ judged.New
+    by_test : (b : Bool) → cond b (judged_by (place_of x adds) (older_decision (times_of x.stream adds) x.time d)) judged.NotDeclared ≡ judged.New
+        → cond b (judged_by (place_of x adds) (decision (times_of x.stream adds) x.time d)) judged.NotDeclared ≡ judged.New
     by_test true e = older_new (times_of x.stream adds) x.time d (place_of x adds) times e
     by_test false e = e

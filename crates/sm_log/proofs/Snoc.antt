@@ -24,7 +24,8 @@ place_snoc x (b ∷ adds) a = by_test (is_at x b) (place_snoc x adds a)
 pub sorted_times_from : (s : List ℕ) (ts : List (ℕ × ℕ)) (adds : List Add) → AreSorted ts → AreSorted (times_from s ts adds)
 sorted_times_from s ts [] sorted = sorted
 sorted_times_from s ts (a ∷ adds) sorted =
-    sorted_times_from s (cond (is_same a.address.stream s) (with_entry a.address.time a.duration ts) ts) adds (chosen (is_same a.address.stream s) AreSorted (with_entry a.address.time a.duration ts) ts (λ _. sorted_with a.address.time a.duration ts sorted) (λ _. sorted))
+    sorted_times_from s (cond (is_same a.address.stream s) (with_entry a.address.time a.duration ts) ts) adds
+    (chosen (is_same a.address.stream s) AreSorted (with_entry a.address.time a.duration ts) ts (λ _. sorted_with a.address.time a.duration ts sorted) (λ _. sorted))
 
 -- ---- what is kept
 

@@ -17,7 +17,9 @@ are_same_numbers (Some a) (Some b) = a == b
 
 abbrev pub are_same_params : Params → Params → Bool
 are_same_params a b =
-    are_same_numbers a.width b.width && (are_same_numbers a.height b.height && (are_same_numbers a.tag b.tag && (are_same_numbers a.channels b.channels && (are_same_numbers a.rate b.rate && (are_same_numbers a.bits b.bits && are_same_numbers a.packet b.packet)))))
+    are_same_numbers a.width b.width && (are_same_numbers a.height b.height &&
+    (are_same_numbers a.tag b.tag && (are_same_numbers a.channels b.channels &&
+    (are_same_numbers a.rate b.rate && (are_same_numbers a.bits b.bits && are_same_numbers a.packet b.packet)))))
 
 -- whether all but name and bitrate are equal
 abbrev pub is_same_track : Track → Track → Bool

@@ -21,9 +21,12 @@ pub fn times_are_apart()
 /// What comes behind takes nothing back: each listed time stays listed with its duration, and what is kept at an address stays
 /// kept there, in its place.
 pub fn listed_times_stay()
-    ensures listed { (log more : List Entry) (stream : List ℕ) (start duration : ℕ) → entry_at start (listed_in log stream) ≡ Some duration → entry_at start (listed_in (log ++ more) stream) ≡ Some duration }
-    ensures kept { (log more : List Entry) (address : Address) (place : ℕ) (f : Fragment) → kept_at log address ≡ Some (place, f) → kept_at (log ++ more) address ≡ Some (place, f) }
-    ensures adds { (channel : List Track) (adds more : List Add) (stream : List ℕ) (start duration : ℕ) → entry_at start (listed channel adds stream) ≡ Some duration → entry_at start (listed channel (adds ++ more) stream) ≡ Some duration }
+    ensures listed { (log more : List Entry) (stream : List ℕ) (start duration : ℕ) → entry_at start (listed_in log stream) ≡ Some duration
+        → entry_at start (listed_in (log ++ more) stream) ≡ Some duration }
+    ensures kept { (log more : List Entry) (address : Address) (place : ℕ) (f : Fragment) → kept_at log address ≡ Some (place, f)
+        → kept_at (log ++ more) address ≡ Some (place, f) }
+    ensures adds { (channel : List Track) (adds more : List Add) (stream : List ℕ) (start duration : ℕ) → entry_at start (listed channel adds stream) ≡ Some duration
+        → entry_at start (listed channel (adds ++ more) stream) ≡ Some duration }
     ensures places { (adds more : List Add) (address : Address) (place : ℕ) → place_of address adds ≡ Some place → place_of address (adds ++ more) ≡ Some place }
 {}
 
@@ -41,7 +44,8 @@ pub fn sound_logs_grow()
 /// What is kept at an address is what was added there; and in a sound log each fragment is the one that is kept at its address.
 pub fn kept_is_added()
     ensures place { (log : List Entry) (address : Address) → place_of address (adds_of log) ≡ option_map (λ (k : ℕ × Fragment). k.0) (kept_at log address) }
-    ensures one { (front back : List Entry) (f : Fragment) → IsSound (front ++ Keep f ∷ back) → kept_at (front ++ Keep f ∷ back) (address_of f) ≡ Some (length front, f) }
+    ensures one { (front back : List Entry) (f : Fragment) → IsSound (front ++ Keep f ∷ back)
+        → kept_at (front ++ Keep f ∷ back) (address_of f) ≡ Some (length front, f) }
 {}
 
 /// A digest extends itself and what one that it extends extends, and a log's digest extends that of each front of it.

@@ -1,5 +1,6 @@
 -- One element more of a text's value or of a stream's times.
-use Rattle.std.proofs.Common.{◌≡◌, ℕ, zero, suc, ◌+◌, ◌*◌, ◌-◌, ◌<◌, ◌≤◌, ◌^◌, ◌++◌, None, is_some, cond, leb, ltb, ◌&&◌, append_assoc, Bool, true, false, List, [], ◌∷◌, Option, Some, Result, Ok, Err, length, take, drop, get_or, drop-cons, refl, sym, arith, ap, ◌∙◌, add-one}
+use Rattle.std.proofs.Common.{◌≡◌, ℕ, zero, suc, ◌+◌, ◌*◌, ◌-◌, ◌<◌, ◌≤◌, ◌^◌, ◌++◌, None, is_some, cond, leb, ltb, ◌&&◌, append_assoc, Bool, true}
+use Rattle.std.proofs.Common.{false, List, [], ◌∷◌, Option, Some, Result, Ok, Err, length, take, drop, get_or, drop-cons, refl, sym, arith, ap, ◌∙◌, add-one}
 use Rattle.sm_manin.specs.declared.raw.RawTime.{RawTime}
 use Rattle.sm_manin.specs.Patterns.{begins_with}
 use Rattle.std.proofs.Math.Nat.{mul-le-mul_left}
@@ -43,7 +44,8 @@ head_time o end count c cs start d r e =
     ap (λ (t : Option (ℕ × ℕ × ℕ)). fault_in (or_fault c.at t (λ x. with_times (expand x.0 x.1 x.2) (times_in o (x.0 + x.1 * x.2) (count + x.2) cs)))) e ∙ fault_with (expand start d r) _
 
 -- one `c` more
-pub time_more : (o : Bool) (end count i : ℕ) (cs : List RawTime) (c : RawTime) (start d r : ℕ) → i < length cs → c ≡ get_or cs i c → time_in o end count c (take (length cs - (i + 1)) (drop (i + 1) cs)) ≡ Some (start, d, r) → fault_in (times_in o end count (drop i cs)) ≡ fault_in (times_in o (start + d * r) (count + r) (drop (i + 1) cs))
+pub time_more : (o : Bool) (end count i : ℕ) (cs : List RawTime) (c : RawTime) (start d r : ℕ) → i < length cs → c ≡ get_or cs i c → time_in o end count c (take (length cs - (i + 1)) (drop (i + 1) cs)) ≡ Some (start, d, r)
+    → fault_in (times_in o end count (drop i cs)) ≡ fault_in (times_in o (start + d * r) (count + r) (drop (i + 1) cs))
 time_more o end count i cs c start d r within is e =
     rw (cons_at cs i c within, ← is) (head_time o end count c (drop (i + 1) cs) start d r (ap (λ (ys : List RawTime). time_in o end count c ys) (sym (rest (length cs - (i + 1)) (i + 1) cs (omega arith))) ∙ e))
 
@@ -54,7 +56,8 @@ with_both xs ys (Ok more) = ap Ok (sym (append_assoc xs ys more))
 with_both xs ys (Err at) = refl
 
 -- one `c` more, with the times that it stands for
-pub times_more : (o : Bool) (end count i : ℕ) (cs : List RawTime) (c : RawTime) (start d r : ℕ) (all : List (ℕ × ℕ)) → i < length cs → c ≡ get_or cs i c → time_in o end count c (take (length cs - (i + 1)) (drop (i + 1) cs)) ≡ Some (start, d, r)
+pub times_more : (o : Bool) (end count i : ℕ) (cs : List RawTime) (c : RawTime) (start d r : ℕ) (all : List (ℕ × ℕ)) → i < length cs → c ≡ get_or cs i c
+    → time_in o end count c (take (length cs - (i + 1)) (drop (i + 1) cs)) ≡ Some (start, d, r)
     → with_times (all ++ expand start d r) (times_in o (start + d * r) (count + r) (drop (i + 1) cs)) ≡ with_times all (times_in o end count (drop i cs))
 times_more o end count i cs c start d r all within is e =
     let behind = drop (i + 1) cs in

@@ -1,5 +1,6 @@
 -- The faults of a manifest, by the places of the elements at fault.
-use Rattle.std.specs.Prelude.{ℕ, ◌==◌, ◌&&◌, ◌||◌, not, Bool, true, false, List, [], ◌∷◌, ◌++◌, length, Option, Some, None, is_none, is_some, option_to_list, nat_le, if◌then◌else◌, unwrap_or}
+use Rattle.std.specs.Prelude.{ℕ, ◌==◌, ◌&&◌, ◌||◌, not, Bool, true, false, List, [], ◌∷◌}
+use Rattle.std.specs.Prelude.{◌++◌, length, Option, Some, None, is_none, is_some, option_to_list, nat_le, if◌then◌else◌, unwrap_or}
 use Rattle.std.specs.List.{list_any}
 use Rattle.sm_manin.specs.declared.raw.RawLevel.{RawLevel}
 use Rattle.sm_manin.specs.declared.raw.RawStream.{RawStream}
@@ -41,7 +42,8 @@ is_misfit (Some url) = not (is_pattern url)
 unfoldable pub is_stream_at_fault : List RawStream → RawStream → Bool
 is_stream_at_fault earlier s =
     nat_le 64 (length earlier)
-    || (is_none (kind_in_type s.kind_text) || (is_misfit s.url || (not (is_name (name_of s)) || (is_none (narrow_or 0 s.timescale) || list_any (λ e. is_same (name_of e) (name_of s)) earlier))))
+    || (is_none (kind_in_type s.kind_text) || (is_misfit s.url ||
+    (not (is_name (name_of s)) || (is_none (narrow_or 0 s.timescale) || list_any (λ e. is_same (name_of e) (name_of s)) earlier))))
 
 abbrev pub are_equal_bitrates : Option ℕ → Option ℕ → Bool
 are_equal_bitrates (Some a) (Some b) = a == b
@@ -50,7 +52,8 @@ are_equal_bitrates None b = false
 
 unfoldable pub is_level_at_fault : List RawLevel → RawLevel → Bool
 is_level_at_fault earlier l =
-    nat_le 64 (length earlier) || (is_none (narrow_in l.bitrate) || (is_none (narrow_or 0 l.index) || list_any (λ e. are_equal_bitrates (narrow_in e.bitrate) (narrow_in l.bitrate)) earlier))
+    nat_le 64 (length earlier) || (is_none (narrow_in l.bitrate) ||
+    (is_none (narrow_or 0 l.index) || list_any (λ e. are_equal_bitrates (narrow_in e.bitrate) (narrow_in l.bitrate)) earlier))
 
 abbrev pub level_faults : List RawLevel → List RawLevel → List ℕ
 level_faults earlier [] = []
@@ -75,4 +78,5 @@ open_faults earlier (Some s) = stream_faults true earlier s
 -- the places of all that is at fault in a text whose tags were walked over up to a tag at fault or the end
 abbrev pub faults_of : Option ℕ → Walk → List ℕ
 faults_of bad w =
-    root_faults w.root ++ (option_to_list w.other ++ (option_to_list w.protection ++ (streams_faults [] w.done ++ (open_faults w.done w.current ++ option_to_list bad))))
+    root_faults w.root ++ (option_to_list w.other ++ (option_to_list w.protection ++
+    (streams_faults [] w.done ++ (open_faults w.done w.current ++ option_to_list bad))))

@@ -24,10 +24,26 @@ abbrev pub none_met : Walk
 none_met = record { path = []; root = None; other = None; protection = None; done = []; current = None }
 
 abbrev pub root_of : List Attribute → ℕ → RawRoot
-root_of a at = record { at = at; major = attribute_of (codes "MajorVersion") a; look = attribute_of (codes "LookAheadFragmentCount") a; lookahead = attribute_of (codes "LookaheadCount") a; timescale = attribute_of (codes "TimeScale") a }
+root_of a at = record {
+  at = at;
+  major = attribute_of (codes "MajorVersion") a;
+  look = attribute_of (codes "LookAheadFragmentCount") a;
+  lookahead = attribute_of
+      (codes "LookaheadCount") a;
+  timescale = attribute_of (codes "TimeScale") a;
+}
 
 abbrev pub stream_of : List Attribute → ℕ → RawStream
-stream_of a at = record { at = at; kind_text = attribute_of (codes "Type") a; url = attribute_of (codes "Url") a; name = attribute_of (codes "Name") a; timescale = attribute_of (codes "TimeScale") a; levels = []; times = [] }
+stream_of a at = record {
+  at = at;
+  kind_text = attribute_of (codes "Type") a;
+  url = attribute_of (codes "Url") a;
+  name = attribute_of
+      (codes "Name") a;
+  timescale = attribute_of (codes "TimeScale") a;
+  levels = [];
+  times = [];
+}
 
 abbrev pub level_of : List Attribute → ℕ → RawLevel
 level_of a at = record { at = at; index = attribute_of (codes "Index") a; bitrate = attribute_of (codes "Bitrate") a }

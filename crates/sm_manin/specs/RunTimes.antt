@@ -1,5 +1,6 @@
 -- The times that the elements `c` of a stream stand for.
-use Rattle.std.specs.Prelude.{ℕ, zero, suc, ◌+◌, ◌-◌, ◌*◌, ◌==◌, ◌&&◌, ◌||◌, Bool, true, false, List, [], ◌∷◌, ◌++◌, Option, option_map, Some, None, is_some, Result, Ok, Err, nat_lt, nat_le, if◌then◌else◌, unwrap_or}
+use Rattle.std.specs.Prelude.{ℕ, zero, suc, ◌+◌, ◌-◌, ◌*◌, ◌==◌, ◌&&◌, ◌||◌, Bool, true, false, List, []}
+use Rattle.std.specs.Prelude.{◌∷◌, ◌++◌, Option, option_map, Some, None, is_some, Result, Ok, Err, nat_lt, nat_le, if◌then◌else◌, unwrap_or}
 use Rattle.sm_manin.specs.declared.raw.RawTime.{RawTime}
 use Rattle.sm_model.specs.Digits.{number_of}
 use Rattle.sm_manin.specs.Values.{wide_number_of, wide_in}

@@ -37,7 +37,8 @@ fn timescale_of(root: &Option<RawRoot>) -> u32
 // How many qualities at the front aren't above that bitrate.
 fn place_of(levels: &[Level], bitrate: u32) -> usize
     ensures within { result ≤ length levels.now }
-    ensures place { (index : ℕ) → with_level (record { index = index; bitrate = bitrate }) levels.now ≡ insert levels.now result (record { index = index; bitrate = bitrate }) }
+    ensures place { (index : ℕ) → with_level (record { index = index; bitrate = bitrate }) levels.now ≡ insert levels.now result
+        (record { index = index; bitrate = bitrate }) }
 {
     for (i, level) in levels.iter().enumerate() {
         if bitrate < level.bitrate {

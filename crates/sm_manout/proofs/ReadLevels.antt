@@ -26,7 +26,8 @@ use Rattle.sm_manin.proofs.NoFaults.{left_none, right_none}
 use Rattle.sm_manout.specs.ManifestText.{attribute, number_attribute, text_attribute, number_attributes, level_line, level_lines}
 use Rattle.sm_manout.specs.ReadAgain.{levels_again}
 use Rattle.sm_manout.proofs.ReadValues.{wide_plain}
-use Rattle.sm_manout.proofs.ReadLines.{Leads, Begins, start_line, attr, attribute_text, option_attr, option_text, text_attr, text_text, attributes_join, Spells, spells_join, spells_then, Written, and_then, one_written, option_written, text_written, all_written}
+use Rattle.sm_manout.proofs.ReadLines.{Leads, Begins, start_line, attr, attribute_text, option_attr, option_text, text_attr, text_text}
+use Rattle.sm_manout.proofs.ReadLines.{attributes_join, Spells, spells_join, spells_then, Written, and_then, one_written, option_written, text_written, all_written}
 
 -- ---- the walk inside a stream
 
@@ -58,7 +59,8 @@ walk_in at done s = record { path = in_stream; root = Some (root_of root_attribu
 
 abbrev number_attrs : Params → List Attribute
 number_attrs p =
-    option_attr (codes "MaxWidth") p.width ++ (option_attr (codes "MaxHeight") p.height ++ (option_attr (codes "AudioTag") p.tag ++ (option_attr (codes "Channels") p.channels ++ (option_attr (codes "SamplingRate") p.rate ++ (option_attr (codes "BitsPerSample") p.bits ++ option_attr (codes "PacketSize") p.packet)))))
+    option_attr (codes "MaxWidth") p.width ++ (option_attr (codes "MaxHeight") p.height ++
+    (option_attr (codes "AudioTag") p.tag ++ (option_attr (codes "Channels") p.channels ++ (option_attr (codes "SamplingRate") p.rate ++ (option_attr (codes "BitsPerSample") p.bits ++ option_attr (codes "PacketSize") p.packet)))))
 
 numbers_text : (p : Params) → Spells (number_attributes p) (number_attrs p)
 unfolding number_attributes
@@ -80,7 +82,8 @@ level_text index t x =
     let y = closing true (10 ∷ x) in
     let numbers : (number_attributes t.numbers ++ codes "/>\n") ++ x ≡ attributes_then (number_attrs t.numbers) y =
     spells_then (number_attributes t.numbers) (codes "/>\n") x y (number_attrs t.numbers) (numbers_text t.numbers) refl in
-    let private : (attribute (codes "CodecPrivateData") (encode_upper t.private) ++ (number_attributes t.numbers ++ codes "/>\n")) ++ x ≡ attributes_then (attr (codes "CodecPrivateData") (encode_upper t.private) ∷ number_attrs t.numbers) y =
+    let private : (attribute (codes "CodecPrivateData") (encode_upper t.private) ++ (number_attributes t.numbers ++ codes "/>\n")) ++ x ≡ attributes_then
+    (attr (codes "CodecPrivateData") (encode_upper t.private) ∷ number_attrs t.numbers) y =
     spells_then (attribute (codes "CodecPrivateData") (encode_upper t.private)) _ x _ (attr (codes "CodecPrivateData") (encode_upper t.private) ∷ []) (attribute_text (codes "CodecPrivateData") (encode_upper t.private)) numbers in
     let fourcc = spells_then (text_attribute (codes "FourCC") t.fourcc) _ x _ (text_attr (codes "FourCC") t.fourcc) (text_text (codes "FourCC") t.fourcc) private
     ∙ sym (attributes_join (text_attr (codes "FourCC") t.fourcc) (attr (codes "CodecPrivateData") (encode_upper t.private) ∷ number_attrs t.numbers) y) in
@@ -101,7 +104,8 @@ names_2 = names_1 ++ codes "MaxWidth" ∷ codes "MaxHeight" ∷ codes "AudioTag"
 abbrev names_3 : List (List ℕ)
 names_3 = names_2 ++ codes "Channels" ∷ codes "SamplingRate" ∷ codes "BitsPerSample" ∷ codes "PacketSize" ∷ []
 
-numbers_written : (p : Params) → IsNarrowOption p.width → IsNarrowOption p.height → IsNarrowOption p.tag → IsNarrowOption p.channels → IsNarrowOption p.rate → IsNarrowOption p.bits → IsNarrowOption p.packet → Written names_1 names_3 (number_attrs p)
+numbers_written : (p : Params) → IsNarrowOption p.width → IsNarrowOption p.height → IsNarrowOption p.tag → IsNarrowOption p.channels → IsNarrowOption p.rate → IsNarrowOption p.bits → IsNarrowOption p.packet
+    → Written names_1 names_3 (number_attrs p)
 numbers_written p w h t c r b k =
     and_then (option_written names_1 (codes "MaxWidth") p.width (refl, refl) (wide p.width w) refl)
     (and_then (option_written (names_1 ++ codes "MaxWidth" ∷ []) (codes "MaxHeight") p.height (refl, refl) (wide p.height h) refl)
@@ -125,7 +129,8 @@ unfolding level_line
 level_begins index t x = (_, refl)
 
 level_read : (Good : Walk → Type 0) (size end : ℕ) (x : List ℕ) (at : ℕ) (done : List RawStream) (s : RawStream) (index : ℕ) (t : Track) → Begins x → index < 2 ^ 32 → IsTrack t → IsNarrowTrack t
-    → ((here : ℕ) → Leads Good (left_at size end x in_stream) (walk_in at done (record s { levels = s.levels ++ level_of (level_attrs index t) here ∷ [] }))) → Leads Good (left_at size end (level_line index t ++ x) in_stream) (walk_in at done s)
+    → ((here : ℕ) → Leads Good (left_at size end x in_stream) (walk_in at done (record s { levels = s.levels ++ level_of (level_attrs index t) here ∷ [] })))
+    → Leads Good (left_at size end (level_line index t ++ x) in_stream) (walk_in at done s)
 level_read Good size end x at done s index t begins low is narrow go =
     let P : List ℕ → Type 0 = λ l. Leads Good (left_at size end l in_stream) (walk_in at done s) in
     subst P (sym (level_text index t x)) (start_line Good size end x in_stream (codes "QualityLevel") (level_attrs index t) true (walk_in at done s) begins (refl, refl) (refl, refl)
@@ -164,7 +169,8 @@ pub record IsFit (t : Track) : Type 0 where
 bitrate_again : (index : ℕ) (t : Track) (l : RawLevel) → IsLevel index t l → IsFit t → narrow_in l.bitrate ≡ Some t.bitrate
 bitrate_again index t l is fit = ap narrow_in is.bitrate_is ∙ decimal_again t.bitrate fit.narrow.bitrate
 
-no_equal : (index : ℕ) (ts : List Track) (ls : List RawLevel) (t : Track) → AreLevels index ts ls → AllByRecursion IsFit ts → AllByRecursion (λ (u : Track). u.bitrate ≢ t.bitrate) ts → list_any (λ e. are_equal_bitrates (narrow_in e.bitrate) (Some t.bitrate)) ls ≡ false
+no_equal : (index : ℕ) (ts : List Track) (ls : List RawLevel) (t : Track) → AreLevels index ts ls → AllByRecursion IsFit ts → AllByRecursion (λ (u : Track). u.bitrate ≢ t.bitrate) ts
+    → list_any (λ e. are_equal_bitrates (narrow_in e.bitrate) (Some t.bitrate)) ls ≡ false
 no_equal index [] [] t are fit apart = refl
 no_equal index (u ∷ us) (l ∷ ls) t are fit apart =
     let first = bitrate_again index u l are.0 fit.0 in
@@ -174,7 +180,8 @@ no_equal index (u ∷ us) (l ∷ ls) t are fit apart =
 no_equal index [] (l ∷ ls) t are fit apart = absurd are
 no_equal index (u ∷ us) [] t are fit apart = absurd are
 
-level_clean : (place : ℕ) (ts : List Track) (ls : List RawLevel) (t : Track) (l : RawLevel) → place < 64 → length ts ≡ place → AreLevels 0 ts ls → AllByRecursion IsFit ts → IsLevel place t l → IsFit t → AllByRecursion (λ (u : Track). u.bitrate ≢ t.bitrate) ts → is_level_at_fault ls l ≡ false
+level_clean : (place : ℕ) (ts : List Track) (ls : List RawLevel) (t : Track) (l : RawLevel) → place < 64 → length ts ≡ place → AreLevels 0 ts ls → AllByRecursion IsFit ts → IsLevel place t l → IsFit t
+    → AllByRecursion (λ (u : Track). u.bitrate ≢ t.bitrate) ts → is_level_at_fault ls l ≡ false
 unfolding is_level_at_fault
 level_clean place ts ls t l low at are fits is fit apart =
     let few : leb 64 (length ls) ≡ false = lt-leb 64 (length ls) (omega (arith, levels_len 0 ts ls are, at, low)) in
@@ -188,7 +195,8 @@ faults_push earlier [] l none clean =
     let here : is_level_at_fault earlier l ≡ false = subst (λ (ks : List RawLevel). is_level_at_fault ks l ≡ false) (append-nil earlier) clean in rw here refl
 faults_push earlier (k ∷ ks) l none clean =
     let first = left_none (at_if (is_level_at_fault earlier k) k.at) (level_faults (earlier ++ k ∷ []) ks) none in
-    let rest = faults_push (earlier ++ k ∷ []) ks l (right_none (at_if (is_level_at_fault earlier k) k.at) (level_faults (earlier ++ k ∷ []) ks) none) (subst (λ (hs : List RawLevel). is_level_at_fault hs l ≡ false) (sym (append_assoc earlier (k ∷ []) ks)) clean) in
+    let rest = faults_push (earlier ++ k ∷ []) ks l (right_none (at_if (is_level_at_fault earlier k) k.at) (level_faults (earlier ++ k ∷ []) ks) none)
+    (subst (λ (hs : List RawLevel). is_level_at_fault hs l ≡ false) (sym (append_assoc earlier (k ∷ []) ks)) clean) in
     ap (λ (xs : List ℕ). xs ++ level_faults (earlier ++ k ∷ []) (ks ++ l ∷ [])) first ∙ rest
 
 abbrev pub lines_of : ℕ → List Track → List ℕ
@@ -223,7 +231,8 @@ pub lines_begin : (index : ℕ) (ts : List Track) (x : List ℕ) → Begins x �
 lines_begin index [] x begins = begins
 lines_begin index (t ∷ ts) x begins = rw (append_assoc (level_line index t) (lines_of (index + 1) ts) x) (level_begins index t (lines_of (index + 1) ts ++ x))
 
-pub levels_read : (Good : Walk → Type 0) (size end : ℕ) (x : List ℕ) (at : ℕ) (done : List RawStream) (s : RawStream) (before rest : List Track) (ls : List RawLevel) (index : ℕ) → Begins x → index ≡ length before → index + length rest ≤ 64 → AllByRecursion IsFit before → AllByRecursion IsFit rest
+pub levels_read : (Good : Walk → Type 0) (size end : ℕ) (x : List ℕ) (at : ℕ) (done : List RawStream) (s : RawStream) (before rest : List Track) (ls : List RawLevel) (index : ℕ) → Begins x → index ≡ length before
+    → index + length rest ≤ 64 → AllByRecursion IsFit before → AllByRecursion IsFit rest
     → Apart before rest → DifferInBitrate rest → AreLevels 0 before ls → level_faults [] ls ≡ []
     → ((all : List RawLevel) → AreLevels 0 (before ++ rest) all → level_faults [] all ≡ [] → Leads Good (left_at size end x in_stream) (walk_in at done (record s { levels = all })))
     → Leads Good (left_at size end (lines_of index rest ++ x) in_stream) (walk_in at done (record s { levels = ls }))

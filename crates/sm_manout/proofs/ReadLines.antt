@@ -22,7 +22,8 @@ use Rattle.sm_manout.proofs.ReadValues.{wide_plain}
 abbrev pub Leads : (Walk → Type 0) → Left → Walk → Type 0
 Leads Good s w = (tags : List Tag) × Runs s tags × (bad_of tags ≡ None) × Good (walk w tags)
 
-pub on_start : (Good : Walk → Type 0) (s t : Left) (name : List ℕ) (attributes : List Attribute) (empty : Bool) (at : ℕ) (w : Walk) → Next s (Start name attributes empty at) t → Leads Good t (step w (Start name attributes empty at)) → Leads Good s w
+pub on_start : (Good : Walk → Type 0) (s t : Left) (name : List ℕ) (attributes : List Attribute) (empty : Bool) (at : ℕ) (w : Walk) → Next s (Start name attributes empty at) t → Leads Good t (step w (Start name attributes empty at))
+    → Leads Good s w
 on_start Good s t name attributes empty at w next (tags, runs, bad, good) =
     (Start name attributes empty at ∷ tags, follows t next refl runs, bad, good)
 
@@ -42,13 +43,16 @@ feed_read Good size end x names w begins open_names go =
     subst P (sym begins.1) (λ here. on_text Good _ _ _ w (next_feed size end begins.0 names open_names) here) go
 
 -- a line that is a start tag
-pub start_line : (Good : Walk → Type 0) (size end : ℕ) (x : List ℕ) (names : List (List ℕ)) (name : List ℕ) (attributes : List Attribute) (empty : Bool) (w : Walk) → Begins x → IsOpen names → IsOpen (cond empty names (names ++ name ∷ [])) → Markups (name ++ attributes_then attributes (closing empty (10 ∷ x))) (Ok (markup.Start name attributes empty, 10 ∷ x))
-    → ((at : ℕ) → Leads Good (left_at size end x (cond empty names (names ++ name ∷ []))) (step w (Start name attributes empty at))) → Leads Good (left_at size end (60 ∷ name ++ attributes_then attributes (closing empty (10 ∷ x))) names) w
+pub start_line : (Good : Walk → Type 0) (size end : ℕ) (x : List ℕ) (names : List (List ℕ)) (name : List ℕ) (attributes : List Attribute) (empty : Bool) (w : Walk) → Begins x → IsOpen names
+    → IsOpen (cond empty names (names ++ name ∷ [])) → Markups (name ++ attributes_then attributes (closing empty (10 ∷ x))) (Ok (markup.Start name attributes empty, 10 ∷ x))
+    → ((at : ℕ) → Leads Good (left_at size end x (cond empty names (names ++ name ∷ []))) (step w (Start name attributes empty at)))
+    → Leads Good (left_at size end (60 ∷ name ++ attributes_then attributes (closing empty (10 ∷ x))) names) w
 start_line Good size end x names name attributes empty w begins open_names after read go =
     on_start Good _ _ name attributes empty _ w (next_start size end _ (10 ∷ x) names name attributes empty open_names read) (feed_read Good size end x _ _ begins after (go _))
 
 -- a line that is an end tag
-pub finish_line : (Good : Walk → Type 0) (size end : ℕ) (x cs : List ℕ) (names : List (List ℕ)) (name : List ℕ) (w : Walk) → Begins x → IsOpen names → IsOpen (take (length names - 1) names) → closes name names ≡ true → Markups cs (Ok (markup.Finish name, 10 ∷ x))
+pub finish_line : (Good : Walk → Type 0) (size end : ℕ) (x cs : List ℕ) (names : List (List ℕ)) (name : List ℕ) (w : Walk) → Begins x → IsOpen names → IsOpen (take (length names - 1) names) → closes name names ≡ true
+    → Markups cs (Ok (markup.Finish name, 10 ∷ x))
     → ((at : ℕ) → Leads Good (left_at size end x (take (length names - 1) names)) (step w (Finish name at))) → Leads Good (left_at size end (60 ∷ cs) names) w
 finish_line Good size end x cs names name w begins open_names after last read go =
     on_finish Good _ _ name (end - length (60 ∷ cs)) w (next_finish size end cs (10 ∷ x) names name open_names last read) (feed_read Good size end x _ _ begins after (go (end - length (60 ∷ cs))))
@@ -121,7 +125,8 @@ last_name n m [] e = (refl, by_or (is_same n m) e)
     by_or false e = refl
 last_name n m (x ∷ names) e = by_or (is_same n x) e (λ k. last_name n m names k)
   where
-    by_or : (b : Bool) → (b || list_any (is_same n) (names ++ m ∷ [])) ≡ false → (list_any (is_same n) (names ++ m ∷ []) ≡ false → (list_any (is_same n) names ≡ false) × (is_same n m ≡ false)) → ((b || list_any (is_same n) names) ≡ false) × (is_same n m ≡ false)
+    by_or : (b : Bool) → (b || list_any (is_same n) (names ++ m ∷ [])) ≡ false → (list_any (is_same n) (names ++ m ∷ []) ≡ false → (list_any (is_same n) names ≡ false) × (is_same n m ≡ false))
+        → ((b || list_any (is_same n) names) ≡ false) × (is_same n m ≡ false)
     by_or true e rest = absurd cc
     by_or false e rest = rest e
 

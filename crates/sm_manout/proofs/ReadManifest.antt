@@ -50,7 +50,8 @@ clean_push earlier [] s none clean =
     ap (λ (xs : List ℕ). xs ++ []) here
 clean_push earlier (r ∷ ss) s none clean =
     let first = left_none (stream_faults false earlier r) (streams_faults (earlier ++ r ∷ []) ss) none in
-    let rest = clean_push (earlier ++ r ∷ []) ss s (right_none (stream_faults false earlier r) (streams_faults (earlier ++ r ∷ []) ss) none) (subst (λ (rs : List RawStream). stream_faults false rs s ≡ []) (sym (append_assoc earlier (r ∷ []) ss)) clean) in
+    let rest = clean_push (earlier ++ r ∷ []) ss s (right_none (stream_faults false earlier r) (streams_faults (earlier ++ r ∷ []) ss) none)
+    (subst (λ (rs : List RawStream). stream_faults false rs s ≡ []) (sym (append_assoc earlier (r ∷ []) ss)) clean) in
     ap (λ (xs : List ℕ). xs ++ streams_faults (earlier ++ r ∷ []) (ss ++ s ∷ [])) first ∙ rest
 
 -- the streams that were read are named as tracks before
@@ -105,7 +106,8 @@ foot_end = refl
 
 foot_read : (Good : Walk → Type 0) (size end at : ℕ) (done : List RawStream) → Good (walk_end at done) → Leads Good (left_at size end manifest_foot in_root) (walk_out at done)
 foot_read Good size end at done good =
-    on_finish Good _ _ (codes "SmoothStreamingMedia") (end - length manifest_foot) (walk_out at done) (next_finish size end (codes "/SmoothStreamingMedia>\n") (10 ∷ []) in_root (codes "SmoothStreamingMedia") (refl, refl) refl (sym foot_end)) (text_end Good size end (walk_end at done) good)
+    on_finish Good _ _ (codes "SmoothStreamingMedia") (end - length manifest_foot) (walk_out at done)
+    (next_finish size end (codes "/SmoothStreamingMedia>\n") (10 ∷ []) in_root (codes "SmoothStreamingMedia") (refl, refl) refl (sym foot_end)) (text_end Good size end (walk_end at done) good)
 
 -- ---- the streams
 
@@ -148,12 +150,15 @@ streams_begin : (channel : List Track) (times : List ℕ → List (ℕ × ℕ)) 
 streams_begin channel times earlier [] = (_, refl)
 streams_begin channel times earlier (t ∷ ts) = by_test (list_any (λ (u : Track). is_same u.name t.name) earlier) (streams_begin channel times (earlier ++ t ∷ []) ts)
   where
-    by_test : (b : Bool) → Begins (streams_lines channel times (earlier ++ t ∷ []) ts ++ manifest_foot) → Begins ((cond b [] (stream_lines channel (times t.name) t) ++ streams_lines channel times (earlier ++ t ∷ []) ts) ++ manifest_foot)
+    by_test : (b : Bool) → Begins (streams_lines channel times (earlier ++ t ∷ []) ts ++ manifest_foot)
+        → Begins ((cond b [] (stream_lines channel (times t.name) t) ++ streams_lines channel times (earlier ++ t ∷ []) ts) ++ manifest_foot)
     by_test true rest = rest
     by_test false rest =
-        rw (append_assoc (stream_lines channel (times t.name) t) (streams_lines channel times (earlier ++ t ∷ []) ts) manifest_foot) (stream_begins channel (times t.name) t (streams_lines channel times (earlier ++ t ∷ []) ts ++ manifest_foot))
+        rw (append_assoc (stream_lines channel (times t.name) t) (streams_lines channel times (earlier ++ t ∷ []) ts) manifest_foot)
+        (stream_begins channel (times t.name) t (streams_lines channel times (earlier ++ t ∷ []) ts ++ manifest_foot))
 
-stands_still : (channel : List Track) (times : List ℕ → List (ℕ × ℕ)) (earlier ts : List Track) (t : Track) (done : List RawStream) → Stands channel times earlier (t ∷ ts) done → list_any (λ (u : Track). is_same u.name t.name) earlier ≡ true → Stands channel times (earlier ++ t ∷ []) ts done
+stands_still : (channel : List Track) (times : List ℕ → List (ℕ × ℕ)) (earlier ts : List Track) (t : Track) (done : List RawStream) → Stands channel times earlier (t ∷ ts) done
+    → list_any (λ (u : Track). is_same u.name t.name) earlier ≡ true → Stands channel times (earlier ++ t ∷ []) ts done
 stands_still channel times earlier ts t done stands there = record {
   names = names_later done earlier t stands.names;
   few = omega (arith, stands.few, length-append earlier (t ∷ []));
@@ -161,7 +166,8 @@ stands_still channel times earlier ts t done stands there = record {
   says = rw there at stands.says;
 }
 
-stands_more : (channel : List Track) (times : List ℕ → List (ℕ × ℕ)) (earlier ts : List Track) (t : Track) (done : List RawStream) (s : RawStream) → Stands channel times earlier (t ∷ ts) done → IsStream channel (times t.name) t → IsRead channel (times t.name) t s → length earlier < 64 → list_any (λ (u : Track). is_same u.name t.name) earlier ≡ false → Stands channel times (earlier ++ t ∷ []) ts (done ++ s ∷ [])
+stands_more : (channel : List Track) (times : List ℕ → List (ℕ × ℕ)) (earlier ts : List Track) (t : Track) (done : List RawStream) (s : RawStream) → Stands channel times earlier (t ∷ ts) done → IsStream channel (times t.name) t
+    → IsRead channel (times t.name) t s → length earlier < 64 → list_any (λ (u : Track). is_same u.name t.name) earlier ≡ false → Stands channel times (earlier ++ t ∷ []) ts (done ++ s ∷ [])
 stands_more channel times earlier ts t done s stands is read low new =
     let clean = stream_clean done channel (times t.name) t s is read (omega (arith, stands.few, low)) (stands.names t.name new) in
     let says = stream_says channel (times t.name) t s is read in
@@ -176,7 +182,8 @@ stands_more channel times earlier ts t done s stands is read low new =
           ∙ (rw new at stands.says);
     }
 
-streams_read : (Good : Walk → Type 0) (size end at : ℕ) (channel : List Track) (times : List ℕ → List (ℕ × ℕ)) (earlier rest : List Track) (done : List RawStream) → IsReadable channel times → earlier ++ rest ≡ channel → AllByRecursion IsFit rest → Stands channel times earlier rest done
+streams_read : (Good : Walk → Type 0) (size end at : ℕ) (channel : List Track) (times : List ℕ → List (ℕ × ℕ)) (earlier rest : List Track) (done : List RawStream) → IsReadable channel times → earlier ++ rest ≡ channel
+    → AllByRecursion IsFit rest → Stands channel times earlier rest done
     → ((all : List RawStream) → Stands channel times channel [] all → Good (walk_end at all)) → Leads Good (left_at size end (streams_lines channel times earlier rest ++ manifest_foot) in_root) (walk_out at done)
 streams_read Good size end at channel times earlier [] done is whole fit stands go =
     let all : earlier ≡ channel = sym (append-nil earlier) ∙ whole in
@@ -196,7 +203,8 @@ streams_read Good size end at channel times earlier (t ∷ ts) done is whole fit
         let P : List ℕ → Type 0 = λ l. Leads Good (left_at size end l in_root) (walk_out at done) in
         let stream = is_stream channel times earlier ts t is whole fit.0 in
         subst P (sym (append_assoc (stream_lines channel (times t.name) t) (streams_lines channel times (earlier ++ t ∷ []) ts) manifest_foot))
-        (stream_read Good size end (streams_lines channel times (earlier ++ t ∷ []) ts ++ manifest_foot) at done channel (times t.name) t (streams_begin channel times (earlier ++ t ∷ []) ts) stream (λ s read. rest (done ++ s ∷ []) (stands_more channel times earlier ts t done s stands stream read low new)))
+        (stream_read Good size end (streams_lines channel times (earlier ++ t ∷ []) ts ++ manifest_foot) at done channel (times t.name) t (streams_begin channel times (earlier ++ t ∷ []) ts) stream
+        (λ s read. rest (done ++ s ∷ []) (stands_more channel times earlier ts t done s stands stream read low new)))
 
 -- ---- the head
 
@@ -283,7 +291,8 @@ leads_all channel times is =
     let Good = IsGood (listing_again channel times) in
     let x = streams_lines channel times [] channel ++ manifest_foot in
     let text = manifest_head ++ x in
-    let clean : without_zeros text ≡ text = no_zeros text (manifest_head ++ (streams_lines channel times [] channel ++ codes "</SmoothStreamingMedia>")) (ends_feed manifest_head (streams_lines channel times [] channel) (codes "</SmoothStreamingMedia>")) in
+    let clean : without_zeros text ≡ text = no_zeros text (manifest_head ++ (streams_lines channel times [] channel ++ codes "</SmoothStreamingMedia>"))
+    (ends_feed manifest_head (streams_lines channel times [] channel) (codes "</SmoothStreamingMedia>")) in
     let P : Left → Type 0 = λ s. Leads Good s none_met in
     subst P (sym (begins_first text _ clean refl))
     (head_read Good (length text) (length text) x (streams_begin channel times [] channel) (λ at.
@@ -298,7 +307,8 @@ judged_good listing w bad is g =
     let none : least_from None (faults_of bad w) ≡ None = ap (λ (b : Option ℕ). least_from None (faults_of b w)) is ∙ g.none in
     sym (ap (λ (o : Option ℕ). judged o w) none ∙ ap Ok g.says)
 
-pub written_is_read : (channel : List Track) (times : List ℕ → List (ℕ × ℕ)) → IsChannel channel → All IsNarrowTrack channel → ((name : List ℕ) → AreTimes (times name)) → ((name : List ℕ) → length (times name) ≤ 262144) → IsManifest (manifest channel times) (Ok (listing_again channel times))
+pub written_is_read : (channel : List Track) (times : List ℕ → List (ℕ × ℕ)) → IsChannel channel → All IsNarrowTrack channel → ((name : List ℕ) → AreTimes (times name)) → ((name : List ℕ) → length (times name) ≤ 262144)
+    → IsManifest (manifest channel times) (Ok (listing_again channel times))
 written_is_read channel times is narrow apart short =
     let readable : IsReadable channel times = record {
       channel_is = is;

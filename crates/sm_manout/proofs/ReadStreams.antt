@@ -188,7 +188,8 @@ stream_end : (x : List ℕ) → finish_at (codes "StreamIndex>" ++ (10 ∷ x)) �
 unfolding finish_at name_at
 stream_end x = refl
 
-end_read : (Good : Walk → Type 0) (size end : ℕ) (x : List ℕ) (at : ℕ) (done : List RawStream) (s : RawStream) → Begins x → Leads Good (left_at size end x in_root) (walk_out at (done ++ s ∷ [])) → Leads Good (left_at size end (codes "</StreamIndex>\n" ++ x) in_stream) (walk_in at done s)
+end_read : (Good : Walk → Type 0) (size end : ℕ) (x : List ℕ) (at : ℕ) (done : List RawStream) (s : RawStream) → Begins x → Leads Good (left_at size end x in_root) (walk_out at (done ++ s ∷ []))
+    → Leads Good (left_at size end (codes "</StreamIndex>\n" ++ x) in_stream) (walk_in at done s)
 end_read Good size end x at done s begins go =
     finish_line Good size end x (codes "/StreamIndex>" ++ (10 ∷ x)) in_stream (codes "StreamIndex") (walk_in at done s) begins (refl, refl) (refl, refl) refl (sym (stream_end x)) (λ here. go)
 
@@ -214,7 +215,8 @@ pub record IsRead (channel : List Track) (times : List (ℕ × ℕ)) (t : Track)
   pub clean : level_faults [] ls ≡ []
   pub runs : AreRunTimes (runs times) cs
 
-stream_text : (channel : List Track) (times : List (ℕ × ℕ)) (t : Track) (x : List ℕ) → stream_lines channel times t ++ x ≡ stream_opening t (length times) (length (tracks_of t.name channel)) ++ (lines_of 0 (tracks_of t.name channel) ++ (run_lines (runs times) ++ (codes "</StreamIndex>\n" ++ x)))
+stream_text : (channel : List Track) (times : List (ℕ × ℕ)) (t : Track) (x : List ℕ)
+    → stream_lines channel times t ++ x ≡ stream_opening t (length times) (length (tracks_of t.name channel)) ++ (lines_of 0 (tracks_of t.name channel) ++ (run_lines (runs times) ++ (codes "</StreamIndex>\n" ++ x)))
 unfolding stream_lines
 stream_text channel times t x =
     let o = stream_opening t (length times) (length (tracks_of t.name channel)) in
@@ -256,7 +258,8 @@ some_levels : (ls : List RawLevel) → 0 < length ls → eqb (length ls) 0 ≡ f
 some_levels [] h = absurd (omega arith)
 some_levels (l ∷ ls) h = ne_eqb (suc (length ls)) 0 (λ e. omega (arith, e))
 
-own_clean : (done : List RawStream) (t : Track) (at : ℕ) (ls : List RawLevel) (cs : List RawTime) → IsFit t → length done < 64 → list_any (λ (e : RawStream). is_same (name_of e) t.name) done ≡ false → is_stream_at_fault done (raw_stream t at ls cs) ≡ false
+own_clean : (done : List RawStream) (t : Track) (at : ℕ) (ls : List RawLevel) (cs : List RawTime) → IsFit t → length done < 64 → list_any (λ (e : RawStream). is_same (name_of e) t.name) done ≡ false
+    → is_stream_at_fault done (raw_stream t at ls cs) ≡ false
 unfolding is_stream_at_fault
 own_clean done t at ls cs fit few new =
     let room : leb 64 (length done) ≡ false = lt-leb 64 (length done) few in
@@ -266,19 +269,22 @@ own_clean done t at ls cs fit few new =
     let scale : number_of (decimal t.timescale) ≡ Some t.timescale = decimal_again t.timescale fit.narrow.timescale in
     rw (room, kind, pattern, name, scale, new) refl
 
-raw_clean : (done : List RawStream) (channel : List Track) (times : List (ℕ × ℕ)) (t : Track) (at : ℕ) (ls : List RawLevel) (cs : List RawTime) → IsFit t → length done < 64 → list_any (λ (e : RawStream). is_same (name_of e) t.name) done ≡ false → 0 < length ls → level_faults [] ls ≡ [] → times_in false 0 0 cs ≡ Ok times
+raw_clean : (done : List RawStream) (channel : List Track) (times : List (ℕ × ℕ)) (t : Track) (at : ℕ) (ls : List RawLevel) (cs : List RawTime) → IsFit t → length done < 64
+    → list_any (λ (e : RawStream). is_same (name_of e) t.name) done ≡ false → 0 < length ls → level_faults [] ls ≡ [] → times_in false 0 0 cs ≡ Ok times
     → stream_faults false done (raw_stream t at ls cs) ≡ []
 raw_clean done channel times t at ls cs fit few new some levels runs =
     let own = own_clean done t at ls cs fit few new in
     let has = some_levels ls some in
     rw (own, has, levels, runs) refl
 
-pub stream_clean : (done : List RawStream) (channel : List Track) (times : List (ℕ × ℕ)) (t : Track) (s : RawStream) → IsStream channel times t → IsRead channel times t s → length done < 64 → list_any (λ (e : RawStream). is_same (name_of e) t.name) done ≡ false → stream_faults false done s ≡ []
+pub stream_clean : (done : List RawStream) (channel : List Track) (times : List (ℕ × ℕ)) (t : Track) (s : RawStream) → IsStream channel times t → IsRead channel times t s → length done < 64
+    → list_any (λ (e : RawStream). is_same (name_of e) t.name) done ≡ false → stream_faults false done s ≡ []
 stream_clean done channel times t s is read few new =
     let count = levels_len 0 (tracks_of t.name channel) read.ls read.levels in
     subst (λ (r : RawStream). stream_faults false done r ≡ []) (sym read.is) (raw_clean done channel times t read.at read.ls read.cs is.fit few new (omega (arith, count, is.some)) read.clean (times_say channel times t s is read))
 
-raw_listing : (channel : List Track) (times : List (ℕ × ℕ)) (t : Track) (at : ℕ) (ls : List RawLevel) (cs : List RawTime) → IsFit t → levels_of ls ≡ (stream_again channel times t).levels → times_in false 0 0 cs ≡ Ok times → listing_of 10000000 (raw_stream t at ls cs) ≡ stream_again channel times t
+raw_listing : (channel : List Track) (times : List (ℕ × ℕ)) (t : Track) (at : ℕ) (ls : List RawLevel) (cs : List RawTime) → IsFit t → levels_of ls ≡ (stream_again channel times t).levels → times_in false 0 0 cs ≡ Ok times
+    → listing_of 10000000 (raw_stream t at ls cs) ≡ stream_again channel times t
 raw_listing channel times t at ls cs fit levels runs =
     let kind = kind_again t.kind in
     let scale : number_of (decimal t.timescale) ≡ Some t.timescale = decimal_again t.timescale fit.narrow.timescale in

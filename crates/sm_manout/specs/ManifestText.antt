@@ -65,18 +65,23 @@ escaped bytes = flat_map (λ b. if is_plain b then b ∷ [] else percent_encode_
 
 unfoldable pub run_line : TimeRun → List ℕ
 run_line r =
-    codes "<c" ++ (number_attribute (codes "t") r.start ++ (number_attribute (codes "d") r.duration ++ ((if r.count == 1 then [] else number_attribute (codes "r") r.count) ++ codes "/>\n")))
+    codes "<c" ++ (number_attribute (codes "t") r.start ++ (number_attribute (codes "d") r.duration ++
+    ((if r.count == 1 then [] else number_attribute (codes "r") r.count) ++ codes "/>\n")))
 
 abbrev pub run_lines : List TimeRun → List ℕ
 run_lines rs = flat_map run_line rs
 
 unfoldable pub number_attributes : Params → List ℕ
 number_attributes n =
-    option_attribute (codes "MaxWidth") n.width ++ (option_attribute (codes "MaxHeight") n.height ++ (option_attribute (codes "AudioTag") n.tag ++ (option_attribute (codes "Channels") n.channels ++ (option_attribute (codes "SamplingRate") n.rate ++ (option_attribute (codes "BitsPerSample") n.bits ++ option_attribute (codes "PacketSize") n.packet)))))
+    option_attribute (codes "MaxWidth") n.width ++ (option_attribute (codes "MaxHeight") n.height ++
+    (option_attribute (codes "AudioTag") n.tag ++ (option_attribute (codes "Channels") n.channels ++
+    (option_attribute (codes "SamplingRate") n.rate ++ (option_attribute (codes "BitsPerSample") n.bits ++ option_attribute (codes "PacketSize") n.packet)))))
 
 unfoldable pub level_line : ℕ → Track → List ℕ
 level_line index t =
-    codes "<QualityLevel" ++ (number_attribute (codes "Index") index ++ (number_attribute (codes "Bitrate") t.bitrate ++ (text_attribute (codes "FourCC") t.fourcc ++ (attribute (codes "CodecPrivateData") (encode_upper t.private) ++ (number_attributes t.numbers ++ codes "/>\n")))))
+    codes "<QualityLevel" ++ (number_attribute (codes "Index") index ++
+    (number_attribute (codes "Bitrate") t.bitrate ++ (text_attribute (codes "FourCC") t.fourcc ++
+    (attribute (codes "CodecPrivateData") (encode_upper t.private) ++ (number_attributes t.numbers ++ codes "/>\n")))))
 
 -- the tracks of that stream, from that Index on
 abbrev pub level_lines : ℕ → List ℕ → List Track → List ℕ
@@ -89,7 +94,9 @@ url name = codes "QualityLevels({bitrate})/Fragments(" ++ (escaped name ++ codes
 
 unfoldable pub stream_opening : Track → ℕ → ℕ → List ℕ
 stream_opening t chunks levels =
-    codes "<StreamIndex" ++ (attribute (codes "Type") (kind_name t.kind) ++ (attribute (codes "Name") t.name ++ (number_attribute (codes "TimeScale") t.timescale ++ (number_attribute (codes "Chunks") chunks ++ (number_attribute (codes "QualityLevels") levels ++ (attribute (codes "Url") (url t.name) ++ codes ">\n"))))))
+    codes "<StreamIndex" ++ (attribute (codes "Type") (kind_name t.kind) ++
+    (attribute (codes "Name") t.name ++ (number_attribute (codes "TimeScale") t.timescale ++
+    (number_attribute (codes "Chunks") chunks ++ (number_attribute (codes "QualityLevels") levels ++ (attribute (codes "Url") (url t.name) ++ codes ">\n"))))))
 
 -- the stream whose first track this is
 unfoldable pub stream_lines : List Track → List (ℕ × ℕ) → Track → List ℕ
@@ -104,7 +111,9 @@ streams_lines channel times earlier (t ∷ ts) =
 
 abbrev pub manifest_head : List ℕ
 manifest_head =
-    codes "<?xml version=\"1.0\" encoding=\"utf-8\"?>\n<SmoothStreamingMedia MajorVersion=\"2\" MinorVersion=\"2\" TimeScale=\"10000000\" Duration=\"0\" IsLive=\"TRUE\" LookAheadFragmentCount=\"2\" DVRWindowLength=\"0\">\n"
+    codes "<?xml version=\"1.0\" encoding=\"utf-8\"?>\n"
+    ++ (codes "<SmoothStreamingMedia MajorVersion=\"2\" MinorVersion=\"2\" TimeScale=\"10000000\""
+    ++ codes " Duration=\"0\" IsLive=\"TRUE\" LookAheadFragmentCount=\"2\" DVRWindowLength=\"0\">\n")
 
 abbrev pub manifest_foot : List ℕ
 manifest_foot = codes "</SmoothStreamingMedia>\n"

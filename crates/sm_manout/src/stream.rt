@@ -3,7 +3,7 @@ ghost use Rattle.std.specs.Prelude.{◌≡◌, ◌+◌, ◌++◌, ◌<◌, ◌�
 ghost use Rattle.std.specs.List.{list_any};
 ghost use Rattle.sm_model.specs.LiveTracks.{is_same, kind_name};
 ghost use Rattle.sm_log.specs.Adds.{tracks_of, listed};
-ghost use Rattle.sm_manout.specs.ManifestText.{number_attributes, level_line, level_lines, url, stream_opening, stream_lines, streams_lines, manifest};
+ghost use Rattle.sm_manout.specs.ManifestText.{number_attributes, level_line, level_lines, url, stream_opening, stream_lines, streams_lines, manifest_head, manifest};
 
 use crate::put::{put, put_attribute, put_escaped, put_number, put_option, put_text};
 use crate::times::put_times;
@@ -138,7 +138,8 @@ fn put_first(
     earlier: &[Track],
     t: &Track,
 ) -> Result<(), NoMemory>
-    ensures { OnOk result (out.new.items ≡ out.old.items ++ (if list_any (λ u. is_same u.name t.now.name) earlier.now then [] else stream_lines catalog.now.channel (listed catalog.now.channel catalog.now.adds t.now.name) t.now)) }
+    ensures { OnOk result (out.new.items ≡ out.old.items ++ (if list_any (λ u. is_same u.name t.now.name) earlier.now then [] else stream_lines catalog.now.channel
+        (listed catalog.now.channel catalog.now.adds t.now.name) t.now)) }
 {
     if is_named(earlier, t.name.as_bytes()) {
         return Ok(());
@@ -157,6 +158,21 @@ fn put_streams(alloc: Global, out: &mut Vec<u8>, catalog: &Catalog) -> Result<()
     Ok(())
 }
 
+// The first two lines.
+fn put_head(out: &mut Vec<u8>) -> Result<(), NoMemory>
+    ensures { OnOk result (out.new.items ≡ out.old.items ++ manifest_head) }
+{
+    put(out, b"<?xml version=\"1.0\" encoding=\"utf-8\"?>\n")?;
+    put(
+        out,
+        b"<SmoothStreamingMedia MajorVersion=\"2\" MinorVersion=\"2\" TimeScale=\"10000000\"",
+    )?;
+    put(
+        out,
+        b" Duration=\"0\" IsLive=\"TRUE\" LookAheadFragmentCount=\"2\" DVRWindowLength=\"0\">\n",
+    )
+}
+
 /// The manifest of a catalog ([MS-SSTR] 2.2.2): its streams in the order in which each name first stands in the channel, each
 /// with its qualities and with one line for each run of its listed times.
 #[tactic(auto, unfolding(crate::specs::ManifestText::manifest))]
@@ -164,10 +180,7 @@ pub fn put_manifest(alloc: Global, catalog: &Catalog) -> Result<Bytes, NoMemory>
     ensures { IfOk result (λ text. text ≡ manifest catalog.now.channel (listed catalog.now.channel catalog.now.adds)) }
 {
     let mut out = Vec::new(alloc);
-    put(
-        &mut out,
-        b"<?xml version=\"1.0\" encoding=\"utf-8\"?>\n<SmoothStreamingMedia MajorVersion=\"2\" MinorVersion=\"2\" TimeScale=\"10000000\" Duration=\"0\" IsLive=\"TRUE\" LookAheadFragmentCount=\"2\" DVRWindowLength=\"0\">\n",
-    )?;
+    put_head(&mut out)?;
     put_streams(alloc, &mut out, catalog)?;
     put(&mut out, b"</SmoothStreamingMedia>\n")?;
     Ok(Bytes::from_vec(out))

@@ -99,5 +99,6 @@ count_with u t v (x ∷ xs) (c ∷ cs) sorted e = by_test (ltb t x.0) (eqb x.0 t
     by_test false false false true q r i j rest = rw j refl
     by_test false false false false q r i j rest = rw j (rest ∙ rw i refl)
 
-pub count_after : (u t v : ℕ) (xs ys : List (ℕ × ℕ)) (cs ds : List ℕ) → AreSorted xs → length cs ≡ length xs → ys ≡ with_entry t v xs → ds ≡ counted t xs cs → count_at u ys ds ≡ cond (eqb t u) (more (count_at t xs cs)) (count_at u xs cs)
+pub count_after : (u t v : ℕ) (xs ys : List (ℕ × ℕ)) (cs ds : List ℕ) → AreSorted xs → length cs ≡ length xs → ys ≡ with_entry t v xs → ds ≡ counted t xs cs
+    → count_at u ys ds ≡ cond (eqb t u) (more (count_at t xs cs)) (count_at u xs cs)
 count_after u t v xs ys cs ds sorted e times counts = rw (times, counts) (count_with u t v xs cs sorted e)

@@ -71,7 +71,8 @@ pub put_in : (start value : ℕ) (xs : List (ℕ × ℕ)) → entry_at start xs 
 put_in start value [] e = refl
 put_in start value (x ∷ xs) e = by_test (ltb x.0 start) (ltb start x.0) (eqb x.0 start) refl refl refl e (λ k. put_in start value xs k)
   where
-    by_test : (a b c : Bool) → ltb x.0 start ≡ a → ltb start x.0 ≡ b → eqb x.0 start ≡ c → cond c (Some x.1) (entry_at start xs) ≡ None → (entry_at start xs ≡ None → with_entry start value xs ≡ insert xs (place_in start xs) (start, value))
+    by_test : (a b c : Bool) → ltb x.0 start ≡ a → ltb start x.0 ≡ b → eqb x.0 start ≡ c → cond c (Some x.1) (entry_at start xs) ≡ None
+        → (entry_at start xs ≡ None → with_entry start value xs ≡ insert xs (place_in start xs) (start, value))
         → cond b ((start, value) ∷ x ∷ xs) (cond c (x ∷ xs) (x ∷ with_entry start value xs)) ≡ insert (x ∷ xs) (cond a (place_in start xs + 1) 0) (start, value)
     by_test a b true r t u e rest = absurd cc
     by_test true true false r t u e rest = absurd (omega (arith, ltb-true x.0 start r, ltb-true start x.0 t))

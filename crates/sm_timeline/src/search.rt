@@ -14,7 +14,8 @@ fn place_of(entries: &[(u64, u64)], start: u64) -> usize
 /// The place of the entry that starts there, or the place where such an entry belongs.
 pub fn find(entries: &[(u64, u64)], start: u64) -> Result<usize, usize>
     requires { AreSorted entries.now }
-    ensures found { IfOk result (λ i. (i ≡ place_in start entries.now) × (i < length entries.now) × ((d : ℕ × ℕ) → entry_at start entries.now ≡ Some (slice_index_or entries.now i d).1)) }
+    ensures found { IfOk result (λ i. (i ≡ place_in start entries.now) × (i < length entries.now) ×
+        ((d : ℕ × ℕ) → entry_at start entries.now ≡ Some (slice_index_or entries.now i d).1)) }
     ensures absent { IfErr result (λ i. (i ≡ place_in start entries.now) × (i ≤ length entries.now) × (entry_at start entries.now ≡ None)) }
 {
     let place = place_of(entries, start);

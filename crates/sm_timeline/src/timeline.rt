@@ -1,5 +1,6 @@
 //! Timelines.
-ghost use Rattle.std.specs.Prelude.{◌≡◌, ◌≢◌, ◌≤◌, ◌<◌, ◌+◌, ◌-◌, ◌^◌, ℕ, [], ◌∷◌, ◌++◌, IfOk, OnOk, IfSome, IfNone, None, Some, is_some, cond, slice_index_or, length, ◌⊎◌, ◌==◌, if◌then◌else◌};
+ghost use Rattle.std.specs.Prelude.{◌≡◌, ◌≢◌, ◌≤◌, ◌<◌, ◌+◌, ◌-◌, ◌^◌, ℕ, [], ◌∷◌, ◌++◌, IfOk};
+ghost use Rattle.std.specs.Prelude.{OnOk, IfSome, IfNone, None, Some, is_some, cond, slice_index_or, length, ◌⊎◌, ◌==◌, if◌then◌else◌};
 ghost use Rattle.sm_log.specs.Times.{entry_at, with_entry, decision, AreTimes, IsSpan, overlapped_end};
 ghost use Rattle.sm_log.specs.declared.verdict.Decision.TheVariants as decision;
 ghost use Rattle.sm_timeline.specs.Places.{place_in};
@@ -88,7 +89,12 @@ impl Model for Timeline {
 
     ghost Value = { Line };
 
-    ghost view = { λ t. record { times = t.times.items; counts = t.counts.items; spare = min (vec_capacity t.times - vec_len t.times) (vec_capacity t.counts - vec_len t.counts) } };
+    ghost view = { λ t. record {
+      times = t.times.items;
+      counts = t.counts.items;
+      spare = min (vec_capacity t.times - vec_len t.times)
+          (vec_capacity t.counts - vec_len t.counts);
+    } };
 
     ghost invariant = { λ t. IsLine t.times.items t.counts.items };
 }
@@ -152,7 +158,8 @@ impl Timeline {
         requires span { IsSpan (time, duration) }
         ensures times { self.new.times ≡ with_entry time duration self.old.times }
         ensures counts { self.new.counts ≡ counted time self.old.times self.old.counts }
-        ensures count { (start : ℕ) → count_at start self.new.times self.new.counts ≡ (if time == start then more (count_at time self.old.times self.old.counts) else count_at start self.old.times self.old.counts) }
+        ensures count { (start : ℕ) → count_at start self.new.times self.new.counts ≡
+            (if time == start then more (count_at time self.old.times self.old.counts) else count_at start self.old.times self.old.counts) }
         ensures spare { self.new.spare ≡ cond (is_some (entry_at time self.old.times)) self.old.spare (self.old.spare - 1) }
     {
         match find(&self.times, time) {

@@ -29,9 +29,13 @@ loop-track-preserved c =
       | in-None+in_ok-new_stream-in-None+in_ok-push-in-None w ↦
           let e : position (λ (l : Lane). is_same l.name t.name) ls ≡ None = sym (rw (c.deref.ensures.value, c.as_bytes.ensures.same) at w.in-None.ensures) in
           let l = w.in_ok-new_stream-in-None.field-0 in
-          let more : map (λ (m : Lane). m.name) (ls ++ l ∷ []) ≡ map (λ (m : Lane). m.name) ls ++ t.name ∷ [] = map_push (λ (m : Lane). m.name) ls l ∙ ap (λ (n : List ℕ). map (λ (m : Lane). m.name) ls ++ n ∷ []) w.in_ok-new_stream-in-None.ensures.name in
+          let more : map (λ (m : Lane). m.name) (ls ++ l ∷ []) ≡ map (λ (m : Lane). m.name) ls ++ t.name ∷ [] = map_push (λ (m : Lane). m.name) ls l
+          ∙ ap (λ (n : List ℕ). map (λ (m : Lane). m.name) ls ++ n ∷ []) w.in_ok-new_stream-in-None.ensures.name in
           record {
-            names = ap (λ (v : Vec Stream Global). names_from (map (λ (m : Lane). m.name) v.items) (drop (i + 1) ch)) w.streams-is ∙ ap (λ (ms : List Lane). names_from (map (λ (m : Lane). m.name) ms) (drop (i + 1) ch)) w.in_ok-push-in-None.ensures.items ∙ ap (λ (ns : List (List ℕ)). names_from ns (drop (i + 1) ch)) more ∙ sym (name_new ls t (drop (i + 1) ch) e) ∙ so_far;
-            fresh = subst (λ (v : Vec Stream Global). All (IsFresh ch) v.items) (sym w.streams-is) (subst (λ (ms : List Lane). All (IsFresh ch) ms) (sym w.in_ok-push-in-None.ensures.items) (All-push (IsFresh ch) ls l c.loop-track.invariant.fresh w.in_ok-new_stream-in-None.ensures.fresh));
+            names = ap (λ (v : Vec Stream Global). names_from (map (λ (m : Lane). m.name) v.items) (drop (i + 1) ch)) w.streams-is
+                ∙ ap (λ (ms : List Lane). names_from (map (λ (m : Lane). m.name) ms) (drop (i + 1) ch)) w.in_ok-push-in-None.ensures.items ∙ ap (λ (ns : List (List ℕ)). names_from ns (drop (i + 1) ch)) more
+                ∙ sym (name_new ls t (drop (i + 1) ch) e) ∙ so_far;
+            fresh = subst (λ (v : Vec Stream Global). All (IsFresh ch) v.items) (sym w.streams-is)
+                (subst (λ (ms : List Lane). All (IsFresh ch) ms) (sym w.in_ok-push-in-None.ensures.items) (All-push (IsFresh ch) ls l c.loop-track.invariant.fresh w.in_ok-new_stream-in-None.ensures.fresh));
           }
     ]

@@ -10,4 +10,5 @@ overflow_add-count c =
 
 pub loop-i-preserved : goal.loop-i-preserved
 loop-i-preserved c =
-    rw c.in_ok-put_run.ensures (times_more false c.loop-i.end c.loop-i.count c.loop-i.i c.args.times.now c.index-times-i.result _ _ _ c.loop-i.all.items (omega arith) c.index-times-i.is (sym c.time_in.ensures ∙ c.in-Some.is) ∙ c.loop-i.invariant)
+    rw c.in_ok-put_run.ensures (times_more false c.loop-i.end c.loop-i.count c.loop-i.i c.args.times.now c.index-times-i.result _ _ _ c.loop-i.all.items (omega arith) c.index-times-i.is (sym c.time_in.ensures ∙ c.in-Some.is)
+    ∙ c.loop-i.invariant)

@@ -5,4 +5,5 @@ use Rattle.sm_manout.proofs.stream.put_streams.Given as goal
 
 abbrev pub invariant-loop-i : goal.invariant-loop-i
 invariant-loop-i l =
-    l.out.items ++ streams_lines l.catalog.channel (listed l.catalog.channel l.catalog.adds) (take l.i l.channel) (drop l.i l.channel) ≡ l.initial.out.items ++ streams_lines l.catalog.channel (listed l.catalog.channel l.catalog.adds) [] l.catalog.channel
+    l.out.items ++ streams_lines l.catalog.channel (listed l.catalog.channel l.catalog.adds) (take l.i l.channel) (drop l.i l.channel) ≡ l.initial.out.items ++ streams_lines l.catalog.channel
+    (listed l.catalog.channel l.catalog.adds) [] l.catalog.channel

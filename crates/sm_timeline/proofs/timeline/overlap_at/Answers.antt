@@ -14,4 +14,5 @@ pub returns-else-place-times : goal.returns-else-place-times
 returns-else-place-times c =
     let xs = c.args.times.now in
     let front : (j : ℕ) → suc j ≡ c.args.place → ends (get_or xs j (0, 0)) ≤ c.args.time = λ j e. c.in-None.ensures.none j (omega (arith, e)) in
-    sym (over_none c.args.time c.args.duration xs c.args.place c.requires.times c.requires.place front (elim c.else-place-times.branch [ else-place-times-via-then-place-times+else-times-place w ↦ λ h. w.if-times-place.false | else-place-times-via-else-place-times w ↦ λ h. absurd (omega arith) ]))
+    sym (over_none c.args.time c.args.duration xs c.args.place c.requires.times c.requires.place front
+    (elim c.else-place-times.branch [ else-place-times-via-then-place-times+else-times-place w ↦ λ h. w.if-times-place.false | else-place-times-via-else-place-times w ↦ λ h. absurd (omega arith) ]))

@@ -101,16 +101,18 @@ the_put c =
       track = e;
       lane = at;
       entries = λ f. c.put.ensures.entries ∙ ap (λ (n : Entries). with_entry x.time c.args.place n.entries) (c.index_mut.ensures.value ∙ get_or_default i.kept.items c.in-Some.track c.index_mut.result.now f within);
-      room = λ f. subst (λ (n : Entries). n.room ≤ c.put.new.self.room + 1) (c.index_mut.ensures.value ∙ get_or_default i.kept.items c.in-Some.track c.index_mut.result.now f within) (at_most_one_less (is_some (entry_at x.time c.index_mut.result.now.entries)) c.index_mut.result.now.room c.put.new.self.room c.put.ensures.room);
-      added = λ l. subst (λ (n : Lane). IsAddedTo n c.add.new.self (record { address = x; duration = c.args.duration; place = c.args.place })) (c.index_mut-2.ensures.value ∙ get_or_default i.streams.items c.in-Some-stream_place.lane c.index_mut-2.result.now l h.0) (record {
-        name = c.add.ensures.name;
-        tracks = c.add.ensures.tracks;
-        times = c.add.ensures.times;
-        count = c.add.ensures.count;
-        listed = c.add.ensures.listed;
-        spare = c.add.ensures.spare;
-        backed = c.add.ensures.backed;
-      });
+      room = λ f. subst (λ (n : Entries). n.room ≤ c.put.new.self.room + 1) (c.index_mut.ensures.value ∙ get_or_default i.kept.items c.in-Some.track c.index_mut.result.now f within)
+          (at_most_one_less (is_some (entry_at x.time c.index_mut.result.now.entries)) c.index_mut.result.now.room c.put.new.self.room c.put.ensures.room);
+      added = λ l. subst (λ (n : Lane). IsAddedTo n c.add.new.self (record { address = x; duration = c.args.duration; place = c.args.place }))
+          (c.index_mut-2.ensures.value ∙ get_or_default i.streams.items c.in-Some-stream_place.lane c.index_mut-2.result.now l h.0) (record {
+            name = c.add.ensures.name;
+            tracks = c.add.ensures.tracks;
+            times = c.add.ensures.times;
+            count = c.add.ensures.count;
+            listed = c.add.ensures.listed;
+            spare = c.add.ensures.spare;
+            backed = c.add.ensures.backed;
+          });
     }
 
 -- the push has room
@@ -135,7 +137,8 @@ invariant_of-self c =
     let at : position (λ (l : Lane). is_same l.name x.stream) i.streams.items ≡ Some c.in-Some-stream_place.lane = sym (rw (c.deref.ensures.value, c.as_bytes-stream.ensures.same) at c.in-Some-stream_place.ensures) in
     let found = found_track x.stream x.bitrate i.channel c.in-Some.track e in
     let new = is_new i.channel (adds_in i.channel i.adds.items) x c.args.duration found.declared (ap (λ (t : Content). verdict t.channel t.adds x c.args.duration) c.self.view_is ∙ c.requires.verdict) in
-    rw (pushed c) (whole_added i.channel i.adds.items i.kept.items i.streams.items i.reserved (vec_capacity i.adds) (vec_capacity c.push.new.self) c.in-Some.track c.in-Some-stream_place.lane c.args.duration c.args.place x c.put.new.self c.add.new.self c.self.invariant (the_put c) new c.push.ensures.capacity)
+    rw (pushed c) (whole_added i.channel i.adds.items i.kept.items i.streams.items i.reserved (vec_capacity i.adds)
+    (vec_capacity c.push.new.self) c.in-Some.track c.in-Some-stream_place.lane c.args.duration c.args.place x c.put.new.self c.add.new.self c.self.invariant (the_put c) new c.push.ensures.capacity)
 
 pub returns-clause-adds : goal.returns-clause-adds
 returns-clause-adds c =
@@ -153,7 +156,14 @@ returns-clause-spare c =
     let at : position (λ (l : Lane). is_same l.name x.stream) i.streams.items ≡ Some c.in-Some-stream_place.lane = sym (rw (c.deref.ensures.value, c.as_bytes-stream.ensures.same) at c.in-Some-stream_place.ensures) in
     let l = c.index_mut-2.result.now in
     let put = the_put c in
-    omega (arith, spare_set x.stream i.streams.items c.in-Some-stream_place.lane c.add.new.self l at (put.added l).name, (put.added l).spare, spare_at x.stream i.streams.items c.in-Some-stream_place.lane l at, ap (λ (t : Content). spare_of x.stream t.spares) c.self.view_is)
+    omega (
+      arith,
+      spare_set x.stream i.streams.items c.in-Some-stream_place.lane c.add.new.self l at (put.added l).name,
+      (put.added l).spare,
+      spare_at x.stream i.streams.items c.in-Some-stream_place.lane l at,
+      ap
+          (λ (t : Content). spare_of x.stream t.spares) c.self.view_is,
+    )
 
 pub returns-clause-others : goal.returns-clause-others
 returns-clause-others c = λ n other.

@@ -15,7 +15,8 @@ returns-in_err-lane c =
     let adds = adds_in i.channel i.adds.items in
     let e : position (λ (l : Lane). is_same l.name s) i.streams.items ≡ None = sym (rw (c.deref.ensures.value, c.as_bytes.ensures.same) at c.in_err-lane.ensures) in
     let none = no_times s i.channel i.adds.items c.self.invariant.within (none_named s i.channel i.streams.items c.self.invariant.names e) in
-    c.from_residual.ensures ∙ sym (ap (λ ts. slice_get (behind (listed i.channel adds s) c.args.time (entry_at c.args.time ts)) c.args.index) none) ∙ ap (λ (t : Content). slice_get (ahead t.channel t.adds s c.args.time) c.args.index) c.self.view_is
+    c.from_residual.ensures ∙ sym (ap (λ ts. slice_get (behind (listed i.channel adds s) c.args.time (entry_at c.args.time ts)) c.args.index) none)
+    ∙ ap (λ (t : Content). slice_get (ahead t.channel t.adds s c.args.time) c.args.index) c.self.view_is
 
 pub returns : goal.returns
 returns c =

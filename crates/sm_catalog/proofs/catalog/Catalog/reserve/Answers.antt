@@ -28,8 +28,10 @@ invariant_of-self-in_err-reserve-2 c =
     let i = c.self.inside in
     let j = c.in-Some.lane in
     let at : position (λ (l : Lane). is_same l.name s) i.streams.items ≡ Some j = sym (rw (c.deref.ensures.value, c.as_bytes-stream.ensures.same) at c.in-Some.ensures) in
-    let roomy = whole_roomier i.channel i.adds.items i.kept.items c.reserve_places.new.kept.items i.streams.items i.reserved (vec_capacity i.adds) (vec_capacity c.reserve.new.self) c.self.invariant c.in_ok-reserve_places.ensures.more c.reserve.ensures.capacity in
-    let raised : (l : Lane) → IsRaised (get_or i.streams.items j l) c.reserve-2.new.self 0 = λ l. subst (λ (n : Lane). IsRaised n c.reserve-2.new.self 0) (c.index_mut.ensures.value ∙ get_or_default i.streams.items j c.index_mut.result.now l (found_within s i.streams.items j at)) (record {
+    let roomy = whole_roomier i.channel i.adds.items i.kept.items c.reserve_places.new.kept.items i.streams.items i.reserved (vec_capacity i.adds)
+    (vec_capacity c.reserve.new.self) c.self.invariant c.in_ok-reserve_places.ensures.more c.reserve.ensures.capacity in
+    let raised : (l : Lane) → IsRaised (get_or i.streams.items j l) c.reserve-2.new.self 0 = λ l. subst (λ (n : Lane). IsRaised n c.reserve-2.new.self 0)
+    (c.index_mut.ensures.value ∙ get_or_default i.streams.items j c.index_mut.result.now l (found_within s i.streams.items j at)) (record {
       name = c.reserve-2.ensures.name;
       tracks = c.reserve-2.ensures.tracks;
       times = c.reserve-2.ensures.times;
@@ -40,7 +42,8 @@ invariant_of-self-in_err-reserve-2 c =
     }) in
     let spare : (l : Lane) → c.reserve-2.new.self.spare ≡ (get_or i.streams.items j l).spare = λ l. omega (arith, (raised l).spare) in
     let raised_whole = whole_raised i.channel i.adds.items c.reserve_places.new.kept.items i.streams.items i.reserved (vec_capacity c.reserve.new.self) j 0 s c.reserve-2.new.self roomy at raised
-    (λ k d t h same. let room = roomy.rooms j k c.index_mut.result.now t d (found_within s i.streams.items j at) h ((bytes_eq-Decides _ _).0 same ∙ sym (found_name s i.streams.items j c.index_mut.result.now at)) in omega (arith, spare c.index_mut.result.now, room))
+    (λ k d t h same. let room = roomy.rooms j k c.index_mut.result.now t d (found_within s i.streams.items j at) h ((bytes_eq-Decides _ _).0 same ∙ sym (found_name s i.streams.items j c.index_mut.result.now at)) in omega
+    (arith, spare c.index_mut.result.now, room))
     (omega (arith, roomy.room)) in
     subst (λ (as' : List Added). IsWhole i.channel as' c.reserve_places.new.kept.items (set i.streams.items j c.reserve-2.new.self) i.reserved (vec_capacity c.reserve.new.self)) (sym c.reserve.ensures.items)
     (subst (λ (n : ℕ). IsWhole i.channel i.adds.items c.reserve_places.new.kept.items (set i.streams.items j c.reserve-2.new.self) n (vec_capacity c.reserve.new.self)) (add-zero i.reserved) raised_whole)
@@ -51,7 +54,8 @@ returns-in_err-reserve-2-clause-spares c = λ n.
     let i = c.self.inside in
     let j = c.in-Some.lane in
     let at : position (λ (l : Lane). is_same l.name s) i.streams.items ≡ Some j = sym (rw (c.deref.ensures.value, c.as_bytes-stream.ensures.same) at c.in-Some.ensures) in
-    let raised : (l : Lane) → IsRaised (get_or i.streams.items j l) c.reserve-2.new.self 0 = λ l. subst (λ (n : Lane). IsRaised n c.reserve-2.new.self 0) (c.index_mut.ensures.value ∙ get_or_default i.streams.items j c.index_mut.result.now l (found_within s i.streams.items j at)) (record {
+    let raised : (l : Lane) → IsRaised (get_or i.streams.items j l) c.reserve-2.new.self 0 = λ l. subst (λ (n : Lane). IsRaised n c.reserve-2.new.self 0)
+    (c.index_mut.ensures.value ∙ get_or_default i.streams.items j c.index_mut.result.now l (found_within s i.streams.items j at)) (record {
       name = c.reserve-2.ensures.name;
       tracks = c.reserve-2.ensures.tracks;
       times = c.reserve-2.ensures.times;
@@ -68,21 +72,33 @@ invariant_of-self-2 c =
     let i = c.self.inside in
     let j = c.in-Some.lane in
     let at : position (λ (l : Lane). is_same l.name s) i.streams.items ≡ Some j = sym (rw (c.deref.ensures.value, c.as_bytes-stream.ensures.same) at c.in-Some.ensures) in
-    let roomy = whole_roomier i.channel i.adds.items i.kept.items c.reserve_places.new.kept.items i.streams.items i.reserved (vec_capacity i.adds) (vec_capacity c.reserve.new.self) c.self.invariant c.in_ok-reserve_places.ensures.more c.reserve.ensures.capacity in
-    let raised : (l : Lane) → IsRaised (get_or i.streams.items j l) c.reserve-2.new.self c.saturating_sub.result = λ l. subst (λ (n : Lane). IsRaised n c.reserve-2.new.self c.saturating_sub.result) (c.index_mut.ensures.value ∙ get_or_default i.streams.items j c.index_mut.result.now l (found_within s i.streams.items j at)) (record {
+    let roomy = whole_roomier i.channel i.adds.items i.kept.items c.reserve_places.new.kept.items i.streams.items i.reserved (vec_capacity i.adds)
+    (vec_capacity c.reserve.new.self) c.self.invariant c.in_ok-reserve_places.ensures.more c.reserve.ensures.capacity in
+    let raised : (l : Lane) → IsRaised (get_or i.streams.items j l) c.reserve-2.new.self c.saturating_sub.result = λ l. subst (λ (n : Lane). IsRaised n c.reserve-2.new.self c.saturating_sub.result)
+    (c.index_mut.ensures.value ∙ get_or_default i.streams.items j c.index_mut.result.now l (found_within s i.streams.items j at)) (record {
       name = c.reserve-2.ensures.name;
       tracks = c.reserve-2.ensures.tracks;
       times = c.reserve-2.ensures.times;
       counts = c.reserve-2.ensures.counts;
       listed = c.reserve-2.ensures.listed;
-      spare = omega (arith, c.in_ok-reserve-2.ensures.ok, c.saturating_sub.ensures, c.spare-before.ensures.spare, ap (λ (n : Lane). n.spare) (c.index.ensures ∙ get_or_default i.streams.items j c.index.result.now c.index_mut.result.now (found_within s i.streams.items j at) ∙ sym c.index_mut.ensures.value));
+      spare = omega (
+        arith,
+        c.in_ok-reserve-2.ensures.ok,
+        c.saturating_sub.ensures,
+        c.spare-before.ensures.spare,
+        ap (λ (n : Lane). n.spare)
+            (c.index.ensures ∙ get_or_default i.streams.items j c.index.result.now c.index_mut.result.now (found_within s i.streams.items j at) ∙ sym c.index_mut.ensures.value),
+      );
       backed = c.reserve-2.ensures.backed;
     }) in
-    let ok : (k : ℕ) (d : Entries) (t : Track) → k < length i.channel → is_same (get_or i.channel k t).name s ≡ true → 2 ≤ (get_or c.reserve_places.new.kept.items k d).room = rw (c.as_slice.ensures, c.as_bytes-stream.ensures.same) at c.in_ok-reserve_places.ensures.ok in
+    let ok : (k : ℕ) (d : Entries) (t : Track) → k < length i.channel → is_same (get_or i.channel k t).name s ≡ true
+    → 2 ≤ (get_or c.reserve_places.new.kept.items k d).room = rw (c.as_slice.ensures, c.as_bytes-stream.ensures.same) at c.in_ok-reserve_places.ensures.ok in
     let spare : (l : Lane) → c.reserve-2.new.self.spare ≡ (get_or i.streams.items j l).spare + c.saturating_sub.result = λ l. (raised l).spare in
     let enough : length i.adds.items + (i.reserved + c.saturating_sub.result) ≤ vec_capacity c.reserve.new.self = omega (arith, c.in_ok-reserve.ensures.ok, c.reserve.ensures.len, c.saturating_sub.ensures) in
     rw c.reserve.ensures.items (whole_raised i.channel i.adds.items c.reserve_places.new.kept.items i.streams.items i.reserved (vec_capacity c.reserve.new.self) j c.saturating_sub.result s c.reserve-2.new.self roomy at raised
-    (λ k d t h same. let room = roomy.rooms j k c.index_mut.result.now t d (found_within s i.streams.items j at) h ((bytes_eq-Decides _ _).0 same ∙ sym (found_name s i.streams.items j c.index_mut.result.now at)) in let two = ok k d t h same in omega (arith, ap (λ (n : Lane). n.spare) c.index_mut.ensures.value, c.in_ok-reserve-2.ensures.ok, room, two))
+    (λ k d t h same. let room = roomy.rooms j k c.index_mut.result.now t d (found_within s i.streams.items j at) h
+    ((bytes_eq-Decides _ _).0 same ∙ sym (found_name s i.streams.items j c.index_mut.result.now at)) in let two = ok k d t h same in omega
+    (arith, ap (λ (n : Lane). n.spare) c.index_mut.ensures.value, c.in_ok-reserve-2.ensures.ok, room, two))
     enough)
 
 pub returns-clause-ok : goal.returns-clause-ok
@@ -91,13 +107,21 @@ returns-clause-ok c = λ _.
     let i = c.self.inside in
     let j = c.in-Some.lane in
     let at : position (λ (l : Lane). is_same l.name s) i.streams.items ≡ Some j = sym (rw (c.deref.ensures.value, c.as_bytes-stream.ensures.same) at c.in-Some.ensures) in
-    let raised : (l : Lane) → IsRaised (get_or i.streams.items j l) c.reserve-2.new.self c.saturating_sub.result = λ l. subst (λ (n : Lane). IsRaised n c.reserve-2.new.self c.saturating_sub.result) (c.index_mut.ensures.value ∙ get_or_default i.streams.items j c.index_mut.result.now l (found_within s i.streams.items j at)) (record {
+    let raised : (l : Lane) → IsRaised (get_or i.streams.items j l) c.reserve-2.new.self c.saturating_sub.result = λ l. subst (λ (n : Lane). IsRaised n c.reserve-2.new.self c.saturating_sub.result)
+    (c.index_mut.ensures.value ∙ get_or_default i.streams.items j c.index_mut.result.now l (found_within s i.streams.items j at)) (record {
       name = c.reserve-2.ensures.name;
       tracks = c.reserve-2.ensures.tracks;
       times = c.reserve-2.ensures.times;
       counts = c.reserve-2.ensures.counts;
       listed = c.reserve-2.ensures.listed;
-      spare = omega (arith, c.in_ok-reserve-2.ensures.ok, c.saturating_sub.ensures, c.spare-before.ensures.spare, ap (λ (n : Lane). n.spare) (c.index.ensures ∙ get_or_default i.streams.items j c.index.result.now c.index_mut.result.now (found_within s i.streams.items j at) ∙ sym c.index_mut.ensures.value));
+      spare = omega (
+        arith,
+        c.in_ok-reserve-2.ensures.ok,
+        c.saturating_sub.ensures,
+        c.spare-before.ensures.spare,
+        ap (λ (n : Lane). n.spare)
+            (c.index.ensures ∙ get_or_default i.streams.items j c.index.result.now c.index_mut.result.now (found_within s i.streams.items j at) ∙ sym c.index_mut.ensures.value),
+      );
       backed = c.reserve-2.ensures.backed;
     }) in
     omega (arith, spare_set s i.streams.items j c.reserve-2.new.self c.index_mut.result.now at (raised c.index_mut.result.now).name, c.in_ok-reserve-2.ensures.ok)
@@ -108,13 +132,21 @@ returns-clause-spares c = λ n.
     let i = c.self.inside in
     let j = c.in-Some.lane in
     let at : position (λ (l : Lane). is_same l.name s) i.streams.items ≡ Some j = sym (rw (c.deref.ensures.value, c.as_bytes-stream.ensures.same) at c.in-Some.ensures) in
-    let raised : (l : Lane) → IsRaised (get_or i.streams.items j l) c.reserve-2.new.self c.saturating_sub.result = λ l. subst (λ (n : Lane). IsRaised n c.reserve-2.new.self c.saturating_sub.result) (c.index_mut.ensures.value ∙ get_or_default i.streams.items j c.index_mut.result.now l (found_within s i.streams.items j at)) (record {
+    let raised : (l : Lane) → IsRaised (get_or i.streams.items j l) c.reserve-2.new.self c.saturating_sub.result = λ l. subst (λ (n : Lane). IsRaised n c.reserve-2.new.self c.saturating_sub.result)
+    (c.index_mut.ensures.value ∙ get_or_default i.streams.items j c.index_mut.result.now l (found_within s i.streams.items j at)) (record {
       name = c.reserve-2.ensures.name;
       tracks = c.reserve-2.ensures.tracks;
       times = c.reserve-2.ensures.times;
       counts = c.reserve-2.ensures.counts;
       listed = c.reserve-2.ensures.listed;
-      spare = omega (arith, c.in_ok-reserve-2.ensures.ok, c.saturating_sub.ensures, c.spare-before.ensures.spare, ap (λ (n : Lane). n.spare) (c.index.ensures ∙ get_or_default i.streams.items j c.index.result.now c.index_mut.result.now (found_within s i.streams.items j at) ∙ sym c.index_mut.ensures.value));
+      spare = omega (
+        arith,
+        c.in_ok-reserve-2.ensures.ok,
+        c.saturating_sub.ensures,
+        c.spare-before.ensures.spare,
+        ap (λ (n : Lane). n.spare)
+            (c.index.ensures ∙ get_or_default i.streams.items j c.index.result.now c.index_mut.result.now (found_within s i.streams.items j at) ∙ sym c.index_mut.ensures.value),
+      );
       backed = c.reserve-2.ensures.backed;
     }) in
     omega (arith, spares_rise s n i.streams.items j c.saturating_sub.result c.reserve-2.new.self c.index_mut.result.now at (raised c.index_mut.result.now), ap (λ (t : Content). spare_of n t.spares) c.self.view_is)

@@ -94,10 +94,12 @@ pub returns-in-Ok-clause-count : goal.returns-in-Ok-clause-count
 returns-in-Ok-clause-count c = λ u.
     let times = returns-in-Ok-clause-times c in
     let counts = returns-in-Ok-clause-counts c in
-    count_after u c.args.time c.args.duration _ _ _ _ (subst (λ (l : Line). AreSorted l.times) c.self.view_is (sorted_times _ c.self.invariant.apart)) (subst (λ (l : Line). length l.counts ≡ length l.times) c.self.view_is c.self.invariant.as_many) times counts
+    count_after u c.args.time c.args.duration _ _ _ _ (subst (λ (l : Line). AreSorted l.times) c.self.view_is (sorted_times _ c.self.invariant.apart))
+    (subst (λ (l : Line). length l.counts ≡ length l.times) c.self.view_is c.self.invariant.as_many) times counts
 
 pub returns-in-Err-clause-count : goal.returns-in-Err-clause-count
 returns-in-Err-clause-count c = λ u.
     let times = returns-in-Err-clause-times c in
     let counts = returns-in-Err-clause-counts c in
-    count_after u c.args.time c.args.duration _ _ _ _ (subst (λ (l : Line). AreSorted l.times) c.self.view_is (sorted_times _ c.self.invariant.apart)) (subst (λ (l : Line). length l.counts ≡ length l.times) c.self.view_is c.self.invariant.as_many) times counts
+    count_after u c.args.time c.args.duration _ _ _ _ (subst (λ (l : Line). AreSorted l.times) c.self.view_is (sorted_times _ c.self.invariant.apart))
+    (subst (λ (l : Line). length l.counts ≡ length l.times) c.self.view_is c.self.invariant.as_many) times counts
