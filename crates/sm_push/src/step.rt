@@ -14,11 +14,11 @@ ghost use Rattle.sm_push.specs.Held.{most_of};
 use crate::fault::{StepFault, refuse};
 use crate::header::{HeaderFault, read_header};
 use crate::track::{NO_DEFAULTS, defaults_of, track_in};
-use sm_model::{
-    Bytes, Cause, Defaults, Fragment, HeaderStage, HeaderTrack, Item, PendingMoof,
-    PushState, RawFragment, Run, TopBox,
-};
 use sm_model::law::{causes_are_without_defaults, read_is_sound, track_id_is_of_run};
+use sm_model::{
+    Bytes, Cause, Defaults, Fragment, HeaderStage, HeaderTrack, Item, PendingMoof, PushState,
+    RawFragment, Run, TopBox,
+};
 use sm_moof::{MoofFault, body_of, finish, read_moof, track_of};
 use std::alloc::Global;
 use std::mem;
@@ -138,12 +138,14 @@ fn take_mdat(
             pass(state, size);
             Ok(None)
         }
-        Some(PendingMoof {
-            run,
-            size: lead,
-            at,
-            track,
-        }) => match finish(alloc, lead, whole, run) {
+        Some(
+            PendingMoof {
+                run,
+                size: lead,
+                at,
+                track,
+            },
+        ) => match finish(alloc, lead, whole, run) {
             Ok(raw) => {
                 pass(state, size);
                 Ok(Some(named(track, raw)))

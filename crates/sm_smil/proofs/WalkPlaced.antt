@@ -1,5 +1,5 @@
 -- What is met on the way through the tags is what stands at its place.
-use Rattle.std.proofs.Common.{◌≡◌, ◌≢◌, ◌⊎◌, inl, inr, ◌≤◌, ◌<◌, ◌+◌, ◌-◌, ℕ, zero, suc, Bool, true, false, ◌&&◌, not, cond, eqb, leb, List, [], ◌∷◌, ◌++◌, length, take, Option, Some, None, option_to_list, is_some, refl, ap, sym, ◌∙◌, subst, arith, append_assoc, length-append, length-take}
+use Rattle.std.proofs.Common.{◌≡◌, ◌≤◌, ◌<◌, ◌+◌, ◌-◌, ℕ, zero, suc, Bool, true, false, ◌&&◌, cond, eqb, leb, List, [], ◌∷◌, ◌++◌, length, take, Option, Some, None, option_to_list, is_some, refl, ap, sym, ◌∙◌, subst, arith, append_assoc, length-append, length-take}
 use Rattle.std.specs.Prelude.{codes}
 use Rattle.std.proofs.lemmas.Bool.{eqb-true, eqb-false, eq-eqb, ne_eqb, le-leb, lt-leb}
 use Rattle.sm_model.specs.declared.tag.Attribute.{Attribute}
@@ -11,10 +11,10 @@ use Rattle.sm_model.specs.declared.raw_track.ParamName.{ParamName}
 use Rattle.sm_model.specs.declared.raw_track.SmilParam.{SmilParam}
 use Rattle.sm_model.specs.declared.raw_track.RawTrack.{RawTrack}
 use Rattle.sm_model.specs.LiveTracks.{is_same, value_of}
-use Rattle.sm_model.specs.LiveWalk.{Walk, track_kind, enters, begins, with_current, with_element, with_pair, with_named, with_param, is_read, param_name, attribute_of, meets, walk_tags, nothing_met, first_place}
+use Rattle.sm_model.specs.LiveWalk.{Walk, track_kind, enters, with_element, with_pair, with_named, with_param, is_read, param_name, attribute_of, meets, walk_tags, first_place}
 use Rattle.sm_tag.proofs.WrittenTags.{append_nil}
 use Rattle.sm_smil.proofs.WalkLemmas.{at_switch}
-use Rattle.sm_smil.specs.Placed.{Placed, behind_tag, placed, started, with_child, ends_track, holding, track_from, tracks_in, ended_tracks, open_tracks, place_behind, other_places}
+use Rattle.sm_smil.specs.Placed.{Placed, placed, started, with_child, ends_track, holding, track_from, tracks_in, ended_tracks, open_tracks, place_behind, other_places}
 
 -- the place that was kept, else the first of these
 abbrev pub or_first : Option ℕ → List ℕ → Option ℕ

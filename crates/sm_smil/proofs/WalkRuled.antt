@@ -1,12 +1,12 @@
 -- What is walked over says what the rule says.
-use Rattle.std.proofs.Common.{◌≡◌, ◌⊎◌, inl, inr, ◌≤◌, ◌<◌, ◌+◌, ℕ, zero, suc, Bool, List, [], ◌∷◌, ◌++◌, length, map, take, min, Option, Some, None, option_to_list, Result, Ok, Err, refl, ap, sym, ◌∙◌, subst, arith, All}
+use Rattle.std.proofs.Common.{◌≡◌, ◌⊎◌, inl, inr, ◌≤◌, ℕ, zero, suc, Bool, List, [], ◌∷◌, ◌++◌, map, take, min, Option, Some, None, option_to_list, Result, Ok, Err, refl, ap, sym, ◌∙◌, subst, arith}
 use Rattle.std.specs.List.{Contains, flat_map, AllByRecursion}
 use Rattle.std.proofs.lemmas.List.Concat.{flat_map-cons}
 use Rattle.std.proofs.lemmas.List.Elements.{All-from_recursion, All-contains}
 use Rattle.sm_model.specs.declared.tag.Tag.{Tag}
 use Rattle.sm_model.specs.declared.raw_track.Form.{Form}
 use Rattle.sm_model.specs.declared.raw_track.RawTrack.{RawTrack}
-use Rattle.sm_model.specs.LiveWalk.{Walk, nothing_met, walk_tags}
+use Rattle.sm_model.specs.LiveWalk.{nothing_met, walk_tags}
 use Rattle.sm_model.specs.LiveFaults.{inner_faults, tracks_faults, open_faults, text_faults, faults_of, least_from}
 use Rattle.sm_model.specs.LiveManifests.{bad_of, fault_of, tracks_or_fault}
 use Rattle.sm_tag.proofs.WrittenTags.{append_nil}

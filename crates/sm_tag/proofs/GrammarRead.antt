@@ -27,7 +27,7 @@ word_stands : (word rest : List ℕ) → starts_with nat_eq (word ++ rest) word 
 word_stands word rest = (starts_is Decides-eqb (word ++ rest) word (starts_with nat_eq (word ++ rest) word) refl).1 rest refl
 
 -- a reference, behind its `&`
-reference_read : {r : List ℕ} {x : ℕ} → Reference r x → (rest : List ℕ) → (text : List ℕ) × (r ≡ 38 ∷ text) × (reference_at (text ++ rest) ≡ Ok (x, rest))
+pub reference_read : {r : List ℕ} {x : ℕ} → Reference r x → (rest : List ℕ) → (text : List ℕ) × (r ≡ 38 ∷ text) × (reference_at (text ++ rest) ≡ Ok (x, rest))
 unfolding reference_at entity_at word_at number_at number_end
 reference_read grammar.less rest = (codes "lt;", refl, refl)
 reference_read grammar.greater rest = (codes "gt;", refl, refl)
@@ -40,7 +40,7 @@ reference_read (grammar.number d ds all scalar) rest =
     let whole : (35 ∷ d ∷ ds ++ codes ";") ++ rest ≡ 35 ∷ (d ∷ ds) ++ 59 ∷ rest = ap (λ (l : List ℕ). 35 ∷ d ∷ l) (append_assoc ds (codes ";") rest) in
     (35 ∷ d ∷ ds ++ codes ";", refl, ap reference_at whole ∙ rw (f, b, scalar) refl)
 
-abbrev IsQuote : ℕ → Type 0
+abbrev pub IsQuote : ℕ → Type 0
 IsQuote q = (q ≡ 34) ⊎ (q ≡ 39)
 
 not_quote : (q k : ℕ) → IsQuote q → eqb k 34 ≡ false → eqb k 39 ≡ false → eqb k q ≡ false
@@ -116,7 +116,7 @@ quote_is_no_space : (q : ℕ) → IsQuote q → is_space q ≡ false
 quote_is_no_space q (inl e) = rw e refl
 quote_is_no_space q (inr e) = rw e refl
 
-opening_read : (n before after : List ℕ) (q : ℕ) (rest : List ℕ) → IsTagName n → IsSpace before → IsSpace after → IsQuote q
+pub opening_read : (n before after : List ℕ) (q : ℕ) (rest : List ℕ) → IsTagName n → IsSpace before → IsSpace after → IsQuote q
     → opening_at (n ++ (before ++ (61 ∷ after ++ q ∷ rest))) ≡ Ok (n, q, rest)
 unfolding opening_at
 opening_read n before after q rest is first second quote =
@@ -126,7 +126,7 @@ opening_read n before after q rest is first second quote =
     let mark = quote_read q rest quote in
     rw (name, b, a, mark) refl
 
-attribute_read : (text : List ℕ) (a : Attribute) (more : List ℕ) → IsAttribute text a → AttributeAt (text ++ more) (Ok (a, more))
+pub attribute_read : (text : List ℕ) (a : Attribute) (more : List ℕ) → IsAttribute text a → AttributeAt (text ++ more) (Ok (a, more))
 attribute_read text a more is =
     let inner = is.inner in
     let q = is.q in

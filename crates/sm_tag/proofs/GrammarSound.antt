@@ -74,7 +74,7 @@ name_made (c ∷ cs) name rest e = tested (is_tag_start c) refl e
         let is : IsTagName (c ∷ prefix is_tag_byte cs) = (s, all) in
         (subst IsTagName (sym front ∙ same.0) is, split_is is_tag_byte (c ∷ cs) ∙ appended same.0 same.1)
 
-byte_made : (k : ℕ) (b rest : List ℕ) → byte_at k b ≡ Ok rest → b ≡ k ∷ rest
+pub byte_made : (k : ℕ) (b rest : List ℕ) → byte_at k b ≡ Ok rest → b ≡ k ∷ rest
 byte_made k [] rest e = cc
 byte_made k (c ∷ cs) rest e = tested (eqb c k) refl e
   where
@@ -97,7 +97,7 @@ quote_made (c ∷ cs) rest q e = tested (eqb c 34) (eqb c 39) refl refl e
 pub starts_made : (b word : List ℕ) → starts_with nat_eq b word ≡ true → b ≡ word ++ drop (length word) b
 starts_made b word e = (starts_is Decides-eqb b word (starts_with nat_eq b word) refl).0 e
 
-word_made : (word b rest : List ℕ) → word_at word b ≡ Ok rest → b ≡ word ++ rest
+pub word_made : (word b rest : List ℕ) → word_at word b ≡ Ok rest → b ≡ word ++ rest
 unfolding word_at
 word_made word b rest e = tested (starts_with nat_eq b word) (starts_with nat_eq word b) refl e
   where
@@ -149,7 +149,7 @@ number_made b rest x e =
     let made : Reference (codes "&#" ++ (is.d ∷ is.ds ++ codes ";")) x = subst (λ (n : ℕ). Reference (codes "&#" ++ (is.d ∷ is.ds ++ codes ";")) n) is.number_is (grammar.number is.d is.ds all is.scalar) in
     (35 ∷ is.d ∷ is.ds ++ codes ";", made, mark ∙ ap (λ (l : List ℕ). 35 ∷ l) (whole ∙ ap (λ (l : List ℕ). is.d ∷ l) (sym (append_assoc is.ds (59 ∷ []) rest))))
 
-abbrev IsMadeReference : List ℕ → List ℕ → ℕ → Type 0
+abbrev pub IsMadeReference : List ℕ → List ℕ → ℕ → Type 0
 IsMadeReference b rest x = (text : List ℕ) × Reference (38 ∷ text) x × (b ≡ text ++ rest)
 
 entity_reference : (word : List ℕ) (k : ℕ) (b rest : List ℕ) (x : ℕ) → Reference (38 ∷ word) k → entity_at word k b ≡ Ok (x, rest) → IsMadeReference b rest x
@@ -157,7 +157,7 @@ entity_reference word k b rest x is e =
     let m = entity_made word k b rest x e in
     (word, subst (λ (n : ℕ). Reference (38 ∷ word) n) m.0 is, m.1)
 
-reference_made : (b rest : List ℕ) (x : ℕ) → reference_at b ≡ Ok (x, rest) → IsMadeReference b rest x
+pub reference_made : (b rest : List ℕ) (x : ℕ) → reference_at b ≡ Ok (x, rest) → IsMadeReference b rest x
 unfolding reference_at
 reference_made b rest x e =
     elim (either _ _ _ e) [
@@ -232,7 +232,7 @@ values_made q {text = text} {b = b} {r = r} (goes_on {piece = piece} {rest = res
 
 -- ---- attributes
 
-opening_made : (b name rest : List ℕ) (q : ℕ) → opening_at b ≡ Ok (name, q, rest)
+pub opening_made : (b name rest : List ℕ) (q : ℕ) → opening_at b ≡ Ok (name, q, rest)
     → (before : List ℕ) × (after : List ℕ) × IsTagName name × IsSpace before × IsSpace after × ((q ≡ 34) ⊎ (q ≡ 39)) × (b ≡ name ++ (before ++ (61 ∷ after ++ q ∷ rest)))
 unfolding opening_at
 opening_made b name rest q e =
@@ -252,7 +252,7 @@ opening_made b name rest q e =
     subst (λ (x : List ℕ). P x q rest) same.0 (subst (λ (y : ℕ). P n.0.0 y rest) same.1 (subst (λ (z : List ℕ). P n.0.0 quoted.0.0 z) same.2
     (before, after, is.0, prefix_all is_space n.0.1, prefix_all is_space eq.0, qs.0, whole)))
 
-abbrev AttributeMade : List ℕ → Result (Attribute × List ℕ) Stop → Type 0
+abbrev pub AttributeMade : List ℕ → Result (Attribute × List ℕ) Stop → Type 0
 AttributeMade b r = Made (λ text a. IsAttribute text a) b r
 
 named_value : (b name rest : List ℕ) (q : ℕ) (r : Result (List ℕ × List ℕ) Stop) → opening_at b ≡ Ok (name, q, rest) → ValueMade q [] rest r → AttributeMade b (naming name r)
@@ -282,7 +282,7 @@ named_value b name rest q (Ok (v, more)) o h =
     regroup : (n s t e m : List ℕ) → n ++ (s ++ (61 ∷ t ++ q ∷ (e ++ m))) ≡ (n ++ (s ++ (61 ∷ t ++ (q ∷ e)))) ++ m
     regroup n s t e m = simp append_assoc
 
-attribute_made : {b : List ℕ} {r : Result (Attribute × List ℕ) Stop} → AttributeAt b r → AttributeMade b r
+pub attribute_made : {b : List ℕ} {r : Result (Attribute × List ℕ) Stop} → AttributeAt b r → AttributeMade b r
 attribute_made (unopened e) = tt
 attribute_made {b = b} (opened {name = name} {rest = rest} {q = q} {r = r} o v) = named_value b name rest q r o (values_made q v)
 
@@ -482,7 +482,7 @@ instruction_made b (Ok (m, last)) h =
     let done : MarkupMade (63 ∷ b) (Ok (Skipped, past.0)) = (codes "<?" ++ w.0, grammar.instruction w.1, whole) in
     subst (λ (r : Result (Markup × List ℕ) Stop). MarkupMade (63 ∷ b) r) past.2 done
 
-chosen : (t : Bool) (P Q : Type 0) → MatchBool t P Q → ((t ≡ true) × P) ⊎ ((t ≡ false) × Q)
+pub chosen : (t : Bool) (P Q : Type 0) → MatchBool t P Q → ((t ≡ true) × P) ⊎ ((t ≡ false) × Q)
 chosen true P Q h = inl (refl, h)
 chosen false P Q h = inr (refl, h)
 

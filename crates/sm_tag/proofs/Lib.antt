@@ -9,3 +9,4 @@ pub mod WrittenNext
 pub mod GrammarSound
 pub mod GrammarRead
 pub mod Standing
+pub mod Wrong

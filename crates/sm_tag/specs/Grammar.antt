@@ -85,10 +85,11 @@ pub record IsRun (text : List ℕ) : Type 0 where
   pub some : 0 < length text
   pub plain : list_all is_text text ≡ true
 
--- a tag stands at its place in the text, and so does text between tags, which goes up to the next `<`
+-- a tag stands at its place in the text, and so does text between tags, which goes up to the next `<`; a fault has the place
+-- of a `<`, or the text's length
 abbrev pub StandsIn : List ℕ → Tag → Type 0
 StandsIn text (tags.Start name attributes alone at) = (piece : List ℕ) × (rest : List ℕ) × IsStart piece name attributes alone × (drop at text ≡ piece ++ rest)
 StandsIn text (tags.Finish name at) = (piece : List ℕ) × (rest : List ℕ) × IsFinish piece name × (drop at text ≡ piece ++ rest)
 StandsIn text (tags.Text at) = (piece : List ℕ) × (rest : List ℕ) × IsRun piece × (drop at text ≡ piece ++ 60 ∷ rest)
 StandsIn text tags.End = Unit {0}
-StandsIn text (tags.Bad at) = Unit {0}
+StandsIn text (tags.Bad at) = (at ≡ length text) ⊎ ((rest : List ℕ) × (drop at text ≡ 60 ∷ rest))

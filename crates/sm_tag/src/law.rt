@@ -1,9 +1,10 @@
 //! Laws of the tags of a text. Each is proved once, and there is nothing to run.
-ghost use Rattle.std.specs.Prelude.{◌≡◌, ◌↔◌, ℕ, Bool, List, [], ◌∷◌, ◌++◌, Ok};
+ghost use Rattle.std.specs.Prelude.{◌≡◌, ◌↔◌, ℕ, Bool, List, [], ◌∷◌, ◌++◌, Ok, Err};
 ghost use Rattle.std.specs.List.{AllByRecursion};
 ghost use Rattle.sm_model.specs.declared.tag.Attribute.{Attribute};
 ghost use Rattle.sm_model.specs.declared.tag.Tag.{Tag};
 ghost use Rattle.sm_model.specs.declared.markup.Markup.TheVariants.{Start, Finish, Skipped};
+ghost use Rattle.sm_model.specs.TagParts.{wrong};
 ghost use Rattle.sm_model.specs.TagMarkup.{Starts, Markups, finish_at};
 ghost use Rattle.sm_model.specs.TagText.{IsTagName, AreWritten, attributes_then, closing};
 ghost use Rattle.sm_model.specs.Tags.{TagsOf};
@@ -36,7 +37,13 @@ pub fn tags_are_of_the_grammar()
         → Markups bytes (Ok (Skipped, rest)) ↔ ((text : List ℕ) × IsSkipped text × (60 ∷ bytes ≡ text ++ rest)) }
 {}
 
-/// Each tag of a text stands at its place in it, made as the grammar says.
+/// Each tag of a text stands at its place in it, made as the grammar says. A fault has the place of a `<`, or the text's
+/// length where the text ends too early.
 pub fn tags_stand_at_their_places()
     ensures { (text : List ℕ) (tags : List Tag) → TagsOf text tags → AllByRecursion (StandsIn text) tags }
+{}
+
+/// What is wrong behind a `<` stays wrong, whatever follows: no longer text has a tag there.
+pub fn what_follows_mends_nothing()
+    ensures { (bytes more : List ℕ) → Markups bytes (Err wrong) → Markups (bytes ++ more) (Err wrong) }
 {}

@@ -13,7 +13,7 @@ mod value;
 
 pub use law::{
     tags_are_of_the_grammar, tags_stand_at_their_places, text_has_one_list_of_tags,
-    written_tags_are_read,
+    what_follows_mends_nothing, written_tags_are_read,
 };
 pub use sm_model::{Attribute, Attributes, Tag};
 pub use tags::Tags;
