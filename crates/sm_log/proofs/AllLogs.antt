@@ -1,5 +1,6 @@
 -- What holds of logs.
-use Rattle.std.proofs.Common.{◌≡◌, ◌<◌, ◌+◌, ◌^◌, ℕ, suc, Bool, true, false, cond, eqb, List, [], ◌∷◌, ◌++◌, length, map, Option, Some, None, refl, sym, ap, subst, ◌∙◌, ◌⊎◌, inl, inr, AllPairs, append_assoc, append-nil, arith}
+use Rattle.std.proofs.Common.{◌≡◌, ◌<◌, ◌+◌, ◌^◌, ℕ, suc, Bool, true, false, cond, eqb, filter, ◌≤◌, List, [], ◌∷◌, ◌++◌}
+use Rattle.std.proofs.Common.{length, map, Option, Some, None, refl, sym, ap, subst, ◌∙◌, ◌⊎◌, inl, inr, AllPairs, append_assoc, append-nil, arith}
 use Rattle.std.proofs.lemmas.Bool.{eq-eqb, and_from}
 use Rattle.std.proofs.lemmas.List.{length-append, map-append}
 use Rattle.std.proofs.lemmas.Slice.Eq.{bytes_eq-Decides}
@@ -13,11 +14,13 @@ use Rattle.sm_model.specs.Fragments.{IsValid}
 use Rattle.sm_model.specs.LiveTracks.{is_same}
 use Rattle.sm_log.specs.declared.verdict.Judged.TheVariants as judged
 use Rattle.sm_log.specs.Times.{entry_at, AreTimes, do_overlap}
-use Rattle.sm_log.specs.Adds.{Add, place_of, times_of, listed}
+use Rattle.sm_log.specs.Adds.{Add, place_of, times_of, is_listed, listed}
 use Rattle.sm_model.specs.Entries.{address_of}
-use Rattle.sm_log.specs.Logs.{channel_of, adds_from, adds_of, is_kept_at, kept_from, kept_at, times_in, listed_in, verdict_by, FitsBehind, IsSound}
+use Rattle.sm_log.specs.Logs.{channel_of, adds_from, adds_of, is_kept_at, kept_from, kept_at, times_in, listed_by, listed_in, verdict_by, FitsBehind, IsSound}
 use Rattle.sm_log.specs.Older.{older_verdict_by, OlderFitsBehind, IsOlderSound}
 use Rattle.sm_log.specs.Digests.{keeps_of, Digest, digest_of, Extends}
+use Rattle.std.specs.List.{AllByRecursion}
+use Rattle.sm_log.proofs.Choice.{chosen}
 use Rattle.sm_log.proofs.Lists.{no_tail, split_last}
 use Rattle.sm_log.proofs.New.{is_new}
 use Rattle.sm_log.proofs.AllAdds.{new_declared, apart_more, no_overlaps, listed_stay}
@@ -83,6 +86,23 @@ times_sound log s sound = apart_behind [] log sound (λ _. tt) s
 
 pub apart : (log : List Entry) (s : List ℕ) → IsSound log → AllPairs (λ (a b : ℕ × ℕ). do_overlap a b ≡ false) (times_in log s)
 apart log s sound = no_overlaps (times_in log s) (times_sound log s sound)
+
+all_filter : (P : ℕ × ℕ → Type 0) (p : ℕ × ℕ → Bool) (xs : List (ℕ × ℕ)) → AllByRecursion P xs → AllByRecursion P (filter p xs)
+all_filter P p [] all = tt
+all_filter P p (x ∷ xs) all =
+    chosen (p x) (λ l. AllByRecursion P l) (x ∷ filter p xs) (filter p xs) (λ _. (all.0, all_filter P p xs all.1)) (λ _. all_filter P p xs all.1)
+
+times_filter : (p : ℕ × ℕ → Bool) (xs : List (ℕ × ℕ)) → AreTimes xs → AreTimes (filter p xs)
+times_filter p [] times = tt
+times_filter p (x ∷ xs) times =
+    chosen (p x) AreTimes (x ∷ filter p xs) (filter p xs) (λ _. (times.0, all_filter (λ (y : ℕ × ℕ). x.0 + x.1 ≤ y.0) p xs times.1, times_filter p xs times.2)) (λ _. times_filter p xs times.2)
+
+listed_by_times : (channel : Option (List Track)) (adds : List Add) (s : List ℕ) → AreTimes (times_of s adds) → AreTimes (listed_by channel adds s)
+listed_by_times None adds s times = tt
+listed_by_times (Some channel) adds s times = times_filter (is_listed channel adds s) (times_of s adds) times
+
+pub listed_sound : (log : List Entry) (s : List ℕ) → IsSound log → AreTimes (listed_in log s)
+listed_sound log s sound = listed_by_times (channel_of log) (adds_of log) s (times_sound log s sound)
 
 -- ---- older logs
 

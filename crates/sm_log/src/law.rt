@@ -6,16 +6,18 @@ ghost use Rattle.sm_model.specs.declared.entry.Entry.{Entry};
 ghost use Rattle.sm_model.specs.declared.entry.Entry.TheVariants.{Keep};
 ghost use Rattle.sm_model.specs.declared.fragment.Fragment.{Fragment};
 ghost use Rattle.sm_model.specs.declared.track.Track.{Track};
-ghost use Rattle.sm_log.specs.Times.{entry_at, do_overlap};
+ghost use Rattle.sm_log.specs.Times.{entry_at, do_overlap, AreTimes};
 ghost use Rattle.sm_log.specs.Adds.{Add, listed, place_of};
 ghost use Rattle.sm_model.specs.Entries.{address_of};
 ghost use Rattle.sm_log.specs.Logs.{adds_of, kept_at, times_in, listed_in, FitsBehind, IsSound};
 ghost use Rattle.sm_log.specs.Older.{IsOlderSound};
 ghost use Rattle.sm_log.specs.Digests.{Digest, digest_of, Extends};
 
-/// No two times of a stream overlap in a sound log.
+/// The times of a stream in a sound log are spans, none of which overlaps another, and so are the listed ones.
 pub fn times_are_apart()
-    ensures { (log : List Entry) (stream : List ℕ) → IsSound log → AllPairs (λ a b. do_overlap a b ≡ false) (times_in log stream) }
+    ensures spans { (log : List Entry) (stream : List ℕ) → IsSound log → AreTimes (times_in log stream) }
+    ensures listed { (log : List Entry) (stream : List ℕ) → IsSound log → AreTimes (listed_in log stream) }
+    ensures apart { (log : List Entry) (stream : List ℕ) → IsSound log → AllPairs (λ a b. do_overlap a b ≡ false) (times_in log stream) }
 {}
 
 /// What comes behind takes nothing back: each listed time stays listed with its duration, and what is kept at an address stays
