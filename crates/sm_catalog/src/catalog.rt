@@ -155,9 +155,10 @@ impl Catalog {
         self.streams[lane].ahead(time, index)
     }
 
-    /// The channel, lent.
+    /// The channel, lent. It is valid.
     pub fn channel(&self) -> &Channel
-        ensures { result.now ≡ self.now.channel }
+        ensures same { result.now ≡ self.now.channel }
+        ensures valid { IsChannel self.now.channel }
     {
         &self.channel
     }

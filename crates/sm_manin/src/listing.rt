@@ -7,6 +7,7 @@ use std::marker::Model;
 /// One quality of a stream that is listed ([MS-SSTR] 2.2.2.5).
 #[derive(Clone, Copy, Debug, PartialEq, Eq)]
 pub struct Level {
+    /// As it says, or its place among its stream's in the text, from 0, where it says none.
     pub index: u32,
     /// In bits a second.
     pub bitrate: u32,

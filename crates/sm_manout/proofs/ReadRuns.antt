@@ -8,7 +8,7 @@ use Rattle.sm_log.specs.Times.{AreTimes, IsSpan, ends}
 use Rattle.sm_smil.proofs.WrittenValues.{decimal_again}
 use Rattle.sm_manin.specs.declared.raw.RawTime.{RawTime}
 use Rattle.sm_manin.specs.RunTimes.{count_in, fits, time_in, times_in, expand, with_times, or_fault}
-use Rattle.sm_manout.specs.ManifestText.{TimeRun, follows, runs_from, runs}
+use Rattle.sm_manout.specs.ManifestText.{TimeRun, follows, runs_from, runs, run_times}
 use Rattle.sm_manout.proofs.ReadValues.{wide_again}
 
 -- the count is left out where it is 1
@@ -44,11 +44,6 @@ pub record RunFits (end count : ℕ) (r : TimeRun) : Type 0 where
 abbrev pub RunsFit : ℕ → ℕ → List TimeRun → Type 0
 RunsFit end count [] = Unit {0}
 RunsFit end count (r ∷ rs) = RunFits end count r × RunsFit (r.start + r.duration * r.count) (count + r.count) rs
-
--- the times that runs stand for
-abbrev pub run_times : List TimeRun → List (ℕ × ℕ)
-run_times [] = []
-run_times (r ∷ rs) = expand r.start r.duration r.count ++ run_times rs
 
 -- ---- one element
 

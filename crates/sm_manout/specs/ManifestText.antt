@@ -9,6 +9,7 @@ use Rattle.sm_model.specs.declared.track.Params.{Params}
 use Rattle.sm_model.specs.declared.track.Track.{Track}
 use Rattle.sm_model.specs.LiveTracks.{is_same, kind_name}
 use Rattle.sm_log.specs.Adds.{tracks_of}
+use Rattle.sm_manin.specs.RunTimes.{expand}
 
 -- ---- runs
 
@@ -32,6 +33,11 @@ runs_from start count last (x ∷ xs) =
 abbrev pub runs : List (ℕ × ℕ) → List TimeRun
 runs [] = []
 runs (x ∷ xs) = runs_from x.0 1 x xs
+
+-- the times that runs stand for
+abbrev pub run_times : List TimeRun → List (ℕ × ℕ)
+run_times [] = []
+run_times (r ∷ rs) = expand r.start r.duration r.count ++ run_times rs
 
 -- ---- attributes
 
