@@ -18,8 +18,8 @@ returns-in-Err-Refused-clause-answers c headerless b stands =
 pub returns-in-Err-NoMemory-clause-answers : goal.returns-in-Err-NoMemory-clause-answers
 returns-in-Err-NoMemory-clause-answers c headerless b stands =
     let old : Stands headerless (record { kept = c.self.inside.kept; count = c.self.inside.count; failed = c.self.inside.failed }) b = subst (λ (p : Standing). Stands headerless p b) (sym c.self.view_is) stands in
-    fed_starved headerless (record { kept = c.self.inside.kept; count = c.self.inside.count; failed = c.self.inside.failed }) (record { kept = c.clear.new.self; count = c.self.inside.count; failed = true })
-    c.take_piece.new.self b c.args.piece.now c.take_piece.new.items old (rw c.in-Err-NoMemory.field-0-is at c.in-Err-NoMemory.ensures.gives) c.clear.ensures.header
+    fed_starved headerless (record { kept = c.self.inside.kept; count = c.self.inside.count; failed = c.self.inside.failed }) (record { kept = c.clear-in-Err-NoMemory.new.self; count = c.self.inside.count; failed = true })
+    c.take_piece.new.self b c.args.piece.now c.take_piece.new.items old (rw c.in-Err-NoMemory.field-0-is at c.in-Err-NoMemory.ensures.gives) c.clear-in-Err-NoMemory.ensures.header
 
 pub returns-in-Ok-clause-holds : goal.returns-in-Ok-clause-holds
 returns-in-Ok-clause-holds c = held_is_little c.take_piece.new.self c.in-Ok.ensures.partial
