@@ -2,6 +2,7 @@
 
 PROGRAM := crates/smooth/out/smooth
 BENCH := crates/fragment_bench/out/fragment_bench
+CATALOG_BENCH := crates/catalog_bench/out/catalog_bench
 
 .PHONY: run test build check bench clean
 
@@ -27,6 +28,8 @@ bench: build
 	cd crates/fragment_bench && rt run -- copy 1 1 1 > /dev/null
 	bash scripts/bench_push $(PROGRAM)
 	bash scripts/bench_fragment $(BENCH)
+	cd crates/catalog_bench && rt run -- 1 0 1 1 0 > /dev/null
+	bash scripts/bench_catalog $(CATALOG_BENCH)
 
 clean:
 	rm -rf crates/*/out
