@@ -1,0 +1,105 @@
+//! Adds a long event to a catalog, looks each fragment up again, writes the manifest, and reads it.
+//!
+//!     catalog_bench TIMES GAP WRITES READS REVERSED
+//!
+//! `GAP` ticks lie between two times, so that 0 makes one run of them and 1 as many as there are. The manifest is written
+//! `WRITES` times and read `READS` times. With `REVERSED` 1 the times are added last one first. It prints what it found.
+#![tactic(auto)]
+
+use anyhow::{Result, ensure};
+use sm_catalog::{Catalog, Judged};
+use sm_manin::read_manifest;
+use sm_manout::put_manifest;
+use sm_model::{Address, Name};
+use sm_smil::read_ladder;
+use std::alloc::Global;
+use std::env;
+
+const LADDER: &[u8] = b"<smil><body><switch><video systemBitrate=\"350000\"/><video systemBitrate=\"700000\"/><audio systemBitrate=\"64000\"/></switch></body></smil>";
+
+const DURATION: u64 = 20_000_000;
+
+fn address(alloc: Global, stream: &[u8], bitrate: u32) -> Result<Address> {
+    Ok(Address {
+        stream: Name::read(alloc, stream)?,
+        bitrate,
+        time: 0,
+    })
+}
+
+// The start of the time at that place.
+fn start_of(place: u32, gap: u32) -> u64 {
+    (DURATION + gap as u64).saturating_mul(place as u64)
+}
+
+fn add(catalog: &mut Catalog, at: &Address, place: u64) -> Result<()> {
+    ensure!(at.time < 0x3fff_ffff_ffff_ffff, "late");
+    catalog.reserve(at)?;
+    ensure!(catalog.judge(at, DURATION) == Judged::New, "not new");
+    catalog.add(at, DURATION, place);
+    Ok(())
+}
+
+fn add_all(
+    catalog: &mut Catalog,
+    tracks: &mut [Address],
+    times: u32,
+    gap: u32,
+    reversed: u32,
+) -> Result<()> {
+    let mut place: u64 = 0;
+    for i in 0..times {
+        let step = if reversed == 1 { times - 1 - i } else { i };
+        for at in tracks.iter_mut() {
+            at.time = start_of(step, gap);
+            place = place.saturating_add(1);
+            add(catalog, at, place)?;
+        }
+    }
+    Ok(())
+}
+
+// How many of the fragments are found again.
+fn count_found(catalog: &Catalog, tracks: &mut [Address], times: u32, gap: u32) -> u64 {
+    let mut found: u64 = 0;
+    for i in 0..times {
+        for at in tracks.iter_mut() {
+            at.time = start_of(i, gap);
+            if catalog.place(at).is_some() {
+                found = found.saturating_add(1);
+            }
+        }
+    }
+    found
+}
+
+fn main(rt: HostRuntime) -> Result<()> {
+    let alloc = rt.alloc();
+    let mut numbers = [0u32; 5];
+    let mut words = env::args(&rt)?.skip(1);
+    for number in numbers.iter_mut() {
+        if let Some(word) = words.next() {
+            *number = word.as_str().parse::<u32>()?;
+        }
+    }
+    let [times, gap, writes, reads, reversed] = numbers;
+    let mut catalog = Catalog::new(alloc, read_ladder(alloc, LADDER)?)?;
+    let mut tracks = [
+        address(alloc, b"video", 350_000)?,
+        address(alloc, b"video", 700_000)?,
+        address(alloc, b"audio", 64_000)?,
+    ];
+    add_all(&mut catalog, &mut tracks, times, gap, reversed)?;
+    let found = count_found(&catalog, &mut tracks, times, gap);
+    let mut length = 0;
+    for _ in 0..writes {
+        length = put_manifest(alloc, &catalog)?.len();
+    }
+    let text = put_manifest(alloc, &catalog)?;
+    let mut read = 0;
+    for _ in 0..reads {
+        read = read_manifest(alloc, text.as_slice())?.streams.len();
+    }
+    println!(rt; "found {found} manifest {length} streams {read}")?;
+    Ok(())
+}

@@ -1,0 +1,11 @@
+pub mod Choice
+pub mod Entries
+pub mod Apart
+pub mod Added
+pub mod Snoc
+pub mod New
+pub mod AllAdds
+pub mod OlderAdds
+pub mod Lists
+pub mod AllLogs
+pub mod PlainLemmas

@@ -1,0 +1,58 @@
+//! Laws of logs. Each is the contract of a function that does nothing.
+ghost use Rattle.std.specs.Prelude.{◌≡◌, ◌++◌, ◌∷◌, ◌<◌, ◌^◌, ◌+◌, [], ℕ, false, List, Some, AllPairs, length, slice_get};
+ghost use Rattle.std.specs.Option.{option_map};
+ghost use Rattle.sm_model.specs.declared.address.Address.{Address};
+ghost use Rattle.sm_model.specs.declared.entry.Entry.{Entry};
+ghost use Rattle.sm_model.specs.declared.entry.Entry.TheVariants.{Keep};
+ghost use Rattle.sm_model.specs.declared.fragment.Fragment.{Fragment};
+ghost use Rattle.sm_model.specs.declared.track.Track.{Track};
+ghost use Rattle.sm_log.specs.Times.{entry_at, do_overlap, AreTimes};
+ghost use Rattle.sm_log.specs.Adds.{Add, listed, place_of};
+ghost use Rattle.sm_model.specs.Entries.{address_of};
+ghost use Rattle.sm_log.specs.Logs.{adds_of, kept_at, times_in, listed_in, FitsBehind, IsSound};
+ghost use Rattle.sm_log.specs.Older.{IsOlderSound};
+ghost use Rattle.sm_log.specs.Digests.{Digest, digest_of, Extends};
+
+/// The times of a stream in a sound log are spans, none of which overlaps another, and so are the listed ones.
+pub fn times_are_apart()
+    ensures spans { (log : List Entry) (stream : List ℕ) → IsSound log → AreTimes (times_in log stream) }
+    ensures listed { (log : List Entry) (stream : List ℕ) → IsSound log → AreTimes (listed_in log stream) }
+    ensures apart { (log : List Entry) (stream : List ℕ) → IsSound log → AllPairs (λ a b. do_overlap a b ≡ false) (times_in log stream) }
+{}
+
+/// What comes behind takes nothing back: each listed time stays listed with its duration, and what is kept at an address stays
+/// kept there, in its place.
+pub fn listed_times_stay()
+    ensures listed { (log more : List Entry) (stream : List ℕ) (start duration : ℕ) → entry_at start (listed_in log stream) ≡ Some duration
+        → entry_at start (listed_in (log ++ more) stream) ≡ Some duration }
+    ensures kept { (log more : List Entry) (address : Address) (place : ℕ) (f : Fragment) → kept_at log address ≡ Some (place, f)
+        → kept_at (log ++ more) address ≡ Some (place, f) }
+    ensures adds { (channel : List Track) (adds more : List Add) (stream : List ℕ) (start duration : ℕ) → entry_at start (listed channel adds stream) ≡ Some duration
+        → entry_at start (listed channel (adds ++ more) stream) ≡ Some duration }
+    ensures places { (adds more : List Add) (address : Address) (place : ℕ) → place_of address adds ≡ Some place → place_of address (adds ++ more) ≡ Some place }
+{}
+
+/// A log that was sound while each new time had to start at or behind the last end is sound.
+pub fn older_logs_are_sound()
+    ensures { (log : List Entry) → IsOlderSound log → IsSound log }
+{}
+
+/// The front of a sound log is sound, and a sound log stays sound with an entry that fits behind it.
+pub fn sound_logs_grow()
+    ensures front { (log more : List Entry) → IsSound (log ++ more) → IsSound log }
+    ensures push { (log : List Entry) (e : Entry) → IsSound log → FitsBehind log e → length log + 1 < 2 ^ 32 → IsSound (log ++ e ∷ []) }
+{}
+
+/// What is kept at an address is what was added there; and in a sound log each fragment is the one that is kept at its address.
+pub fn kept_is_added()
+    ensures place { (log : List Entry) (address : Address) → place_of address (adds_of log) ≡ option_map (λ (k : ℕ × Fragment). k.0) (kept_at log address) }
+    ensures one { (front back : List Entry) (f : Fragment) → IsSound (front ++ Keep f ∷ back)
+        → kept_at (front ++ Keep f ∷ back) (address_of f) ≡ Some (length front, f) }
+{}
+
+/// A digest extends itself and what one that it extends extends, and a log's digest extends that of each front of it.
+pub fn digests_extend()
+    ensures itself { (digest : Digest) → Extends digest digest }
+    ensures through { (a b c : Digest) → Extends a b → Extends b c → Extends a c }
+    ensures grows { (log more : List Entry) → Extends (digest_of (log ++ more)) (digest_of log) }
+{}

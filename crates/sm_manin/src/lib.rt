@@ -1,0 +1,21 @@
+//! The manifest of a channel, read.
+#![tactic(auto)]
+
+mod fault;
+mod judge;
+pub mod law;
+mod listing;
+mod note;
+mod raw;
+mod read;
+mod text;
+mod times;
+mod values;
+mod walk;
+
+pub use fault::ManFault;
+pub use listing::{Level, Levels, Listing, StreamListing, Streams};
+pub use read::read_manifest;
+
+#[cfg(test)]
+mod tests;

@@ -1,0 +1,181 @@
+//! What the values of attributes say.
+ghost use Rattle.std.specs.Prelude.{◌≡◌, min, option_map};
+ghost use Rattle.std.specs.List.{list_all};
+ghost use Rattle.sm_model.specs.Digits.{is_digit, decimal_from};
+ghost use Rattle.sm_manin.specs.Values.{wide_number_of, wide_in, narrow_in, narrow_or, kind_of, kind_in_type};
+ghost use Rattle.sm_manin.specs.Patterns.{begins_with, is_bitrate_field, is_start_field, is_target_byte, pattern_step, is_pattern};
+
+use sm_model::{Bytes, Kind, number_of};
+
+fn are_digits(text: &[u8]) -> bool
+    ensures { result ≡ list_all is_digit text.now }
+{
+    text.iter().all(|c| 48 <= *c && *c <= 57)
+}
+
+// The number that decimal digits write, or 2^64 where it is greater.
+fn wide_up_to(digits: &[u8]) -> u128
+    ensures { result ≡ min (decimal_from 0 digits.now) 18446744073709551616 }
+{
+    let mut number: u128 = 0;
+    for digit in digits {
+        let next = 10 * number + digit.saturating_sub(b'0') as u128;
+        number = next.min(18446744073709551616);
+    }
+    number
+}
+
+/// The number below 2^64 that 1 to 20 digits write.
+#[tactic(auto, unfolding(crate::specs::Values::wide_number_of))]
+pub fn wide_number_of(text: &[u8]) -> Option<u64>
+    ensures { result ≡ wide_number_of text.now }
+{
+    if text.is_empty() || text.len() > 20 || !are_digits(text) {
+        return None;
+    }
+    let number = wide_up_to(text);
+    if number < 18446744073709551616 {
+        Some(number as u64)
+    } else {
+        None
+    }
+}
+
+pub fn wide_in(text: &Option<Bytes>) -> Option<u64>
+    ensures { result ≡ wide_in text.now }
+{
+    match text {
+        None => None,
+        Some(text) => wide_number_of(text.as_slice()),
+    }
+}
+
+pub fn narrow_in(text: &Option<Bytes>) -> Option<u32>
+    ensures { result ≡ narrow_in text.now }
+{
+    match text {
+        None => None,
+        Some(text) => number_of(text.as_slice()),
+    }
+}
+
+/// The number, or this one where it is absent.
+pub fn narrow_or(number: u32, text: &Option<Bytes>) -> Option<u32>
+    ensures { result ≡ narrow_or number text.now }
+{
+    match text {
+        None => Some(number),
+        Some(text) => number_of(text.as_slice()),
+    }
+}
+
+#[tactic(auto, unfolding(crate::specs::Values::kind_of))]
+fn kind_of(text: &[u8]) -> Option<Kind>
+    ensures { result ≡ kind_of text.now }
+{
+    if text == b"video".as_slice() {
+        Some(Kind::Video)
+    } else if text == b"audio".as_slice() {
+        Some(Kind::Audio)
+    } else if text == b"text".as_slice() {
+        Some(Kind::Text)
+    } else {
+        None
+    }
+}
+
+pub fn kind_in_type(text: &Option<Bytes>) -> Option<Kind>
+    ensures { result ≡ kind_in_type text.now }
+{
+    match text {
+        None => None,
+        Some(text) => kind_of(text.as_slice()),
+    }
+}
+
+fn begins_with(head: &[u8], text: &[u8]) -> bool
+    ensures { result ≡ begins_with head.now text.now }
+{
+    for i in 0..head.len() {
+        if i >= text.len() {
+            return false;
+        }
+        if head[i] != text[i] {
+            return false;
+        }
+    }
+    true
+}
+
+fn is_bitrate_field(text: &[u8]) -> bool
+    ensures { result ≡ is_bitrate_field text.now }
+{
+    begins_with(b"{bitrate}", text) || begins_with(b"{Bitrate}", text)
+}
+
+fn is_start_field(text: &[u8]) -> bool
+    ensures { result ≡ is_start_field text.now }
+{
+    begins_with(b"{start time}", text) || begins_with(b"{start_time}", text)
+}
+
+fn is_target_byte(c: u8) -> bool
+    ensures { result ≡ is_target_byte c }
+{
+    33 <= c && c != 123 && c != 125 && c != 127
+}
+
+// One byte, where this text begins.
+fn pattern_step(
+    skip: u64,
+    bitrate: bool,
+    start: bool,
+    c: u8,
+    text: &[u8],
+) -> Option<(u64, bool, bool)>
+    ensures { result ≡ pattern_step skip bitrate start c text.now }
+{
+    if 0 < skip {
+        Some((skip - 1, bitrate, start))
+    } else if is_bitrate_field(text) {
+        if bitrate {
+            None
+        } else {
+            Some((8, true, start))
+        }
+    } else if is_start_field(text) {
+        if start {
+            None
+        } else {
+            Some((11, bitrate, true))
+        }
+    } else if is_target_byte(c) {
+        Some((0, bitrate, start))
+    } else {
+        None
+    }
+}
+
+/// Whether each of the two fields stands once in the address of fragments, and no other brace or blank.
+pub fn is_pattern(text: &[u8]) -> bool
+    ensures { result ≡ is_pattern text.now }
+{
+    let mut skip: u64 = 0;
+    let mut bitrate = false;
+    let mut start = false;
+    for i in 0..text.len() {
+        let Some((next, has_bitrate, has_start)) = pattern_step(
+            skip,
+            bitrate,
+            start,
+            text[i],
+            &text[i..],
+        ) else {
+            return false;
+        };
+        skip = next;
+        bitrate = has_bitrate;
+        start = has_start;
+    }
+    bitrate && start
+}

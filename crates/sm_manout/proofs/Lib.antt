@@ -1,0 +1,9 @@
+pub mod Joined
+pub mod StreamLemmas
+pub mod Escapes
+pub mod ReadValues
+pub mod ReadLines
+pub mod ReadRuns
+pub mod ReadLevels
+pub mod ReadStreams
+pub mod ReadManifest
