@@ -1,0 +1,15 @@
+pub mod Told
+pub mod Views
+pub mod Moments
+mod Connections
+mod Crashes
+mod Filled
+mod Given
+mod Kept
+mod Opens
+mod Outcomes
+mod Places
+mod Sends
+mod Steps
+mod Tearing
+mod Writes
