@@ -1,10 +1,10 @@
 -- The state after a crash.
-use Rattle.std.proofs.Common.{◌≡◌, ◌⊎◌, inl, inr, ℕ, zero, suc, ◌≤◌, Bool, true, false, IsTrue, List, [], ◌∷◌, ◌++◌, length, refl, sym, ◌∙◌, ap, subst, arith, Some, ◌+◌, if◌then◌else◌}
+use Rattle.std.proofs.Common.{◌≡◌, ◌⊎◌, inl, inr, ℕ, zero, suc, Bool, true, false, IsTrue, List, [], ◌∷◌, ◌++◌, refl, sym, ◌∙◌, ap, subst, ◌+◌, if◌then◌else◌}
 use Rattle.sm_site.specs.declared.step.FileBytes.{FileBytes}
 use Rattle.sm_site.specs.declared.step.Step.{Step}
 use Rattle.sm_site.specs.declared.step.Step.TheVariants.{Crashed}
 use Rattle.sm_site.specs.Image.{Image, bytes_of}
-use Rattle.sm_site.specs.Meanings.{DiskCall, Item}
+use Rattle.sm_site.specs.Meanings.{Item}
 use Rattle.sm_site.specs.Clauses.{Kept}
 use Rattle.sm_site.specs.Past.{Agrees, openings_of, openings_on, with_items, is_crash, is_open, item_of, items_on, State, Range, after, after_step, start, chosen, filled, IsOutcome, Patched, calls_from, items_from, numbers_of}
 use Rattle.sm_site.proofs.Steps.{after_push, calls_push, items_push}

@@ -1,5 +1,5 @@
 -- Which calls of a site in memory fail.
-use Rattle.std.specs.Prelude.{ℕ, suc, zero, ◌+◌, ◌-◌, ◌^◌, ◌==◌, min, Bool, true, false, ◌||◌, if◌then◌else◌, List, [], ◌∷◌, Option, None, Some}
+use Rattle.std.specs.Prelude.{ℕ, suc, zero, ◌+◌, ◌-◌, ◌^◌, ◌==◌, min, Bool, true, false, ◌||◌, List, Option, None, Some}
 use Rattle.std.specs.List.{list_any}
 
 -- The numbers, from 1, of the disk calls and of the link calls that are to fail, and how many there were; whether a failed write reaches

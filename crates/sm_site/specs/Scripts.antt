@@ -1,5 +1,5 @@
 -- Scripts: the events that a link brings, one after the other, and then that there are no more.
-use Rattle.std.specs.Prelude.{◌≡◌, ℕ, ◌+◌, max, Bool, true, false, ◌&&◌, nat_le, nat_lt, List, [], ◌∷◌, map, length}
+use Rattle.std.specs.Prelude.{◌≡◌, ℕ, ◌+◌, max, Bool, true, false, ◌&&◌, nat_le, List, [], ◌∷◌, map, length}
 use Rattle.sm_site.specs.declared.event.Event.{Event}
 use Rattle.sm_site.specs.declared.event.Event.TheVariants.{Opened, Piece, Closed, Ended}
 use Rattle.sm_site.specs.Meanings.{Deal}

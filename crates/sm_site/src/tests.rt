@@ -1,18 +1,21 @@
 //! What a site in memory does by number, what its crashes keep, and what its link brings.
-ghost use Rattle.std.specs.Prelude.{◌<◌, length};
+ghost use Rattle.std.specs.Prelude.{◌≡◌, ◌<◌, [], length};
 
 use crate::{
-    Crashing, Disk, Event, Failed, Link, LinkError, MemorySite, Numbers, Piece, Script, Site,
-    SiteError,
+    Crashing, Disk, Event, Failed, Link, LinkError, MemorySite, Numbers, Script, Site, SiteError,
 };
 use std::alloc::Global;
 use std::test::Fail;
 
-fn none(alloc: Global) -> Numbers {
+fn none(alloc: Global) -> Numbers
+    ensures { result ≡ [] }
+{
     Numbers::from_vec(Vec::new(alloc))
 }
 
-fn no_events(alloc: Global) -> Script {
+fn no_events(alloc: Global) -> Script
+    ensures { result ≡ [] }
+{
     Script::from_vec(Vec::new(alloc))
 }
 
@@ -75,7 +78,15 @@ fn a_crash_keeps_one_image(rt: HostRuntime) -> Result<(), Fail> {
     let rows: [(u64, &[u8], bool, bool, u8, u64, [u8; 8]); 10] = [
         (0, b"ABCDEF", false, false, 0, 4, *b"abcd\0\0\0\0"),
         (0, b"ABCDEF", false, false, 1, 6, *b"ABCDEF\0\0"),
-        (0, b"ABCDEF", false, false, 2, 6, *b"\x02\x02\x02\x02\x02\x02\0\0"),
+        (
+            0,
+            b"ABCDEF",
+            false,
+            false,
+            2,
+            6,
+            *b"\x02\x02\x02\x02\x02\x02\0\0",
+        ),
         (1, b"XY", false, false, 0, 4, *b"abcd\0\0\0\0"),
         (1, b"XY", false, false, 255, 4, *b"a\xff\xffd\0\0\0\0"),
         (4, b"XY", false, false, 255, 6, *b"abcd\xff\xff\0\0"),
@@ -115,9 +126,16 @@ fn a_script_is_brought_and_goes_on_behind_its_end(rt: HostRuntime) -> Result<(),
     let script = Script::from_vec(vec![in alloc; Event::Opened(5), Event::Closed(5)]?);
     let failing = Numbers::from_vec(vec![in alloc; 2]?);
     let mut site = MemorySite::new(alloc, script, none(alloc), failing);
+    site.extend(Script::from_vec(vec![in alloc; Event::Opened(6)]?))?;
+    // the second call of the link, the first send, is to fail
     assert_eq!(rt; greet(&mut site), Ok(5));
-    assert_eq!(rt; site.sent(5)?.len(), 0);
     assert!(rt; matches!(site.next(), Ok(Event::Closed(5))));
+    assert_eq!(rt; greet(&mut site), Ok(6));
+    assert!(rt; matches!(site.next(), Ok(Event::Ended)));
+    assert_eq!(rt; site.sent(5)?.len(), 0);
+    assert_eq!(rt; site.sent(6)?.as_slice(), b"hello".as_slice());
+    site.crash_here(1);
+    assert_eq!(rt; site.sent(6)?.len(), 0);
     assert!(rt; matches!(site.next(), Ok(Event::Ended)));
     Ok(())
 }

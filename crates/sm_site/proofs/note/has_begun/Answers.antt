@@ -1,4 +1,4 @@
-use Rattle.std.proofs.Common.{rules, arith, false, ◌≡◌, ◌≤◌, ◌-◌, not, length, sym, ◌∙◌, ap}
+use Rattle.std.proofs.Common.{rules, arith, false, ◌≤◌, ◌-◌, not, length, sym, ◌∙◌, ap}
 use Rattle.sm_site.specs.declared.step.Step.{Step}
 use Rattle.sm_site.specs.Past.{is_crash}
 use Rattle.sm_site.proofs.Opens.{open_at}

@@ -1,4 +1,4 @@
-use Rattle.std.proofs.Common.{rules, ◌≡◌, ◌++◌, ◌∷◌, [], ℕ, length, take, drop, sym, ap, ◌∙◌}
+use Rattle.std.proofs.Common.{rules, ◌≡◌, ◌++◌, ◌∷◌, [], length, take, drop}
 use Rattle.sm_site.specs.declared.step.Pending.{Pending}
 use Rattle.sm_site.specs.declared.step.Step.TheVariants.{Wrote}
 use Rattle.sm_site.specs.Image.{bytes_of}

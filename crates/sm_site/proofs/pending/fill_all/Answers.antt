@@ -1,4 +1,4 @@
-use Rattle.std.proofs.Common.{rules, ◌≡◌, ◌++◌, ◌∷◌, [], ℕ, List, ap, sym, ◌∙◌}
+use Rattle.std.proofs.Common.{rules, ◌≡◌, ◌++◌, ◌∷◌, [], List, ap, sym, ◌∙◌}
 use Rattle.sm_site.specs.declared.step.Pending.{Pending}
 use Rattle.sm_site.specs.Image.{bytes_of}
 use Rattle.sm_site.specs.Past.{Range, image_of, filled, ranges_from}

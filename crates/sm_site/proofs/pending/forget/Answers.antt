@@ -1,8 +1,7 @@
-use Rattle.std.proofs.Common.{rules, arith, ◌≡◌, ◌≤◌, ◌++◌, [], ℕ, List, length, take, drop, filter, ap, sym, ◌∙◌}
-use Rattle.std.proofs.lemmas.List.{take_all, drop_all, append-nil}
+use Rattle.std.proofs.Common.{rules, arith, ◌≤◌, [], List, length, ap, ◌∙◌}
 use Rattle.sm_site.specs.declared.step.Pending.{Pending}
 use Rattle.sm_site.specs.Past.{undone, ranges_from}
-use Rattle.sm_site.proofs.Kept.{is_other, forget_ranges, forget_own, forget_others, kept_all}
+use Rattle.sm_site.proofs.Kept.{forget_ranges, forget_own, forget_others, kept_all}
 use Rattle.sm_site.proofs.pending.forget.Goals as goal
 
 pub returns-clause-ranges : goal.returns-clause-ranges

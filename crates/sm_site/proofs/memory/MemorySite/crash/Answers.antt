@@ -1,7 +1,7 @@
 use Rattle.std.proofs.Common.{◌≡◌, ℕ, Some, IsTrue, List, drop, sym, ap, ◌∙◌, subst}
 use Rattle.sm_site.specs.declared.step.FileBytes.{FileBytes}
 use Rattle.sm_site.specs.declared.event.Event.{Event}
-use Rattle.sm_site.specs.Image.{Image, bytes_of}
+use Rattle.sm_site.specs.Image.{bytes_of}
 use Rattle.sm_site.specs.Meanings.{DiskCall, Item}
 use Rattle.sm_site.specs.Past.{after, numbers_of, start, IsOutcome}
 use Rattle.sm_site.specs.Scripts.{is_script}

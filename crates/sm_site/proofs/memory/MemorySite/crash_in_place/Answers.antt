@@ -1,10 +1,10 @@
-use Rattle.std.proofs.Common.{rules, arith, ◌≡◌, false, ◌≤◌, ◌<◌, ◌+◌, ◌++◌, ◌∷◌, [], ℕ, IsTrue, List, length, refl, sym, ap, ◌∙◌, subst}
+use Rattle.std.proofs.Common.{rules, ◌≡◌, false, ◌++◌, ◌∷◌, [], ℕ, List, refl, sym, ap, ◌∙◌, subst}
 use Rattle.sm_site.specs.declared.step.Step.{Step}
 use Rattle.sm_site.specs.declared.step.Step.TheVariants.{Crashed}
 use Rattle.sm_site.specs.declared.step.Pending.{Pending}
 use Rattle.sm_site.specs.Image.{bytes_of}
 use Rattle.sm_site.specs.Meanings.{Item, IsLive}
-use Rattle.sm_site.specs.Past.{State, Range, Undoes, Agrees, after, after_step, start, image_of, chosen, is_open, ranges_from, items_from}
+use Rattle.sm_site.specs.Past.{State, Undoes, Agrees, after, after_step, start, image_of, chosen, is_open, ranges_from, items_from}
 use Rattle.sm_site.proofs.Steps.{after_push, items_push}
 use Rattle.sm_site.proofs.Kept.{crashed_files}
 use Rattle.sm_site.proofs.Opens.{IsAtRest, at_rest, no_items, open_push}
@@ -96,7 +96,7 @@ invariant_of-self-else-has_begun-clause-undoes c =
     let rest = at_rest_now first self.past.items refl refl shut in
     subst (λ (l : List Pending). Undoes l (image_of c.crash_files.new.files.items) old.base) (sym c.crash_files.ensures.none)
     (λ k. crashed_files c.args.choice old (image_of self.files.items) (image_of c.crash_files.new.files.items) self.pending.items self.cached self.ranges self.undoes c.crash_files.ensures.old c.crash_files.ensures.new c.crash_files.ensures.filled k
-        ∙ ap (λ i. bytes_of i k) (chosen_rest c.args.choice old rest ∙ sym rest.same))
+    ∙ ap (λ i. bytes_of i k) (chosen_rest c.args.choice old rest ∙ sym rest.same))
 
 pub invariant_of-self-else-has_begun-clause-tracked : goal.invariant_of-self-else-has_begun-clause-tracked
 invariant_of-self-else-has_begun-clause-tracked c =

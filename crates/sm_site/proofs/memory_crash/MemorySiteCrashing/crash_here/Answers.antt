@@ -1,6 +1,6 @@
-use Rattle.std.proofs.Common.{◌≡◌, ℕ, List, sym, ap, ◌∙◌, subst}
+use Rattle.std.proofs.Common.{◌≡◌, List, sym, ap, ◌∙◌, subst}
 use Rattle.sm_site.specs.declared.step.FileBytes.{FileBytes}
-use Rattle.sm_site.specs.Image.{Image, bytes_of}
+use Rattle.sm_site.specs.Image.{bytes_of}
 use Rattle.sm_site.specs.Past.{after, start, IsOutcome}
 use Rattle.sm_site.proofs.Crashes.{crash_kept, crash_numbers, crash_openings, crash_outcome, crash_settled, crash_transcript}
 use Rattle.sm_site.proofs.memory_crash.MemorySiteCrashing.crash_here.Goals as goal

@@ -1,4 +1,4 @@
-use Rattle.std.proofs.Common.{◌≡◌, ◌++◌, IsTrue, List, drop, sym, subst}
+use Rattle.std.proofs.Common.{IsTrue, List, drop, sym, subst}
 use Rattle.sm_site.specs.declared.event.Event.{Event}
 use Rattle.sm_site.specs.Past.{numbers_of}
 use Rattle.sm_site.specs.Scripts.{is_script, deals_of, numbers_after}

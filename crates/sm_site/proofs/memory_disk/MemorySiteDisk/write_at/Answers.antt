@@ -1,4 +1,4 @@
-use Rattle.std.proofs.Common.{rules, ◌≡◌, true, false, ℕ, List, length, take, drop, ◌+◌, ◌≤◌, ◌++◌, ◌∷◌, [], inl, ap, ◌∙◌, subst, sym, refl, Vec}
+use Rattle.std.proofs.Common.{rules, ◌≡◌, true, false, ℕ, List, length, take, drop, ◌≤◌, ◌++◌, ◌∷◌, [], inl, ap, ◌∙◌, subst, sym, refl, Vec}
 use Rattle.std.specs.declared.alloc.Global.{Global}
 use Rattle.sm_site.specs.declared.step.Step.{Step}
 use Rattle.sm_site.specs.declared.step.Step.TheVariants.{Wrote}

@@ -1,7 +1,6 @@
-use Rattle.std.proofs.Common.{rules, refl, ap, subst, ◌≡◌, List, ◌∷◌, [], ◌+◌, length, drop}
+use Rattle.std.proofs.Common.{rules, refl, subst, ◌≡◌, List, drop}
 use Rattle.sm_site.specs.declared.event.Event.{Event}
 use Rattle.sm_site.specs.declared.step.Step.TheVariants.{Took}
-use Rattle.sm_site.specs.Meanings.{Deal}
 use Rattle.sm_site.specs.Event.{deal_of}
 use Rattle.sm_site.specs.Past.{numbers_of}
 use Rattle.sm_site.specs.Scripts.{IsTaken, number_after}
