@@ -7,8 +7,8 @@ use Rattle.std.specs.declared.alloc.Global.{Global}
 use Rattle.sm_site.specs.declared.step.Step.{Step}
 use Rattle.sm_site.specs.declared.step.Step.TheVariants.{Wrote}
 use Rattle.sm_site.specs.Image.{Image, bytes_of, written, SameElsewhere, TearsAt, WritesAt}
-use Rattle.sm_site.specs.Past.{State, Agrees, after_step, IsOutcome, calls_from}
-use Rattle.sm_site.proofs.Steps.{calls_push}
+use Rattle.sm_site.specs.Past.{State, Agrees, after, after_step, IsOutcome, calls_from}
+use Rattle.sm_site.proofs.Steps.{after_push, calls_push}
 use Rattle.sm_site.proofs.Outcomes.{bytes_insert_same, bytes_insert_other, agrees_write, follows_write, torn_now}
 
 module _ (s : State) (file at : ℕ) (own : Vec ℕ Global) (failed : Bool) where
@@ -47,6 +47,15 @@ module _ (s : State) (file at : ℕ) (own : Vec ℕ Global) (failed : Bool) wher
       here : (r : Bool) → (r ≡ true → bytes_of y file ≡ written (bytes_of x file) at own.items) → (r ≡ false → bytes_of y file ≡ bytes_of x file) → bytes_of y file ≡ bytes_of (later r).contents file
       here true wrote kept = wrote refl ∙ ap (λ (l : List ℕ). written l at own.items) (was file) ∙ sym (bytes_insert_same s.contents file (written (bytes_of s.contents file) at own.items))
       here false wrote kept = kept refl ∙ was file
+
+-- a write was put down
+abbrev pub Put : List Step → List Step → ℕ → ℕ → List ℕ → Bool → Bool → Type 0
+Put past later file at bytes failed reached = (own : Vec ℕ Global) × (own.items ≡ bytes) × (later ≡ past ++ Wrote file at own failed reached ∷ [])
+
+pub put_state : (first : State) (past later : List Step) (file at : ℕ) (bytes : List ℕ) (failed reached : Bool) (put : Put past later file at bytes failed reached)
+    → after first later ≡ after_step (after first past) (Wrote file at put.0 failed reached)
+put_state first past later file at bytes failed reached put =
+    ap (λ (l : List Step). after first l) put.2 ∙ after_push first past (Wrote file at put.0 failed reached)
 
 -- nothing was put down
 pub cached_same : (file : ℕ) (x y z : Image) → ((k : ℕ) → bytes_of x k ≡ bytes_of z k) → SameElsewhere file x y → bytes_of y file ≡ bytes_of x file → (k : ℕ) → bytes_of y k ≡ bytes_of z k

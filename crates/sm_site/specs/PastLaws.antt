@@ -37,7 +37,8 @@ one_entry m n (Sent conn bytes failed) le = single n (record { moment = m; deal 
 one_entry m n (Shut conn) le = single n (record { moment = m; deal = ShutDeal conn }) le
 one_entry m n (Crashed choice) le = All-nil (λ (i : Item). i.moment ≤ n)
 
-entries : (m n : ℕ) (items : List Item) (past : List Step) → m + length past ≤ n → All (λ (item : Item). item.moment ≤ n) items → All (λ (item : Item). item.moment ≤ n) (items_on m items past)
+entries : (m n : ℕ) (items : List Item) (past : List Step) → m + length past ≤ n → All (λ (item : Item). item.moment ≤ n) items
+    → All (λ (item : Item). item.moment ≤ n) (items_on m items past)
 entries m n items [] le all = all
 entries m n items (step ∷ past) le all = entries (m + 1) n (if is_crash step then [] else items ++ item_of (m + 1) step) past (omega arith) (either (is_crash step))
   where

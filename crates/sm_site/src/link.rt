@@ -50,7 +50,8 @@ pub trait Link {
     fn send(&mut self, conn: u64, bytes: &[u8]) -> Result<(), Failed>
         requires live { IfSome (view self.old).transcript (IsLive conn) }
         ensures sent { OnOk result (Adds (Sent conn bytes.now false) (view self.old) (view self.new)) }
-        ensures part { OnErr result (((n : ℕ) × (n ≤ length bytes.now) × Adds (Sent conn (take n bytes.now) true) (view self.old) (view self.new)) ⊎ ((view self.new).transcript ≡ (view self.old).transcript)) }
+        ensures part { OnErr result (((n : ℕ) × (n ≤ length bytes.now) × Adds (Sent conn (take n bytes.now) true) (view self.old) (view self.new))
+            ⊎ ((view self.new).transcript ≡ (view self.old).transcript)) }
         ensures cause { HasCause (view self.old).send_faults (view self.new).send_faults result }
         ensures numbers { numbers self.new ≡ numbers self.old }
         ensures script { (view self.new).script ≡ (view self.old).script }

@@ -63,7 +63,15 @@ impl MemorySite {
         ensures view { site_view result ≡ view_of [] [] (deals_of script) 0 0 0 0 }
         ensures settled { (c : Image) → site_may_leave result c → (file : ℕ) → bytes_of c file ≡ [] }
         ensures openings { site_openings result ≡ [] }
-        ensures faults { faults_of result ≡ record { disk_failing = disk_failing; disk_calls = 0; link_failing = link_failing; link_calls = 0; reaches = false; stop = None; starved = false } }
+        ensures faults { faults_of result ≡ record {
+          disk_failing = disk_failing;
+          disk_calls = 0;
+          link_failing = link_failing;
+          link_calls = 0;
+          reaches = false;
+          stop = None;
+          starved = false;
+        } }
     {
         MemorySite {
             alloc,

@@ -86,7 +86,8 @@ impl Site for MemorySite {
         ensures disk { IsErrOf result SiteError.Disk → Rose (site_view self.old).disk_faults (site_view self.new).disk_faults }
         ensures link { IsErrOf result SiteError.Link → Rose (site_view self.old).link_faults (site_view self.new).link_faults }
         ensures crash { SameOutcomes (site_may_leave self.old) (site_may_leave self.new) }
-        ensures time { Elapses (site_view self.old) (site_view self.new) (site_left_at self.old) (site_left_at self.new) (site_may_leave self.old) (site_may_leave self.new) }
+        ensures time { Elapses (site_view self.old) (site_view self.new) (site_left_at self.old) (site_left_at self.new)
+            (site_may_leave self.old) (site_may_leave self.new) }
         ensures never { IsOk result }
         ensures faults { faults_of self.new ≡ faults_of self.old }
     {

@@ -62,7 +62,8 @@ impl Disk for MemorySite {
         ensures small { IfOk result (λ n. n < 2 ^ 63) }
         ensures contents { (site_view self.new).contents ≡ (site_view self.old).contents }
         ensures crash { NoMore (site_may_leave self.old) (site_may_leave self.new) }
-        ensures time { Elapses (site_view self.old) (site_view self.new) (site_left_at self.old) (site_left_at self.new) (site_may_leave self.old) (site_may_leave self.new) }
+        ensures time { Elapses (site_view self.old) (site_view self.new) (site_left_at self.old) (site_left_at self.new)
+            (site_may_leave self.old) (site_may_leave self.new) }
         ensures note { OnOk result (Notes (Sized file) (site_view self.old) (site_view self.new)) }
         ensures note_fault { OnErr result (NotesFault (Sized file) (site_view self.old) (site_view self.new)) }
         ensures reads { (site_view self.new).reads ≡ (site_view self.old).reads }
@@ -90,7 +91,8 @@ impl Disk for MemorySite {
         ensures bytes { OnOk result (IfSome (site_view self.old).contents (λ c. into.new ≡ read (bytes_of c file) at (length into.old))) }
         ensures contents { (site_view self.new).contents ≡ (site_view self.old).contents }
         ensures crash { NoMore (site_may_leave self.old) (site_may_leave self.new) }
-        ensures time { Elapses (site_view self.old) (site_view self.new) (site_left_at self.old) (site_left_at self.new) (site_may_leave self.old) (site_may_leave self.new) }
+        ensures time { Elapses (site_view self.old) (site_view self.new) (site_left_at self.old) (site_left_at self.new)
+            (site_may_leave self.old) (site_may_leave self.new) }
         ensures note { OnOk result (Notes (Read file at (length into.old)) (site_view self.old) (site_view self.new)) }
         ensures note_fault { OnErr result (NotesFault (Read file at (length into.old)) (site_view self.old) (site_view self.new)) }
         ensures reads { Rose (site_view self.old).reads (site_view self.new).reads }
@@ -123,7 +125,8 @@ impl Disk for MemorySite {
         ensures written { OnOk result (Both (site_view self.old).contents (site_view self.new).contents (WritesAt file at bytes.now)) }
         ensures torn { OnErr result (Both (site_view self.old).contents (site_view self.new).contents (TearsAt file at (length bytes.now))) }
         ensures crash { Follows (TearsAt file at (length bytes.now)) (site_may_leave self.old) (site_may_leave self.new) }
-        ensures time { Elapses (site_view self.old) (site_view self.new) (site_left_at self.old) (site_left_at self.new) (site_may_leave self.old) (site_may_leave self.new) }
+        ensures time { Elapses (site_view self.old) (site_view self.new) (site_left_at self.old) (site_left_at self.new)
+            (site_may_leave self.old) (site_may_leave self.new) }
         ensures note { OnOk result (Notes (Wrote file at bytes.now) (site_view self.old) (site_view self.new)) }
         ensures note_fault { OnErr result (NotesFault (Wrote file at bytes.now) (site_view self.old) (site_view self.new)) }
         ensures reads { (site_view self.new).reads ≡ (site_view self.old).reads }
@@ -133,7 +136,8 @@ impl Disk for MemorySite {
         ensures listed { IsTrue (write_fails (faults_of self.old)) → IsErr result }
         ensures fails { OnErr result (IsTrue (write_fails (faults_of self.old)) ⊎ IsTrue (faults_of self.new).starved) }
         ensures starved { IsTrue (faults_of self.old).starved → IsTrue (faults_of self.new).starved }
-        ensures reached { OnErr result ((faults_of self.new).starved ≡ false → Both (site_view self.old).contents (site_view self.new).contents (Reaches (faults_of self.old).reaches file at bytes.now)) }
+        ensures reached { OnErr result ((faults_of self.new).starved ≡ false
+            → Both (site_view self.old).contents (site_view self.new).contents (Reaches (faults_of self.old).reaches file at bytes.now)) }
     {
         let stopped = is_behind(&mut self.stop);
         let fails = is_failing(&mut self.disk_calls, &self.disk_failing) || stopped;
@@ -166,7 +170,8 @@ impl Disk for MemorySite {
         ensures durable { OnOk result (Durable file (site_view self.new).contents (site_may_leave self.new)) }
         ensures contents { (site_view self.new).contents ≡ (site_view self.old).contents }
         ensures crash { NoMore (site_may_leave self.old) (site_may_leave self.new) }
-        ensures time { Elapses (site_view self.old) (site_view self.new) (site_left_at self.old) (site_left_at self.new) (site_may_leave self.old) (site_may_leave self.new) }
+        ensures time { Elapses (site_view self.old) (site_view self.new) (site_left_at self.old) (site_left_at self.new)
+            (site_may_leave self.old) (site_may_leave self.new) }
         ensures note { OnOk result (Notes (Synced file) (site_view self.old) (site_view self.new)) }
         ensures note_fault { OnErr result (NotesFault (Synced file) (site_view self.old) (site_view self.new)) }
         ensures reads { (site_view self.new).reads ≡ (site_view self.old).reads }

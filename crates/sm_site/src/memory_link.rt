@@ -40,7 +40,8 @@ impl Link for MemorySite {
         ensures send_faults { (site_view self.new).send_faults ≡ (site_view self.old).send_faults }
         ensures disk { SameDisk (site_view self.old) (site_view self.new) }
         ensures crash { SameOutcomes (site_may_leave self.old) (site_may_leave self.new) }
-        ensures time { Elapses (site_view self.old) (site_view self.new) (site_left_at self.old) (site_left_at self.new) (site_may_leave self.old) (site_may_leave self.new) }
+        ensures time { Elapses (site_view self.old) (site_view self.new) (site_left_at self.old) (site_left_at self.new)
+            (site_may_leave self.old) (site_may_leave self.new) }
         ensures counted { faults_of self.new ≡ after_link (faults_of self.old) (faults_of self.new).starved }
         ensures listed { IsTrue (link_fails (faults_of self.old)) → IsErr result }
         ensures fails { OnErr result (IsTrue (link_fails (faults_of self.old)) ⊎ IsTrue (faults_of self.new).starved) }
@@ -70,14 +71,16 @@ impl Link for MemorySite {
     fn send(&mut self, conn: u64, bytes: &[u8]) -> Result<(), Failed>
         requires live { IfSome (site_view self.old).transcript (IsLive conn) }
         ensures sent { OnOk result (Adds (Sent conn bytes.now false) (site_view self.old) (site_view self.new)) }
-        ensures part { OnErr result (((n : ℕ) × (n ≤ length bytes.now) × Adds (Sent conn (take n bytes.now) true) (site_view self.old) (site_view self.new)) ⊎ ((site_view self.new).transcript ≡ (site_view self.old).transcript)) }
+        ensures part { OnErr result (((n : ℕ) × (n ≤ length bytes.now) × Adds (Sent conn (take n bytes.now) true) (site_view self.old) (site_view self.new))
+            ⊎ ((site_view self.new).transcript ≡ (site_view self.old).transcript)) }
         ensures cause { HasCause (site_view self.old).send_faults (site_view self.new).send_faults result }
         ensures numbers { site_numbers self.new ≡ site_numbers self.old }
         ensures script { (site_view self.new).script ≡ (site_view self.old).script }
         ensures link_faults { (site_view self.new).link_faults ≡ (site_view self.old).link_faults }
         ensures disk { SameDisk (site_view self.old) (site_view self.new) }
         ensures crash { SameOutcomes (site_may_leave self.old) (site_may_leave self.new) }
-        ensures time { Elapses (site_view self.old) (site_view self.new) (site_left_at self.old) (site_left_at self.new) (site_may_leave self.old) (site_may_leave self.new) }
+        ensures time { Elapses (site_view self.old) (site_view self.new) (site_left_at self.old) (site_left_at self.new)
+            (site_may_leave self.old) (site_may_leave self.new) }
         ensures counted { faults_of self.new ≡ after_link (faults_of self.old) (faults_of self.new).starved }
         ensures listed { IsTrue (link_fails (faults_of self.old)) → IsErr result }
         ensures fails { OnErr result (IsTrue (link_fails (faults_of self.old)) ⊎ IsTrue (faults_of self.new).starved) }
@@ -113,7 +116,8 @@ impl Link for MemorySite {
         ensures send_faults { (site_view self.new).send_faults ≡ (site_view self.old).send_faults }
         ensures disk { SameDisk (site_view self.old) (site_view self.new) }
         ensures crash { SameOutcomes (site_may_leave self.old) (site_may_leave self.new) }
-        ensures time { Elapses (site_view self.old) (site_view self.new) (site_left_at self.old) (site_left_at self.new) (site_may_leave self.old) (site_may_leave self.new) }
+        ensures time { Elapses (site_view self.old) (site_view self.new) (site_left_at self.old) (site_left_at self.new)
+            (site_may_leave self.old) (site_may_leave self.new) }
         ensures faults { faults_of self.new ≡ faults_of self.old }
     {
         note_shut(&mut self.past, &mut self.live, conn);

@@ -1,6 +1,7 @@
 //! How a site in memory puts down what was done. Behind each step but a crash there is room for the end of each connection that may
 //! be open, and for a crash, since these have no answer for want of memory.
-ghost use Rattle.std.specs.Prelude.{◌≡◌, ◌≢◌, ◌<◌, ◌≤◌, ◌++◌, ◌∷◌, [], ◌+◌, ◌^◌, ℕ, length, min, take, drop, true, false, vec_len, vec_capacity, is_ok, if◌then◌else◌, not, OnOk, OnErr, IfOk, IsTrue};
+ghost use Rattle.std.specs.Prelude.{true, false, ◌≡◌, ◌≢◌, ◌<◌, ◌≤◌, ◌++◌, ◌∷◌, [], ◌+◌, ◌^◌, ℕ, length};
+ghost use Rattle.std.specs.Prelude.{min, take, drop, vec_len, vec_capacity, is_ok, if◌then◌else◌, not, OnOk, OnErr, IfOk, IsTrue};
 ghost use Rattle.sm_site.specs.Image.{bytes_of, written, SameElsewhere};
 ghost use Rattle.sm_site.specs.Past.{IsIn, is_in, is_crash, is_open, Tracks, image_of};
 ghost use Rattle.sm_site.specs.Scripts.{IsTaken};
@@ -32,7 +33,8 @@ pub(crate) fn note(past: &mut Vec<Step>, live: usize, step: Step) -> Result<(), 
     requires { live < 2 ^ 63 }
     ensures past { past.new.items ≡ (if is_ok result then past.old.items ++ step ∷ [] else past.old.items) }
     ensures len { vec_len past.new ≡ (if is_ok result then vec_len past.old + 1 else vec_len past.old) }
-    ensures spare { (IsTrue (is_open past.old.items) → live + vec_len past.old + 1 ≤ vec_capacity past.old) → IsTrue (is_open past.new.items) → live + vec_len past.new + 1 ≤ vec_capacity past.new }
+    ensures spare { (IsTrue (is_open past.old.items) → live + vec_len past.old + 1 ≤ vec_capacity past.old)
+        → IsTrue (is_open past.new.items) → live + vec_len past.new + 1 ≤ vec_capacity past.new }
 {
     past.reserve(live + 2)?;
     past.push(step)?;
@@ -54,11 +56,14 @@ pub(crate) fn note_write(
 ) -> Result<(), AllocError>
     requires inside { at ≤ length (bytes_of (image_of files.old.items) file) }
     requires small { live < 2 ^ 63 }
-    ensures spare { (IsTrue (is_open past.old.items) → live + vec_len past.old + 1 ≤ vec_capacity past.old) → IsTrue (is_open past.new.items) → live + vec_len past.new + 1 ≤ vec_capacity past.new }
-    ensures past { OnOk result ((own : _) × (own.items ≡ bytes.now) × (past.new.items ≡ past.old.items ++ Step.Wrote file at own fails reached ∷ [])) }
+    ensures spare { (IsTrue (is_open past.old.items) → live + vec_len past.old + 1 ≤ vec_capacity past.old)
+        → IsTrue (is_open past.new.items) → live + vec_len past.new + 1 ≤ vec_capacity past.new }
+    ensures past { OnOk result ((own : _) × (own.items ≡ bytes.now)
+        × (past.new.items ≡ past.old.items ++ Step.Wrote file at own fails reached ∷ [])) }
     ensures past_err { OnErr result (past.new.items ≡ past.old.items) }
     ensures pending { OnOk result ((p : _) × (pending.new.items ≡ pending.old.items ++ p ∷ []) × (p.file ≡ file) × (p.at ≡ at) × (p.count ≡ length bytes.now)
-        × (p.length ≡ length (bytes_of (image_of files.old.items) file)) × (p.old.items ≡ take (length bytes.now) (drop at (bytes_of (image_of files.old.items) file)))) }
+        × (p.length ≡ length (bytes_of (image_of files.old.items) file))
+        × (p.old.items ≡ take (length bytes.now) (drop at (bytes_of (image_of files.old.items) file)))) }
     ensures pending_err { OnErr result (pending.new.items ≡ pending.old.items) }
     ensures others { SameElsewhere file (image_of files.old.items) (image_of files.new.items) }
     ensures written { OnOk result (reached ≡ true → bytes_of (image_of files.new.items) file ≡ written (bytes_of (image_of files.old.items) file) at bytes.now) }
@@ -135,7 +140,8 @@ pub(crate) fn note_send(
     requires { live < 2 ^ 63 }
     ensures past { OnOk result ((own : _) × (own.items ≡ (if fails then [] else bytes.now)) × (past.new.items ≡ past.old.items ++ Step.Sent conn own fails ∷ [])) }
     ensures past_err { OnErr result (past.new.items ≡ past.old.items) }
-    ensures spare { (IsTrue (is_open past.old.items) → live + vec_len past.old + 1 ≤ vec_capacity past.old) → IsTrue (is_open past.new.items) → live + vec_len past.new + 1 ≤ vec_capacity past.new }
+    ensures spare { (IsTrue (is_open past.old.items) → live + vec_len past.old + 1 ≤ vec_capacity past.old)
+        → IsTrue (is_open past.new.items) → live + vec_len past.new + 1 ≤ vec_capacity past.new }
 {
     let own = sent_part(bytes, fails).to_vec(alloc)?;
     note(past, live, Step::Sent(conn, own, fails))

@@ -45,7 +45,8 @@ fn fill_all(files: &mut Vec<FileBytes>, pending: &mut Vec<Pending>, byte: u8)
 pub(crate) fn crash_files(files: &mut Vec<FileBytes>, pending: &mut Vec<Pending>, choice: u8)
     ensures old { choice ≡ 0 → (file : ℕ) → bytes_of (image_of files.new.items) file ≡ undone file pending.old.items (bytes_of (image_of files.old.items) file) }
     ensures new { choice ≡ 1 → (file : ℕ) → bytes_of (image_of files.new.items) file ≡ bytes_of (image_of files.old.items) file }
-    ensures filled { 2 ≤ choice → (file : ℕ) → bytes_of (image_of files.new.items) file ≡ bytes_of (filled choice (image_of files.old.items) (ranges_from [] pending.old.items)) file }
+    ensures filled { 2 ≤ choice → (file : ℕ)
+        → bytes_of (image_of files.new.items) file ≡ bytes_of (filled choice (image_of files.old.items) (ranges_from [] pending.old.items)) file }
     ensures none { pending.new.items ≡ [] }
 {
     if choice == 0 {
@@ -65,7 +66,8 @@ pub(crate) fn pending_at(
     count: u64,
 ) -> Result<Pending, AllocError>
     requires inside { at ≤ length own.now }
-    ensures is { IfOk result (λ p. (p.file ≡ file) × (p.at ≡ at) × (p.count ≡ count) × (p.length ≡ length own.now) × (p.old.items ≡ take count (drop at own.now))) }
+    ensures is { IfOk result (λ p. (p.file ≡ file) × (p.at ≡ at) × (p.count ≡ count)
+        × (p.length ≡ length own.now) × (p.old.items ≡ take count (drop at own.now))) }
 {
     let end = own.len().min((at as usize).saturating_add(count as usize));
     let old = own[at as usize..end].to_vec(alloc)?;

@@ -22,7 +22,8 @@ pub trait Site: Disk + Link {
         ensures disk { IsErrOf result SiteError.Disk → Rose (Self.Disk.view self.old).disk_faults (Self.Disk.view self.new).disk_faults }
         ensures link { IsErrOf result SiteError.Link → Rose (Self.Disk.view self.old).link_faults (Self.Disk.view self.new).link_faults }
         ensures crash { SameOutcomes (Self.Disk.may_leave self.old) (Self.Disk.may_leave self.new) }
-        ensures time { Elapses (Self.Disk.view self.old) (Self.Disk.view self.new) (Self.Disk.left_at self.old) (Self.Disk.left_at self.new) (Self.Disk.may_leave self.old) (Self.Disk.may_leave self.new) };
+        ensures time { Elapses (Self.Disk.view self.old) (Self.Disk.view self.new)
+            (Self.Disk.left_at self.old) (Self.Disk.left_at self.new) (Self.Disk.may_leave self.old) (Self.Disk.may_leave self.new) };
 
     /// The two views agree.
     ghost one_view: { (s : Self) → Self.Disk.view s ≡ Self.Link.view s };

@@ -23,7 +23,8 @@ invariant_of-self-clause-cached c =
     let later : c.push.new.self.items ≡ self.past.items ++ Crashed c.args.choice ∷ [] = search rules in
     let is : after first c.push.new.self.items ≡ after_step old (Crashed c.args.choice) = ap (λ (l : List Step). after first l) later ∙ after_push first self.past.items (Crashed c.args.choice) in
     let files : (k : ℕ) → bytes_of (image_of c.crash_files.new.files.items) k ≡ bytes_of (chosen c.args.choice old) k =
-    crashed_files c.args.choice old (image_of self.files.items) (image_of c.crash_files.new.files.items) self.pending.items self.cached self.ranges self.undoes c.crash_files.ensures.old c.crash_files.ensures.new c.crash_files.ensures.filled in
+    crashed_files c.args.choice old (image_of self.files.items)
+    (image_of c.crash_files.new.files.items) self.pending.items self.cached self.ranges self.undoes c.crash_files.ensures.old c.crash_files.ensures.new c.crash_files.ensures.filled in
     λ k. files k ∙ ap (λ (s : State). bytes_of s.contents k) (sym is)
 
 pub invariant_of-self-clause-ranges : goal.invariant_of-self-clause-ranges
@@ -42,7 +43,8 @@ invariant_of-self-clause-undoes c =
     let later : c.push.new.self.items ≡ self.past.items ++ Crashed c.args.choice ∷ [] = search rules in
     let is : after first c.push.new.self.items ≡ after_step old (Crashed c.args.choice) = ap (λ (l : List Step). after first l) later ∙ after_push first self.past.items (Crashed c.args.choice) in
     let files : (k : ℕ) → bytes_of (image_of c.crash_files.new.files.items) k ≡ bytes_of (chosen c.args.choice old) k =
-    crashed_files c.args.choice old (image_of self.files.items) (image_of c.crash_files.new.files.items) self.pending.items self.cached self.ranges self.undoes c.crash_files.ensures.old c.crash_files.ensures.new c.crash_files.ensures.filled in
+    crashed_files c.args.choice old (image_of self.files.items)
+    (image_of c.crash_files.new.files.items) self.pending.items self.cached self.ranges self.undoes c.crash_files.ensures.old c.crash_files.ensures.new c.crash_files.ensures.filled in
     subst (λ (l : List Pending). Undoes l (image_of c.crash_files.new.files.items) (after first c.push.new.self.items).base) (sym c.crash_files.ensures.none) (λ k. files k ∙ ap (λ (s : State). bytes_of s.base k) (sym is))
 
 pub invariant_of-self-clause-agrees : goal.invariant_of-self-clause-agrees
@@ -78,7 +80,8 @@ invariant_of-self-else-has_begun-clause-cached c =
     let old = after first self.past.items in
     let shut : is_open self.past.items ≡ false = search rules in
     let rest = at_rest_now first self.past.items refl refl shut in
-    λ k. crashed_files c.args.choice old (image_of self.files.items) (image_of c.crash_files.new.files.items) self.pending.items self.cached self.ranges self.undoes c.crash_files.ensures.old c.crash_files.ensures.new c.crash_files.ensures.filled k
+    λ k. crashed_files c.args.choice old (image_of self.files.items)
+    (image_of c.crash_files.new.files.items) self.pending.items self.cached self.ranges self.undoes c.crash_files.ensures.old c.crash_files.ensures.new c.crash_files.ensures.filled k
     ∙ ap (λ i. bytes_of i k) (chosen_rest c.args.choice old rest)
 
 pub invariant_of-self-else-has_begun-clause-ranges : goal.invariant_of-self-else-has_begun-clause-ranges
@@ -95,7 +98,8 @@ invariant_of-self-else-has_begun-clause-undoes c =
     let shut : is_open self.past.items ≡ false = search rules in
     let rest = at_rest_now first self.past.items refl refl shut in
     subst (λ (l : List Pending). Undoes l (image_of c.crash_files.new.files.items) old.base) (sym c.crash_files.ensures.none)
-    (λ k. crashed_files c.args.choice old (image_of self.files.items) (image_of c.crash_files.new.files.items) self.pending.items self.cached self.ranges self.undoes c.crash_files.ensures.old c.crash_files.ensures.new c.crash_files.ensures.filled k
+    (λ k. crashed_files c.args.choice old (image_of self.files.items)
+    (image_of c.crash_files.new.files.items) self.pending.items self.cached self.ranges self.undoes c.crash_files.ensures.old c.crash_files.ensures.new c.crash_files.ensures.filled k
     ∙ ap (λ i. bytes_of i k) (chosen_rest c.args.choice old rest ∙ sym rest.same))
 
 pub invariant_of-self-else-has_begun-clause-tracked : goal.invariant_of-self-else-has_begun-clause-tracked

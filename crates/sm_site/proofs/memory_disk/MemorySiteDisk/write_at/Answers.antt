@@ -1,15 +1,14 @@
-use Rattle.std.proofs.Common.{rules, ◌≡◌, true, false, ℕ, List, length, take, drop, ◌≤◌, ◌++◌, ◌∷◌, [], inl, ap, ◌∙◌, subst, sym, refl, Vec}
-use Rattle.std.specs.declared.alloc.Global.{Global}
+use Rattle.std.proofs.Common.{rules, ◌≡◌, true, false, ℕ, List, length, take, drop, ◌≤◌, ◌++◌, ◌∷◌, [], inl, ap, ◌∙◌, subst, sym, refl}
 use Rattle.sm_site.specs.declared.step.Step.{Step}
 use Rattle.sm_site.specs.declared.step.Step.TheVariants.{Wrote}
 use Rattle.sm_site.specs.Image.{bytes_of, written, TearsAt}
 use Rattle.sm_site.specs.Past.{State, Agrees, after, after_step, start, IsOutcome, image_of}
-use Rattle.sm_site.proofs.Steps.{after_push, elapses_step}
+use Rattle.sm_site.proofs.Steps.{elapses_step}
 use Rattle.sm_site.proofs.Tearing.{not_torn}
 use Rattle.sm_site.proofs.Told.{when_ok}
 use Rattle.sm_site.proofs.Connections.{tracks_quiet}
 use Rattle.sm_site.proofs.Given.{script_quiet}
-use Rattle.sm_site.proofs.Writes.{noted_agrees, noted_write, noted_tears, cached_write, note_write}
+use Rattle.sm_site.proofs.Writes.{Put, put_state, noted_agrees, noted_write, noted_tears, cached_write, note_write}
 use Rattle.sm_site.specs.declared.step.Pending.{Pending}
 use Rattle.sm_site.specs.Past.{Range, Undoes, ranges_from}
 use Rattle.sm_site.proofs.Kept.{ranges_push, undoes_noted}
@@ -30,9 +29,9 @@ invariant_of-self-then-fails-clause-cached c =
     let bytes = c.args.bytes.now in
     let fails = c.if-is_failing.fails in
     let reached = c.if-not-fails.reached in
-    let noted : (own : Vec ℕ Global) × (own.items ≡ bytes) × (c.note_write-noted.new.past.items ≡ past ++ Wrote file at own fails reached ∷ []) = when_ok c.note_write-noted.result (sym c.is_err.ensures.value ∙ c.if-is_err.false) c.note_write-noted.ensures.past in
+    let noted : Put past c.note_write-noted.new.past.items file at bytes fails reached = when_ok c.note_write-noted.result (sym c.is_err.ensures.value ∙ c.if-is_err.false) c.note_write-noted.ensures.past in
     let own = noted.0 in
-    let is : after first c.note_write-noted.new.past.items ≡ after_step old (Wrote file at own fails reached) = ap (λ (l : List Step). after first l) noted.2 ∙ after_push first past (Wrote file at own fails reached) in
+    let is = put_state first past c.note_write-noted.new.past.items file at bytes fails reached noted in
     let wrote : reached ≡ true → bytes_of (image_of c.note_write-noted.new.files.items) file ≡ written (bytes_of (image_of c.args.self.now.files.items) file) at bytes = search rules in
     let kept : reached ≡ false → bytes_of (image_of c.note_write-noted.new.files.items) file ≡ bytes_of (image_of c.args.self.now.files.items) file = search rules in
     λ k.
@@ -50,10 +49,11 @@ returns-then-fails-clause-torn c =
     let bytes = c.args.bytes.now in
     let fails = c.if-is_failing.fails in
     let reached = c.if-not-fails.reached in
-    let noted : (own : Vec ℕ Global) × (own.items ≡ bytes) × (c.note_write-noted.new.past.items ≡ past ++ Wrote file at own fails reached ∷ []) = when_ok c.note_write-noted.result (sym c.is_err.ensures.value ∙ c.if-is_err.false) c.note_write-noted.ensures.past in
+    let noted : Put past c.note_write-noted.new.past.items file at bytes fails reached = when_ok c.note_write-noted.result (sym c.is_err.ensures.value ∙ c.if-is_err.false) c.note_write-noted.ensures.past in
     let own = noted.0 in
-    let is : after first c.note_write-noted.new.past.items ≡ after_step old (Wrote file at own fails reached) = ap (λ (l : List Step). after first l) noted.2 ∙ after_push first past (Wrote file at own fails reached) in
-    subst (λ (s : State). TearsAt file at (length bytes) old.contents s.contents) (sym is) (subst (λ (l : List ℕ). TearsAt file at (length l) old.contents (after_step old (Wrote file at own fails reached)).contents) noted.1 (noted_tears old file at own fails reached c.requires.inside))
+    let is = put_state first past c.note_write-noted.new.past.items file at bytes fails reached noted in
+    subst (λ (s : State). TearsAt file at (length bytes) old.contents s.contents) (sym is)
+    (subst (λ (l : List ℕ). TearsAt file at (length l) old.contents (after_step old (Wrote file at own fails reached)).contents) noted.1 (noted_tears old file at own fails reached c.requires.inside))
 
 pub returns-then-fails-clause-crash : goal.returns-then-fails-clause-crash
 returns-then-fails-clause-crash c = λ x left.
@@ -65,9 +65,9 @@ returns-then-fails-clause-crash c = λ x left.
     let bytes = c.args.bytes.now in
     let fails = c.if-is_failing.fails in
     let reached = c.if-not-fails.reached in
-    let noted : (own : Vec ℕ Global) × (own.items ≡ bytes) × (c.note_write-noted.new.past.items ≡ past ++ Wrote file at own fails reached ∷ []) = when_ok c.note_write-noted.result (sym c.is_err.ensures.value ∙ c.if-is_err.false) c.note_write-noted.ensures.past in
+    let noted : Put past c.note_write-noted.new.past.items file at bytes fails reached = when_ok c.note_write-noted.result (sym c.is_err.ensures.value ∙ c.if-is_err.false) c.note_write-noted.ensures.past in
     let own = noted.0 in
-    let is : after first c.note_write-noted.new.past.items ≡ after_step old (Wrote file at own fails reached) = ap (λ (l : List Step). after first l) noted.2 ∙ after_push first past (Wrote file at own fails reached) in
+    let is = put_state first past c.note_write-noted.new.past.items file at bytes fails reached noted in
     let r = noted_write old file at own fails reached c.requires.inside x (subst (λ (s : State). IsOutcome s x) is left) in
     (r.0, r.1, subst (λ (l : List ℕ). TearsAt file at (length l) r.0 x) noted.1 r.2)
 
@@ -81,9 +81,9 @@ returns-then-fails-clause-time c =
     let bytes = c.args.bytes.now in
     let fails = c.if-is_failing.fails in
     let reached = c.if-not-fails.reached in
-    let noted : (own : Vec ℕ Global) × (own.items ≡ bytes) × (c.note_write-noted.new.past.items ≡ past ++ Wrote file at own fails reached ∷ []) = when_ok c.note_write-noted.result (sym c.is_err.ensures.value ∙ c.if-is_err.false) c.note_write-noted.ensures.past in
+    let noted : Put past c.note_write-noted.new.past.items file at bytes fails reached = when_ok c.note_write-noted.result (sym c.is_err.ensures.value ∙ c.if-is_err.false) c.note_write-noted.ensures.past in
     let own = noted.0 in
-    let is : after first c.note_write-noted.new.past.items ≡ after_step old (Wrote file at own fails reached) = ap (λ (l : List Step). after first l) noted.2 ∙ after_push first past (Wrote file at own fails reached) in
+    let is = put_state first past c.note_write-noted.new.past.items file at bytes fails reached noted in
     elapses_step c.args.self.now.first.items _ _ past c.note_write-noted.new.past.items (Wrote file at own fails reached) noted.2 refl refl
 
 pub returns-then-fails-clause-note_fault : goal.returns-then-fails-clause-note_fault
@@ -96,9 +96,9 @@ returns-then-fails-clause-note_fault c =
     let bytes = c.args.bytes.now in
     let fails = c.if-is_failing.fails in
     let reached = c.if-not-fails.reached in
-    let noted : (own : Vec ℕ Global) × (own.items ≡ bytes) × (c.note_write-noted.new.past.items ≡ past ++ Wrote file at own fails reached ∷ []) = when_ok c.note_write-noted.result (sym c.is_err.ensures.value ∙ c.if-is_err.false) c.note_write-noted.ensures.past in
+    let noted : Put past c.note_write-noted.new.past.items file at bytes fails reached = when_ok c.note_write-noted.result (sym c.is_err.ensures.value ∙ c.if-is_err.false) c.note_write-noted.ensures.past in
     let own = noted.0 in
-    let is : after first c.note_write-noted.new.past.items ≡ after_step old (Wrote file at own fails reached) = ap (λ (l : List Step). after first l) noted.2 ∙ after_push first past (Wrote file at own fails reached) in
+    let is = put_state first past c.note_write-noted.new.past.items file at bytes fails reached noted in
     inl (note_write past c.note_write-noted.new.past.items file at own fails reached bytes noted.1 noted.2 true c.if-fails.true)
 
 pub invariant_of-self-else-fails-clause-cached : goal.invariant_of-self-else-fails-clause-cached
@@ -111,9 +111,9 @@ invariant_of-self-else-fails-clause-cached c =
     let bytes = c.args.bytes.now in
     let fails = c.if-is_failing.fails in
     let reached = c.if-not-fails.reached in
-    let noted : (own : Vec ℕ Global) × (own.items ≡ bytes) × (c.note_write-noted.new.past.items ≡ past ++ Wrote file at own fails reached ∷ []) = when_ok c.note_write-noted.result (sym c.is_err.ensures.value ∙ c.if-is_err.false) c.note_write-noted.ensures.past in
+    let noted : Put past c.note_write-noted.new.past.items file at bytes fails reached = when_ok c.note_write-noted.result (sym c.is_err.ensures.value ∙ c.if-is_err.false) c.note_write-noted.ensures.past in
     let own = noted.0 in
-    let is : after first c.note_write-noted.new.past.items ≡ after_step old (Wrote file at own fails reached) = ap (λ (l : List Step). after first l) noted.2 ∙ after_push first past (Wrote file at own fails reached) in
+    let is = put_state first past c.note_write-noted.new.past.items file at bytes fails reached noted in
     let wrote : reached ≡ true → bytes_of (image_of c.note_write-noted.new.files.items) file ≡ written (bytes_of (image_of c.args.self.now.files.items) file) at bytes = search rules in
     let kept : reached ≡ false → bytes_of (image_of c.note_write-noted.new.files.items) file ≡ bytes_of (image_of c.args.self.now.files.items) file = search rules in
     λ k.
@@ -131,9 +131,9 @@ returns-clause-crash c = λ x left.
     let bytes = c.args.bytes.now in
     let fails = c.if-is_failing.fails in
     let reached = c.if-not-fails.reached in
-    let noted : (own : Vec ℕ Global) × (own.items ≡ bytes) × (c.note_write-noted.new.past.items ≡ past ++ Wrote file at own fails reached ∷ []) = when_ok c.note_write-noted.result (sym c.is_err.ensures.value ∙ c.if-is_err.false) c.note_write-noted.ensures.past in
+    let noted : Put past c.note_write-noted.new.past.items file at bytes fails reached = when_ok c.note_write-noted.result (sym c.is_err.ensures.value ∙ c.if-is_err.false) c.note_write-noted.ensures.past in
     let own = noted.0 in
-    let is : after first c.note_write-noted.new.past.items ≡ after_step old (Wrote file at own fails reached) = ap (λ (l : List Step). after first l) noted.2 ∙ after_push first past (Wrote file at own fails reached) in
+    let is = put_state first past c.note_write-noted.new.past.items file at bytes fails reached noted in
     let r = noted_write old file at own fails reached c.requires.inside x (subst (λ (s : State). IsOutcome s x) is left) in
     (r.0, r.1, subst (λ (l : List ℕ). TearsAt file at (length l) r.0 x) noted.1 r.2)
 
@@ -147,19 +147,21 @@ returns-clause-note c =
     let bytes = c.args.bytes.now in
     let fails = c.if-is_failing.fails in
     let reached = c.if-not-fails.reached in
-    let noted : (own : Vec ℕ Global) × (own.items ≡ bytes) × (c.note_write-noted.new.past.items ≡ past ++ Wrote file at own fails reached ∷ []) = when_ok c.note_write-noted.result (sym c.is_err.ensures.value ∙ c.if-is_err.false) c.note_write-noted.ensures.past in
+    let noted : Put past c.note_write-noted.new.past.items file at bytes fails reached = when_ok c.note_write-noted.result (sym c.is_err.ensures.value ∙ c.if-is_err.false) c.note_write-noted.ensures.past in
     let own = noted.0 in
-    let is : after first c.note_write-noted.new.past.items ≡ after_step old (Wrote file at own fails reached) = ap (λ (l : List Step). after first l) noted.2 ∙ after_push first past (Wrote file at own fails reached) in
+    let is = put_state first past c.note_write-noted.new.past.items file at bytes fails reached noted in
     note_write past c.note_write-noted.new.past.items file at own fails reached bytes noted.1 noted.2 false c.if-fails.false
 
 pub invariant_of-self-then-fails-clause-tracked : goal.invariant_of-self-then-fails-clause-tracked
 invariant_of-self-then-fails-clause-tracked c =
-    let noted : (own : Vec ℕ Global) × (own.items ≡ c.args.bytes.now) × (c.note_write-noted.new.past.items ≡ c.args.self.now.past.items ++ Wrote c.args.file c.args.at own c.if-is_failing.fails c.if-not-fails.reached ∷ []) = when_ok c.note_write-noted.result (sym c.is_err.ensures.value ∙ c.if-is_err.false) c.note_write-noted.ensures.past in
+    let noted : Put c.args.self.now.past.items c.note_write-noted.new.past.items c.args.file c.args.at c.args.bytes.now c.if-is_failing.fails c.if-not-fails.reached = when_ok c.note_write-noted.result (sym c.is_err.ensures.value
+    ∙ c.if-is_err.false) c.note_write-noted.ensures.past in
     tracks_quiet c.args.self.now.past.items c.note_write-noted.new.past.items (Wrote c.args.file c.args.at noted.0 c.if-is_failing.fails c.if-not-fails.reached) c.args.self.now.live.items refl noted.2 refl c.args.self.now.tracked
 
 pub invariant_of-self-else-fails-clause-tracked : goal.invariant_of-self-else-fails-clause-tracked
 invariant_of-self-else-fails-clause-tracked c =
-    let noted : (own : Vec ℕ Global) × (own.items ≡ c.args.bytes.now) × (c.note_write-noted.new.past.items ≡ c.args.self.now.past.items ++ Wrote c.args.file c.args.at own c.if-is_failing.fails c.if-not-fails.reached ∷ []) = when_ok c.note_write-noted.result (sym c.is_err.ensures.value ∙ c.if-is_err.false) c.note_write-noted.ensures.past in
+    let noted : Put c.args.self.now.past.items c.note_write-noted.new.past.items c.args.file c.args.at c.args.bytes.now c.if-is_failing.fails c.if-not-fails.reached = when_ok c.note_write-noted.result (sym c.is_err.ensures.value
+    ∙ c.if-is_err.false) c.note_write-noted.ensures.past in
     tracks_quiet c.args.self.now.past.items c.note_write-noted.new.past.items (Wrote c.args.file c.args.at noted.0 c.if-is_failing.fails c.if-not-fails.reached) c.args.self.now.live.items refl noted.2 refl c.args.self.now.tracked
 
 -- pending
@@ -175,9 +177,9 @@ invariant_of-self-then-fails-clause-ranges c =
     let fails = c.if-is_failing.fails in
     let reached = c.if-not-fails.reached in
     let pending = c.args.self.now.pending.items in
-    let noted : (own : Vec ℕ Global) × (own.items ≡ bytes) × (c.note_write-noted.new.past.items ≡ past ++ Wrote file at own fails reached ∷ []) = when_ok c.note_write-noted.result (sym c.is_err.ensures.value ∙ c.if-is_err.false) c.note_write-noted.ensures.past in
+    let noted : Put past c.note_write-noted.new.past.items file at bytes fails reached = when_ok c.note_write-noted.result (sym c.is_err.ensures.value ∙ c.if-is_err.false) c.note_write-noted.ensures.past in
     let own = noted.0 in
-    let is : after first c.note_write-noted.new.past.items ≡ after_step old (Wrote file at own fails reached) = ap (λ (l : List Step). after first l) noted.2 ∙ after_push first past (Wrote file at own fails reached) in
+    let is = put_state first past c.note_write-noted.new.past.items file at bytes fails reached noted in
     let range : (p : Pending) × (c.note_write-noted.new.pending.items ≡ pending ++ p ∷ []) × (p.file ≡ file) × (p.at ≡ at) × (p.count ≡ length bytes)
     × (p.length ≡ length (bytes_of (image_of c.args.self.now.files.items) file)) × (p.old.items ≡ take (length bytes) (drop at (bytes_of (image_of c.args.self.now.files.items) file))) =
     when_ok c.note_write-noted.result (sym c.is_err.ensures.value ∙ c.if-is_err.false) c.note_write-noted.ensures.pending in
@@ -200,9 +202,9 @@ invariant_of-self-then-fails-clause-undoes c =
     let fails = c.if-is_failing.fails in
     let reached = c.if-not-fails.reached in
     let pending = c.args.self.now.pending.items in
-    let noted : (own : Vec ℕ Global) × (own.items ≡ bytes) × (c.note_write-noted.new.past.items ≡ past ++ Wrote file at own fails reached ∷ []) = when_ok c.note_write-noted.result (sym c.is_err.ensures.value ∙ c.if-is_err.false) c.note_write-noted.ensures.past in
+    let noted : Put past c.note_write-noted.new.past.items file at bytes fails reached = when_ok c.note_write-noted.result (sym c.is_err.ensures.value ∙ c.if-is_err.false) c.note_write-noted.ensures.past in
     let own = noted.0 in
-    let is : after first c.note_write-noted.new.past.items ≡ after_step old (Wrote file at own fails reached) = ap (λ (l : List Step). after first l) noted.2 ∙ after_push first past (Wrote file at own fails reached) in
+    let is = put_state first past c.note_write-noted.new.past.items file at bytes fails reached noted in
     let range : (p : Pending) × (c.note_write-noted.new.pending.items ≡ pending ++ p ∷ []) × (p.file ≡ file) × (p.at ≡ at) × (p.count ≡ length bytes)
     × (p.length ≡ length (bytes_of (image_of c.args.self.now.files.items) file)) × (p.old.items ≡ take (length bytes) (drop at (bytes_of (image_of c.args.self.now.files.items) file))) =
     when_ok c.note_write-noted.result (sym c.is_err.ensures.value ∙ c.if-is_err.false) c.note_write-noted.ensures.pending in
@@ -212,7 +214,8 @@ invariant_of-self-then-fails-clause-undoes c =
     let inside : at ≤ length (bytes_of (image_of c.args.self.now.files.items) file) = subst (λ (l : List ℕ). at ≤ length l) (sym (c.args.self.now.cached file)) c.requires.inside in
     subst (λ (s : State). Undoes c.note_write-noted.new.pending.items (image_of c.note_write-noted.new.files.items) s.base) (sym is)
     (subst (λ (l : List Pending). Undoes l (image_of c.note_write-noted.new.files.items) old.base) (sym range.1)
-    (undoes_noted pending p file at (image_of c.args.self.now.files.items) (image_of c.note_write-noted.new.files.items) old.base bytes reached c.args.self.now.undoes range.2 range.3 c.note_write-noted.ensures.others inside range.5 range.6 wrote kept))
+    (undoes_noted pending p file at (image_of c.args.self.now.files.items)
+    (image_of c.note_write-noted.new.files.items) old.base bytes reached c.args.self.now.undoes range.2 range.3 c.note_write-noted.ensures.others inside range.5 range.6 wrote kept))
 
 pub invariant_of-self-else-fails-clause-ranges : goal.invariant_of-self-else-fails-clause-ranges
 invariant_of-self-else-fails-clause-ranges c =
@@ -225,9 +228,9 @@ invariant_of-self-else-fails-clause-ranges c =
     let fails = c.if-is_failing.fails in
     let reached = c.if-not-fails.reached in
     let pending = c.args.self.now.pending.items in
-    let noted : (own : Vec ℕ Global) × (own.items ≡ bytes) × (c.note_write-noted.new.past.items ≡ past ++ Wrote file at own fails reached ∷ []) = when_ok c.note_write-noted.result (sym c.is_err.ensures.value ∙ c.if-is_err.false) c.note_write-noted.ensures.past in
+    let noted : Put past c.note_write-noted.new.past.items file at bytes fails reached = when_ok c.note_write-noted.result (sym c.is_err.ensures.value ∙ c.if-is_err.false) c.note_write-noted.ensures.past in
     let own = noted.0 in
-    let is : after first c.note_write-noted.new.past.items ≡ after_step old (Wrote file at own fails reached) = ap (λ (l : List Step). after first l) noted.2 ∙ after_push first past (Wrote file at own fails reached) in
+    let is = put_state first past c.note_write-noted.new.past.items file at bytes fails reached noted in
     let range : (p : Pending) × (c.note_write-noted.new.pending.items ≡ pending ++ p ∷ []) × (p.file ≡ file) × (p.at ≡ at) × (p.count ≡ length bytes)
     × (p.length ≡ length (bytes_of (image_of c.args.self.now.files.items) file)) × (p.old.items ≡ take (length bytes) (drop at (bytes_of (image_of c.args.self.now.files.items) file))) =
     when_ok c.note_write-noted.result (sym c.is_err.ensures.value ∙ c.if-is_err.false) c.note_write-noted.ensures.pending in
@@ -250,9 +253,9 @@ invariant_of-self-else-fails-clause-undoes c =
     let fails = c.if-is_failing.fails in
     let reached = c.if-not-fails.reached in
     let pending = c.args.self.now.pending.items in
-    let noted : (own : Vec ℕ Global) × (own.items ≡ bytes) × (c.note_write-noted.new.past.items ≡ past ++ Wrote file at own fails reached ∷ []) = when_ok c.note_write-noted.result (sym c.is_err.ensures.value ∙ c.if-is_err.false) c.note_write-noted.ensures.past in
+    let noted : Put past c.note_write-noted.new.past.items file at bytes fails reached = when_ok c.note_write-noted.result (sym c.is_err.ensures.value ∙ c.if-is_err.false) c.note_write-noted.ensures.past in
     let own = noted.0 in
-    let is : after first c.note_write-noted.new.past.items ≡ after_step old (Wrote file at own fails reached) = ap (λ (l : List Step). after first l) noted.2 ∙ after_push first past (Wrote file at own fails reached) in
+    let is = put_state first past c.note_write-noted.new.past.items file at bytes fails reached noted in
     let range : (p : Pending) × (c.note_write-noted.new.pending.items ≡ pending ++ p ∷ []) × (p.file ≡ file) × (p.at ≡ at) × (p.count ≡ length bytes)
     × (p.length ≡ length (bytes_of (image_of c.args.self.now.files.items) file)) × (p.old.items ≡ take (length bytes) (drop at (bytes_of (image_of c.args.self.now.files.items) file))) =
     when_ok c.note_write-noted.result (sym c.is_err.ensures.value ∙ c.if-is_err.false) c.note_write-noted.ensures.pending in
@@ -262,7 +265,8 @@ invariant_of-self-else-fails-clause-undoes c =
     let inside : at ≤ length (bytes_of (image_of c.args.self.now.files.items) file) = subst (λ (l : List ℕ). at ≤ length l) (sym (c.args.self.now.cached file)) c.requires.inside in
     subst (λ (s : State). Undoes c.note_write-noted.new.pending.items (image_of c.note_write-noted.new.files.items) s.base) (sym is)
     (subst (λ (l : List Pending). Undoes l (image_of c.note_write-noted.new.files.items) old.base) (sym range.1)
-    (undoes_noted pending p file at (image_of c.args.self.now.files.items) (image_of c.note_write-noted.new.files.items) old.base bytes reached c.args.self.now.undoes range.2 range.3 c.note_write-noted.ensures.others inside range.5 range.6 wrote kept))
+    (undoes_noted pending p file at (image_of c.args.self.now.files.items)
+    (image_of c.note_write-noted.new.files.items) old.base bytes reached c.args.self.now.undoes range.2 range.3 c.note_write-noted.ensures.others inside range.5 range.6 wrote kept))
 
 -- agreement, and the script
 
@@ -276,9 +280,9 @@ invariant_of-self-then-fails-clause-agrees c =
     let bytes = c.args.bytes.now in
     let fails = c.if-is_failing.fails in
     let reached = c.if-not-fails.reached in
-    let noted : (own : Vec ℕ Global) × (own.items ≡ bytes) × (c.note_write-noted.new.past.items ≡ past ++ Wrote file at own fails reached ∷ []) = when_ok c.note_write-noted.result (sym c.is_err.ensures.value ∙ c.if-is_err.false) c.note_write-noted.ensures.past in
+    let noted : Put past c.note_write-noted.new.past.items file at bytes fails reached = when_ok c.note_write-noted.result (sym c.is_err.ensures.value ∙ c.if-is_err.false) c.note_write-noted.ensures.past in
     let own = noted.0 in
-    let is : after first c.note_write-noted.new.past.items ≡ after_step old (Wrote file at own fails reached) = ap (λ (l : List Step). after first l) noted.2 ∙ after_push first past (Wrote file at own fails reached) in
+    let is = put_state first past c.note_write-noted.new.past.items file at bytes fails reached noted in
     subst (λ (s : State). Agrees s) (sym is) (noted_agrees old file at own fails reached c.requires.inside c.args.self.now.agrees)
 
 pub invariant_of-self-then-fails-clause-scripted : goal.invariant_of-self-then-fails-clause-scripted
@@ -291,7 +295,7 @@ invariant_of-self-then-fails-clause-scripted c =
     let bytes = c.args.bytes.now in
     let fails = c.if-is_failing.fails in
     let reached = c.if-not-fails.reached in
-    let noted : (own : Vec ℕ Global) × (own.items ≡ bytes) × (c.note_write-noted.new.past.items ≡ past ++ Wrote file at own fails reached ∷ []) = when_ok c.note_write-noted.result (sym c.is_err.ensures.value ∙ c.if-is_err.false) c.note_write-noted.ensures.past in
+    let noted : Put past c.note_write-noted.new.past.items file at bytes fails reached = when_ok c.note_write-noted.result (sym c.is_err.ensures.value ∙ c.if-is_err.false) c.note_write-noted.ensures.past in
     script_quiet past c.note_write-noted.new.past.items (Wrote file at noted.0 fails reached) (drop c.args.self.now.taken c.args.self.now.script.items) noted.2 refl c.args.self.now.scripted
 
 pub invariant_of-self-else-fails-clause-agrees : goal.invariant_of-self-else-fails-clause-agrees
@@ -304,9 +308,9 @@ invariant_of-self-else-fails-clause-agrees c =
     let bytes = c.args.bytes.now in
     let fails = c.if-is_failing.fails in
     let reached = c.if-not-fails.reached in
-    let noted : (own : Vec ℕ Global) × (own.items ≡ bytes) × (c.note_write-noted.new.past.items ≡ past ++ Wrote file at own fails reached ∷ []) = when_ok c.note_write-noted.result (sym c.is_err.ensures.value ∙ c.if-is_err.false) c.note_write-noted.ensures.past in
+    let noted : Put past c.note_write-noted.new.past.items file at bytes fails reached = when_ok c.note_write-noted.result (sym c.is_err.ensures.value ∙ c.if-is_err.false) c.note_write-noted.ensures.past in
     let own = noted.0 in
-    let is : after first c.note_write-noted.new.past.items ≡ after_step old (Wrote file at own fails reached) = ap (λ (l : List Step). after first l) noted.2 ∙ after_push first past (Wrote file at own fails reached) in
+    let is = put_state first past c.note_write-noted.new.past.items file at bytes fails reached noted in
     subst (λ (s : State). Agrees s) (sym is) (noted_agrees old file at own fails reached c.requires.inside c.args.self.now.agrees)
 
 pub invariant_of-self-else-fails-clause-scripted : goal.invariant_of-self-else-fails-clause-scripted
@@ -319,7 +323,7 @@ invariant_of-self-else-fails-clause-scripted c =
     let bytes = c.args.bytes.now in
     let fails = c.if-is_failing.fails in
     let reached = c.if-not-fails.reached in
-    let noted : (own : Vec ℕ Global) × (own.items ≡ bytes) × (c.note_write-noted.new.past.items ≡ past ++ Wrote file at own fails reached ∷ []) = when_ok c.note_write-noted.result (sym c.is_err.ensures.value ∙ c.if-is_err.false) c.note_write-noted.ensures.past in
+    let noted : Put past c.note_write-noted.new.past.items file at bytes fails reached = when_ok c.note_write-noted.result (sym c.is_err.ensures.value ∙ c.if-is_err.false) c.note_write-noted.ensures.past in
     script_quiet past c.note_write-noted.new.past.items (Wrote file at noted.0 fails reached) (drop c.args.self.now.taken c.args.self.now.script.items) noted.2 refl c.args.self.now.scripted
 
 pub returns-clause-time : goal.returns-clause-time
@@ -332,7 +336,7 @@ returns-clause-time c =
     let bytes = c.args.bytes.now in
     let fails = c.if-is_failing.fails in
     let reached = c.if-not-fails.reached in
-    let noted : (own : Vec ℕ Global) × (own.items ≡ bytes) × (c.note_write-noted.new.past.items ≡ past ++ Wrote file at own fails reached ∷ []) = when_ok c.note_write-noted.result (sym c.is_err.ensures.value ∙ c.if-is_err.false) c.note_write-noted.ensures.past in
+    let noted : Put past c.note_write-noted.new.past.items file at bytes fails reached = when_ok c.note_write-noted.result (sym c.is_err.ensures.value ∙ c.if-is_err.false) c.note_write-noted.ensures.past in
     let own = noted.0 in
-    let is : after first c.note_write-noted.new.past.items ≡ after_step old (Wrote file at own fails reached) = ap (λ (l : List Step). after first l) noted.2 ∙ after_push first past (Wrote file at own fails reached) in
+    let is = put_state first past c.note_write-noted.new.past.items file at bytes fails reached noted in
     elapses_step c.args.self.now.first.items _ _ past c.note_write-noted.new.past.items (Wrote file at own fails reached) noted.2 refl refl

@@ -11,7 +11,8 @@ pub returns-clause-shut : goal.returns-clause-shut
 returns-clause-shut c = adds_item c.args.self.now.past.items c.note_shut.new.past.items (Shut c.args.conn) (ShutDeal c.args.conn) refl c.note_shut.ensures.past refl
 
 pub invariant_of-self-clause-tracked : goal.invariant_of-self-clause-tracked
-invariant_of-self-clause-tracked c = tracks_shut c.args.self.now.past.items c.note_shut.new.past.items c.args.conn c.args.self.now.live.items c.note_shut.new.live.items c.note_shut.ensures.past c.note_shut.ensures.others c.args.self.now.tracked
+invariant_of-self-clause-tracked c = tracks_shut c.args.self.now.past.items c.note_shut.new.past.items c.args.conn c.args.self.now.live.items c.note_shut.new.live.items c.note_shut.ensures.past c.note_shut.ensures.others
+    c.args.self.now.tracked
 
 pub note_shut-requires-clause-room : goal.note_shut-requires-clause-room
 note_shut-requires-clause-room c = c.args.self.now.spare (live_open c.args.conn c.args.self.now.past.items c.requires.live)

@@ -35,14 +35,20 @@ returns-then-fails-clause-part c =
     let past = c.args.self.now.past.items in
     let noted : (own : Vec ℕ Global) × (own.items ≡ (if c.is_failing-fails.result then [] else c.args.bytes.now)) × (c.note_send-noted.new.past.items ≡ past ++ Sent c.args.conn own c.is_failing-fails.result ∷ []) =
     when_ok c.note_send-noted.result (sym c.is_err.ensures.value ∙ c.if-is_err.false) c.note_send-noted.ensures.past in
-    inl (0, omega arith, adds_item past c.note_send-noted.new.past.items (Sent c.args.conn noted.0 c.is_failing-fails.result) (SentDeal c.args.conn [] true) refl noted.2 (sent_item (0 + length past + 1) c.args.conn noted.0 c.is_failing-fails.result true c.args.bytes.now [] noted.1 c.if-fails.true refl))
+    inl (
+      0,
+      omega arith,
+      adds_item past c.note_send-noted.new.past.items (Sent c.args.conn noted.0 c.is_failing-fails.result) (SentDeal c.args.conn [] true) refl noted.2
+          (sent_item (0 + length past + 1) c.args.conn noted.0 c.is_failing-fails.result true c.args.bytes.now [] noted.1 c.if-fails.true refl),
+    )
 
 pub returns-clause-sent : goal.returns-clause-sent
 returns-clause-sent c =
     let past = c.args.self.now.past.items in
     let noted : (own : Vec ℕ Global) × (own.items ≡ (if c.is_failing-fails.result then [] else c.args.bytes.now)) × (c.note_send-noted.new.past.items ≡ past ++ Sent c.args.conn own c.is_failing-fails.result ∷ []) =
     when_ok c.note_send-noted.result (sym c.is_err.ensures.value ∙ c.if-is_err.false) c.note_send-noted.ensures.past in
-    adds_item past c.note_send-noted.new.past.items (Sent c.args.conn noted.0 c.is_failing-fails.result) (SentDeal c.args.conn c.args.bytes.now false) refl noted.2 (sent_item (0 + length past + 1) c.args.conn noted.0 c.is_failing-fails.result false c.args.bytes.now c.args.bytes.now noted.1 c.if-fails.false refl)
+    adds_item past c.note_send-noted.new.past.items (Sent c.args.conn noted.0 c.is_failing-fails.result) (SentDeal c.args.conn c.args.bytes.now false) refl noted.2
+    (sent_item (0 + length past + 1) c.args.conn noted.0 c.is_failing-fails.result false c.args.bytes.now c.args.bytes.now noted.1 c.if-fails.false refl)
 
 pub invariant_of-self-then-fails-clause-scripted : goal.invariant_of-self-then-fails-clause-scripted
 invariant_of-self-then-fails-clause-scripted c =
