@@ -12,5 +12,5 @@ mod Outcomes
 mod Places
 mod Sends
 mod Steps
-mod Tearing
+pub mod Tearing
 mod Writes

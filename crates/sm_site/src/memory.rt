@@ -108,6 +108,13 @@ impl MemorySite {
         self.reaches = reach;
     }
 
+    /// How many disk calls there were, through all crashes: sizes, reads, writes and syncs. It stands still at the last value of 64 bits.
+    pub fn disk_calls(&self) -> u64
+        ensures { result ≡ (faults_of self.now).disk_calls }
+    {
+        self.disk_calls
+    }
+
     /// What a crash leaves, with a script for the next opening. Choice 0 keeps the old bytes and lengths, choice 1 the new ones,
     /// and any other the new lengths with every pending byte this number. It takes no memory. The new site has nothing pending
     /// and no stop, its script is this one, its transcript and its record of calls are empty; numbers and counts go on.

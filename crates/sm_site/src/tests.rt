@@ -67,6 +67,7 @@ fn the_listed_calls_fail_and_those_behind_a_stop(rt: HostRuntime) -> Result<(), 
     assert_eq!(rt; site.sync(3), Ok(()));
     assert_eq!(rt; site.sync(3), Err(Failed));
     assert_eq!(rt; held(&mut site), Ok((6, *b"abcdef\0\0")));
+    assert_eq!(rt; site.disk_calls(), 10);
     assert_eq!(rt; site.starved(), false);
     Ok(())
 }
