@@ -52,7 +52,7 @@ fn is_valid(fragment: &Fragment) -> bool
     let mut total = 0;
     for sample in samples {
         let size = sample.bytes.len();
-        if size > 16_777_216 - total {
+        if size > 67_108_864 - total {
             return false;
         }
         total += size;

@@ -30,7 +30,7 @@ pub fn short_is_short()
 {}
 
 /// A box that was written is read again, also where further bytes follow: its head, and the box whole.
-pub fn written_is_read()
+pub fn written_box_is_read()
     ensures head { (kind body rest : List ℕ) → length kind ≡ 4 → 8 + length body < 2 ^ 32
         → head_of (box (8 + length body) kind body ++ rest) ≡ Whole kind 8 (8 + length body) }
     ensures whole { (kind body rest : List ℕ) → length kind ≡ 4 → 8 + length body < 2 ^ 32

@@ -10,7 +10,7 @@ use Rattle.sm_model.specs.declared.run.RawFragment.{RawFragment}
 use Rattle.sm_model.specs.declared.run.Run.{Run}
 use Rattle.sm_model.specs.Boxes.{Box, boxes, box_of}
 use Rattle.sm_model.specs.Found.{Found, found, bodies}
-use Rattle.sm_model.specs.Frag.{Line, first_cause, Traf, traf_of, bad_lines, other_lines, moof_lines, last_lines, refusal, run_of, judged, traf, judged_moof, run_in, moof_run, mdat_rest, raw_of, last, judged_frag, frag_in, frag}
+use Rattle.sm_model.specs.Frag.{finish, Line, first_cause, Traf, traf_of, bad_lines, other_lines, moof_lines, last_lines, refusal, run_of, judged, traf, judged_moof, run_in, moof_run, mdat_rest, raw_of, last, judged_frag, frag_in, frag}
 use Rattle.sm_model.specs.Steps.{and_then, is_bad, alone}
 
 abbrev none : Option Cause
@@ -39,7 +39,7 @@ in_two (Some c) L run raw next e = refl
 in_two None L run raw next e = sym e
 
 judged_in_two : (d : Defaults) (m md : List ℕ) (trafs : Found) (t : Traf) → judged_frag d m md trafs t ≡ and_then (judged_moof d trafs t) (last m md)
-unfolding judged_frag judged_moof last
+unfolding judged_frag judged_moof finish
 judged_in_two d m md trafs t =
     let run = run_of d t in
     let raw = raw_of (mdat_rest m md run) run in

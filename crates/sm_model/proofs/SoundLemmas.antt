@@ -19,7 +19,7 @@ use Rattle.sm_model.specs.Boxes.{Box, boxes, box_of}
 use Rattle.sm_model.specs.Fragments.{sample_bytes}
 use Rattle.sm_model.specs.Found.{Found, found, bodies}
 use Rattle.sm_model.specs.Fields.{version, rows, rows_at, row_len, row, trun_fits, tfxd_pair, defaults_of}
-use Rattle.sm_model.specs.Frag.{first_cause, Traf, traf_of, moof_lines, run_of, judged_moof, run_in, moof_run, cut, sizes, rest_of, mdat_rest, last_lines, raw_of, last, frag}
+use Rattle.sm_model.specs.Frag.{finish, rest_behind, lines_behind, first_cause, Traf, traf_of, moof_lines, run_of, judged_moof, run_in, moof_run, cut, sizes, rest_of, mdat_rest, last_lines, raw_of, last, frag}
 use Rattle.sm_model.specs.Steps.{and_then}
 use Rattle.sm_model.specs.Sound.{IsSoundRun, IsSoundFragment, LieInOrder}
 use Rattle.sm_model.proofs.OrderLemmas.{frag_in_two}
@@ -123,28 +123,32 @@ rest-within lead (Some (negsuc n)) body = omega arith
 
 -- ---- a fragment
 
-pub record Finished (m md : List ℕ) (run : Run) (raw : RawFragment) : Type 0 where
-  pub room : sizes run.samples ≤ length (mdat_rest m md run)
-  pub same : raw_of (mdat_rest m md run) run ≡ raw
+pub record Finished (size : ℕ) (md : List ℕ) (run : Run) (raw : RawFragment) : Type 0 where
+  pub room : sizes run.samples ≤ length (rest_behind size md run)
+  pub same : raw_of (rest_behind size md run) run ≡ raw
 
-finished : (m md : List ℕ) (run : Run) (raw : RawFragment) → last m md run ≡ Ok raw → Finished m md run raw
-unfolding last
-finished m md run raw e =
-    let s = says (first_cause (last_lines m md run)) (raw_of (mdat_rest m md run) run) raw e in
-    let h : NoneHolds (last_lines m md run) = all_pass (last_lines m md run) s.none in
-    record { room = ltb-false (length (mdat_rest m md run)) (sizes run.samples) h.1.0; same = s.same }
+finished : (size : ℕ) (md : List ℕ) (run : Run) (raw : RawFragment) → finish size md run ≡ Ok raw → Finished size md run raw
+unfolding finish
+finished size md run raw e =
+    let s = says (first_cause (lines_behind size md run)) (raw_of (rest_behind size md run) run) raw e in
+    let h : NoneHolds (lines_behind size md run) = all_pass (lines_behind size md run) s.none in
+    record { room = ltb-false (length (rest_behind size md run)) (sizes run.samples) h.1.0; same = s.same }
 
-sound_raw : (m md : List ℕ) (run : Run) → IsSoundRun run → sizes run.samples ≤ length (mdat_rest m md run) → IsSoundFragment md (raw_of (mdat_rest m md run) run)
+sound_raw : (size : ℕ) (md : List ℕ) (run : Run) → IsSoundRun run → sizes run.samples ≤ length (rest_behind size md run) → IsSoundFragment md (raw_of (rest_behind size md run) run)
 unfolding raw_of
-sound_raw m md run s h =
-    let n = cut-len (mdat_rest m md run) run.samples in
+sound_raw size md run s h =
+    let n = cut-len (rest_behind size md run) run.samples in
     record {
       some = omega (arith, n, s.some);
       few = omega (arith, n, s.few);
       lasts = s.lasts;
       ends = s.ends;
-      inside = omega (arith, h, cut-sizes (mdat_rest m md run) run.samples h, rest-within (length m + (box_of md).head) run.start (box_of md).body);
+      inside = omega (arith, h, cut-sizes (rest_behind size md run) run.samples h, rest-within (size + (box_of md).head) run.start (box_of md).body);
     }
+
+-- a sound run and the mdat behind it
+pub finish_is_sound : (size : ℕ) (md : List ℕ) (run : Run) (raw : RawFragment) → IsSoundRun run → finish size md run ≡ Ok raw → IsSoundFragment md raw
+finish_is_sound size md run raw s e = let f = finished size md run raw e in subst (IsSoundFragment md) f.same (sound_raw size md run s f.room)
 
 lie_raw : (d : Defaults) (m md : List ℕ) (run : Run) → moof_run d m ≡ Ok run → sizes run.samples ≤ length (mdat_rest m md run) → LieInOrder d m md (raw_of (mdat_rest m md run) run)
 unfolding raw_of
@@ -158,8 +162,8 @@ lie_raw d m md run e h = record {
 both : (d : Defaults) (m md : List ℕ) (r : Result Run Cause) (raw : RawFragment) → moof_run d m ≡ r → and_then r (last m md) ≡ Ok raw → IsSoundFragment md raw × LieInOrder d m md raw
 both d m md (Err c) raw w e = absurd (err_ok c raw e)
 both d m md (Ok run) raw w e =
-    let f = finished m md run raw e in (
-      subst (IsSoundFragment md) f.same (sound_raw m md run (run_is_sound d m run w) f.room),
+    let f = finished (length m) md run raw e in (
+      subst (IsSoundFragment md) f.same (sound_raw (length m) md run (run_is_sound d m run w) f.room),
       subst (LieInOrder d m md) f.same (lie_raw d m md run w f.room),
     )
 

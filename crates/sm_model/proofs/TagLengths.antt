@@ -8,9 +8,9 @@ use Rattle.sm_model.specs.declared.markup.Markup.{Markup}
 use Rattle.sm_model.specs.declared.markup.Lead.{Lead}
 use Rattle.sm_model.specs.declared.markup.Lead.TheVariants as lead
 use Rattle.sm_model.specs.Digits.{is_digit, decimal_from}
-use Rattle.sm_model.specs.TagBytes.{is_tag_start, is_tag_byte, is_space, is_text, front, behind}
-use Rattle.sm_model.specs.TagParts.{Stop, short, wrong, ◌>>=◌, name_at, byte_at, quote_at, word_at, named, or_else, is_scalar, number_end, number_at, reference_at, piece_at, opening_at, mark_behind, mark_at, has_name}
-use Rattle.sm_model.specs.TagMarkup.{past, finish_at, comment_at, instruction_at, lead_inside, lead_stray, lead_outside, lead_at}
+use Rattle.sm_model.specs.TagBytes.{is_tag_start, is_tag_byte, is_space, is_text, prefix, remaining}
+use Rattle.sm_model.specs.TagParts.{Stop, short, wrong, ◌>>=◌, name_at, byte_at, quote_at, word_at, entity_at, or_else, is_scalar, number_end, number_at, reference_at, piece_at, opening_at, mark_behind, mark_at, has_name}
+use Rattle.sm_model.specs.TagMarkup.{past_word, finish_at, comment_at, instruction_at, lead_inside, lead_stray, lead_outside, lead_at}
 use Rattle.sm_model.specs.TagsRead.{value_by, value_in, attribute_in, attribute_by, tail_by, tail_in, start_in, markup_in}
 
 -- no more than n bytes are behind it
@@ -33,27 +33,27 @@ pub choice : {X : Type 0} (f : X → List ℕ) (n : ℕ) (b : Bool) (r s : Resul
 choice f n true r s p q = p
 choice f n false r s p q = q
 
-pub behind_le : (p : ℕ → Bool) (b : List ℕ) → length (behind p b) ≤ length b
+pub behind_le : (p : ℕ → Bool) (b : List ℕ) → length (remaining p b) ≤ length b
 behind_le p [] = omega arith
 behind_le p (c ∷ cs) = behind_by (p c) (behind_le p cs)
   where
-    behind_by : (t : Bool) → length (behind p cs) ≤ length cs → length (cond t (behind p cs) (c ∷ cs)) ≤ length (c ∷ cs)
+    behind_by : (t : Bool) → length (remaining p cs) ≤ length cs → length (cond t (remaining p cs) (c ∷ cs)) ≤ length (c ∷ cs)
     behind_by true h = omega (arith, h)
     behind_by false h = omega arith
 
-pub parted : (p : ℕ → Bool) (b : List ℕ) → length (front p b) + length (behind p b) ≡ length b
+pub parted : (p : ℕ → Bool) (b : List ℕ) → length (prefix p b) + length (remaining p b) ≡ length b
 parted p [] = refl
 parted p (c ∷ cs) = parted_by (p c) (parted p cs)
   where
-    parted_by : (t : Bool) → length (front p cs) + length (behind p cs) ≡ length cs
-        → length (cond t (c ∷ front p cs) []) + length (cond t (behind p cs) (c ∷ cs)) ≡ length (c ∷ cs)
+    parted_by : (t : Bool) → length (prefix p cs) + length (remaining p cs) ≡ length cs
+        → length (cond t (c ∷ prefix p cs) []) + length (cond t (remaining p cs) (c ∷ cs)) ≡ length (c ∷ cs)
     parted_by true h = omega (arith, h)
     parted_by false h = omega arith
 
 pub name_within : (b : List ℕ) (n : ℕ) → length b ≤ n → Within (λ x. x.1) n (name_at b)
 unfolding name_at
 name_within [] n le = tt
-name_within (c ∷ cs) n le = choice (λ x. x.1) n (is_tag_start c) (Ok (front is_tag_byte (c ∷ cs), behind is_tag_byte (c ∷ cs))) (Err wrong) (omega (arith, behind_le is_tag_byte (c ∷ cs), le)) tt
+name_within (c ∷ cs) n le = choice (λ x. x.1) n (is_tag_start c) (Ok (prefix is_tag_byte (c ∷ cs), remaining is_tag_byte (c ∷ cs))) (Err wrong) (omega (arith, behind_le is_tag_byte (c ∷ cs), le)) tt
 
 -- one byte fewer
 byte_within : (c : ℕ) (b : List ℕ) (n : ℕ) → length b ≤ suc n → Within all n (byte_at c b)
@@ -71,8 +71,8 @@ word_within word b n le =
     choice all n (starts_with nat_eq b word) (Ok (drop (length word) b)) (cond (starts_with nat_eq word b) (Err short) (Err wrong)) (omega (arith, length-drop (length word) b, le))
     (choice all n (starts_with nat_eq word b) (Err short) (Err wrong) tt tt)
 
-named_within : (word : List ℕ) (c : ℕ) (b : List ℕ) (n : ℕ) → length b ≤ n → Within (λ x. x.1) n (named word c b)
-unfolding named
+named_within : (word : List ℕ) (c : ℕ) (b : List ℕ) (n : ℕ) → length b ≤ n → Within (λ x. x.1) n (entity_at word c b)
+unfolding entity_at
 named_within word c b n le = bind all (λ x. x.1) n n (word_at word b) (λ rest. Ok (c, rest)) (word_within word b n le) (λ x h. h)
 
 or_within : {X : Type 0} (f : X → List ℕ) (n : ℕ) (r s : Result X Stop) → Within f n r → Within f n s → Within f n (or_else r s)
@@ -89,13 +89,13 @@ end_within (d ∷ ds) (c ∷ cs) n le = choice (λ x. x.1) n (eqb c 59 && is_sca
 number_within : (b : List ℕ) (n : ℕ) → length b ≤ n → Within (λ x. x.1) n (number_at b)
 unfolding number_at
 number_within b n le =
-    bind all (λ x. x.1) n n (byte_at 35 b) (λ rest. number_end (front is_digit rest) (behind is_digit rest)) (byte_within 35 b n (omega (arith, le)))
-    (λ rest h. end_within (front is_digit rest) (behind is_digit rest) n (omega (arith, h, behind_le is_digit rest)))
+    bind all (λ x. x.1) n n (byte_at 35 b) (λ rest. number_end (prefix is_digit rest) (remaining is_digit rest)) (byte_within 35 b n (omega (arith, le)))
+    (λ rest h. end_within (prefix is_digit rest) (remaining is_digit rest) n (omega (arith, h, behind_le is_digit rest)))
 
 reference_within : (b : List ℕ) (n : ℕ) → length b ≤ n → Within (λ x. x.1) n (reference_at b)
 unfolding reference_at
 reference_within b n le =
-    let w : (word : List ℕ) (c : ℕ) → Within (λ x. x.1) n (named word c b) = λ word c. named_within word c b n le in
+    let w : (word : List ℕ) (c : ℕ) → Within (λ x. x.1) n (entity_at word c b) = λ word c. named_within word c b n le in
     let f : ℕ × List ℕ → List ℕ = λ x. x.1 in
     or_within f n _ (number_at b)
     (or_within f n _ _ (or_within f n _ _ (or_within f n _ _ (or_within f n _ _ (w (codes "lt;") 60) (w (codes "gt;") 62)) (w (codes "amp;") 38)) (w (codes "quot;") 34)) (w (codes "apos;") 39))
@@ -118,8 +118,8 @@ pub opening_within : (b : List ℕ) (n : ℕ) → length b ≤ suc n → Within 
 unfolding opening_at
 opening_within b n le =
     bind (λ x. x.1) (λ x. x.2) (suc n) n (name_at b) _ (name_within b (suc n) le)
-    (λ name h. bind all (λ x. x.2) n n (byte_at 61 (behind is_space name.1)) _ (byte_within 61 (behind is_space name.1) n (omega (arith, h, behind_le is_space name.1)))
-    (λ rest k. bind (λ x. x.1) (λ x. x.2) n n (quote_at (behind is_space rest)) _ (quote_within (behind is_space rest) n (omega (arith, k, behind_le is_space rest))) (λ quote m. m)))
+    (λ name h. bind all (λ x. x.2) n n (byte_at 61 (remaining is_space name.1)) _ (byte_within 61 (remaining is_space name.1) n (omega (arith, h, behind_le is_space name.1)))
+    (λ rest k. bind (λ x. x.1) (λ x. x.2) n n (quote_at (remaining is_space rest)) _ (quote_within (remaining is_space rest) n (omega (arith, k, behind_le is_space rest))) (λ quote m. m)))
 
 value_by_within : (n : ℕ) (text : List ℕ) (r : Result (Bool × List ℕ × List ℕ) Stop) (go : List ℕ → List ℕ → Result (List ℕ × List ℕ) Stop) → Within (λ x. x.2) n r
     → ((t rest : List ℕ) → length rest ≤ n → Within (λ x. x.1) n (go t rest)) → Within (λ x. x.1) n (value_by text r go)
@@ -150,7 +150,7 @@ mark_space spaced (c ∷ cs) n le =
 
 pub mark_within : (b : List ℕ) (n : ℕ) → length b ≤ n → Within (λ x. x.1) n (mark_at b)
 unfolding mark_at
-mark_within b n le = mark_space (ltb (length (behind is_space b)) (length b)) (behind is_space b) n (omega (arith, le, behind_le is_space b))
+mark_within b n le = mark_space (ltb (length (remaining is_space b)) (length b)) (remaining is_space b) n (omega (arith, le, behind_le is_space b))
 
 attribute_by_within : (n : ℕ) (seen : List Attribute) (r : Result (Attribute × List ℕ) Stop) (go : List Attribute → List ℕ → Result (List Attribute × Bool × List ℕ) Stop) → Within (λ x. x.1) n r
     → ((s : List Attribute) (rest : List ℕ) → length rest ≤ n → Within (λ x. x.2) n (go s rest)) → Within (λ x. x.2) n (attribute_by seen r go)
@@ -175,27 +175,27 @@ start_within m b n le =
     bind (λ x. x.1) (λ x. x.1) n n (name_at b) _ (name_within b n le)
     (λ x h. bind (λ y. y.2) (λ y. y.1) n n (tail_in m [] x.1) _ (tail_within m [] x.1 n h) (λ y k. k))
 
-past_within : (word b : List ℕ) (n : ℕ) → length b ≤ n → Within all n (past word b)
-unfolding past
+past_within : (word b : List ℕ) (n : ℕ) → length b ≤ n → Within all n (past_word word b)
+unfolding past_word
 past_within word [] n le = tt
 past_within word (c ∷ cs) n le =
-    choice all n (starts_with nat_eq (c ∷ cs) word) (Ok (drop (length word) (c ∷ cs))) (past word cs) (omega (arith, length-drop (length word) (c ∷ cs), le)) (past_within word cs n (omega (arith, le)))
+    choice all n (starts_with nat_eq (c ∷ cs) word) (Ok (drop (length word) (c ∷ cs))) (past_word word cs) (omega (arith, length-drop (length word) (c ∷ cs), le)) (past_within word cs n (omega (arith, le)))
 
 finish_within : (b : List ℕ) (n : ℕ) → length b ≤ n → Within (λ x. x.1) n (finish_at b)
 unfolding finish_at
 finish_within b n le =
     bind (λ x. x.1) (λ x. x.1) n n (name_at b) _ (name_within b n le)
-    (λ name h. bind all (λ x. x.1) n n (byte_at 62 (behind is_space name.1)) _ (byte_within 62 (behind is_space name.1) n (omega (arith, h, behind_le is_space name.1))) (λ rest k. k))
+    (λ name h. bind all (λ x. x.1) n n (byte_at 62 (remaining is_space name.1)) _ (byte_within 62 (remaining is_space name.1) n (omega (arith, h, behind_le is_space name.1))) (λ rest k. k))
 
 comment_within : (b : List ℕ) (n : ℕ) → length b ≤ n → Within (λ x. x.1) n (comment_at b)
 unfolding comment_at
 comment_within b n le =
     bind all (λ x. x.1) n n (word_at (codes "--") b) _ (word_within (codes "--") b n le)
-    (λ rest h. bind all (λ x. x.1) n n (past (codes "-->") rest) _ (past_within (codes "-->") rest n h) (λ more k. k))
+    (λ rest h. bind all (λ x. x.1) n n (past_word (codes "-->") rest) _ (past_within (codes "-->") rest n h) (λ more k. k))
 
 instruction_within : (b : List ℕ) (n : ℕ) → length b ≤ n → Within (λ x. x.1) n (instruction_at b)
 unfolding instruction_at
-instruction_within b n le = bind all (λ x. x.1) n n (past (codes "?>") b) _ (past_within (codes "?>") b n le) (λ more k. k)
+instruction_within b n le = bind all (λ x. x.1) n n (past_word (codes "?>") b) _ (past_within (codes "?>") b n le) (λ more k. k)
 
 pub markup_within : (m : ℕ) (b : List ℕ) (n : ℕ) → length b ≤ n → Within (λ x. x.1) n (markup_in m b)
 unfolding markup_in
@@ -228,11 +228,11 @@ outside_within : (n : ℕ) (b : List ℕ) → length b ≤ n → LeadWithin n (l
 outside_within n [] le = tt
 outside_within n (c ∷ cs) le = outside_by (eqb c 60)
   where
-    outside_by : (t : Bool) → LeadWithin n (cond t (lead.Tag, length (c ∷ cs), cs) (lead_stray (behind is_text (c ∷ cs))))
+    outside_by : (t : Bool) → LeadWithin n (cond t (lead.Tag, length (c ∷ cs), cs) (lead_stray (remaining is_text (c ∷ cs))))
     outside_by true = omega (arith, le)
-    outside_by false = stray_within n (behind is_text (c ∷ cs))
+    outside_by false = stray_within n (remaining is_text (c ∷ cs))
 
 pub lead_within : (inside : Bool) (b : List ℕ) (n : ℕ) → length b ≤ n → LeadWithin n (lead_at inside b)
 unfolding lead_at
-lead_within true b n le = inside_within n b (front is_text b) (behind is_text b) (omega (arith, parted is_text b, le))
-lead_within false b n le = outside_within n (behind is_space b) (omega (arith, behind_le is_space b, le))
+lead_within true b n le = inside_within n b (prefix is_text b) (remaining is_text b) (omega (arith, parted is_text b, le))
+lead_within false b n le = outside_within n (remaining is_space b) (omega (arith, behind_le is_space b, le))

@@ -14,7 +14,7 @@ use Rattle.sm_model.specs.TagParts.{Stop, short, wrong, ◌>>=◌, name_at, piec
 use Rattle.sm_model.specs.TagMarkup.{Starts, unnamed, named, Markups, instruction_at, comment_at, finish_at, starting, lead_at}
 use Rattle.sm_model.specs.Tags as whole
 use Rattle.sm_model.specs.Tags.{Left, Founds, bare, lost, stray, marked, skipped, Next, is_last, Runs, ends, follows, TagsOf, begin, without_zeros, without_mark}
-use Rattle.sm_model.specs.TagsRead.{value_by, value_in, attribute_in, attribute_by, tail_by, tail_in, start_in, markup_in, markup_by, lead_by, found_in, next_by, next_from, next_in, run_by, run_in, tags_of}
+use Rattle.sm_model.specs.TagsRead.{value_by, value_in, attribute_in, attribute_by, tail_by, tail_in, start_in, markup_in, markup_by, lead_by, found_in, next_by, next_from, next_in, run_by, tags_in, tags_of}
 use Rattle.sm_model.proofs.TagLengths.{Within, name_within, piece_within, opening_within, attribute_within, mark_within, markup_within, LeadWithin, lead_within}
 
 -- ---- values
@@ -193,7 +193,7 @@ found_within (suc m) inside b (suc n) le =
 
 -- ---- the next tag
 
-next_made : (n : ℕ) (s : Left) (bad : Option ℕ) → length s.rest ≤ n → whole.goes_on s (next_from (suc n) s bad) bad
+next_made : (n : ℕ) (s : Left) (bad : Option ℕ) → length s.rest ≤ n → whole.continues s (next_from (suc n) s bad) bad
 next_made n s (Some at) le = refl
 next_made n s None le =
     (found_in (suc n) (not (eqb (length s.open_names) 0)) s.rest, found_total n (not (eqb (length s.open_names) 0)) s.rest le, refl)
@@ -243,14 +243,14 @@ run_done : (s : Left) (tag : Tag) (t : Left) (last : Bool) (tags : List Tag) →
 run_done s tag t true tags n e k = ends t n e
 run_done s tag t false tags n e k = follows t n e (k refl)
 
-run_total : (n : ℕ) (s : Left) → length s.rest ≤ n → Runs s (run_in (suc n) s)
-unfolding run_in
+run_total : (n : ℕ) (s : Left) → length s.rest ≤ n → Runs s (tags_in (suc n) s)
+unfolding tags_in
 run_total zero s le =
     let step = next_in 1 s in
     run_done s step.0 step.1 (is_last step.0) [] (next_total zero s le) refl (λ e. absurd (omega (arith, next_moves zero s le e)))
 run_total (suc n) s le =
     let step = next_in (suc (suc n)) s in
-    run_done s step.0 step.1 (is_last step.0) (run_in (suc n) step.1) (next_total (suc n) s le) refl
+    run_done s step.0 step.1 (is_last step.0) (tags_in (suc n) step.1) (next_total (suc n) s le) refl
     (λ e. run_total n step.1 (omega (arith, next_moves (suc n) s le e)))
 
 without_zeros_le : (b : List ℕ) → length (without_zeros b) ≤ length b
@@ -278,5 +278,5 @@ unfolding tags_of
 tags_total text =
     let n : ℕ = length text + 1 in
     let k : length text + 2 ≡ suc n = omega arith in
-    subst (λ (m : ℕ). Runs (begin text) (run_in m (begin text))) (sym k)
+    subst (λ (m : ℕ). Runs (begin text) (tags_in m (begin text))) (sym k)
     (run_total n (begin text) (omega (arith, without_mark_le (without_zeros text), without_zeros_le text)))

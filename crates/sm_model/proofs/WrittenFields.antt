@@ -12,7 +12,7 @@ use Rattle.sm_model.specs.declared.run.Defaults.{Defaults}
 use Rattle.sm_model.specs.Numbers.{number32, number64, number32_at, number64_at}
 use Rattle.sm_model.specs.FragText.{pair}
 use Rattle.sm_model.specs.FragText as text
-use Rattle.sm_model.specs.Fields.{has, field, version, tfhd_len, tfhd_fits, rows_at, row_len, trun_fits, rows, start, tfxd_fits, tfxd_pair, pair_at, pair_len, tfrf_fits, tfrf_pair, pairs}
+use Rattle.sm_model.specs.Fields.{has, field, version, tfhd_len, tfhd_fits, rows_at, row_len, trun_fits, rows, data_offset, tfxd_fits, tfxd_pair, pair_at, pair_len, tfrf_fits, tfrf_pair, pairs}
 use Rattle.sm_model.specs.Fragments.{IsNarrow, IsWide}
 use Rattle.sm_model.specs.Written.{row_of}
 use Rattle.sm_model.proofs.WrittenBoxes.{len32, len64, front32, front64, past32, past64}
@@ -146,9 +146,9 @@ abbrev pub run_head : ℕ → ℕ → ℕ → List ℕ
 run_head w n st = number32 w ++ (number32 n ++ number32 st)
 
 abbrev pub run_body : ℕ → Bool → List Sample → List ℕ
-run_body st signed ss = number32 (text.run_word signed) ++ (number32 (length ss) ++ (number32 st ++ flat_map text.row ss))
+run_body st signed ss = number32 (text.run_word signed) ++ (number32 (length ss) ++ (number32 st ++ flat_map text.row_text ss))
 
-run_is : (st : ℕ) (signed : Bool) (ss : List Sample) → run_body st signed ss ≡ run_head (text.run_word signed) (length ss) st ++ flat_map text.row ss
+run_is : (st : ℕ) (signed : Bool) (ss : List Sample) → run_body st signed ss ≡ run_head (text.run_word signed) (length ss) st ++ flat_map text.row_text ss
 run_is st signed ss = simp append_assoc
 
 run_head_len : (w n st : ℕ) → length (run_head w n st) ≡ 12
@@ -159,22 +159,22 @@ version_small true = omega arith
 version_small false = omega arith
 
 run_first_word : (st : ℕ) (signed : Bool) (ss : List Sample) → number32_at 0 (run_body st signed ss) ≡ text.run_word signed
-run_first_word st signed ss = front32 (text.run_word signed) (number32 (length ss) ++ (number32 st ++ flat_map text.row ss)) (version_small signed)
+run_first_word st signed ss = front32 (text.run_word signed) (number32 (length ss) ++ (number32 st ++ flat_map text.row_text ss)) (version_small signed)
 
 pub run_count : (st : ℕ) (signed : Bool) (ss : List Sample) → length ss < 2 ^ 32 → number32_at 4 (run_body st signed ss) ≡ length ss
 run_count st signed ss lt =
-    past32 (number32 (text.run_word signed)) (number32 (length ss) ++ (number32 st ++ flat_map text.row ss)) 4 0 (omega (arith, len32 (text.run_word signed)))
-    ∙ front32 (length ss) (number32 st ++ flat_map text.row ss) lt
+    past32 (number32 (text.run_word signed)) (number32 (length ss) ++ (number32 st ++ flat_map text.row_text ss)) 4 0 (omega (arith, len32 (text.run_word signed)))
+    ∙ front32 (length ss) (number32 st ++ flat_map text.row_text ss) lt
 
 run_place : (st : ℕ) (signed : Bool) (ss : List Sample) → st < 2 ^ 32 → number32_at 8 (run_body st signed ss) ≡ st
 run_place st signed ss lt =
-    past32 (number32 (text.run_word signed)) (number32 (length ss) ++ (number32 st ++ flat_map text.row ss)) 8 4 (omega (arith, len32 (text.run_word signed)))
-    ∙ past32 (number32 (length ss)) (number32 st ++ flat_map text.row ss) 4 0 (omega (arith, len32 (length ss)))
-    ∙ front32 st (flat_map text.row ss) lt
+    past32 (number32 (text.run_word signed)) (number32 (length ss) ++ (number32 st ++ flat_map text.row_text ss)) 8 4 (omega (arith, len32 (text.run_word signed)))
+    ∙ past32 (number32 (length ss)) (number32 st ++ flat_map text.row_text ss) 4 0 (omega (arith, len32 (length ss)))
+    ∙ front32 st (flat_map text.row_text ss) lt
 
 pub run_body_len : (st : ℕ) (signed : Bool) (ss : List Sample) → length (run_body st signed ss) ≡ 12 + length ss * 16
 run_body_len st signed ss =
-    ap length (run_is st signed ss) ∙ omega (arith, length-append (run_head (text.run_word signed) (length ss) st) (flat_map text.row ss), run_head_len (text.run_word signed) (length ss) st, rows_text_len ss)
+    ap length (run_is st signed ss) ∙ omega (arith, length-append (run_head (text.run_word signed) (length ss) st) (flat_map text.row_text ss), run_head_len (text.run_word signed) (length ss) st, rows_text_len ss)
 
 run_first : (st : ℕ) (signed : Bool) (ss : List Sample) → version (run_body st signed ss) ≡ cond signed 1 0
 unfolding version number32
@@ -212,8 +212,8 @@ run_fits st signed ss lt =
 pub small_signed : (n : ℕ) → n < 2 ^ 31 → cast_signed w32 n ≡ pos n
 small_signed n lt = omega (arith, ints)
 
-pub run_start : (st : ℕ) (signed : Bool) (ss : List Sample) → st < 2 ^ 32 → start (run_body st signed ss) ≡ Some (cast_signed w32 st)
-unfolding start
+pub run_start : (st : ℕ) (signed : Bool) (ss : List Sample) → st < 2 ^ 32 → data_offset (run_body st signed ss) ≡ Some (cast_signed w32 st)
+unfolding data_offset
 run_start st signed ss lt =
     let h : has (number32_at 0 (run_body st signed ss)) 0x1 ≡ true = ap (λ (w : ℕ). has w 0x1) (run_first_word st signed ss) ∙ (words signed).start in
     rw (h, run_place st signed ss lt) refl

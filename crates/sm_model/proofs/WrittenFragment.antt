@@ -20,7 +20,7 @@ use Rattle.sm_model.specs.FragText as text
 use Rattle.sm_model.specs.Boxes.{Box, boxes, box_of, IsOneBox}
 use Rattle.sm_model.specs.Fragments.{sample_bytes}
 use Rattle.sm_model.specs.Found.{found, bodies, is_kind}
-use Rattle.sm_model.specs.Frag.{first_cause, Traf, traf_of, bad_lines, other_lines, moof_lines, last_lines, run_of, judged_moof, run_in, moof_run, rest_of, mdat_rest, sizes, raw_of, last, frag}
+use Rattle.sm_model.specs.Frag.{finish, first_cause, Traf, traf_of, bad_lines, other_lines, moof_lines, last_lines, run_of, judged_moof, run_in, moof_run, rest_of, mdat_rest, sizes, raw_of, last, frag}
 use Rattle.sm_model.specs.Steps.{and_then}
 use Rattle.sm_model.specs.Written.{IsWritten, row_of, run_again, raw_again}
 use Rattle.sm_model.proofs.OrderLemmas.{frag_in_two}
@@ -43,18 +43,18 @@ abbrev pub start_of : Fragment → List (ℕ × ℕ) → ℕ
 start_of f ahead = moof_len f.samples ahead + 8
 
 abbrev pub moof_body : ℕ → ℕ → Fragment → List (ℕ × ℕ) → List ℕ
-moof_body seq id f ahead = text.mfhd seq ++ text.traf id (start_of f ahead) f ahead
+moof_body seq id f ahead = text.mfhd seq ++ text.traf_box id (start_of f ahead) f ahead
 
 pub moof_text : (seq id : ℕ) (f : Fragment) (ahead : List (ℕ × ℕ)) → length f.samples ≤ 65536 → length ahead ≤ 255 → IsText (moof_len f.samples ahead) (codes "moof") (moof_body seq id f ahead)
 moof_text seq id f ahead le few =
     let t = box_text_len (traf_size f ahead) (codes "traf") (traf_body id (start_of f ahead) f ahead) (traf_text id (start_of f ahead) f ahead le few) in
     let h = box_text_len 16 (codes "mfhd") (seq_body seq) (seq_text seq) in
-    record { size_is = omega (arith, t, h, length-append (text.mfhd seq) (text.traf id (start_of f ahead) f ahead)); fits = omega (arith, ahead_small ahead few); kind_is = refl }
+    record { size_is = omega (arith, t, h, length-append (text.mfhd seq) (text.traf_box id (start_of f ahead) f ahead)); fits = omega (arith, ahead_small ahead few); kind_is = refl }
 
 abbrev pub sample_text : List Sample → List ℕ
 sample_text ss = flat_map (λ s. s.bytes) ss
 
-pub mdat_text : (ss : List Sample) → sample_bytes ss ≤ 16777216 → IsText (8 + sample_bytes ss) (codes "mdat") (sample_text ss)
+pub mdat_text : (ss : List Sample) → sample_bytes ss ≤ 67108864 → IsText (8 + sample_bytes ss) (codes "mdat") (sample_text ss)
 mdat_text ss le = record { size_is = omega (arith, length-flat_map (λ s. s.bytes) ss); fits = omega (arith, le); kind_is = refl }
 
 -- each of the two texts is one whole box
@@ -89,7 +89,7 @@ two_boxes seq id f ahead w =
 moof_boxes : (seq id : ℕ) (f : Fragment) (ahead : List (ℕ × ℕ)) → length f.samples ≤ 65536 → length ahead ≤ 255
     → boxes (moof_body seq id f ahead) ≡ Some (made 16 (codes "mfhd") (seq_body seq) ∷ made (traf_size f ahead) (codes "traf") (traf_body id (start_of f ahead) f ahead) ∷ [])
 moof_boxes seq id f ahead le few =
-    one_box 16 (codes "mfhd") (seq_body seq) (text.traf id (start_of f ahead) f ahead) (seq_text seq)
+    one_box 16 (codes "mfhd") (seq_body seq) (text.traf_box id (start_of f ahead) f ahead) (seq_text seq)
     ∙ ap (option_map (λ (xs : List Box). made 16 (codes "mfhd") (seq_body seq) ∷ xs))
     (boxes-end (traf_size f ahead) (codes "traf") (traf_body id (start_of f ahead) f ahead) (traf_text id (start_of f ahead) f ahead le few))
 
@@ -158,7 +158,7 @@ rest_again seq id f ahead w =
 
 last_again : (seq id : ℕ) (f : Fragment) (ahead : List (ℕ × ℕ)) → IsWritten id f ahead
     → last (text.moof seq id f ahead) (text.mdat f.samples) (run_again id (start_of f ahead) f ahead) ≡ Ok (raw_again id f ahead)
-unfolding last raw_of
+unfolding finish raw_of
 last_again seq id f ahead w =
     let m = text.moof seq id f ahead in
     let md = text.mdat f.samples in

@@ -29,7 +29,7 @@ fours a b c d rest la lb lc ld =
     let p3 = past32 (number32 a) (number32 b ++ (number32 c ++ (number32 d ++ rest))) 12 8 (omega (arith, len32 a)) ∙ past32 (number32 b) (number32 c ++ (number32 d ++ rest)) 8 4 (omega (arith, len32 b)) ∙ past32 (number32 c) (number32 d ++ rest) 4 0 (omega (arith, len32 c)) ∙ front32 d rest ld in
     (ap (number32_at 0) e ∙ p0, ap (number32_at 4) e ∙ p1, ap (number32_at 8) e ∙ p2, ap (number32_at 12) e ∙ p3)
 
-pub row_text_len : (s : Sample) → length (text.row s) ≡ 16
+pub row_text_len : (s : Sample) → length (text.row_text s) ≡ 16
 row_text_len s =
     omega (
       arith,
@@ -42,22 +42,22 @@ row_text_len s =
       length-append (number32 s.flags) (number32 s.offset),
     )
 
-pub rows_text_len : (ss : List Sample) → length (flat_map text.row ss) ≡ length ss * 16
+pub rows_text_len : (ss : List Sample) → length (flat_map text.row_text ss) ≡ length ss * 16
 rows_text_len [] = refl
 rows_text_len (s ∷ ss) =
-    let e = ap length (flat_map-cons text.row s ss) in
-    omega (arith, e, length-append (text.row s) (flat_map text.row ss), row_text_len s, rows_text_len ss)
+    let e = ap length (flat_map-cons text.row_text s ss) in
+    omega (arith, e, length-append (text.row_text s) (flat_map text.row_text ss), row_text_len s, rows_text_len ss)
 
 -- the number at a place of a row that stands at i
 pub at_row : (head : List ℕ) (ss : List Sample) (i j : ℕ) (s : Sample) (front back : List Sample) → ss ≡ front ++ s ∷ back → length front ≡ i
-    → number32_at (length head + i * 16 + j) (head ++ flat_map text.row ss) ≡ number32_at j (text.row s ++ flat_map text.row back)
+    → number32_at (length head + i * 16 + j) (head ++ flat_map text.row_text ss) ≡ number32_at j (text.row_text s ++ flat_map text.row_text back)
 at_row head ss i j s front back e n =
-    let f : flat_map text.row ss ≡ flat_map text.row front ++ (text.row s ++ flat_map text.row back)
-    = ap (flat_map text.row) e ∙ flat_map-append text.row front (s ∷ back) ∙ ap (λ (x : List ℕ). flat_map text.row front ++ x) (flat_map-cons text.row s back) in
+    let f : flat_map text.row_text ss ≡ flat_map text.row_text front ++ (text.row_text s ++ flat_map text.row_text back)
+    = ap (flat_map text.row_text) e ∙ flat_map-append text.row_text front (s ∷ back) ∙ ap (λ (x : List ℕ). flat_map text.row_text front ++ x) (flat_map-cons text.row_text s back) in
     let l = rows_text_len front in
-    past32 head (flat_map text.row ss) (length head + i * 16 + j) (i * 16 + j) (omega arith)
+    past32 head (flat_map text.row_text ss) (length head + i * 16 + j) (i * 16 + j) (omega arith)
     ∙ ap (number32_at (i * 16 + j)) f
-    ∙ past32 (flat_map text.row front) (text.row s ++ flat_map text.row back) (i * 16 + j) j (omega (arith, l, ap (λ (k : ℕ). k * 16) n))
+    ∙ past32 (flat_map text.row_text front) (text.row_text s ++ flat_map text.row_text back) (i * 16 + j) j (omega (arith, l, ap (λ (k : ℕ). k * 16) n))
 
 -- version and flags of a canonical trun: no first sample flags, and all four fields in each row
 pub record IsWord (w : ℕ) : Type 0 where
@@ -97,10 +97,10 @@ at_is : (b : List ℕ) (x y n : ℕ) → x ≡ y → number32_at y b ≡ n → n
 at_is b x y n e h = ap (λ (k : ℕ). number32_at k b) e ∙ h
 
 is_row : (head : List ℕ) (ss : List Sample) (i at : ℕ) (s : Sample) (front back : List Sample) → ss ≡ front ++ s ∷ back → length front ≡ i → length head + i * 16 ≡ at → IsNarrow s
-    → IsRow (head ++ flat_map text.row ss) at s
+    → IsRow (head ++ flat_map text.row_text ss) at s
 is_row head ss i at s front back e n a f =
-    let b = head ++ flat_map text.row ss in
-    let q = fours s.duration (length s.bytes) s.flags s.offset (flat_map text.row back) f.duration f.size f.flags f.offset in
+    let b = head ++ flat_map text.row_text ss in
+    let q = fours s.duration (length s.bytes) s.flags s.offset (flat_map text.row_text back) f.duration f.size f.flags f.offset in
     record {
       duration = at_is b at (length head + i * 16 + 0) s.duration (omega (arith, a)) (at_row head ss i 0 s front back e n ∙ q.0);
       size = at_is b (at + 4) (length head + i * 16 + 4) (length s.bytes) (omega (arith, a)) (at_row head ss i 4 s front back e n ∙ q.1);
@@ -111,22 +111,22 @@ is_row head ss i at s front back e n a f =
 split : (ss : List Sample) (i : ℕ) (e : Sample) → i < length ss → ss ≡ take i ss ++ get_or ss i e ∷ drop (suc i) ss
 split ss i e lt = sym (take-append-drop i ss) ∙ ap (λ (x : List Sample). take i ss ++ x) (drop-cons ss i e lt)
 
-row_again : (d : Defaults) (head : List ℕ) (ss : List Sample) (w i : ℕ) (e : Sample) → number32_at 0 (head ++ flat_map text.row ss) ≡ w → IsWord w → length head ≡ 12 → All IsNarrow ss → i < length ss
-    → row d (head ++ flat_map text.row ss) i ≡ row_of (get_or ss i e)
+row_again : (d : Defaults) (head : List ℕ) (ss : List Sample) (w i : ℕ) (e : Sample) → number32_at 0 (head ++ flat_map text.row_text ss) ≡ w → IsWord w → length head ≡ 12 → All IsNarrow ss → i < length ss
+    → row d (head ++ flat_map text.row_text ss) i ≡ row_of (get_or ss i e)
 unfolding row
 row_again d head ss w i e z h l n lt =
-    let b = head ++ flat_map text.row ss in
+    let b = head ++ flat_map text.row_text ss in
     let at : length head + i * 16 ≡ rows_at w + i * row_len w = omega (arith, l, rows_at_is w h, ap (λ (k : ℕ). i * k) (row_len_is w h)) in
     let r : IsRow b (rows_at w + i * row_len w) (get_or ss i e)
     = is_row head ss i (rows_at w + i * row_len w) (get_or ss i e) (take i ss) (drop (suc i) ss) (split ss i e lt) (length-take-le i ss (omega arith)) at (n i e lt) in
     ap (λ (k : ℕ). row_at d k (rows_at k + i * row_len k) b (eqb i 0)) z ∙ row_is d w (rows_at w + i * row_len w) b (eqb i 0) (get_or ss i e) h r
 
-pub rows_again : (d : Defaults) (head : List ℕ) (ss : List Sample) (w : ℕ) (e : Sample) → number32_at 0 (head ++ flat_map text.row ss) ≡ w → IsWord w → length head ≡ 12 → All IsNarrow ss
-    → (i : ℕ) → i ≤ length ss → rows d (head ++ flat_map text.row ss) i ≡ map row_of (take i ss)
+pub rows_again : (d : Defaults) (head : List ℕ) (ss : List Sample) (w : ℕ) (e : Sample) → number32_at 0 (head ++ flat_map text.row_text ss) ≡ w → IsWord w → length head ≡ 12 → All IsNarrow ss
+    → (i : ℕ) → i ≤ length ss → rows d (head ++ flat_map text.row_text ss) i ≡ map row_of (take i ss)
 unfolding rows
 rows_again d head ss w e z h l n zero le = refl
 rows_again d head ss w e z h l n (suc i) le =
-    let b = head ++ flat_map text.row ss in
+    let b = head ++ flat_map text.row_text ss in
     ap (λ (rs : List Row). rs ++ row d b i ∷ []) (rows_again d head ss w e z h l n i (omega arith))
     ∙ ap (λ (r : Row). map row_of (take i ss) ++ r ∷ []) (row_again d head ss w i e z h l n (omega arith))
     ∙ sym (ap (map row_of) (take-suc ss i e (omega arith)) ∙ map-append row_of (take i ss) (get_or ss i e ∷ []))

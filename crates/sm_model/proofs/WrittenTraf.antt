@@ -59,7 +59,7 @@ traf_boxes id st f ahead =
     ∷ ahead_boxes ahead
 
 abbrev pub traf_body : ℕ → ℕ → Fragment → List (ℕ × ℕ) → List ℕ
-traf_body id st f ahead = text.tfhd id ++ (text.trun st f.signed f.samples ++ (text.tfxd f.time f.duration ++ text.tfrf ahead))
+traf_body id st f ahead = text.tfhd id ++ (text.trun st f.signed f.samples ++ (text.tfxd_box f.time f.duration ++ text.tfrf ahead))
 
 abbrev pub traf_size : Fragment → List (ℕ × ℕ) → ℕ
 traf_size f ahead = 88 + 16 * length f.samples + ahead_len ahead
@@ -71,9 +71,9 @@ boxes_ahead (p ∷ ps) le = boxes-end (29 + 16 * length (p ∷ ps)) (codes "uuid
 boxes_traf : (id st : ℕ) (f : Fragment) (ahead : List (ℕ × ℕ)) → length f.samples ≤ 65536 → length ahead ≤ 255 → boxes (traf_body id st f ahead) ≡ Some (traf_boxes id st f ahead)
 boxes_traf id st f ahead le few =
     let s3 = one_box 44 (codes "uuid") (tfxd_type ++ time_body f.time f.duration) (text.tfrf ahead) (time_text f.time f.duration) in
-    let s2 = one_box (20 + 16 * length f.samples) (codes "trun") (run_body st f.signed f.samples) (text.tfxd f.time f.duration ++ text.tfrf ahead) (run_text st f.signed f.samples le) in
-    let s1 = one_box 16 (codes "tfhd") (head_body id) (text.trun st f.signed f.samples ++ (text.tfxd f.time f.duration ++ text.tfrf ahead)) (head_text id) in
-    let e3 : boxes (text.tfxd f.time f.duration ++ text.tfrf ahead) ≡ Some (made 44 (codes "uuid") (tfxd_type ++ time_body f.time f.duration) ∷ ahead_boxes ahead)
+    let s2 = one_box (20 + 16 * length f.samples) (codes "trun") (run_body st f.signed f.samples) (text.tfxd_box f.time f.duration ++ text.tfrf ahead) (run_text st f.signed f.samples le) in
+    let s1 = one_box 16 (codes "tfhd") (head_body id) (text.trun st f.signed f.samples ++ (text.tfxd_box f.time f.duration ++ text.tfrf ahead)) (head_text id) in
+    let e3 : boxes (text.tfxd_box f.time f.duration ++ text.tfrf ahead) ≡ Some (made 44 (codes "uuid") (tfxd_type ++ time_body f.time f.duration) ∷ ahead_boxes ahead)
     = s3 ∙ ap (option_map (λ (xs : List Box). made 44 (codes "uuid") (tfxd_type ++ time_body f.time f.duration) ∷ xs)) (boxes_ahead ahead few) in
     let e2 = s2 ∙ ap (option_map (λ (xs : List Box). made (20 + 16 * length f.samples) (codes "trun") (run_body st f.signed f.samples) ∷ xs)) e3 in
     s1 ∙ ap (option_map (λ (xs : List Box). made 16 (codes "tfhd") (head_body id) ∷ xs)) e2
@@ -94,9 +94,9 @@ traf_body_len id st f ahead le few =
       r,
       x,
       ahead_text_len ahead few,
-      length-append (text.tfhd id) (text.trun st f.signed f.samples ++ (text.tfxd f.time f.duration ++ text.tfrf ahead)),
-      length-append (text.trun st f.signed f.samples) (text.tfxd f.time f.duration ++ text.tfrf ahead),
-      length-append (text.tfxd f.time f.duration) (text.tfrf ahead),
+      length-append (text.tfhd id) (text.trun st f.signed f.samples ++ (text.tfxd_box f.time f.duration ++ text.tfrf ahead)),
+      length-append (text.trun st f.signed f.samples) (text.tfxd_box f.time f.duration ++ text.tfrf ahead),
+      length-append (text.tfxd_box f.time f.duration) (text.tfrf ahead),
     )
 
 -- what the pairs take
@@ -203,10 +203,10 @@ traf_read d id st f ahead w lt =
     ∙ ap (λ (o : Option Cause). option_map_or (λ c. Err c) o (Ok (run_of d t))) none
     ∙ ap (λ (x : Run). Ok x) (run_read d id st f ahead w lt)
 
-pub traf_whole : (id st : ℕ) (f : Fragment) (ahead : List (ℕ × ℕ)) → IsWritten id f ahead → IsOneBox (text.traf id st f ahead)
+pub traf_whole : (id st : ℕ) (f : Fragment) (ahead : List (ℕ × ℕ)) → IsWritten id f ahead → IsOneBox (text.traf_box id st f ahead)
 traf_whole id st f ahead w = one_whole (traf_size f ahead) (codes "traf") (traf_body id st f ahead) (traf_text id st f ahead w.valid.few w.few)
 
 pub traf_again_read : (d : Defaults) (id st : ℕ) (f : Fragment) (ahead : List (ℕ × ℕ)) → IsWritten id f ahead → st < 2 ^ 32
-    → traf d (box_of (text.traf id st f ahead)).body ≡ Ok (run_again id st f ahead)
+    → traf d (box_of (text.traf_box id st f ahead)).body ≡ Ok (run_again id st f ahead)
 traf_again_read d id st f ahead w lt =
     ap (λ (x : Box). traf d x.body) (box_is (traf_size f ahead) (codes "traf") (traf_body id st f ahead) (traf_text id st f ahead w.valid.few w.few)) ∙ traf_read d id st f ahead w lt

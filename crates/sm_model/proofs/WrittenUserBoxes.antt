@@ -15,7 +15,7 @@ use Rattle.sm_model.proofs.WrittenBoxes.{box_is, one_whole}
 use Rattle.sm_model.proofs.WrittenFields.{time_body, time_fits, time_pair, ahead_body, ahead_head, ahead_is, ahead_fits, pair_again, pairs_again}
 use Rattle.sm_model.proofs.WrittenTraf.{time_text, ahead_text}
 
-pub tfxd_is : (time duration : ℕ) → IsUserBox (text.tfxd time duration) tfxd_type (time_body time duration)
+pub tfxd_is : (time duration : ℕ) → IsUserBox (text.tfxd_box time duration) tfxd_type (time_body time duration)
 tfxd_is time duration =
     let t = time_text time duration in
     let b = box_is 44 (codes "uuid") (tfxd_type ++ time_body time duration) t in

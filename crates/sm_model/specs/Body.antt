@@ -19,7 +19,7 @@ pub record Outcome : Type 0 where
   pub refusal : Option Refusal
   -- whether the bytes end inside a box, or between a moof and its mdat
   pub inside : Bool
-  -- the tracks of the header, where one was read and nothing is refused
+  -- the tracks of the header, where one was read
   pub header : List HeaderTrack
 
 abbrev pub header_in : HeaderStage → List HeaderTrack
@@ -29,23 +29,24 @@ header_in (Complete tracks) = tracks
 abbrev pub ended : PushState → Bool → Outcome
 ended s inside = record { items = []; refusal = None; inside = inside; header = header_in s.stage }
 
-abbrev pub refused : Refusal → Outcome
-refused r = record { items = []; refusal = Some r; inside = false; header = [] }
+-- the header that was read before
+abbrev pub refused : List HeaderTrack → Refusal → Outcome
+refused header r = record { items = []; refusal = Some r; inside = false; header = header }
 
 -- the items before, then the rest
-abbrev pub behind : List Given → Outcome → Outcome
-behind items o = record { items = items ++ o.items; refusal = o.refusal; inside = o.inside; header = o.header }
+abbrev pub led_by : List Given → Outcome → Outcome
+led_by items o = record { items = items ++ o.items; refusal = o.refusal; inside = o.inside; header = o.header }
 
-abbrev pub stepped : Step → ℕ → (PushState → ℕ → Outcome) → Outcome
-stepped (Err r) size go = refused r
-stepped (Ok step) size go = behind (option_to_list step.0) (go step.1 size)
+abbrev pub stepped : PushState → Step → ℕ → (PushState → ℕ → Outcome) → Outcome
+stepped s (Err r) size go = refused (header_in s.stage) r
+stepped s (Ok step) size go = led_by (option_to_list step.0) (go step.1 size)
 
 -- the box at the front of the bytes; `go` reads on behind a box of that size
 abbrev pub at_box : PushState → List ℕ → BoxDecision → (PushState → ℕ → Outcome) → Outcome
 at_box s bytes Wait go = ended s true
-at_box s bytes (Refuse cause) go = refused (record { at = s.at; cause = cause })
+at_box s bytes (Refuse cause) go = refused (header_in s.stage) (record { at = s.at; cause = cause })
 at_box s bytes (Pass size) go = go (passed s size) size
-at_box s bytes (Take sort size) go = if nat_lt (length bytes) size then ended s true else stepped (taken s sort (take size bytes)) size go
+at_box s bytes (Take sort size) go = if nat_lt (length bytes) size then ended s true else stepped s (taken s sort (take size bytes)) size go
 
 -- what bytes give, of which the first `count` still belong to the box before
 unfoldable pub walk : PushState → ℕ → List ℕ → Outcome
@@ -53,12 +54,12 @@ walk s count [] = ended s (nat_lt 0 count || is_some s.moof)
 walk s (suc count) (x ∷ bytes) = walk s count bytes
 walk s zero (x ∷ bytes) = at_box s (x ∷ bytes) (decision s (x ∷ bytes)) (λ next size. walk next (size - 1) bytes)
 
-abbrev pub start : Bool → PushState
-start headerless = record { headerless = headerless; stage = Gathering None None; moof = None; at = 0 }
+abbrev pub push_start : Bool → PushState
+push_start headerless = record { headerless = headerless; stage = Gathering None None; moof = None; at = 0 }
 
 -- the bytes of a push so far
 abbrev pub body : Bool → List ℕ → Outcome
-body headerless bytes = walk (start headerless) 0 bytes
+body headerless bytes = walk (push_start headerless) 0 bytes
 
 -- what ends inside a box, or between a moof and its mdat, is cut off, at the number of its bytes
 abbrev pub cut_off : Bool → ℕ → Option Refusal → Option Refusal

@@ -82,8 +82,8 @@ rows d b zero = []
 rows d b (suc n) = rows d b n ++ row d b n ∷ []
 
 -- the data offset: signed, from the first byte of the moof
-unfoldable pub start : List ℕ → Option ℤ
-start b = if has (number32_at 0 b) 0x1 then Some (cast_signed w32 (number32_at 8 b)) else None
+unfoldable pub data_offset : List ℕ → Option ℤ
+data_offset b = if has (number32_at 0 b) 0x1 then Some (cast_signed w32 (number32_at 8 b)) else None
 
 -- ---- tfxd, behind the user type: version and flags, time, duration
 

@@ -13,7 +13,7 @@ use Rattle.sm_model.specs.Numbers.{number32_at}
 use Rattle.sm_model.specs.Boxes.{Box, boxes, box_of}
 use Rattle.sm_model.specs.FragText.{tfxd_type, tfrf_type}
 use Rattle.sm_model.specs.Found.{Found, found, is_kind, bodies, user_bodies}
-use Rattle.sm_model.specs.Fields.{version, has, tfhd_fits, defaults_of, trun_fits, rows, start, tfxd_fits, tfxd_pair, tfrf_fits, pairs}
+use Rattle.sm_model.specs.Fields.{version, has, tfhd_fits, defaults_of, trun_fits, rows, data_offset, tfxd_fits, tfxd_pair, tfrf_fits, pairs}
 
 -- a condition, and the cause that it gives
 abbrev pub Line : Type 0
@@ -138,7 +138,7 @@ run_of d t = record {
   time = (tfxd_pair t.time.first).0;
   duration = (tfxd_pair t.time.first).1;
   signed = version t.run.first == 1;
-  start = start t.run.first;
+  start = data_offset t.run.first;
   samples = rows (defaults_of d t.head.first) t.run.first (number32_at 4 t.run.first);
   ahead = ahead_of t.ahead;
 }
@@ -181,8 +181,12 @@ rest_of lead None body = body
 rest_of lead (Some (pos n)) body = if nat_le lead n then drop (n - lead) body else []
 rest_of lead (Some (negsuc n)) body = []
 
+-- behind a moof of so many bytes
+abbrev pub rest_behind : ℕ → List ℕ → Run → List ℕ
+rest_behind size md run = rest_of (size + (box_of md).head) run.start (box_of md).body
+
 abbrev pub mdat_rest : List ℕ → List ℕ → Run → List ℕ
-mdat_rest m md run = rest_of (length m + (box_of md).head) run.start (box_of md).body
+mdat_rest m md run = rest_behind (length m) md run
 
 -- how many bytes all samples have together
 abbrev pub sizes : List Row → ℕ
@@ -199,8 +203,11 @@ is_no_mdat md = not (is_kind (codes "mdat") (box_of md))
 abbrev pub lacks_bytes : List ℕ → List Row → Bool
 lacks_bytes rest rs = nat_lt (length rest) (sizes rs)
 
+abbrev pub lines_behind : ℕ → List ℕ → Run → List Line
+lines_behind size md run = (is_no_mdat md, NoMdat) ∷ (lacks_bytes (rest_behind size md run) run.samples, SamplesOutside) ∷ []
+
 abbrev pub last_lines : List ℕ → List ℕ → Run → List Line
-last_lines m md run = (is_no_mdat md, NoMdat) ∷ (lacks_bytes (mdat_rest m md run) run.samples, SamplesOutside) ∷ []
+last_lines m md run = lines_behind (length m) md run
 
 -- the samples taken out of the body
 unfoldable pub raw_of : List ℕ → Run → RawFragment
@@ -213,9 +220,12 @@ raw_of rest run = record {
   ahead = run.ahead;
 }
 
--- what is left to judge once the moof m said run
-unfoldable pub last : List ℕ → List ℕ → Run → Result RawFragment Cause
-last m md run = option_map_or (λ c. Err c) (first_cause (last_lines m md run)) (Ok (raw_of (mdat_rest m md run) run))
+-- what is left to judge once a moof of so many bytes said run
+unfoldable pub finish : ℕ → List ℕ → Run → Result RawFragment Cause
+finish size md run = option_map_or (λ c. Err c) (first_cause (lines_behind size md run)) (Ok (raw_of (rest_behind size md run) run))
+
+abbrev pub last : List ℕ → List ℕ → Run → Result RawFragment Cause
+last m md run = finish (length m) md run
 
 -- ---- a whole moof and a whole mdat
 

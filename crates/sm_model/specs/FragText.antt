@@ -17,8 +17,8 @@ abbrev pub tfhd : ℕ → List ℕ
 tfhd id = box 16 (codes "tfhd") (number32 0 ++ number32 id)
 
 -- duration, size, flags, offset
-abbrev pub row : Sample → List ℕ
-row s = number32 s.duration ++ (number32 (length s.bytes) ++ (number32 s.flags ++ number32 s.offset))
+abbrev pub row_text : Sample → List ℕ
+row_text s = number32 s.duration ++ (number32 (length s.bytes) ++ (number32 s.flags ++ number32 s.offset))
 
 -- version 1 where the offsets are signed, and flags 0x000f01
 abbrev pub run_word : Bool → ℕ
@@ -36,7 +36,7 @@ moof_len samples ahead = 112 + 16 * length samples + ahead_len ahead
 abbrev pub trun : ℕ → Bool → List Sample → List ℕ
 trun start signed samples =
     box (20 + 16 * length samples) (codes "trun")
-    (number32 (run_word signed) ++ (number32 (length samples) ++ (number32 start ++ flat_map row samples)))
+    (number32 (run_word signed) ++ (number32 (length samples) ++ (number32 start ++ flat_map row_text samples)))
 
 -- 6d1d9b05-42d5-44e6-80e2-141daff757b2
 abbrev pub tfxd_type : List ℕ
@@ -50,8 +50,8 @@ tfrf_type = 0xd4 ∷ 0x80 ∷ 0x7e ∷ 0xf2 ∷ 0xca ∷ 0x39 ∷ 0x46 ∷ 0x95 
 abbrev pub pair : ℕ × ℕ → List ℕ
 pair p = number64 p.0 ++ number64 p.1
 
-abbrev pub tfxd : ℕ → ℕ → List ℕ
-tfxd time duration = box 44 (codes "uuid") (tfxd_type ++ (number32 0x01000000 ++ pair (time, duration)))
+abbrev pub tfxd_box : ℕ → ℕ → List ℕ
+tfxd_box time duration = box 44 (codes "uuid") (tfxd_type ++ (number32 0x01000000 ++ pair (time, duration)))
 
 abbrev pub tfrf_box : List (ℕ × ℕ) → List ℕ
 tfrf_box ps =
@@ -63,14 +63,14 @@ abbrev pub tfrf : List (ℕ × ℕ) → List ℕ
 tfrf [] = []
 tfrf (p ∷ ps) = tfrf_box (p ∷ ps)
 
-abbrev pub traf : ℕ → ℕ → Fragment → List (ℕ × ℕ) → List ℕ
-traf id start f ahead =
+abbrev pub traf_box : ℕ → ℕ → Fragment → List (ℕ × ℕ) → List ℕ
+traf_box id start f ahead =
     box (88 + 16 * length f.samples + ahead_len ahead) (codes "traf")
-    (tfhd id ++ (trun start f.signed f.samples ++ (tfxd f.time f.duration ++ tfrf ahead)))
+    (tfhd id ++ (trun start f.signed f.samples ++ (tfxd_box f.time f.duration ++ tfrf ahead)))
 
 abbrev pub moof : ℕ → ℕ → Fragment → List (ℕ × ℕ) → List ℕ
 moof seq id f ahead =
-    box (moof_len f.samples ahead) (codes "moof") (mfhd seq ++ traf id (moof_len f.samples ahead + 8) f ahead)
+    box (moof_len f.samples ahead) (codes "moof") (mfhd seq ++ traf_box id (moof_len f.samples ahead + 8) f ahead)
 
 abbrev pub mdat : List Sample → List ℕ
 mdat samples = box (8 + sample_bytes samples) (codes "mdat") (flat_map (λ s. s.bytes) samples)

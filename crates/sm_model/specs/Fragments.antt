@@ -7,13 +7,13 @@ use Rattle.sm_model.specs.declared.fragment.Fragment.{Fragment}
 abbrev pub sample_bytes : List Sample → ℕ
 sample_bytes samples = sum_by (λ s. length s.bytes) samples
 
--- 1 to 65,536 samples of at most 16 MiB together, a duration of at least 1, and an end below 2^63
+-- 1 to 65,536 samples of at most 64 MiB together, a duration of at least 1, and an end below 2^63
 pub record IsValid (f : Fragment) : Type 0 where
   pub some : 0 < length f.samples
   pub few : length f.samples ≤ 65536
   pub lasts : 0 < f.duration
   pub ends : f.time + f.duration < 2 ^ 63
-  pub short : sample_bytes f.samples ≤ 16777216
+  pub short : sample_bytes f.samples ≤ 67108864
 
 -- the sample's numbers have 32 bits, as those of a real sample have
 pub record IsNarrow (s : Sample) : Type 0 where

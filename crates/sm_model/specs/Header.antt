@@ -52,14 +52,14 @@ has_two_timescales [] = false
 has_two_timescales (t ∷ ts) = list_any (is_off t) ts || has_two_timescales ts
 
 -- a track that the live manifest names is encrypted
-abbrev pub is_protected : List TrackHead → Bool
-is_protected hs = list_any (λ h. h.protected) hs
+abbrev pub names_protected : List TrackHead → Bool
+names_protected hs = list_any (λ h. h.protected) hs
 
 -- the tracks with their heads, judged together
 unfoldable pub header_with : List SmilTrack → List TrackHead → Result Header Cause
 header_with ts hs =
     if has_two_timescales (tracks_of ts hs) then Err BadMoov
-    else if is_protected hs then Err Protected
+    else if names_protected hs then Err Protected
     else Ok (record { channel = tracks_of ts hs; tracks = keys_of ts hs })
 
 -- what a live manifest said, and then what a moov said

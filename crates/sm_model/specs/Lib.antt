@@ -5,6 +5,7 @@ pub mod Fragments
 pub mod FragText
 pub mod Canonical
 pub mod Causes
+pub mod Entries
 pub mod Found
 pub mod Fields
 pub mod Frag

@@ -8,12 +8,12 @@ use Rattle.sm_model.specs.declared.raw_track.ParamName.TheVariants.{TrackId}
 use Rattle.sm_model.specs.declared.raw_track.SmilParam.{SmilParam}
 use Rattle.sm_model.specs.declared.raw_track.RawTrack.{RawTrack}
 use Rattle.sm_model.specs.Digits.{is_number}
-use Rattle.sm_model.specs.LiveTracks.{is_same, value_of, is_fit, bitrate_text, bitrate_of, id_of, name_of, timescale_of}
+use Rattle.sm_model.specs.LiveTracks.{is_same, value_of, is_fit, bitrate_text, bitrate_of, track_id_of, stream_name, timescale_of}
 use Rattle.sm_model.specs.LiveWalk.{Walk}
 
-abbrev pub is_misread : Option (List ℕ) → Bool
-is_misread None = false
-is_misread (Some text) = not (is_number text)
+abbrev pub is_invalid : Option (List ℕ) → Bool
+is_invalid None = false
+is_invalid (Some text) = not (is_number text)
 
 -- the params whose values don't fit
 abbrev pub misfits : List SmilParam → List ℕ
@@ -23,7 +23,7 @@ misfits (p ∷ ps) = if is_fit p.name p.value then misfits ps else p.at ∷ misf
 -- what is seen before the track has ended
 abbrev pub inner_faults : RawTrack → List ℕ
 inner_faults t =
-    (if is_misread t.bitrate then t.at ∷ [] else []) ++ (misfits t.params ++ option_to_list t.again)
+    (if is_invalid t.bitrate then t.at ∷ [] else []) ++ (misfits t.params ++ option_to_list t.again)
 
 -- both are there and equal, or differ
 abbrev pub are_equal : Option ℕ → Option ℕ → Bool
@@ -36,26 +36,26 @@ do_differ (Some a) (Some b) = not (a == b)
 do_differ (Some a) None = false
 do_differ None b = false
 
-abbrev pub is_kind : Kind → Kind → Bool
-is_kind Video Video = true
-is_kind Audio Audio = true
-is_kind Text Text = true
-is_kind Video Audio = false
-is_kind Video Text = false
-is_kind Audio Video = false
-is_kind Audio Text = false
-is_kind Text Video = false
-is_kind Text Audio = false
+abbrev pub are_one_kind : Kind → Kind → Bool
+are_one_kind Video Video = true
+are_one_kind Audio Audio = true
+are_one_kind Text Text = true
+are_one_kind Video Audio = false
+are_one_kind Video Text = false
+are_one_kind Audio Video = false
+are_one_kind Audio Text = false
+are_one_kind Text Video = false
+are_one_kind Text Audio = false
 
 -- tracks of one name differ by bitrate, and agree in kind and timescale
 unfoldable pub clash : RawTrack → RawTrack → Bool
 clash a b =
-    is_same (name_of a) (name_of b)
-    && (are_equal (bitrate_of a) (bitrate_of b) || (not (is_kind a.kind b.kind) || do_differ (timescale_of a) (timescale_of b)))
+    is_same (stream_name a) (stream_name b)
+    && (are_equal (bitrate_of a) (bitrate_of b) || (not (are_one_kind a.kind b.kind) || do_differ (timescale_of a) (timescale_of b)))
 
 -- in a push each track has a track_ID of its own; a ladder doesn't use them
 abbrev pub share_id : Form → RawTrack → RawTrack → Bool
-share_id Pushed a b = are_equal (id_of a) (id_of b)
+share_id Pushed a b = are_equal (track_id_of a) (track_id_of b)
 share_id Ladder a b = false
 
 unfoldable pub collide : Form → RawTrack → RawTrack → Bool

@@ -22,7 +22,12 @@ option_line name (Some n) = number_line name n
 
 unfoldable pub number_lines : Params → List ℕ
 number_lines n =
-    option_line (codes "MaxWidth") n.width ++ (option_line (codes "MaxHeight") n.height ++ (option_line (codes "AudioTag") n.tag ++ (option_line (codes "Channels") n.channels ++ (option_line (codes "SamplingRate") n.rate ++ (option_line (codes "BitsPerSample") n.bits ++ option_line (codes "PacketSize") n.packet)))))
+    option_line (codes "MaxWidth") n.width
+    ++ (option_line (codes "MaxHeight") n.height
+    ++ (option_line (codes "AudioTag") n.tag
+    ++ (option_line (codes "Channels") n.channels
+    ++ (option_line (codes "SamplingRate") n.rate
+    ++ (option_line (codes "BitsPerSample") n.bits ++ option_line (codes "PacketSize") n.packet)))))
 
 abbrev pub element_name : Kind → List ℕ
 element_name Video = codes "video"
@@ -39,7 +44,12 @@ closing_line kind = codes "</" ++ (element_name kind ++ codes ">\n")
 -- a track with its track_ID
 unfoldable pub track_lines : ℕ → Track → List ℕ
 track_lines id t =
-    opening_line t.kind t.bitrate ++ (number_line (codes "trackID") id ++ (param_line (codes "trackName") t.name ++ (number_line (codes "TimeScale") t.timescale ++ (param_line (codes "FourCC") t.fourcc ++ (param_line (codes "CodecPrivateData") (encode_upper t.private) ++ (number_lines t.numbers ++ closing_line t.kind))))))
+    opening_line t.kind t.bitrate
+    ++ (number_line (codes "trackID") id
+    ++ (param_line (codes "trackName") t.name
+    ++ (number_line (codes "TimeScale") t.timescale
+    ++ (param_line (codes "FourCC") t.fourcc
+    ++ (param_line (codes "CodecPrivateData") (encode_upper t.private) ++ (number_lines t.numbers ++ closing_line t.kind))))))
 
 -- tracks whose track_IDs begin at id
 abbrev pub tracks_lines : ℕ → List Track → List ℕ

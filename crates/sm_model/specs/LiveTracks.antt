@@ -10,7 +10,8 @@ use Rattle.sm_model.specs.declared.track.Params.{Params}
 use Rattle.sm_model.specs.declared.track.Track.{Track}
 use Rattle.sm_model.specs.declared.smil.SmilTrack.{SmilTrack}
 use Rattle.sm_model.specs.declared.raw_track.ParamName.{ParamName}
-use Rattle.sm_model.specs.declared.raw_track.ParamName.TheVariants.{SystemBitrate, TrackId, TrackName, TimeScale, FourCc, CodecPrivateData, MaxWidth, MaxHeight, AudioTag, Channels, SamplingRate, BitsPerSample, PacketSize}
+use Rattle.sm_model.specs.declared.raw_track.ParamName.TheVariants.{SystemBitrate, TrackId, TrackName, TimeScale, FourCc, CodecPrivateData, MaxWidth, MaxHeight}
+use Rattle.sm_model.specs.declared.raw_track.ParamName.TheVariants.{AudioTag, Channels, SamplingRate, BitsPerSample, PacketSize}
 use Rattle.sm_model.specs.declared.raw_track.SmilParam.{SmilParam}
 use Rattle.sm_model.specs.declared.raw_track.RawTrack.{RawTrack}
 use Rattle.sm_model.specs.Digits.{is_number, number_of, decimal_from}
@@ -71,8 +72,8 @@ kind_name Video = codes "video"
 kind_name Audio = codes "audio"
 kind_name Text = codes "text"
 
-abbrev pub name_of : RawTrack → List ℕ
-name_of t = unwrap_or (value_of TrackName t.params) (kind_name t.kind)
+abbrev pub stream_name : RawTrack → List ℕ
+stream_name t = unwrap_or (value_of TrackName t.params) (kind_name t.kind)
 
 -- the bitrate is the attribute, else the param
 abbrev pub bitrate_text : Option (List ℕ) → List SmilParam → Option (List ℕ)
@@ -86,13 +87,17 @@ number_in (Some text) = number_of text
 abbrev pub bitrate_of : RawTrack → Option ℕ
 bitrate_of t = number_in (bitrate_text t.bitrate t.params)
 
-abbrev pub id_of : RawTrack → Option ℕ
-id_of t = number_in (value_of TrackId t.params)
+abbrev pub track_id_of : RawTrack → Option ℕ
+track_id_of t = number_in (value_of TrackId t.params)
+
+-- a timescale, where the text is one
+abbrev pub ticks_of : List ℕ → Option ℕ
+ticks_of b = if is_timescale b then number_of b else None
 
 -- in ticks a second; 10,000,000 where a ladder doesn't say it
 abbrev pub timescale_in : Option (List ℕ) → Option ℕ
 timescale_in None = Some 10000000
-timescale_in (Some text) = number_of text
+timescale_in (Some text) = ticks_of text
 
 abbrev pub timescale_of : RawTrack → Option ℕ
 timescale_of t = timescale_in (value_of TimeScale t.params)
@@ -117,7 +122,7 @@ numbers_of t = record {
 unfoldable pub track_of : ℕ → RawTrack → Track
 track_of timescale t = record {
   kind = t.kind;
-  name = name_of t;
+  name = stream_name t;
   bitrate = unwrap_or (bitrate_of t) 0;
   timescale = timescale;
   fourcc = unwrap_or (value_of FourCc t.params) [];
@@ -127,7 +132,7 @@ track_of timescale t = record {
 
 -- a track of a pushed header, whose timescale isn't known yet
 abbrev pub smil_track : RawTrack → SmilTrack
-smil_track t = record { id = unwrap_or (id_of t) 0; track = track_of 0 t }
+smil_track t = record { id = unwrap_or (track_id_of t) 0; track = track_of 0 t }
 
 -- a track of a ladder
 abbrev pub ladder_track : RawTrack → Track

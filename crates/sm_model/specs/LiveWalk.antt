@@ -1,5 +1,6 @@
 -- The tracks that stand in a list of tags: the elements video, audio and textstream inside smil, body and switch.
-use Rattle.std.specs.Prelude.{ℕ, ◌-◌, Bool, true, false, List, [], ◌∷◌, ◌++◌, length, take, Option, Some, None, option_to_list, is_none, is_some, nat_le, ◌==◌, ◌&&◌, if◌then◌else◌, codes}
+use Rattle.std.specs.Prelude.{ℕ, ◌-◌, Bool, true, false, List, [], ◌∷◌, ◌++◌, length, take, Option, Some, None, option_to_list, is_none, is_some, nat_le, ◌==◌, ◌&&◌}
+use Rattle.std.specs.Prelude.{if◌then◌else◌, codes}
 use Rattle.sm_model.specs.declared.tag.Attribute.{Attribute}
 use Rattle.sm_model.specs.declared.tag.Tag.{Tag}
 use Rattle.sm_model.specs.declared.tag.Tag.TheVariants.{Start, Finish, Text, End, Bad}
@@ -8,7 +9,8 @@ use Rattle.sm_model.specs.declared.track.Kind.TheVariants as kind
 use Rattle.sm_model.specs.declared.raw_track.Form.{Form}
 use Rattle.sm_model.specs.declared.raw_track.Form.TheVariants.{Pushed, Ladder}
 use Rattle.sm_model.specs.declared.raw_track.ParamName.{ParamName}
-use Rattle.sm_model.specs.declared.raw_track.ParamName.TheVariants.{SystemBitrate, TrackId, TrackName, TimeScale, FourCc, CodecPrivateData, MaxWidth, MaxHeight, AudioTag, Channels, SamplingRate, BitsPerSample, PacketSize}
+use Rattle.sm_model.specs.declared.raw_track.ParamName.TheVariants.{SystemBitrate, TrackId, TrackName, TimeScale, FourCc, CodecPrivateData, MaxWidth, MaxHeight}
+use Rattle.sm_model.specs.declared.raw_track.ParamName.TheVariants.{AudioTag, Channels, SamplingRate, BitsPerSample, PacketSize}
 use Rattle.sm_model.specs.declared.raw_track.SmilParam.{SmilParam}
 use Rattle.sm_model.specs.declared.raw_track.RawTrack.{RawTrack}
 use Rattle.sm_model.specs.LiveTracks.{is_same, value_of}
@@ -118,8 +120,8 @@ pub record Walk : Type 0 where
   pub current : Option RawTrack
   pub over : Option ℕ
 
-abbrev pub start : Walk
-start = record { path = []; other = None; done = []; current = None; over = None }
+abbrev pub nothing_met : Walk
+nothing_met = record { path = []; other = None; done = []; current = None; over = None }
 
 -- inside smil, body and switch
 abbrev pub is_switch : List (List ℕ) → Bool
@@ -147,7 +149,7 @@ with_current form attributes at (Some t) = Some (with_element form attributes at
 -- another element: the outermost one is smil, and a child of a track may be a param
 abbrev pub passes : Form → Walk → List ℕ → List Attribute → ℕ → Walk
 passes form w name attributes at =
-    if length w.path == 0 then (if is_same name (codes "smil") then w else record w { other = Some at })
+    if length w.path == 0 then (if is_same name (codes "smil") then w else record w { other = first_place w.other at })
     else if length w.path == 4 && is_same name (codes "param") then record w { current = with_current form attributes at w.current }
     else w
 
@@ -156,24 +158,24 @@ meets form w name attributes empty at None = passes form w name attributes at
 meets form w name attributes empty at (Some k) =
     begins w empty (record { kind = k; at = at; bitrate = attribute_of (codes "systemBitrate") attributes; params = []; again = None })
 
-abbrev pub starts : Form → Walk → List ℕ → List Attribute → Bool → ℕ → Walk
-starts form w name attributes empty at =
+abbrev pub begins_element : Form → Walk → List ℕ → List Attribute → Bool → ℕ → Walk
+begins_element form w name attributes empty at =
     let met = meets form w name attributes empty at (track_kind w.path name) in
     record met { path = enters empty name w.path }
 
 -- an end tag: the end of a track takes it to the others
-abbrev pub finishes : Walk → List (List ℕ) → Walk
-finishes w path =
+abbrev pub ends_element : Walk → List (List ℕ) → Walk
+ends_element w path =
     if length path == 3 then record w { path = path; done = w.done ++ option_to_list w.current; current = None }
     else record w { path = path }
 
 abbrev pub step : Form → Walk → Tag → Walk
-step form w (Start name attributes empty at) = starts form w name attributes empty at
-step form w (Finish name at) = finishes w (take (length w.path - 1) w.path)
+step form w (Start name attributes empty at) = begins_element form w name attributes empty at
+step form w (Finish name at) = ends_element w (take (length w.path - 1) w.path)
 step form w (Text at) = w
 step form w End = w
 step form w (Bad at) = w
 
-abbrev pub walk : Form → Walk → List Tag → Walk
-walk form w [] = w
-walk form w (t ∷ ts) = walk form (step form w t) ts
+abbrev pub walk_tags : Form → Walk → List Tag → Walk
+walk_tags form w [] = w
+walk_tags form w (t ∷ ts) = walk_tags form (step form w t) ts

@@ -1,6 +1,7 @@
 -- What a moov says of its tracks (ISO/IEC 14496-12, 8.2.1 to 8.8.3): a head for each trak, or nothing where the moov is
 -- malformed. Boxes that are not named here are skipped unread; of several boxes of one type where one is meant, the first counts.
-use Rattle.std.specs.Prelude.{ℕ, Bool, false, not, ◌&&◌, ◌||◌, ◌==◌, nat_le, nat_eq, List, [], ◌∷◌, ◌++◌, length, drop, map, codes, Option, Some, None, if◌then◌else◌}
+use Rattle.std.specs.Prelude.{ℕ, Bool, false, not, ◌&&◌, ◌||◌, ◌==◌, nat_le, nat_eq, List, [], ◌∷◌, ◌++◌, length, drop, map, codes, Option, Some, None}
+use Rattle.std.specs.Prelude.{if◌then◌else◌}
 use Rattle.std.specs.Option.{option_map, option_and_then}
 use Rattle.std.specs.List.{list_any}
 use Rattle.std.specs.Cmp.Lexicographic.{pointwise}
@@ -13,12 +14,12 @@ use Rattle.sm_model.specs.Fields.{version}
 
 -- ---- children
 
-abbrev pub first_body : Found → Option (List ℕ)
-first_body f = if f.some then Some f.first else None
+abbrev pub some_body : Found → Option (List ℕ)
+some_body f = if f.some then Some f.first else None
 
 -- the body of the first box of this type among the children; none where a child is cut or has a bad size
 unfoldable pub first_child : List ℕ → List ℕ → Option (List ℕ)
-first_child name b = option_and_then (λ xs. first_body (found (bodies name xs))) (boxes b)
+first_child name b = option_and_then (λ xs. some_body (found (bodies name xs))) (boxes b)
 
 -- what two bodies say, one behind the other
 abbrev pub joined : {A : Type 0} → Option (List A) → Option (List A) → Option (List A)
@@ -42,8 +43,8 @@ number_behind_times b =
     else None
 
 -- tkhd (8.3.2)
-unfoldable pub track_id : List ℕ → Option ℕ
-track_id trak = option_and_then number_behind_times (first_child (codes "tkhd") trak)
+unfoldable pub tkhd_id : List ℕ → Option ℕ
+tkhd_id trak = option_and_then number_behind_times (first_child (codes "tkhd") trak)
 
 abbrev pub unless_zero : ℕ → Option ℕ
 unless_zero n = if n == 0 then None else Some n
@@ -82,7 +83,7 @@ trak b =
     (λ id.
     option_and_then (λ mdia. option_and_then (λ ticks. option_map (head_of id ticks) (entry_type mdia)) (timescale mdia))
     (first_child (codes "mdia") b))
-    (track_id b)
+    (tkhd_id b)
 
 -- ---- an mvex
 
@@ -93,11 +94,11 @@ trex b =
     then Some (number32_at 4 b, record { duration = number32_at 12 b; size = number32_at 16 b; flags = number32_at 20 b })
     else None
 
-abbrev pub alone : {A : Type 0} → Option A → Option (List A)
-alone o = option_map (λ x. x ∷ []) o
+abbrev pub single : {A : Type 0} → Option A → Option (List A)
+single o = option_map (λ x. x ∷ []) o
 
 abbrev pub trexes_in : List Box → Option (List (ℕ × Defaults))
-trexes_in xs = gather (λ b. alone (trex b)) (bodies (codes "trex") xs)
+trexes_in xs = gather (λ b. single (trex b)) (bodies (codes "trex") xs)
 
 unfoldable pub mvex : List ℕ → Option (List (ℕ × Defaults))
 mvex b = option_and_then trexes_in (boxes b)
@@ -122,7 +123,7 @@ unfoldable pub settled : List (ℕ × Defaults) → List TrackHead → Option (L
 settled ts hs = if repeats (map (λ h. h.id) hs) then None else Some (map (with_defaults ts) hs)
 
 abbrev pub traks_of : List Box → Option (List TrackHead)
-traks_of xs = gather (λ b. alone (trak b)) (bodies (codes "trak") xs)
+traks_of xs = gather (λ b. single (trak b)) (bodies (codes "trak") xs)
 
 abbrev pub trexes_of : List Box → Option (List (ℕ × Defaults))
 trexes_of xs = gather mvex (bodies (codes "mvex") xs)

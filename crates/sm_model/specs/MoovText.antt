@@ -46,29 +46,29 @@ minf kind = box 48 (codes "minf") (stbl kind)
 unfoldable pub mdia : Track → List ℕ
 mdia t = box 88 (codes "mdia") (mdhd t.timescale ++ minf t.kind)
 
-unfoldable pub trak : ℕ → Track → List ℕ
-trak id t = box 188 (codes "trak") (tkhd id ++ mdia t)
+unfoldable pub bare_trak : ℕ → Track → List ℕ
+bare_trak id t = box 188 (codes "trak") (tkhd id ++ mdia t)
 
 -- what each track gives, one behind the other, with their track_IDs from this one on
 unfoldable pub numbered : {A : Type 0} → (ℕ → Track → List A) → ℕ → List Track → List A
 numbered f id [] = []
 numbered f id (t ∷ ts) = f id t ++ numbered f (id + 1) ts
 
-abbrev pub traks : List Track → List ℕ
-traks ts = numbered trak 1 ts
+abbrev pub bare_traks : List Track → List ℕ
+bare_traks ts = numbered bare_trak 1 ts
 
 -- the first sample description, and zero defaults
-unfoldable pub trex : ℕ → List ℕ
-trex id = box 32 (codes "trex") (number32 0 ++ (number32 id ++ (number32 1 ++ zeros 12)))
+unfoldable pub bare_trex : ℕ → List ℕ
+bare_trex id = box 32 (codes "trex") (number32 0 ++ (number32 id ++ (number32 1 ++ zeros 12)))
 
-abbrev pub trexes : List Track → List ℕ
-trexes ts = numbered (λ id t. trex id) 1 ts
+abbrev pub bare_trexes : List Track → List ℕ
+bare_trexes ts = numbered (λ id t. bare_trex id) 1 ts
 
-unfoldable pub mvex : List Track → List ℕ
-mvex ts = box (8 + 32 * length ts) (codes "mvex") (trexes ts)
+unfoldable pub bare_mvex : List Track → List ℕ
+bare_mvex ts = box (8 + 32 * length ts) (codes "mvex") (bare_trexes ts)
 
 unfoldable pub moov_body : List Track → List ℕ
-moov_body ts = mvhd ++ (traks ts ++ mvex ts)
+moov_body ts = mvhd ++ (bare_traks ts ++ bare_mvex ts)
 
 unfoldable pub bare_moov : List Track → List ℕ
 bare_moov ts = box (124 + 220 * length ts) (codes "moov") (moov_body ts)

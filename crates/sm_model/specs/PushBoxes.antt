@@ -15,7 +15,7 @@ use Rattle.sm_model.specs.declared.push.PushState.{PushState}
 use Rattle.sm_model.specs.declared.push.TopBox.{TopBox}
 use Rattle.sm_model.specs.declared.push.TopBox.TheVariants.{Moof, Mdat, Moov, Manifest, Other}
 use Rattle.sm_model.specs.Boxes.{box_of}
-use Rattle.sm_model.specs.Frag.{frag, moof_run}
+use Rattle.sm_model.specs.Frag.{finish, moof_run}
 use Rattle.sm_model.specs.Moov.{no_defaults}
 use Rattle.sm_model.specs.Header.{header_of, track_with}
 use Rattle.sm_model.specs.Items.{Given}
@@ -50,11 +50,16 @@ abbrev pub track_in : HeaderStage → ℕ → Option HeaderTrack
 track_in (Complete tracks) id = track_with id tracks
 track_in (Gathering manifest moov) id = Some (record { id = id; stream = decimal id; bitrate = id; defaults = no_defaults })
 
+-- what the moof of a track says, with the track's defaults, waits for the mdat
+abbrev pub awaited : Result Run Cause → HeaderTrack → PushState → List ℕ → Step
+awaited (Err cause) track s box = refuse s.at cause
+awaited (Ok run) track s box = Ok (None, awaiting s (Some (record { run = run; size = length box; at = s.at; track = track })) (length box))
+
 abbrev pub pending : Option HeaderTrack → PushState → List ℕ → Step
 pending None s box = refuse s.at UnknownTrack
-pending (Some track) s box = Ok (None, awaiting s (Some (record { bytes = box; at = s.at; track = track })) (length box))
+pending (Some track) s box = awaited (moof_run track.defaults box) track s box
 
--- what a moof shows by itself is refused at once, and then a track that the header doesn't name
+-- what a moof shows by itself is refused at once, and then a track that the header doesn't name; no cause depends on defaults
 abbrev pub moof_taken : Result Run Cause → PushState → List ℕ → Step
 moof_taken (Err cause) s box = refuse s.at cause
 moof_taken (Ok run) s box = pending (track_in s.stage run.id) s box
@@ -77,7 +82,7 @@ fragment_taken (Ok raw) moof s size = Ok (Some (items.Frag raw.id (named moof.tr
 
 abbrev pub mdat_taken : Option PendingMoof → PushState → List ℕ → Step
 mdat_taken None s box = Ok (None, passed s (length box))
-mdat_taken (Some moof) s box = fragment_taken (frag moof.track.defaults moof.bytes box) moof s (length box)
+mdat_taken (Some moof) s box = fragment_taken (finish moof.size box moof.run) moof s (length box)
 
 -- ---- the header, at the later of its two boxes
 
@@ -86,16 +91,16 @@ header_taken (Err cause) s size = refuse s.at cause
 header_taken (Ok h) s size = Ok (Some (items.Header h.channel), staged s (Complete h.tracks) size)
 
 -- the text of a live server manifest box: it stands behind the user type, and version and flags
-abbrev pub text_of : List ℕ → List ℕ
-text_of box = drop 20 (box_of box).body
+abbrev pub manifest_text : List ℕ → List ℕ
+manifest_text box = drop 20 (box_of box).body
 
 abbrev pub moov_taken : HeaderStage → PushState → List ℕ → Step
-moov_taken (Gathering (Some manifest) moov) s box = header_taken (header_of (text_of manifest) (box_of box).body) s (length box)
+moov_taken (Gathering (Some manifest) moov) s box = header_taken (header_of (manifest_text manifest) (box_of box).body) s (length box)
 moov_taken (Gathering None moov) s box = Ok (None, staged s (Gathering None (Some box)) (length box))
 moov_taken (Complete tracks) s box = Ok (None, passed s (length box))
 
 abbrev pub manifest_taken : HeaderStage → PushState → List ℕ → Step
-manifest_taken (Gathering manifest (Some moov)) s box = header_taken (header_of (text_of box) (box_of moov).body) s (length box)
+manifest_taken (Gathering manifest (Some moov)) s box = header_taken (header_of (manifest_text box) (box_of moov).body) s (length box)
 manifest_taken (Gathering manifest None) s box = Ok (None, staged s (Gathering (Some box) None) (length box))
 manifest_taken (Complete tracks) s box = Ok (None, passed s (length box))
 

@@ -31,7 +31,7 @@ within sort size counted most = if nat_lt most counted then Refuse causes.BoxToo
 
 -- behind a moof: the limit on an mdat counts its body
 abbrev pub behind_moof : TopBox → ℕ → ℕ → BoxDecision
-behind_moof Mdat head size = within Mdat size (size - head) 16777216
+behind_moof Mdat head size = within Mdat size (size - head) 67108864
 behind_moof _ head size = Refuse causes.NoMdat
 
 -- elsewhere: the limits count the whole box, and only the first moov and the first live server manifest box are read

@@ -20,11 +20,11 @@ abbrev pub is_text : ℕ → Bool
 is_text c = not (c == 60)
 
 -- the longest front of such bytes
-abbrev pub front : (ℕ → Bool) → List ℕ → List ℕ
-front p [] = []
-front p (c ∷ cs) = if p c then c ∷ front p cs else []
+abbrev pub prefix : (ℕ → Bool) → List ℕ → List ℕ
+prefix p [] = []
+prefix p (c ∷ cs) = if p c then c ∷ prefix p cs else []
 
 -- what is behind it
-abbrev pub behind : (ℕ → Bool) → List ℕ → List ℕ
-behind p [] = []
-behind p (c ∷ cs) = if p c then behind p cs else c ∷ cs
+abbrev pub remaining : (ℕ → Bool) → List ℕ → List ℕ
+remaining p [] = []
+remaining p (c ∷ cs) = if p c then remaining p cs else c ∷ cs

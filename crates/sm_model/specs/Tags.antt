@@ -1,5 +1,6 @@
 -- The tags of a whole text.
-use Rattle.std.specs.Prelude.{◌≡◌, ◌≢◌, ℕ, ◌-◌, Bool, true, false, ◌||◌, ◌&&◌, not, List, [], ◌∷◌, ◌++◌, length, take, drop, Option, Some, None, Ok, Err, nat_le, nat_lt, nat_eq, slice_index_or, ◌==◌, if◌then◌else◌}
+use Rattle.std.specs.Prelude.{◌≡◌, ◌≢◌, ℕ, ◌-◌, Bool, true, false, ◌||◌, ◌&&◌, not, List, [], ◌∷◌, ◌++◌, length, take, drop, Option, Some, None, Ok, Err, nat_le}
+use Rattle.std.specs.Prelude.{nat_lt, nat_eq, slice_index_or, ◌==◌, if◌then◌else◌}
 use Rattle.std.specs.List.{starts_with}
 use Rattle.std.specs.Cmp.Lexicographic.{pointwise}
 use Rattle.sm_model.specs.declared.tag.Attribute.{Attribute}
@@ -27,10 +28,14 @@ pub record Left : Type 0 where
 -- left from its place on, and what is behind it. A tag that the text ends in is Lost, one with a wrong byte is Stray.
 pub data Founds (inside : Bool) : List ℕ → Lead × Markup × ℕ × List ℕ → Type 0 where
   bare : {bytes rest : List ℕ} {l : Lead} {left : ℕ} → lead_at inside bytes ≡ (l, left, rest) → l ≢ lead.Tag → Founds inside bytes (l, Skipped, left, rest)
-  lost : {bytes rest : List ℕ} {left : ℕ} → lead_at inside bytes ≡ (lead.Tag, left, rest) → Markups rest (Err short) → Founds inside bytes (lead.Lost, Skipped, 0, [])
-  stray : {bytes rest : List ℕ} {left : ℕ} → lead_at inside bytes ≡ (lead.Tag, left, rest) → Markups rest (Err wrong) → Founds inside bytes (lead.Stray, Skipped, left, [])
-  marked : {bytes rest more : List ℕ} {left : ℕ} {m : Markup} → lead_at inside bytes ≡ (lead.Tag, left, rest) → Markups rest (Ok (m, more)) → m ≢ Skipped → Founds inside bytes (lead.Tag, m, left, more)
-  skipped : {bytes rest more : List ℕ} {left : ℕ} {f : Lead × Markup × ℕ × List ℕ} → lead_at inside bytes ≡ (lead.Tag, left, rest) → Markups rest (Ok (Skipped, more)) → Founds inside more f → Founds inside bytes f
+  lost : {bytes rest : List ℕ} {left : ℕ} → lead_at inside bytes ≡ (lead.Tag, left, rest) → Markups rest (Err short)
+      → Founds inside bytes (lead.Lost, Skipped, 0, [])
+  stray : {bytes rest : List ℕ} {left : ℕ} → lead_at inside bytes ≡ (lead.Tag, left, rest) → Markups rest (Err wrong)
+      → Founds inside bytes (lead.Stray, Skipped, left, [])
+  marked : {bytes rest more : List ℕ} {left : ℕ} {m : Markup} → lead_at inside bytes ≡ (lead.Tag, left, rest) → Markups rest (Ok (m, more)) → m ≢ Skipped
+      → Founds inside bytes (lead.Tag, m, left, more)
+  skipped : {bytes rest more : List ℕ} {left : ℕ} {f : Lead × Markup × ℕ × List ℕ} → lead_at inside bytes ≡ (lead.Tag, left, rest)
+      → Markups rest (Ok (Skipped, more)) → Founds inside more f → Founds inside bytes f
 
 -- the innermost open element has that name
 abbrev pub closes : List ℕ → List (List ℕ) → Bool
@@ -43,7 +48,11 @@ fails s at = (Bad at, record s { bad = Some at })
 -- a start tag: there is one outermost element, and at most 32 are open
 abbrev pub starts : Left → List ℕ → List Attribute → Bool → ℕ → List ℕ → Tag × Left
 starts s name attributes empty at rest =
-    if (s.begun && length s.open_names == 0) || nat_le 32 (length s.open_names) then fails s at else (Start name attributes empty at, record s { rest = rest; begun = true; open_names = if empty then s.open_names else s.open_names ++ name ∷ [] })
+    if (s.begun && length s.open_names == 0) || nat_le 32 (length s.open_names) then fails s at
+    else (
+      Start name attributes empty at,
+      record s { rest = rest; begun = true; open_names = if empty then s.open_names else s.open_names ++ name ∷ [] },
+    )
 
 -- an end tag has the name of the innermost open element
 abbrev pub finishes : Left → List ℕ → ℕ → List ℕ → Tag × Left
@@ -63,14 +72,14 @@ gives s lead.Stray m left rest = fails s (s.end - left)
 gives s lead.Run m left rest = (Text (s.end - left), record s { rest = rest })
 gives s lead.Tag m left rest = marks s m (s.end - left) rest
 
-abbrev pub goes_on : Left → Tag × Left → Option ℕ → Type 0
-goes_on s step (Some at) = step ≡ (Bad at, s)
-goes_on s step None =
+abbrev pub continues : Left → Tag × Left → Option ℕ → Type 0
+continues s step (Some at) = step ≡ (Bad at, s)
+continues s step None =
     (f : Lead × Markup × ℕ × List ℕ) × Founds (not (length s.open_names == 0)) s.rest f × (step ≡ gives s f.0 f.1 f.2 f.3)
 
 -- the next tag of what is left, and what is left behind it; behind a fault it is the fault again
 abbrev pub Next : Left → Tag → Left → Type 0
-Next s tag t = goes_on s (tag, t) s.bad
+Next s tag t = continues s (tag, t) s.bad
 
 abbrev pub is_last : Tag → Bool
 is_last End = true

@@ -26,11 +26,13 @@ unfoldable pub attribute_in : ℕ → List ℕ → Result (Attribute × List ℕ
 attribute_in n bytes = opening_at bytes >>= λ o. naming o.0 (value_in n o.1 [] o.2)
 
 -- behind a name and the attributes seen
-abbrev pub attribute_by : List Attribute → Result (Attribute × List ℕ) Stop → (List Attribute → List ℕ → Result (List Attribute × Bool × List ℕ) Stop) → Result (List Attribute × Bool × List ℕ) Stop
+abbrev pub attribute_by : List Attribute → Result (Attribute × List ℕ) Stop → (List Attribute → List ℕ → Result (List Attribute × Bool × List ℕ) Stop)
+    → Result (List Attribute × Bool × List ℕ) Stop
 attribute_by seen (Err e) go = Err e
 attribute_by seen (Ok (a, more)) go = if has_name a.name seen then Err wrong else go (seen ++ a ∷ []) more
 
-abbrev pub tail_by : ℕ → List Attribute → Result (Option Bool × List ℕ) Stop → (List Attribute → List ℕ → Result (List Attribute × Bool × List ℕ) Stop) → Result (List Attribute × Bool × List ℕ) Stop
+abbrev pub tail_by : ℕ → List Attribute → Result (Option Bool × List ℕ) Stop → (List Attribute → List ℕ → Result (List Attribute × Bool × List ℕ) Stop)
+    → Result (List Attribute × Bool × List ℕ) Stop
 tail_by n seen (Err e) go = Err e
 tail_by n seen (Ok (Some empty, rest)) go = Ok (seen, empty, rest)
 tail_by n seen (Ok (None, rest)) go = attribute_by seen (attribute_in n rest) go
@@ -81,10 +83,10 @@ abbrev pub run_by : Bool → Tag → List Tag → List Tag
 run_by true tag tags = tag ∷ []
 run_by false tag tags = tag ∷ tags
 
-unfoldable pub run_in : ℕ → Left → List Tag
-run_in zero s = []
-run_in (suc n) s = run_by (is_last (next_in (suc n) s).0) (next_in (suc n) s).0 (run_in n (next_in (suc n) s).1)
+unfoldable pub tags_in : ℕ → Left → List Tag
+tags_in zero s = []
+tags_in (suc n) s = run_by (is_last (next_in (suc n) s).0) (next_in (suc n) s).0 (tags_in n (next_in (suc n) s).1)
 
 -- the tags of a whole text
 unfoldable pub tags_of : List ℕ → List Tag
-tags_of text = run_in (length text + 2) (begin text)
+tags_of text = tags_in (length text + 2) (begin text)

@@ -1,21 +1,21 @@
 //! Why what was received is refused.
-ghost use Rattle.std.specs.Prelude.{◌≡◌, IfOk};
-ghost use Rattle.sm_model.specs.Causes.{number_of, status_of, name_of, cause_line};
+ghost use Rattle.std.specs.Prelude.{◌≡◌, IfOk, string_bytes};
+ghost use Rattle.sm_model.specs.Causes.{cause_number, cause_status, cause_name, cause_values, has_place, cause_line};
 
-use crate::{Bytes, NoMemory};
+use crate::{Bytes, Name, NoMemory};
 use std::alloc::Global;
 use thiserror::Error;
 
-/// Why bytes that came from outside are refused. Its number, its name and its HTTP status stand in one table, which the
-/// methods answer by rows.
-#[derive(Clone, Copy, Debug, PartialEq, Eq, Error)]
+/// Why what came from outside is refused. Its number, its name and its HTTP status stand in one table, which the methods
+/// answer by rows. The number 34 stands for a store that is none, which no reply tells.
+#[derive(Debug, Drop, PartialEq, Eq, Error)]
 pub enum Cause {
     /// A child is cut or has a bad size, a box that must stand is missing or stands twice, or a body has not the length
     /// that its flags, version and count give.
     #[error("a box is cut, missing, doubled or of the wrong length")]
     BadBox,
     /// The box is larger than the limit on boxes of its kind: 2,097,152 bytes for a `moof`, 1,048,576 bytes for a `moov`
-    /// or a live server manifest box, and 16,777,216 bytes for the body of an `mdat`.
+    /// or a live server manifest box, and 67,108,864 bytes for the body of an `mdat`.
     #[error("a box is too large")]
     BoxTooLarge,
     /// A box at the top has a size of 0, which would go on to the end.
@@ -38,6 +38,18 @@ pub enum Cause {
     /// The header names no track with this track_ID.
     #[error("the fragment is of a track that the header does not name")]
     UnknownTrack,
+    /// The channel has no track of this stream and bitrate.
+    #[error("the channel does not declare a track")]
+    NotDeclared {
+        stream: Name,
+        bitrate: u32,
+    },
+    /// The channel's track of this stream and bitrate has other fields.
+    #[error("a track differs from the declared one")]
+    DeclClash {
+        stream: Name,
+        bitrate: u32,
+    },
     /// A sample encryption box stands in the `traf`, or a track of the live server manifest has an encrypted sample entry.
     #[error("the samples are protected")]
     Protected,
@@ -65,6 +77,18 @@ pub enum Cause {
     /// The box behind the `moof` is no `mdat`.
     #[error("no media data follows the movie fragment")]
     NoMdat,
+    /// The stream has this start with another duration. Both are in ticks of the track's timescale.
+    #[error("the start is kept with a duration of {kept}, not {given}")]
+    DurationClash {
+        kept: u64,
+        given: u64,
+    },
+    /// The fragment's span overlaps one that the stream has.
+    #[error("the fragment overlaps one that ends at {end}")]
+    Overlap {
+        /// The end of the first such span, in ticks of the track's timescale.
+        end: u64,
+    },
     /// The body ends inside a box, or between a `moof` and its `mdat`.
     #[error("the body is cut off")]
     CutOff,
@@ -77,12 +101,57 @@ pub enum Cause {
     /// The `trun` has not the length that its flags and count give, or another version than 0 and 1.
     #[error("the run of samples is malformed")]
     BadRun,
+    /// A limit on the bytes or entries of the store, on the times of a stream or on segments is met.
+    #[error("the store is full")]
+    Full,
+    /// The disk failed.
+    #[error("the disk failed")]
+    DiskFault,
+    /// What the disk gave is not what was written.
+    #[error("the store is damaged")]
+    Damaged,
+    /// Memory ran out.
+    #[error("out of memory")]
+    NoMemory,
+    /// The origin behind this server did not answer.
+    #[error("the origin did not answer")]
+    Forward,
+    /// The head of the request is none (RFC 9112, 3 to 6).
+    #[error("the head of the request is malformed")]
+    BadHead,
+    /// The head of the request has more than 8,192 bytes or more than 64 fields.
+    #[error("the head of the request is too large")]
+    HeadTooLarge,
+    /// The target names nothing that is served.
+    #[error("the target names nothing")]
+    NoTarget,
+    /// Another method than the target takes.
+    #[error("the target does not take this method")]
+    Method,
+    /// A content coding other than `identity`, or a transfer coding other than `chunked`.
+    #[error("the body is encoded")]
+    Encoded,
+    /// The body's chunks are malformed (RFC 9112, 7.1), or a chunk line or the trailer is too long.
+    #[error("a chunk of the body is malformed")]
+    BadChunk,
+    /// A POST says neither a length nor chunks.
+    #[error("the body has no length")]
+    LengthRequired,
+    /// No fragment is kept at this address.
+    #[error("the fragment is not kept")]
+    NotKept,
+    /// Nothing is declared yet.
+    #[error("nothing is declared")]
+    NoChannel,
+    /// As many connections live as may.
+    #[error("there are too many connections")]
+    TooManyConnections,
 }
 
 impl Cause {
     /// The number by which it is told.
     pub fn number(&self) -> u16
-        ensures { result ≡ number_of self.now }
+        ensures { result ≡ cause_number self.now }
     {
         match self {
             Cause::BadBox => 1,
@@ -92,6 +161,14 @@ impl Cause {
             Cause::BadLiveManifest { inside: _ } => 5,
             Cause::BadMoov => 6,
             Cause::UnknownTrack => 7,
+            Cause::NotDeclared {
+                stream: _,
+                bitrate: _,
+            } => 8,
+            Cause::DeclClash {
+                stream: _,
+                bitrate: _,
+            } => 9,
             Cause::Protected => 10,
             Cause::ManyTracks => 11,
             Cause::ManyRuns => 12,
@@ -101,27 +178,61 @@ impl Cause {
             Cause::NoSamples => 16,
             Cause::SamplesOutside => 17,
             Cause::NoMdat => 18,
+            Cause::DurationClash { kept: _, given: _ } => 19,
+            Cause::Overlap { end: _ } => 20,
             Cause::CutOff => 21,
             Cause::TimeTooLarge => 22,
             Cause::TooManySamples => 23,
             Cause::BadRun => 24,
+            Cause::Full => 30,
+            Cause::DiskFault => 31,
+            Cause::Damaged => 32,
+            Cause::NoMemory => 33,
+            Cause::Forward => 35,
+            Cause::BadHead => 40,
+            Cause::HeadTooLarge => 41,
+            Cause::NoTarget => 42,
+            Cause::Method => 43,
+            Cause::Encoded => 44,
+            Cause::BadChunk => 45,
+            Cause::LengthRequired => 46,
+            Cause::NotKept => 47,
+            Cause::NoChannel => 48,
+            Cause::TooManyConnections => 49,
         }
     }
 
     /// The HTTP status of the reply that tells it.
     pub fn status(&self) -> u16
-        ensures { result ≡ status_of self.now }
+        ensures { result ≡ cause_status self.now }
     {
         match self {
-            Cause::Protected => 415,
+            Cause::NotKept | Cause::NoChannel | Cause::NoTarget => 404,
+            Cause::Method => 405,
+            Cause::NotDeclared {
+                stream: _,
+                bitrate: _,
+            } => 409,
+            Cause::DeclClash {
+                stream: _,
+                bitrate: _,
+            } => 409,
+            Cause::DurationClash { kept: _, given: _ } => 409,
+            Cause::Overlap { end: _ } => 409,
+            Cause::LengthRequired => 411,
             Cause::BoxTooLarge | Cause::TooManySamples => 413,
+            Cause::Protected | Cause::Encoded => 415,
+            Cause::HeadTooLarge => 431,
+            Cause::NoMemory => 500,
+            Cause::DiskFault | Cause::Damaged | Cause::Forward | Cause::TooManyConnections => 503,
+            Cause::Full => 507,
             _ => 400,
         }
     }
 
     /// The name by which it is told.
     pub fn name(&self) -> &'static str
-        ensures { result.now ≡ name_of self.now }
+        ensures { result.now ≡ cause_name self.now }
     {
         match self {
             Cause::BadBox => "BadBox",
@@ -131,6 +242,14 @@ impl Cause {
             Cause::BadLiveManifest { inside: _ } => "BadLiveManifest",
             Cause::BadMoov => "BadMoov",
             Cause::UnknownTrack => "UnknownTrack",
+            Cause::NotDeclared {
+                stream: _,
+                bitrate: _,
+            } => "NotDeclared",
+            Cause::DeclClash {
+                stream: _,
+                bitrate: _,
+            } => "DeclClash",
             Cause::Protected => "Protected",
             Cause::ManyTracks => "ManyTracks",
             Cause::ManyRuns => "ManyRuns",
@@ -140,23 +259,93 @@ impl Cause {
             Cause::NoSamples => "NoSamples",
             Cause::SamplesOutside => "SamplesOutside",
             Cause::NoMdat => "NoMdat",
+            Cause::DurationClash { kept: _, given: _ } => "DurationClash",
+            Cause::Overlap { end: _ } => "Overlap",
             Cause::CutOff => "CutOff",
             Cause::TimeTooLarge => "TimeTooLarge",
             Cause::TooManySamples => "TooManySamples",
             Cause::BadRun => "BadRun",
+            Cause::Full => "Full",
+            Cause::DiskFault => "DiskFault",
+            Cause::Damaged => "Damaged",
+            Cause::NoMemory => "NoMemory",
+            Cause::Forward => "Forward",
+            Cause::BadHead => "BadHead",
+            Cause::HeadTooLarge => "HeadTooLarge",
+            Cause::NoTarget => "NoTarget",
+            Cause::Method => "Method",
+            Cause::Encoded => "Encoded",
+            Cause::BadChunk => "BadChunk",
+            Cause::LengthRequired => "LengthRequired",
+            Cause::NotKept => "NotKept",
+            Cause::NoChannel => "NoChannel",
+            Cause::TooManyConnections => "TooManyConnections",
+        }
+    }
+
+    /// Whether its line tells a place in the received bytes.
+    pub fn has_place(&self) -> bool
+        ensures { result ≡ has_place self.now }
+    {
+        match self {
+            Cause::NotDeclared {
+                stream: _,
+                bitrate: _,
+            } => false,
+            Cause::DeclClash {
+                stream: _,
+                bitrate: _,
+            } => false,
+            Cause::DurationClash { kept: _, given: _ } => false,
+            Cause::Overlap { end: _ } => false,
+            Cause::Full
+            | Cause::DiskFault
+            | Cause::Damaged
+            | Cause::NoMemory
+            | Cause::Forward
+            | Cause::BadHead
+            | Cause::HeadTooLarge
+            | Cause::NoTarget
+            | Cause::Method
+            | Cause::Encoded
+            | Cause::BadChunk
+            | Cause::LengthRequired
+            | Cause::NotKept
+            | Cause::NoChannel
+            | Cause::TooManyConnections => false,
+            _ => true,
         }
     }
 }
 
 /// A cause, and where in the received bytes it stands.
-#[derive(Clone, Copy, Debug, PartialEq, Eq)]
+#[derive(Debug, Drop, PartialEq, Eq)]
 pub struct Refusal {
-    /// In bytes, from 0: the first byte of the box at fault, or the number of bytes where these are cut off.
+    /// In bytes, from 0: the first byte of the box at fault, or the number of bytes where these are cut off. It is 0 with a
+    /// cause that has no place.
     pub at: u64,
     pub cause: Cause,
 }
 
-/// The line that tells a refusal: number, name, for a live manifest the place inside its text, and the place, with a line
+// The values that a cause names, each behind a space.
+fn put_values(alloc: Global, cause: &Cause) -> Result<String, NoMemory>
+    ensures { IfOk result (λ values. string_bytes values ≡ cause_values cause.now) }
+{
+    Ok(match cause {
+        Cause::BadLiveManifest { inside } => format!(in alloc; " inside {inside}")?,
+        Cause::NotDeclared { stream, bitrate } => {
+            format!(in alloc; " {} {bitrate}", stream.as_str())?
+        }
+        Cause::DeclClash { stream, bitrate } => {
+            format!(in alloc; " {} {bitrate}", stream.as_str())?
+        }
+        Cause::DurationClash { kept, given } => { format!(in alloc; " kept {kept} given {given}")? }
+        Cause::Overlap { end } => format!(in alloc; " end {end}")?,
+        _ => String::new(alloc),
+    })
+}
+
+/// The line that tells a refusal: number, name, the values that the cause names, the place where it has one, and a line
 /// feed.
 pub fn put_cause(alloc: Global, refusal: &Refusal) -> Result<Bytes, NoMemory>
     ensures { IfOk result (λ line. line ≡ cause_line refusal.now.at refusal.now.cause) }
@@ -164,11 +353,11 @@ pub fn put_cause(alloc: Global, refusal: &Refusal) -> Result<Bytes, NoMemory>
     let number = refusal.cause.number();
     let name = refusal.cause.name();
     let at = refusal.at;
-    let line = match refusal.cause {
-        Cause::BadLiveManifest { inside } => {
-            format!(in alloc; "{number} {name} inside {inside} at {at}\n")?
-        }
-        _ => format!(in alloc; "{number} {name} at {at}\n")?,
+    let values = put_values(alloc, &refusal.cause)?;
+    let line = if refusal.cause.has_place() {
+        format!(in alloc; "{number} {name}{values} at {at}\n")?
+    } else {
+        format!(in alloc; "{number} {name}{values}\n")?
     };
     Ok(Bytes::from_vec(line.into_bytes()))
 }
@@ -180,16 +369,12 @@ mod tests {
 
     #[test]
     fn lines_and_statuses(rt: HostRuntime) -> Result<(), Fail> {
+        let alloc = rt.alloc();
         let table = [
             (Cause::BadBox, "1 BadBox at 7\n", 400),
             (Cause::BoxTooLarge, "2 BoxTooLarge at 7\n", 413),
             (Cause::OpenEnded, "3 OpenEnded at 7\n", 400),
             (Cause::NoHeader, "4 NoHeader at 7\n", 400),
-            (
-                Cause::BadLiveManifest { inside: 52 },
-                "5 BadLiveManifest inside 52 at 7\n",
-                400,
-            ),
             (Cause::BadMoov, "6 BadMoov at 7\n", 400),
             (Cause::UnknownTrack, "7 UnknownTrack at 7\n", 400),
             (Cause::Protected, "10 Protected at 7\n", 415),
@@ -205,11 +390,61 @@ mod tests {
             (Cause::TimeTooLarge, "22 TimeTooLarge at 7\n", 400),
             (Cause::TooManySamples, "23 TooManySamples at 7\n", 413),
             (Cause::BadRun, "24 BadRun at 7\n", 400),
+            (
+                Cause::BadLiveManifest { inside: 52 },
+                "5 BadLiveManifest inside 52 at 7\n",
+                400,
+            ),
+            (
+                Cause::NotDeclared {
+                    stream: Name::read(alloc, b"video")?,
+                    bitrate: 1_400_000,
+                },
+                "8 NotDeclared video 1400000\n",
+                409,
+            ),
+            (
+                Cause::DeclClash {
+                    stream: Name::read(alloc, b"video")?,
+                    bitrate: 350_000,
+                },
+                "9 DeclClash video 350000\n",
+                409,
+            ),
+            (
+                Cause::DurationClash {
+                    kept: 20_000_000,
+                    given: 10_000_000,
+                },
+                "19 DurationClash kept 20000000 given 10000000\n",
+                409,
+            ),
+            (
+                Cause::Overlap { end: 20_000_000 },
+                "20 Overlap end 20000000\n",
+                409,
+            ),
+            (Cause::Full, "30 Full\n", 507),
+            (Cause::DiskFault, "31 DiskFault\n", 503),
+            (Cause::Damaged, "32 Damaged\n", 503),
+            (Cause::NoMemory, "33 NoMemory\n", 500),
+            (Cause::Forward, "35 Forward\n", 503),
+            (Cause::BadHead, "40 BadHead\n", 400),
+            (Cause::HeadTooLarge, "41 HeadTooLarge\n", 431),
+            (Cause::NoTarget, "42 NoTarget\n", 404),
+            (Cause::Method, "43 Method\n", 405),
+            (Cause::Encoded, "44 Encoded\n", 415),
+            (Cause::BadChunk, "45 BadChunk\n", 400),
+            (Cause::LengthRequired, "46 LengthRequired\n", 411),
+            (Cause::NotKept, "47 NotKept\n", 404),
+            (Cause::NoChannel, "48 NoChannel\n", 404),
+            (Cause::TooManyConnections, "49 TooManyConnections\n", 503),
         ];
         for (cause, line, status) in table {
-            let told = put_cause(rt.alloc(), &Refusal { at: 7, cause })?;
+            let refusal = Refusal { at: 7, cause };
+            let told = put_cause(alloc, &refusal)?;
             assert_eq!(rt; told.as_slice(), line.as_bytes(), "{line}");
-            assert_eq!(rt; cause.status(), status, "{line}");
+            assert_eq!(rt; refusal.cause.status(), status, "{line}");
         }
         Ok(())
     }

@@ -1,7 +1,9 @@
 //! Channels.
-ghost use Rattle.std.specs.Prelude.{◌≡◌, length, IfOk};
+ghost use Rattle.std.specs.Prelude.{◌≡◌, ◌↔◌, ◌<◌, ℕ, IsTrue, All, AllPairs, length, slice_index_or, IfOk};
+ghost use Rattle.sm_model.specs.declared.track.Track.{Track};
+ghost use Rattle.sm_model.specs.Channels.{IsTrack, Agree, IsChannel};
 
-use crate::{NoMemory, Track};
+use crate::{NoMemory, Track, is_fourcc};
 use std::alloc::Global;
 use std::marker::Model;
 
@@ -24,7 +26,64 @@ impl Model for Channel {
     ghost view = { λ c. c.items.items };
 }
 
+fn is_track(track: &Track) -> bool
+    ensures { IsTrue result ↔ IsTrack track.now }
+{
+    0 < track.timescale && is_fourcc(track.fourcc.as_slice()) && track.private.len() <= 32768
+}
+
+// Whether two tracks may stand in one channel.
+fn agree(a: &Track, b: &Track) -> bool
+    ensures { IsTrue result ↔ Agree a.now b.now }
+{
+    a.name.as_bytes() != b.name.as_bytes()
+        || (a.bitrate != b.bitrate && a.kind == b.kind && a.timescale == b.timescale)
+}
+
+fn are_tracks(tracks: &[Track]) -> bool
+    ensures { IsTrue result ↔ All IsTrack tracks.now }
+{
+    for track in tracks {
+        if !is_track(track) {
+            return false;
+        }
+    }
+    true
+}
+
+// Whether a track may stand behind all those before it.
+fn agrees_before(tracks: &[Track], place: usize) -> bool
+    requires { place < length tracks.now }
+    ensures { IsTrue result ↔ ((k : ℕ) (d : Track) → k < place → Agree (slice_index_or tracks.now k d) (slice_index_or tracks.now place d)) }
+{
+    for i in 0..place {
+        if !agree(&tracks[i], &tracks[place]) {
+            return false;
+        }
+    }
+    true
+}
+
+fn all_agree(tracks: &[Track]) -> bool
+    ensures { IsTrue result ↔ AllPairs Agree tracks.now }
+{
+    for place in 0..tracks.len() {
+        if !agrees_before(tracks, place) {
+            return false;
+        }
+    }
+    true
+}
+
 impl Channel {
+    /// Whether it is valid. It looks at each pair of tracks once where there are at most 64, else at none.
+    pub fn is_valid(&self) -> bool
+        ensures { IsTrue result ↔ IsChannel self.now }
+    {
+        let tracks = self.as_slice();
+        0 < tracks.len() && tracks.len() <= 64 && are_tracks(tracks) && all_agree(tracks)
+    }
+
     /// These tracks, without a copy.
     pub fn from_vec(items: Vec<Track>) -> Channel
         ensures { result ≡ items.items }

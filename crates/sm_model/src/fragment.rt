@@ -1,12 +1,13 @@
 //! Fragments.
-ghost use Rattle.std.specs.Prelude.{◌≡◌, IfOk};
+ghost use Rattle.std.specs.Prelude.{◌≡◌, ◌↔◌, ◌-◌, ◌^◌, min, IsTrue, IfOk};
+ghost use Rattle.sm_model.specs.Fragments.{IsValid, sample_bytes};
 
-use crate::{Name, NoMemory, Samples};
+use crate::{Name, NoMemory, Sample, Samples};
 use std::alloc::Global;
 
 /// One fragment of one track: the samples of a `moof` and the `mdat` behind it.
 ///
-/// It is valid where it has 1 to 65,536 samples of at most 16,777,216 bytes together, a duration of at least 1, and
+/// It is valid where it has 1 to 65,536 samples of at most 67,108,864 bytes together, a duration of at least 1, and
 /// `time + duration` is at most 2^63 - 1. Every call but `copy` that takes a fragment needs a valid one.
 #[derive(Debug, Drop)]
 pub struct Fragment {
@@ -23,7 +24,31 @@ pub struct Fragment {
     pub samples: Samples,
 }
 
+// How many bytes all samples have together. It stands still at its type's end.
+fn bytes_of(samples: &[Sample]) -> u64
+    ensures { result ≡ min (sample_bytes samples.now) (2 ^ 64 - 1) }
+{
+    let mut total: u64 = 0;
+    for sample in samples {
+        total = total.saturating_add(sample.bytes.len());
+    }
+    total
+}
+
 impl Fragment {
+    /// Whether it is valid.
+    pub fn is_valid(&self) -> bool
+        ensures { IsTrue result ↔ IsValid self.now }
+    {
+        let samples = self.samples.len();
+        0 < samples
+            && samples <= 65536
+            && 0 < self.duration
+            && self.time < 1 << 63
+            && self.duration < (1 << 63) - self.time
+            && bytes_of(self.samples.as_slice()) <= 67_108_864
+    }
+
     /// An equal fragment.
     pub fn copy(&self, alloc: Global) -> Result<Fragment, NoMemory>
         ensures { IfOk result (λ copy. copy ≡ self.now) }

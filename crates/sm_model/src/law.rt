@@ -12,7 +12,7 @@ ghost use Rattle.sm_model.specs.Fragments.{IsWide, sample_bytes};
 ghost use Rattle.sm_model.specs.FragText as text;
 ghost use Rattle.sm_model.specs.FragText.{tfxd_type, tfrf_type, moof_len, ahead_len};
 ghost use Rattle.sm_model.specs.Fields.{tfxd};
-ghost use Rattle.sm_model.specs.Frag.{frag, moof_run, last, traf};
+ghost use Rattle.sm_model.specs.Frag.{frag, moof_run, finish, last, traf};
 ghost use Rattle.sm_model.specs.Sound.{IsSoundRun, IsSoundFragment, LieInOrder};
 ghost use Rattle.sm_model.specs.Steps.{and_then};
 ghost use Rattle.sm_model.specs.TrackId.{track_id};
@@ -44,6 +44,7 @@ pub fn track_id_is_of_run()
 /// and its samples' bytes lie one after another in the body of the `mdat`, from the place that the `moof` says on.
 pub fn read_is_sound()
     ensures run { (d : Defaults) (m : List ℕ) (run : Run) → moof_run d m ≡ Ok run → IsSoundRun run }
+    ensures finish { (size : ℕ) (md : List ℕ) (run : Run) (raw : RawFragment) → IsSoundRun run → finish size md run ≡ Ok raw → IsSoundFragment md raw }
     ensures fragment { (d : Defaults) (m md : List ℕ) (raw : RawFragment) → frag d m md ≡ Ok raw → IsSoundFragment md raw }
     ensures in_order { (d : Defaults) (m md : List ℕ) (raw : RawFragment) → frag d m md ≡ Ok raw → LieInOrder d m md raw }
 {}
@@ -53,15 +54,15 @@ pub fn sizes_are_lengths()
     ensures mfhd { (seq : ℕ) → length (text.mfhd seq) ≡ 16 }
     ensures tfhd { (id : ℕ) → length (text.tfhd id) ≡ 16 }
     ensures trun { (start : ℕ) (signed : Bool) (samples : List Sample) → length (text.trun start signed samples) ≡ 20 + 16 * length samples }
-    ensures tfxd { (time duration : ℕ) → length (text.tfxd time duration) ≡ 44 }
+    ensures tfxd { (time duration : ℕ) → length (text.tfxd_box time duration) ≡ 44 }
     ensures tfrf { (ahead : List (ℕ × ℕ)) → length (text.tfrf ahead) ≡ ahead_len ahead }
-    ensures traf { (id start : ℕ) (f : Fragment) (ahead : List (ℕ × ℕ)) → length (text.traf id start f ahead) ≡ 88 + 16 * length f.samples + ahead_len ahead }
+    ensures traf { (id start : ℕ) (f : Fragment) (ahead : List (ℕ × ℕ)) → length (text.traf_box id start f ahead) ≡ 88 + 16 * length f.samples + ahead_len ahead }
     ensures moof { (seq id : ℕ) (f : Fragment) (ahead : List (ℕ × ℕ)) → length (text.moof seq id f ahead) ≡ moof_len f.samples ahead }
     ensures mdat { (samples : List Sample) → length (text.mdat samples) ≡ 8 + sample_bytes samples }
 {}
 
 /// A canonical fragment is two whole boxes, and is read again as what was written, whatever the defaults.
-pub fn written_is_read()
+pub fn written_fragment_is_read()
     ensures moof_whole { (seq id : ℕ) (f : Fragment) (ahead : List (ℕ × ℕ)) → IsWritten id f ahead → IsOneBox (text.moof seq id f ahead) }
     ensures mdat_whole { (id : ℕ) (f : Fragment) (ahead : List (ℕ × ℕ)) → IsWritten id f ahead → IsOneBox (text.mdat f.samples) }
     ensures two_boxes { (seq id : ℕ) (f : Fragment) (ahead : List (ℕ × ℕ)) → IsWritten id f ahead
@@ -75,15 +76,15 @@ pub fn written_is_read()
 /// A `traf` that was written is one whole box, and is read again as what was written, whatever the defaults and wherever
 /// its samples start.
 pub fn written_traf_is_read()
-    ensures whole { (id start : ℕ) (f : Fragment) (ahead : List (ℕ × ℕ)) → IsWritten id f ahead → IsOneBox (text.traf id start f ahead) }
+    ensures whole { (id start : ℕ) (f : Fragment) (ahead : List (ℕ × ℕ)) → IsWritten id f ahead → IsOneBox (text.traf_box id start f ahead) }
     ensures run { (d : Defaults) (id start : ℕ) (f : Fragment) (ahead : List (ℕ × ℕ)) → IsWritten id f ahead → start < 2 ^ 32
-        → traf d (box_of (text.traf id start f ahead)).body ≡ Ok (run_again id start f ahead) }
+        → traf d (box_of (text.traf_box id start f ahead)).body ≡ Ok (run_again id start f ahead) }
 {}
 
 /// A `tfxd` that was written is one whole box of its user type, and its time and duration are read again.
 pub fn written_tfxd_is_read()
     ensures { (time duration : ℕ) → IsWide (time, duration)
-        → (body : List ℕ) × IsUserBox (text.tfxd time duration) tfxd_type body × (tfxd body ≡ Some (time, duration)) }
+        → (body : List ℕ) × IsUserBox (text.tfxd_box time duration) tfxd_type body × (tfxd body ≡ Some (time, duration)) }
 {}
 
 /// A `tfrf` that was written is one whole box of its user type, and its pairs are read again.

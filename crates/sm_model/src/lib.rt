@@ -2,11 +2,15 @@
 //! text are. The definitions stand in `specs/`.
 #![tactic(auto)]
 
+mod act;
+mod address;
 mod bytes;
 mod cause;
 mod channel;
 mod digits;
+mod entry;
 mod fragment;
+mod framing;
 mod header;
 mod heads;
 mod item;
@@ -20,13 +24,18 @@ mod run;
 mod sample;
 mod smil;
 mod tag;
+mod target;
 mod track;
 
+pub use act::Act;
+pub use address::Address;
 pub use bytes::Bytes;
 pub use cause::{Cause, Refusal, put_cause};
 pub use channel::Channel;
 pub use digits::{decimal_up_to, number_of};
+pub use entry::Entry;
 pub use fragment::Fragment;
+pub use framing::Framing;
 pub use header::{Header, HeaderTrack, HeaderTracks};
 pub use heads::{Heads, TrackHead};
 pub use item::{Item, Items};
@@ -39,6 +48,7 @@ pub use run::{Defaults, Pairs, RawFragment, Row, Rows, Run};
 pub use sample::{Sample, Samples};
 pub use smil::{Smil, SmilTrack};
 pub use tag::{Attribute, Attributes, Tag};
+pub use target::Target;
 pub use track::{Kind, Params, Track, is_fourcc};
 
 #[cfg(test)]

@@ -1,5 +1,7 @@
 //! Names of streams and tracks.
-ghost use Rattle.std.specs.Prelude.{◌≡◌, ◌^◌, ◌<◌, ℕ, false, true, length, take_while, IfOk, Err, decimal};
+ghost use Rattle.std.specs.Prelude.{◌≡◌, ◌^◌, ◌<◌, ℕ, false, true, length, take_while, IfOk, Err, decimal, bytes_eq};
+ghost use Rattle.std.specs.Cmp.{partial_equiv_from_equiv};
+ghost use Rattle.std.specs.Cmp.Lexicographic.{nat_list_eq_equiv};
 ghost use Rattle.std.specs.Str.Lossy.{utf8_valid_len};
 ghost use Rattle.sm_model.specs.Names.{is_name, is_name_byte, first_wrong};
 ghost use Rattle.sm_model.specs.declared.name.NameFault.TheVariants.{Form, NoMemory};
@@ -14,6 +16,20 @@ use thiserror::Error;
 #[derive(Debug, Drop)]
 pub struct Name {
     text: String,
+}
+
+impl PartialEq for Name {
+    ghost eq = { λ a b. bytes_eq a b };
+
+    ghost laws = { partial_equiv_from_equiv nat_list_eq_equiv };
+
+    fn eq(&self, other: &Name) -> bool {
+        self.text.as_str() == other.text.as_str()
+    }
+}
+
+impl Eq for Name {
+    ghost laws = { nat_list_eq_equiv };
 }
 
 impl Model for Name {
@@ -111,11 +127,19 @@ impl Name {
         })
     }
 
-    /// The bytes of the name, lent.
+    /// The bytes of the name, lent. They are a name.
     pub fn as_bytes(&self) -> &[u8]
-        ensures { result.now ≡ self.now }
+        ensures same { result.now ≡ self.now }
+        ensures named { is_name self.now ≡ true }
     {
         self.text.as_bytes()
+    }
+
+    /// The text of the name, lent.
+    pub fn as_str(&self) -> &str
+        ensures { result.now ≡ self.now }
+    {
+        self.text.as_str()
     }
 
     /// An equal name.

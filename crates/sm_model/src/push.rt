@@ -1,6 +1,6 @@
 //! What the boxes of a push body leave for the boxes behind them, and what is done with a box.
 
-use crate::{Bytes, Cause, HeaderTrack, HeaderTracks};
+use crate::{Bytes, Cause, HeaderTrack, HeaderTracks, Run};
 
 /// How far the header of a push has come.
 #[derive(Debug, Drop)]
@@ -17,8 +17,10 @@ pub enum HeaderStage {
 /// A `moof` that waits for its `mdat`.
 #[derive(Debug, Drop)]
 pub struct PendingMoof {
-    /// The whole box.
-    pub bytes: Bytes,
+    /// What it says, with the defaults of its track.
+    pub run: Run,
+    /// In bytes, of the whole box.
+    pub size: u64,
     /// The place of its first byte in the body of the push.
     pub at: u64,
     /// The track that it names.
@@ -48,7 +50,7 @@ pub enum TopBox {
 }
 
 /// What is done with a box, as its head says. Sizes are in bytes and count the head.
-#[derive(Clone, Copy, Debug, PartialEq, Eq)]
+#[derive(Debug, Drop, PartialEq, Eq)]
 pub enum BoxDecision {
     /// More of its head is needed.
     Wait,

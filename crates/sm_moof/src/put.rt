@@ -46,7 +46,7 @@ fn append_moof(
 
 // How many bytes the samples have together.
 fn total_len(samples: &[Sample]) -> u32
-    requires { sample_bytes samples.now ≤ 16777216 }
+    requires { sample_bytes samples.now ≤ 67108864 }
     ensures { result ≡ sample_bytes samples.now }
 {
     let mut total = 0;
@@ -58,7 +58,7 @@ fn total_len(samples: &[Sample]) -> u32
 
 fn append_mdat(out: &mut Vec<u8>, samples: &[Sample], total: u32) -> Result<(), NoMemory>
     requires total { total ≡ sample_bytes samples.now }
-    requires short { sample_bytes samples.now ≤ 16777216 }
+    requires short { sample_bytes samples.now ≤ 67108864 }
     ensures { OnOk result (out.new.items ≡ out.old.items ++ mdat samples.now) }
 {
     append_head(out, 8 + total, b"mdat")?;

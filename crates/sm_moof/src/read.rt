@@ -1,7 +1,7 @@
 //! A fragment out of a `moof` and the `mdat` behind it.
-ghost use Rattle.std.specs.Prelude.{◌≡◌};
+ghost use Rattle.std.specs.Prelude.{◌≡◌, ◌<◌, ◌^◌};
 ghost use Rattle.sm_model.specs.Boxes.{IsOneBox};
-ghost use Rattle.sm_model.specs.Frag.{moof_run, last, frag, traf};
+ghost use Rattle.sm_model.specs.Frag.{moof_run, finish, frag, traf};
 ghost use Rattle.sm_model.specs.Steps.{is_bad, alone};
 ghost use Rattle.sm_moof.specs.Gives.{Gives};
 ghost use Rattle.sm_moof.specs.declared.read.MoofFault.TheVariants.{NoMemory};
@@ -15,7 +15,7 @@ use std::alloc::Global;
 use thiserror::Error;
 
 /// Why a fragment was not read.
-#[derive(Clone, Copy, Debug, PartialEq, Eq, Error)]
+#[derive(Debug, Drop, PartialEq, Eq, Error)]
 pub enum MoofFault {
     /// The first cause that holds, in the order in which they are listed with the definition of a fragment.
     #[error("{0}")]
@@ -76,18 +76,19 @@ pub fn read_moof(alloc: Global, moof: &[u8], defaults: &Defaults) -> Result<Run,
     read_first(alloc, &trafs, defaults)
 }
 
-/// The fragment of a `moof` that said `run`, with the samples out of the whole box behind it, or `NoMdat` or
+/// The fragment of a `moof` of `size` bytes that said `run`, with the samples out of the whole box behind it, or `NoMdat` or
 /// `SamplesOutside`. The data offset counts from the first byte of the `moof`, of which only the length matters here. The
 /// samples' bytes are copied once.
-#[tactic(auto, unfolding(sm_model::specs::Frag::last, sm_model::specs::Frag::raw_of))]
-pub fn finish(alloc: Global, moof: &[u8], mdat: &[u8], run: Run) -> Result<RawFragment, MoofFault>
-    requires { IsOneBox mdat.now }
-    ensures { Gives result (last moof.now mdat.now run) }
+#[tactic(auto, unfolding(sm_model::specs::Frag::finish, sm_model::specs::Frag::raw_of))]
+pub fn finish(alloc: Global, size: u64, mdat: &[u8], run: Run) -> Result<RawFragment, MoofFault>
+    requires short { size < 2 ^ 63 }
+    requires mdat { IsOneBox mdat.now }
+    ensures { Gives result (finish size mdat.now run) }
 {
     if !is_mdat(mdat) {
         return Err(MoofFault::Refused(Cause::NoMdat));
     }
-    let lead = moof.len() as u64 + head_len(mdat) as u64;
+    let lead = size + head_len(mdat) as u64;
     let rest = rest_of(lead, run.start, body_of(mdat));
     if lacks_bytes(rest.len() as u64, run.samples.as_slice()) {
         return Err(MoofFault::Refused(Cause::SamplesOutside));
@@ -117,7 +118,7 @@ pub fn read_fragment(
     ensures { Gives result (frag defaults.now moof.now mdat.now) }
 {
     let run = read_moof(alloc, moof, defaults)?;
-    finish(alloc, moof, mdat, run)
+    finish(alloc, moof.len() as u64, mdat, run)
 }
 
 #[cfg(test)]

@@ -14,8 +14,8 @@ use Rattle.sm_model.specs.Channels.{IsTrack, IsNarrowTrack}
 use Rattle.sm_model.specs.Boxes.{Box, boxes, box_of, IsOneBox}
 use Rattle.sm_model.specs.Found.{bodies}
 use Rattle.sm_model.specs.Moov as moov
-use Rattle.sm_model.specs.Moov.{gather, joined, alone, no_defaults, defaults_for, with_defaults, repeats, settled, traks_of, trexes_of, trexes_in}
-use Rattle.sm_model.specs.MoovText.{zeros, numbered, mvhd, tkhd, mdia, trak, traks, trex, trexes, mvex, moov_body, bare_moov, head, heads}
+use Rattle.sm_model.specs.Moov.{gather, joined, single, no_defaults, defaults_for, with_defaults, repeats, settled, traks_of, trexes_of, trexes_in}
+use Rattle.sm_model.specs.MoovText.{zeros, numbered, mvhd, tkhd, mdia, bare_trak, bare_traks, bare_trex, bare_trexes, bare_mvex, moov_body, bare_moov, head, heads}
 use Rattle.sm_model.proofs.BoxLemmas.{boxes-nil}
 use Rattle.sm_model.proofs.WrittenBoxes.{IsText, made, one_box, boxes-end, box_is, box_text_len, one_whole}
 use Rattle.sm_moov.proofs.BareTrak.{IsTimed, zeros-len, trak_text, trak_read, trex_body, trex_text, trex_read}
@@ -67,15 +67,15 @@ trex_box id t = made 32 (codes "trex") (trex_body id)
 abbrev zero_trex : ℕ → Track → ℕ × Defaults
 zero_trex id t = (id, no_defaults)
 
-trex-len : (id : ℕ) → length (trex id) ≡ 32
-unfolding trex
+trex-len : (id : ℕ) → length (bare_trex id) ≡ 32
+unfolding bare_trex
 trex-len id = box_text_len 32 (codes "trex") (trex_body id) (trex_text id)
 
-trexes_boxes : (ts : List Track) → boxes (trexes ts) ≡ Some (numbered (λ i t. trex_box i t ∷ []) 1 ts ++ [])
-unfolding trex
+trexes_boxes : (ts : List Track) → boxes (bare_trexes ts) ≡ Some (numbered (λ i t. trex_box i t ∷ []) 1 ts ++ [])
+unfolding bare_trex
 trexes_boxes ts =
-    ap boxes (sym (append-nil (trexes ts)))
-    ∙ numbered_boxes (λ id t. trex id) trex_box (λ id t rest. one_box 32 (codes "trex") (trex_body id) rest (trex_text id)) 1 ts [] [] boxes-nil
+    ap boxes (sym (append-nil (bare_trexes ts)))
+    ∙ numbered_boxes (λ id t. bare_trex id) trex_box (λ id t rest. one_box 32 (codes "trex") (trex_body id) rest (trex_text id)) 1 ts [] [] boxes-nil
 
 trex_kind : (id : ℕ) (t : Track) (xs : List Box) → bodies (codes "trex") (trex_box id t ∷ xs) ≡ trex_body id ∷ bodies (codes "trex") xs
 unfolding bodies
@@ -85,16 +85,16 @@ no_bodies : {A : Type 0} (F : List ℕ → Option (List A)) (name : List ℕ) �
 unfolding gather bodies
 no_bodies F name = refl
 
-mvex_read : (ts : List Track) → 1 + length ts < 2 ^ 32 → AllByRecursion IsTimed ts → moov.mvex (trexes ts) ≡ Some (numbered (λ i t. zero_trex i t ∷ []) 1 ts)
+mvex_read : (ts : List Track) → 1 + length ts < 2 ^ 32 → AllByRecursion IsTimed ts → moov.mvex (bare_trexes ts) ≡ Some (numbered (λ i t. zero_trex i t ∷ []) 1 ts)
 unfolding moov.mvex
 mvex_read ts lt all =
     ap (option_and_then trexes_in) (trexes_boxes ts)
-    ∙ numbered_gather (λ b. alone (moov.trex b)) (codes "trex") trex_box zero_trex trex_kind (λ id t fits h. ap alone (trex_read id fits)) 1 ts [] lt all
-    (no_bodies (λ b. alone (moov.trex b)) (codes "trex"))
+    ∙ numbered_gather (λ b. single (moov.trex b)) (codes "trex") trex_box zero_trex trex_kind (λ id t fits h. ap single (trex_read id fits)) 1 ts [] lt all
+    (no_bodies (λ b. single (moov.trex b)) (codes "trex"))
 
-mvex_text : (ts : List Track) → length ts ≤ 64 → IsText (8 + 32 * length ts) (codes "mvex") (trexes ts)
+mvex_text : (ts : List Track) → length ts ≤ 64 → IsText (8 + 32 * length ts) (codes "mvex") (bare_trexes ts)
 mvex_text ts few = record {
-  size_is = omega (arith, numbered_len (λ id t. trex id) 32 (λ id t. trex-len id) 1 ts);
+  size_is = omega (arith, numbered_len (λ id t. bare_trex id) 32 (λ id t. trex-len id) 1 ts);
   fits = omega (arith, few);
   kind_is = refl;
 }
@@ -108,7 +108,7 @@ abbrev mvhd_box : Box
 mvhd_box = made 108 (codes "mvhd") (zeros 100)
 
 abbrev mvex_box : List Track → Box
-mvex_box ts = made (8 + 32 * length ts) (codes "mvex") (trexes ts)
+mvex_box ts = made (8 + 32 * length ts) (codes "mvex") (bare_trexes ts)
 
 mvhd_text : IsText 108 (codes "mvhd") (zeros 100)
 mvhd_text = record { size_is = omega (arith, zeros-len 100); fits = lit< tt; kind_is = refl }
@@ -117,12 +117,12 @@ abbrev children : List Track → List Box
 children ts = mvhd_box ∷ (numbered (λ i t. trak_box i t ∷ []) 1 ts ++ mvex_box ts ∷ [])
 
 children_are : (ts : List Track) → length ts ≤ 64 → boxes (moov_body ts) ≡ Some (children ts)
-unfolding moov_body mvhd mvex trak
+unfolding moov_body mvhd bare_mvex bare_trak
 children_are ts few =
-    one_box 108 (codes "mvhd") (zeros 100) (traks ts ++ mvex ts) mvhd_text
+    one_box 108 (codes "mvhd") (zeros 100) (bare_traks ts ++ bare_mvex ts) mvhd_text
     ∙ ap (option_map (λ (xs : List Box). mvhd_box ∷ xs))
-    (numbered_boxes trak trak_box (λ id t rest. one_box 188 (codes "trak") (tkhd id ++ mdia t) rest (trak_text id t)) 1 ts (mvex ts) (mvex_box ts ∷ [])
-    (boxes-end (8 + 32 * length ts) (codes "mvex") (trexes ts) (mvex_text ts few)))
+    (numbered_boxes bare_trak trak_box (λ id t rest. one_box 188 (codes "trak") (tkhd id ++ mdia t) rest (trak_text id t)) 1 ts (bare_mvex ts) (mvex_box ts ∷ [])
+    (boxes-end (8 + 32 * length ts) (codes "mvex") (bare_trexes ts) (mvex_text ts few)))
 
 trak_kind : (id : ℕ) (t : Track) (xs : List Box) → bodies (codes "trak") (trak_box id t ∷ xs) ≡ (tkhd id ++ mdia t) ∷ bodies (codes "trak") xs
 unfolding bodies
@@ -140,17 +140,17 @@ mvhd_no_mvex : (xs : List Box) → bodies (codes "mvex") (mvhd_box ∷ xs) ≡ b
 unfolding bodies
 mvhd_no_mvex xs = refl
 
-mvex_no_trak : (ts : List Track) → gather (λ b. alone (moov.trak b)) (bodies (codes "trak") (mvex_box ts ∷ [])) ≡ Some []
+mvex_no_trak : (ts : List Track) → gather (λ b. single (moov.trak b)) (bodies (codes "trak") (mvex_box ts ∷ [])) ≡ Some []
 unfolding gather bodies
 mvex_no_trak ts = refl
 
 traks_read : (ts : List Track) → 1 + length ts < 2 ^ 32 → AllByRecursion IsTimed ts → traks_of (children ts) ≡ Some (heads ts)
 traks_read ts lt all =
-    ap (gather (λ b. alone (moov.trak b))) (mvhd_no_trak (numbered (λ i t. trak_box i t ∷ []) 1 ts ++ mvex_box ts ∷ []))
-    ∙ numbered_gather (λ b. alone (moov.trak b)) (codes "trak") trak_box head trak_kind (λ id t fits h. ap alone (trak_read id t fits h)) 1 ts (mvex_box ts ∷ []) lt all
+    ap (gather (λ b. single (moov.trak b))) (mvhd_no_trak (numbered (λ i t. trak_box i t ∷ []) 1 ts ++ mvex_box ts ∷ []))
+    ∙ numbered_gather (λ b. single (moov.trak b)) (codes "trak") trak_box head trak_kind (λ id t fits h. ap single (trak_read id t fits h)) 1 ts (mvex_box ts ∷ []) lt all
     (mvex_no_trak ts)
 
-one_mvex : (ts : List Track) → bodies (codes "mvex") (mvex_box ts ∷ []) ≡ trexes ts ∷ []
+one_mvex : (ts : List Track) → bodies (codes "mvex") (mvex_box ts ∷ []) ≡ bare_trexes ts ∷ []
 unfolding bodies
 one_mvex ts = refl
 
@@ -163,7 +163,7 @@ trexes_read ts lt all =
     ap (gather moov.mvex)
     (mvhd_no_mvex (numbered (λ i t. trak_box i t ∷ []) 1 ts ++ mvex_box ts ∷ [])
     ∙ numbered_other (codes "mvex") trak_box trak_no_mvex 1 ts (mvex_box ts ∷ []) ∙ one_mvex ts)
-    ∙ gather-one moov.mvex (trexes ts) _ (mvex_read ts lt all)
+    ∙ gather-one moov.mvex (bare_trexes ts) _ (mvex_read ts lt all)
 
 -- ---- defaults and track_IDs
 
@@ -214,22 +214,22 @@ body_read ts few all =
     ∙ ap (option_and_then (settled (numbered (λ i t. zero_trex i t ∷ []) 1 ts))) (traks_read ts lt all)
     ∙ settled_heads ts
 
-trak-len : (id : ℕ) (t : Track) → length (trak id t) ≡ 188
-unfolding trak
+trak-len : (id : ℕ) (t : Track) → length (bare_trak id t) ≡ 188
+unfolding bare_trak
 trak-len id t = box_text_len 188 (codes "trak") (tkhd id ++ mdia t) (trak_text id t)
 
 mvhd-len : length mvhd ≡ 108
 unfolding mvhd
 mvhd-len = box_text_len 108 (codes "mvhd") (zeros 100) mvhd_text
 
-mvex-len : (ts : List Track) → length ts ≤ 64 → length (mvex ts) ≡ 8 + 32 * length ts
-unfolding mvex
-mvex-len ts few = box_text_len (8 + 32 * length ts) (codes "mvex") (trexes ts) (mvex_text ts few)
+mvex-len : (ts : List Track) → length ts ≤ 64 → length (bare_mvex ts) ≡ 8 + 32 * length ts
+unfolding bare_mvex
+mvex-len ts few = box_text_len (8 + 32 * length ts) (codes "mvex") (bare_trexes ts) (mvex_text ts few)
 
 moov_text : (ts : List Track) → length ts ≤ 64 → IsText (124 + 220 * length ts) (codes "moov") (moov_body ts)
 unfolding moov_body
 moov_text ts few = record {
-  size_is = omega (arith, mvhd-len, mvex-len ts few, numbered_len trak 188 trak-len 1 ts, length-append mvhd (traks ts ++ mvex ts), length-append (traks ts) (mvex ts));
+  size_is = omega (arith, mvhd-len, mvex-len ts few, numbered_len bare_trak 188 trak-len 1 ts, length-append mvhd (bare_traks ts ++ bare_mvex ts), length-append (bare_traks ts) (bare_mvex ts));
   fits = omega (arith, few);
   kind_is = refl;
 }

@@ -13,7 +13,7 @@ use Rattle.sm_model.specs.Boxes.{Box, boxes, box_of, starts_whole}
 use Rattle.sm_model.specs.Found.{found, bodies}
 use Rattle.sm_model.specs.Fields.{version}
 use Rattle.sm_model.specs.Moov as moov
-use Rattle.sm_model.specs.Moov.{first_body, first_child, number_behind_times, first_entry, no_defaults}
+use Rattle.sm_model.specs.Moov.{some_body, first_child, number_behind_times, first_entry, no_defaults}
 use Rattle.sm_model.specs.MoovText.{zeros, tkhd, mdhd, sample_type, entry, stsd, stbl, minf, mdia, head}
 use Rattle.sm_model.proofs.WrittenBoxes.{IsText, made, len32, front32, past32, drop_past, one_box, boxes-end, box_is, box_text_len, one_whole}
 
@@ -49,9 +49,9 @@ unfolding version number32
 version_zero rest = refl
 
 -- the first child of a body whose boxes are known
-child_at : (name b : List ℕ) (xs : List Box) → boxes b ≡ Some xs → first_child name b ≡ first_body (found (bodies name xs))
+child_at : (name b : List ℕ) (xs : List Box) → boxes b ≡ Some xs → first_child name b ≡ some_body (found (bodies name xs))
 unfolding first_child
-child_at name b xs e = ap (option_and_then (λ ys. first_body (found (bodies name ys)))) e
+child_at name b xs e = ap (option_and_then (λ ys. some_body (found (bodies name ys)))) e
 
 -- two boxes and no more
 two_boxes : (n m : ℕ) (kind other body rest : List ℕ) → IsText n kind body → IsText m other rest
@@ -213,8 +213,8 @@ mdia_found : (id : ℕ) (t : Track) → first_child (codes "mdia") (tkhd id ++ m
 unfolding bodies
 mdia_found id t = child_at (codes "mdia") (tkhd id ++ mdia t) _ (trak_boxes id t)
 
-id_read : (id : ℕ) (t : Track) → id < 2 ^ 32 → moov.track_id (tkhd id ++ mdia t) ≡ Some id
-unfolding moov.track_id
+id_read : (id : ℕ) (t : Track) → id < 2 ^ 32 → moov.tkhd_id (tkhd id ++ mdia t) ≡ Some id
+unfolding moov.tkhd_id
 id_read id t fits = rw (tkhd_found id t) (times_read 7 id (zeros 68) (version_seven (zeros 8 ++ (number32 id ++ zeros 68))) fits)
 
 pub trak_text : (id : ℕ) (t : Track) → IsText 188 (codes "trak") (tkhd id ++ mdia t)

@@ -9,7 +9,7 @@ use Rattle.sm_model.specs.declared.heads.TrackHead.{TrackHead}
 use Rattle.sm_model.specs.declared.run.Defaults.{Defaults}
 use Rattle.sm_model.specs.Boxes.{Box, boxes}
 use Rattle.sm_model.specs.Found.{bodies}
-use Rattle.sm_model.specs.Moov.{first_child, joined, gather, track_id, unless_zero, number_behind_times, timescale, entry_type, head_of, trak, with_defaults, repeats, settled, alone, traks_of, trexes_of, moov_of, moov}
+use Rattle.sm_model.specs.Moov.{first_child, joined, gather, tkhd_id, unless_zero, number_behind_times, timescale, entry_type, head_of, trak, with_defaults, repeats, settled, single, traks_of, trexes_of, moov_of, moov}
 
 abbrev pub HasTicks : TrackHead → Type 0
 HasTicks h = 0 < h.timescale
@@ -50,20 +50,20 @@ by_id b (Some id) h e = by_media id (first_child (codes "mdia") b) h e
 
 trak_ticks : (b : List ℕ) (h : TrackHead) → trak b ≡ Some h → HasTicks h
 unfolding trak
-trak_ticks b h e = by_id b (track_id b) h e
+trak_ticks b h e = by_id b (tkhd_id b) h e
 
 -- ---- all tracks
 
 one_more : (o : Option TrackHead) (rest : Option (List TrackHead)) (hs : List TrackHead) → ((h : TrackHead) → o ≡ Some h → HasTicks h) → ((more : List TrackHead) → rest ≡ Some more → AllByRecursion HasTicks more)
-    → joined (alone o) rest ≡ Some hs → AllByRecursion HasTicks hs
+    → joined (single o) rest ≡ Some hs → AllByRecursion HasTicks hs
 one_more None rest hs first others e = absurd cc
 one_more (Some h) None hs first others e = absurd cc
 one_more (Some h) (Some more) hs first others e = let same : h ∷ more ≡ hs = cc in subst (AllByRecursion HasTicks) same (first h refl, others more refl)
 
-traks_ticks : (bs : List (List ℕ)) (hs : List TrackHead) → gather (λ b. alone (trak b)) bs ≡ Some hs → AllByRecursion HasTicks hs
+traks_ticks : (bs : List (List ℕ)) (hs : List TrackHead) → gather (λ b. single (trak b)) bs ≡ Some hs → AllByRecursion HasTicks hs
 unfolding gather
 traks_ticks [] hs e = let same : [] ≡ hs = cc in subst (AllByRecursion HasTicks) same tt
-traks_ticks (b ∷ bs) hs e = one_more (trak b) (gather (λ c. alone (trak c)) bs) hs (λ h is. trak_ticks b h is) (λ more is. traks_ticks bs more is) e
+traks_ticks (b ∷ bs) hs e = one_more (trak b) (gather (λ c. single (trak c)) bs) hs (λ h is. trak_ticks b h is) (λ more is. traks_ticks bs more is) e
 
 map_ticks : (ts : List (ℕ × Defaults)) (hs : List TrackHead) → AllByRecursion HasTicks hs → AllByRecursion HasTicks (map (with_defaults ts) hs)
 map_ticks ts [] all = tt

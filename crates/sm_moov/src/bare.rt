@@ -1,6 +1,7 @@
 //! A bare `moov` written.
 ghost use Rattle.std.specs.Prelude.{◌≡◌, ◌≤◌, ◌<◌, ◌^◌, ◌+◌, ◌*◌, ◌++◌, length, OnOk, IfOk};
-ghost use Rattle.sm_model.specs.MoovText.{zeros, mvhd, tkhd, mdhd, sample_type, entry, stsd, stbl, minf, mdia, trak, traks, trex, trexes, mvex, bare_moov};
+ghost use Rattle.sm_model.specs.MoovText.{zeros, mvhd, tkhd, mdhd, sample_type, entry, stsd, stbl, minf, mdia, bare_trak, bare_traks, bare_trex, bare_trexes};
+ghost use Rattle.sm_model.specs.MoovText.{bare_mvex, bare_moov};
 
 use sm_box::{append_head, append_u32};
 use sm_model::{Bytes, Channel, Kind, NoMemory, Track};
@@ -93,9 +94,9 @@ fn append_mdia(out: &mut Vec<u8>, track: &Track) -> Result<(), NoMemory>
     append_minf(out, track.kind)
 }
 
-#[tactic(auto, unfolding(sm_model::specs::MoovText::trak))]
+#[tactic(auto, unfolding(sm_model::specs::MoovText::bare_trak))]
 fn append_trak(out: &mut Vec<u8>, id: u32, track: &Track) -> Result<(), NoMemory>
-    ensures { OnOk result (out.new.items ≡ out.old.items ++ trak id track.now) }
+    ensures { OnOk result (out.new.items ≡ out.old.items ++ bare_trak id track.now) }
 {
     append_head(out, 188, b"trak")?;
     append_tkhd(out, id)?;
@@ -105,7 +106,7 @@ fn append_trak(out: &mut Vec<u8>, id: u32, track: &Track) -> Result<(), NoMemory
 // The tracks with the track_IDs from 1 on.
 fn append_traks(out: &mut Vec<u8>, tracks: &[Track]) -> Result<(), NoMemory>
     requires { length tracks.now ≤ 64 }
-    ensures { OnOk result (out.new.items ≡ out.old.items ++ traks tracks.now) }
+    ensures { OnOk result (out.new.items ≡ out.old.items ++ bare_traks tracks.now) }
 {
     let mut id = 1;
     for track in tracks {
@@ -115,9 +116,9 @@ fn append_traks(out: &mut Vec<u8>, tracks: &[Track]) -> Result<(), NoMemory>
     Ok(())
 }
 
-#[tactic(auto, unfolding(sm_model::specs::MoovText::trex))]
+#[tactic(auto, unfolding(sm_model::specs::MoovText::bare_trex))]
 fn append_trex(out: &mut Vec<u8>, id: u32) -> Result<(), NoMemory>
-    ensures { OnOk result (out.new.items ≡ out.old.items ++ trex id) }
+    ensures { OnOk result (out.new.items ≡ out.old.items ++ bare_trex id) }
 {
     append_head(out, 32, b"trex")?;
     append_u32(out, 0)?;
@@ -129,7 +130,7 @@ fn append_trex(out: &mut Vec<u8>, id: u32) -> Result<(), NoMemory>
 // The defaults of these tracks, which are zeros.
 fn append_trexes(out: &mut Vec<u8>, tracks: &[Track]) -> Result<(), NoMemory>
     requires { length tracks.now ≤ 64 }
-    ensures { OnOk result (out.new.items ≡ out.old.items ++ trexes tracks.now) }
+    ensures { OnOk result (out.new.items ≡ out.old.items ++ bare_trexes tracks.now) }
 {
     let mut id = 1;
     for _track in tracks {
@@ -139,10 +140,10 @@ fn append_trexes(out: &mut Vec<u8>, tracks: &[Track]) -> Result<(), NoMemory>
     Ok(())
 }
 
-#[tactic(auto, unfolding(sm_model::specs::MoovText::mvex))]
+#[tactic(auto, unfolding(sm_model::specs::MoovText::bare_mvex))]
 fn append_mvex(out: &mut Vec<u8>, tracks: &[Track]) -> Result<(), NoMemory>
     requires { length tracks.now ≤ 64 }
-    ensures { OnOk result (out.new.items ≡ out.old.items ++ mvex tracks.now) }
+    ensures { OnOk result (out.new.items ≡ out.old.items ++ bare_mvex tracks.now) }
 {
     append_head(out, 8 + 32 * tracks.len() as u32, b"mvex")?;
     append_trexes(out, tracks)

@@ -1,7 +1,7 @@
 //! What several bodies say, one behind the other.
 ghost use Rattle.std.specs.Prelude.{◌≡◌, [], None, Some, OnOk};
 ghost use Rattle.std.specs.Option.{option_map};
-ghost use Rattle.sm_model.specs.Moov.{joined, alone};
+ghost use Rattle.sm_model.specs.Moov.{joined, single};
 
 use sm_model::NoMemory;
 use std::alloc::Global;
@@ -34,7 +34,7 @@ impl<T: Drop> Gathered<T> {
 
     /// What one more body says.
     pub fn add(&mut self, item: Option<T>) -> Result<(), NoMemory>
-        ensures { OnOk result (self.new ≡ joined self.old (alone item)) }
+        ensures { OnOk result (self.new ≡ joined self.old (single item)) }
     {
         match item {
             Some(item) => self.items.push(item)?,

@@ -8,7 +8,7 @@ ghost use Rattle.sm_model.specs.Moov.{moov};
 ghost use Rattle.sm_model.specs.MoovText.{bare_moov, heads};
 
 /// The bare `moov` of a channel is one box, whose size is its length, and is read as the heads of the channel's tracks.
-pub fn written_is_read()
+pub fn written_moov_is_read()
     ensures whole { (tracks : List Track) → IsChannel tracks → IsOneBox (bare_moov tracks) }
     ensures size { (tracks : List Track) → IsChannel tracks → length (bare_moov tracks) ≡ 124 + 220 * length tracks }
     ensures read { (tracks : List Track) → IsChannel tracks → All IsNarrowTrack tracks

@@ -13,7 +13,7 @@ use std::collections::BTreeSet;
 use thiserror::Error;
 
 /// Why a `moov` was not read.
-#[derive(Clone, Copy, Debug, PartialEq, Eq, Error)]
+#[derive(Debug, Drop, PartialEq, Eq, Error)]
 pub enum MoovFault {
     /// The `moov` is malformed: the cause is `BadMoov`.
     #[error("{0}")]

@@ -1,14 +1,14 @@
 //! What a `trak` says (ISO/IEC 14496-12, 8.3.1).
 ghost use Rattle.std.specs.Prelude.{◌≡◌};
 ghost use Rattle.std.specs.Option.{option_map};
-ghost use Rattle.sm_model.specs.Moov.{track_id, timescale, entry_type, is_encrypted, trak};
+ghost use Rattle.sm_model.specs.Moov.{tkhd_id, timescale, entry_type, is_encrypted, trak};
 
 use crate::children::{first_child, first_entry, number_behind_times};
 use sm_model::{Defaults, TrackHead};
 
-#[tactic(auto, unfolding(sm_model::specs::Moov::track_id))]
+#[tactic(auto, unfolding(sm_model::specs::Moov::tkhd_id))]
 fn track_id(trak: &[u8]) -> Option<u32>
-    ensures { result ≡ track_id trak.now }
+    ensures { result ≡ tkhd_id trak.now }
 {
     number_behind_times(first_child(trak, b"tkhd")?)
 }

@@ -11,7 +11,7 @@ use Rattle.sm_model.specs.declared.push.BoxDecision.TheVariants.{Wait, Refuse, P
 use Rattle.sm_model.specs.Boxes.{IsOneBox, starts_whole, box_of}
 use Rattle.sm_model.specs.PushHeads.{decision, by_kind, user_sort, kind_sort, is as is_kind}
 use Rattle.sm_model.specs.PushBoxes.{Step, taken, passed}
-use Rattle.sm_model.specs.Body.{Outcome, ended, behind, stepped, at_box, walk}
+use Rattle.sm_model.specs.Body.{Outcome, ended, led_by, stepped, at_box, walk}
 use Rattle.sm_model.proofs.BoxLemmas.{is_whole, size_of}
 use Rattle.sm_box.specs.Heads.{head_of}
 use Rattle.sm_box.specs.declared.head.Head.{Head}
@@ -117,9 +117,9 @@ rest_walk s (x ∷ xs) none = rest_walk_at s x xs (decision s (x ∷ xs)) (rest_
 
 -- ---- boxes
 
-step_walk : (step : Step) (size : ℕ) (go : PushState → Outcome) (go' : PushState → Outcome) → ((next : PushState) → go next ≡ go' next) → stepped step size (λ next _. go next) ≡ step_gives step go'
-step_walk (Err r) size go go' h = refl
-step_walk (Ok step) size go go' h = ap (behind (option_to_list step.0)) (h step.1)
+step_walk : (s : PushState) (step : Step) (size : ℕ) (go : PushState → Outcome) (go' : PushState → Outcome) → ((next : PushState) → go next ≡ go' next) → stepped s step size (λ next _. go next) ≡ step_gives s step go'
+step_walk s (Err r) size go go' h = refl
+step_walk s (Ok step) size go go' h = ap (led_by (option_to_list step.0)) (h step.1)
 
 box_walk : (s : PushState) (box more : List ℕ) (d : BoxDecision) → decision s box ≡ d → SizeIs (length box) d × IsMade d → (go' : PushState → Outcome) → ((next : PushState) → walk next 0 more ≡ go' next)
     → walk s 0 (box ++ more) ≡ box_gives s box d go'
@@ -128,7 +128,7 @@ box_walk s box more (Refuse cause) e is go' h = refuses s box more cause e
 box_walk s box more (Pass n) e is go' h =
     passes s box more n e (omega (arith, is.0)) ∙ ap (λ (k : ℕ). walk (passed s n) k more) (omega (arith, is.0)) ∙ h (passed s n)
 box_walk s box more (Take sort n) e is go' h =
-    takes s box more sort n e (sym is.0) ∙ step_walk (taken s sort box) n (λ next. walk next 0 more) go' h
+    takes s box more sort n e (sym is.0) ∙ step_walk s (taken s sort box) n (λ next. walk next 0 more) go' h
 
 -- what boxes and a rest give is what their bytes give
 pub boxes_walk : ReadsWhole → (s : PushState) (boxes : List (List ℕ)) (rest : List ℕ) → AllByRecursion IsOneBox boxes → starts_whole rest ≡ false → walk s 0 (bytes_of boxes ++ rest) ≡ boxes_give s boxes rest

@@ -11,9 +11,9 @@ use Rattle.sm_model.specs.PushBoxes.{Step, taken, passed}
 use Rattle.sm_model.specs.Body.{Outcome, stepped, at_box, walk}
 
 -- a box gives one item at most
-stepped_few : (step : Step) (size most : ℕ) (go : PushState → ℕ → Outcome) → ((next : PushState) (k : ℕ) → length (go next k).items ≤ most) → length (stepped step size go).items ≤ most + 1
-stepped_few (Err r) size most go few = omega arith
-stepped_few (Ok step) size most go few = by_item step.0
+stepped_few : (s : PushState) (step : Step) (size most : ℕ) (go : PushState → ℕ → Outcome) → ((next : PushState) (k : ℕ) → length (go next k).items ≤ most) → length (stepped s step size go).items ≤ most + 1
+stepped_few s (Err r) size most go few = omega arith
+stepped_few s (Ok step) size most go few = by_item step.0
   where
     by_item : (item : Option Given) → length (option_to_list item ++ (go step.1 size).items) ≤ most + 1
     by_item None = omega (arith, few step.1 size)
@@ -24,7 +24,7 @@ box_few s b Wait most go few = omega arith
 box_few s b (Refuse cause) most go few = omega arith
 box_few s b (Pass size) most go few = omega (arith, few (passed s size) size)
 box_few s b (Take sort size) most go few =
-    cond_both (ltb (length b) size) _ _ (λ (o : Outcome). length o.items ≤ most + 1) (λ _. omega arith) (λ _. stepped_few (taken s sort (take size b)) size most go few)
+    cond_both (ltb (length b) size) _ _ (λ (o : Outcome). length o.items ≤ most + 1) (λ _. omega arith) (λ _. stepped_few s (taken s sort (take size b)) size most go few)
 
 pub walk_few : (s : PushState) (k : ℕ) (b : List ℕ) → length (walk s k b).items ≤ length b
 unfolding walk

@@ -17,7 +17,7 @@ use Rattle.sm_model.specs.Channels.{IsTrack, Agree, IsChannel, IsUntimed, Differ
 use Rattle.sm_model.specs.LiveTracks.{is_same}
 use Rattle.sm_model.specs.LiveRead.{live_manifest}
 use Rattle.sm_model.specs.Moov.{moov}
-use Rattle.sm_model.specs.Header.{head_for, heads_for, timed, tracks_of, keys_of, is_off, has_two_timescales, is_protected, header_with, header_by, header_of}
+use Rattle.sm_model.specs.Header.{head_for, heads_for, timed, tracks_of, keys_of, is_off, has_two_timescales, names_protected, header_with, header_by, header_of}
 use Rattle.sm_push.proofs.HeaderLemmas.{as_many}
 
 -- a track's head has ticks
@@ -112,7 +112,7 @@ heads_valid : (ts : List SmilTrack) (heads : List TrackHead) (found : Option (Li
 unfolding header_with
 heads_valid ts heads None h smil ticks is e = absurd cc
 heads_valid ts heads (Some hs) h smil ticks is e =
-    with_valid ts hs h (has_two_timescales (tracks_of ts hs)) (is_protected hs) (λ one. channel_valid ts hs smil (heads_ticks heads ts hs ticks is) (as_many heads ts hs is) one) e
+    with_valid ts hs h (has_two_timescales (tracks_of ts hs)) (names_protected hs) (λ one. channel_valid ts hs smil (heads_ticks heads ts hs ticks is) (as_many heads ts hs is) one) e
 
 parts_valid : (said : Result (List SmilTrack) ℕ) (heads : Option (List TrackHead)) (h : Header) → ((ts : List SmilTrack) → said ≡ Ok ts → IsSmil ts) → ((hs : List TrackHead) → heads ≡ Some hs → All HasTicks hs)
     → header_by said heads ≡ Ok h → IsChannel h.channel

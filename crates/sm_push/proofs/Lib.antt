@@ -10,3 +10,5 @@ pub mod Boxes
 pub mod Splits
 pub mod Limits
 pub mod Valid
+mod MoofLemmas
+pub mod WrittenHeader

@@ -3,7 +3,6 @@ use Rattle.std.proofs.Common.{◌≡◌, ◌≤◌, ◌<◌, ◌+◌, ◌-◌, �
 use Rattle.std.specs.Prelude.{is_some, codes}
 use Rattle.std.proofs.lemmas.Bool.{cond_both, ltb-true, ltb-false}
 use Rattle.sm_model.specs.declared.push.PushState.{PushState}
-use Rattle.sm_model.specs.declared.push.PendingMoof.{PendingMoof}
 use Rattle.sm_model.specs.declared.push.HeaderStage.{HeaderStage}
 use Rattle.sm_model.specs.declared.push.HeaderStage.TheVariants.{Gathering, Complete}
 use Rattle.sm_model.specs.declared.push.TopBox.{TopBox}
@@ -18,8 +17,8 @@ use Rattle.sm_box.specs.declared.head.Head.{Head}
 use Rattle.sm_box.specs.declared.head.Head.TheVariants as heads
 use Rattle.sm_push.specs.declared.kept.Kept.{Kept}
 use Rattle.sm_push.specs.Heads.{by_head, IsOpen}
-use Rattle.sm_push.specs.Held.{most_of, box_bytes, gathered_bytes, pending_bytes, held_bytes}
-use Rattle.sm_push.specs.Steps.{IsBoxIn, AreNotBoth, AreGathered, AreBoxes}
+use Rattle.sm_push.specs.Held.{most_of, box_bytes, gathered_bytes, kept_bytes}
+use Rattle.sm_push.specs.Steps.{IsBoxIn, AreNotBoth, AreGathered}
 use Rattle.sm_push.specs.Standing.{IsPartial}
 use Rattle.sm_push.proofs.HeadLemmas.{decision_is}
 use Rattle.sm_push.proofs.Fronts.{whole_is}
@@ -37,7 +36,7 @@ within_limited : (sort : TopBox) (size counted most : ℕ) → (counted ≤ most
 within_limited sort size counted most le = cond_both (ltb most counted) _ _ IsLimited (λ _. tt) (λ e. le (ltb-false _ _ e))
 
 behind_limited : (sort : TopBox) (head size : ℕ) → head ≤ 16 → IsLimited (behind_moof sort head size)
-behind_limited sorts.Mdat head size h = within_limited sorts.Mdat size (size - head) 16777216 (λ le. omega arith)
+behind_limited sorts.Mdat head size h = within_limited sorts.Mdat size (size - head) 67108864 (λ le. omega arith)
 behind_limited sorts.Moof head size h = tt
 behind_limited sorts.Moov head size h = tt
 behind_limited sorts.Manifest head size h = tt
@@ -100,20 +99,20 @@ wait_short s b e = wait_at s b (head_of b) refl (sym (decision_is s b) ∙ e)
 
 -- ---- all that is held
 
-most_le : (sort : TopBox) → most_of sort ≤ 16777232
+most_le : (sort : TopBox) → most_of sort ≤ 67108880
 most_le sorts.Moof = omega arith
 most_le sorts.Mdat = omega arith
 most_le sorts.Moov = omega arith
 most_le sorts.Manifest = omega arith
 most_le sorts.Other = omega arith
 
-begun_at : (s : PushState) (b : List ℕ) (d : BoxDecision) → decision s b ≡ d → IsOpen (length b) d → length b < 16777232
+begun_at : (s : PushState) (b : List ℕ) (d : BoxDecision) → decision s b ≡ d → IsOpen (length b) d → length b < 67108880
 begun_at s b Wait e o = omega (arith, wait_short s b e)
 begun_at s b (Refuse cause) e o = absurd o
 begun_at s b (Pass size) e o = absurd o
 begun_at s b (Take sort size) e o = omega (arith, take_limited s b sort size e, most_le sort, o)
 
-both_gathered : (manifest moov : Option (List ℕ)) → IsBoxIn manifest → IsBoxIn moov → AreNotBoth manifest moov → box_bytes manifest + box_bytes moov ≤ 1048576
+both_gathered : (manifest moov : Option (List ℕ)) → IsBoxIn 1048576 manifest → IsBoxIn 1048576 moov → AreNotBoth manifest moov → box_bytes manifest + box_bytes moov ≤ 1048576
 both_gathered None None p q n = omega arith
 both_gathered None (Some b) p q n = omega (arith, q.1)
 both_gathered (Some a) None p q n = omega (arith, p.1)
@@ -123,10 +122,6 @@ gathered_short : (stage : HeaderStage) → AreGathered stage → gathered_bytes 
 gathered_short (Gathering manifest moov) h = both_gathered manifest moov h.0 h.1 h.2
 gathered_short (Complete tracks) h = omega arith
 
-pending_short : (moof : Option PendingMoof) → AreBoxes moof → pending_bytes moof ≤ 2097152
-pending_short None h = omega arith
-pending_short (Some moof) h = h.1
-
-pub held_is_little : (k : Kept) → IsPartial k → held_bytes k < 19922960
+pub held_is_little : (k : Kept) → IsPartial k → kept_bytes k < 68157456
 held_is_little k p =
-    omega (arith, begun_at k.state k.held (decision k.state k.held) refl p.due, gathered_short k.state.stage p.boxes.stage, pending_short k.state.moof p.boxes.moof)
+    omega (arith, begun_at k.state k.held (decision k.state k.held) refl p.due, gathered_short k.state.stage p.boxes.stage)

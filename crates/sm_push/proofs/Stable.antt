@@ -57,7 +57,7 @@ stable s h t made = decision_is s (h ++ t) ∙ stable_at s h t (head_of h) refl 
 -- ---- a decision comes no later than the end of the box
 
 behind_fits : (sort : TopBox) (head size count : ℕ) → count ≤ size → FitsIn count (behind_moof sort head size)
-behind_fits sorts.Mdat head size count le = cond_both (ltb 16777216 (size - head)) _ _ (FitsIn count) (λ _. tt) (λ _. le)
+behind_fits sorts.Mdat head size count le = cond_both (ltb 67108864 (size - head)) _ _ (FitsIn count) (λ _. tt) (λ _. le)
 behind_fits sorts.Moof head size count le = tt
 behind_fits sorts.Moov head size count le = tt
 behind_fits sorts.Manifest head size count le = tt
@@ -84,7 +84,7 @@ kind_fits s b kind head size count le =
     (λ _. ruling_fits s (kind_sort kind) head size count le)
 
 behind_made : (sort : TopBox) (head size : ℕ) → IsMade (behind_moof sort head size)
-behind_made sorts.Mdat head size = cond_both (ltb 16777216 (size - head)) _ _ IsMade (λ _. tt) (λ _. tt)
+behind_made sorts.Mdat head size = cond_both (ltb 67108864 (size - head)) _ _ IsMade (λ _. tt) (λ _. tt)
 behind_made sorts.Moof head size = tt
 behind_made sorts.Moov head size = tt
 behind_made sorts.Manifest head size = tt
@@ -152,7 +152,7 @@ within_size : (sort : TopBox) (size counted most : ℕ) → SizeIs size (within 
 within_size sort size counted most = cond_both (ltb most counted) _ _ (SizeIs size) (λ _. tt) (λ _. refl)
 
 behind_size : (sort : TopBox) (head size : ℕ) → SizeIs size (behind_moof sort head size)
-behind_size sorts.Mdat head size = within_size sorts.Mdat size (size - head) 16777216
+behind_size sorts.Mdat head size = within_size sorts.Mdat size (size - head) 67108864
 behind_size sorts.Moof head size = tt
 behind_size sorts.Moov head size = tt
 behind_size sorts.Manifest head size = tt

@@ -8,7 +8,7 @@ use Rattle.sm_model.specs.declared.push.BoxDecision.TheVariants.{Wait, Refuse, P
 use Rattle.sm_model.specs.Boxes.{IsOneBox, starts_whole}
 use Rattle.sm_model.specs.PushHeads.{decision}
 use Rattle.sm_model.specs.PushBoxes.{Step, taken, passed}
-use Rattle.sm_model.specs.Body.{Outcome, ended, refused, behind}
+use Rattle.sm_model.specs.Body.{Outcome, ended, refused, led_by, header_in}
 
 abbrev pub bytes_of : List (List ℕ) → List ℕ
 bytes_of boxes = flat_map (λ box. box) boxes
@@ -20,22 +20,22 @@ pub record Splits (bytes : List ℕ) (boxes : List (List ℕ)) (rest : List ℕ)
   pub last : starts_whole rest ≡ false
 
 abbrev pub rest_gives : PushState → BoxDecision → Bool → Outcome
-rest_gives s (Refuse cause) inside = refused (record { at = s.at; cause = cause })
+rest_gives s (Refuse cause) inside = refused (header_in s.stage) (record { at = s.at; cause = cause })
 rest_gives s _ inside = ended s inside
 
 abbrev pub rest_inside : List ℕ → Bool → Bool
 rest_inside [] moof = moof
 rest_inside (x ∷ rest) moof = true
 
-abbrev pub step_gives : Step → (PushState → Outcome) → Outcome
-step_gives (Err r) go = refused r
-step_gives (Ok step) go = behind (option_to_list step.0) (go step.1)
+abbrev pub step_gives : PushState → Step → (PushState → Outcome) → Outcome
+step_gives s (Err r) go = refused (header_in s.stage) r
+step_gives s (Ok step) go = led_by (option_to_list step.0) (go step.1)
 
 abbrev pub box_gives : PushState → List ℕ → BoxDecision → (PushState → Outcome) → Outcome
 box_gives s box Wait go = ended s true
-box_gives s box (Refuse cause) go = refused (record { at = s.at; cause = cause })
+box_gives s box (Refuse cause) go = refused (header_in s.stage) (record { at = s.at; cause = cause })
 box_gives s box (Pass size) go = go (passed s size)
-box_gives s box (Take sort size) go = step_gives (taken s sort box) go
+box_gives s box (Take sort size) go = step_gives s (taken s sort box) go
 
 -- one box after the other, up to the first refusal; then the head of the rest
 abbrev pub boxes_give : PushState → List (List ℕ) → List ℕ → Outcome

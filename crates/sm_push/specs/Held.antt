@@ -1,16 +1,15 @@
--- How many bytes of its push a push holds.
+-- How many bytes of its push body a push holds.
 use Rattle.std.specs.Prelude.{ℕ, ◌+◌, List, length, Option, Some, None}
 use Rattle.sm_model.specs.declared.push.HeaderStage.{HeaderStage}
 use Rattle.sm_model.specs.declared.push.HeaderStage.TheVariants.{Gathering, Complete}
-use Rattle.sm_model.specs.declared.push.PendingMoof.{PendingMoof}
 use Rattle.sm_model.specs.declared.push.TopBox.{TopBox}
 use Rattle.sm_model.specs.declared.push.TopBox.TheVariants.{Moof, Mdat, Moov, Manifest, Other}
 use Rattle.sm_push.specs.declared.kept.Kept.{Kept}
 
--- the greatest box of a sort that is read; an mdat has at most 16,777,216 bytes behind a head of 16
+-- the greatest box of a sort that is read; an mdat has at most 67,108,864 bytes behind a head of 16
 abbrev pub most_of : TopBox → ℕ
 most_of Moof = 2097152
-most_of Mdat = 16777232
+most_of Mdat = 67108880
 most_of Moov = 1048576
 most_of Manifest = 1048576
 most_of Other = 0
@@ -23,10 +22,6 @@ abbrev pub gathered_bytes : HeaderStage → ℕ
 gathered_bytes (Gathering manifest moov) = box_bytes manifest + box_bytes moov
 gathered_bytes (Complete tracks) = 0
 
-abbrev pub pending_bytes : Option PendingMoof → ℕ
-pending_bytes None = 0
-pending_bytes (Some moof) = length moof.bytes
-
--- of the box that was begun, of the header, and of a moof that waits for its mdat
-abbrev pub held_bytes : Kept → ℕ
-held_bytes k = length k.held + (gathered_bytes k.state.stage + pending_bytes k.state.moof)
+-- of the box that was begun, and of a header that is not complete
+abbrev pub kept_bytes : Kept → ℕ
+kept_bytes k = length k.held + gathered_bytes k.state.stage

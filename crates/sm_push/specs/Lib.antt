@@ -5,3 +5,4 @@ pub mod Steps
 pub mod Standing
 pub mod Boxes
 pub mod Validity
+pub mod Written

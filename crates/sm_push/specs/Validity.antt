@@ -1,9 +1,8 @@
 -- Which items are valid.
-use Rattle.std.specs.Prelude.{Option, Some, None, Ok, Err}
+use Rattle.std.specs.Prelude.{Option, Some, None}
 use Rattle.sm_model.specs.Channels.{IsChannel}
 use Rattle.sm_model.specs.Fragments.{IsValid}
 use Rattle.sm_model.specs.Items.{Given, Header, Frag}
-use Rattle.sm_model.specs.PushBoxes.{Step}
 
 -- the channel of a header, or the fragment, is valid
 abbrev pub IsValidItem : Given → Type 0
@@ -13,7 +12,3 @@ IsValidItem (Frag id f) = IsValid f
 abbrev pub ItemIsValid : Option Given → Type 0
 ItemIsValid None = Unit {0}
 ItemIsValid (Some g) = IsValidItem g
-
-abbrev pub StepIsValid : Step → Type 0
-StepIsValid (Ok step) = ItemIsValid step.0
-StepIsValid (Err r) = Unit {0}

@@ -13,7 +13,7 @@ const MOOF_LIMIT: u64 = 2_097_152;
 const HEADER_LIMIT: u64 = 1_048_576;
 
 // In bytes, of the body.
-const MDAT_LIMIT: u64 = 16_777_216;
+const MDAT_LIMIT: u64 = 67_108_864;
 
 // a5d40b30-e814-11dd-ba2f-0800200c9a66
 const MANIFEST_TYPE: [u8; 16] = [

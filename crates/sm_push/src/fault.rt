@@ -19,7 +19,7 @@ pub enum PushFault {
 }
 
 /// Why a step was not taken.
-#[derive(Clone, Copy, Debug, PartialEq, Eq)]
+#[derive(Debug, Drop, PartialEq, Eq)]
 pub enum StepFault {
     Refused(Refusal),
     NoMemory,

@@ -1,6 +1,6 @@
 //! The header of a push, out of a live manifest and a `moov`.
 ghost use Rattle.std.specs.Prelude.{◌≡◌, ◌≤◌, length, IfOk};
-ghost use Rattle.sm_model.specs.Header.{head_for, heads_for, tracks_of, keys_of, is_off, has_two_timescales, is_protected, header_with, header_by, header_of};
+ghost use Rattle.sm_model.specs.Header.{head_for, heads_for, tracks_of, keys_of, is_off, has_two_timescales, names_protected, header_with, header_by, header_of};
 ghost use Rattle.sm_model.specs.LiveRead.{live_manifest};
 ghost use Rattle.sm_model.specs.Moov.{moov};
 ghost use Rattle.std.specs.List.{list_any};
@@ -17,7 +17,7 @@ use sm_smil::{SmilFault, live_manifest_has_one_answer, read_live_manifest};
 use std::alloc::Global;
 
 /// Why a header was not read.
-#[derive(Clone, Copy, Debug, PartialEq, Eq)]
+#[derive(Debug, Drop, PartialEq, Eq)]
 pub enum HeaderFault {
     Refused(Cause),
     NoMemory,
@@ -132,7 +132,7 @@ fn has_two_timescales(tracks: &[Track]) -> bool
 }
 
 fn is_protected(heads: &[TrackHead]) -> bool
-    ensures { result ≡ is_protected heads.now }
+    ensures { result ≡ names_protected heads.now }
 {
     heads.iter().any(|head| head.protected)
 }

@@ -1,16 +1,17 @@
 //! What a push keeps of its bytes, and its steps.
-ghost use Rattle.std.specs.Prelude.{◌≡◌, [], ◌<◌, ◌≤◌, ◌++◌, length, IfOk, OnOk};
+ghost use Rattle.std.specs.Prelude.{◌≡◌, List, ℕ, [], ◌<◌, ◌≤◌, ◌++◌, length, IfOk, OnOk, OnErr, Err};
 ghost use Rattle.std.specs.Option.{option_to_list};
 ghost use Rattle.sm_model.specs.PushHeads.{decision};
 ghost use Rattle.sm_push.specs.Heads.{FitsIn};
 ghost use Rattle.sm_push.specs.Steps.{given_in, HoldsBoxes};
-ghost use Rattle.sm_push.specs.Standing.{IsPartial, Advances, Settles, PieceGives, StaysInside, rest_of};
+ghost use Rattle.sm_push.specs.Standing.{IsPartial, Advances, Settles, PieceGives, StaysInside, Grows, rest_of, kept_header};
+ghost use Rattle.sm_push.specs.Held.{kept_bytes};
 
 use crate::decide::decide;
 use crate::fault::{StepFault, refuse};
 use crate::held::Held;
 use crate::step::{NewItem, pass, take};
-use sm_model::{BoxDecision, Items, PushState};
+use sm_model::{BoxDecision, HeaderStage, Items, PushState};
 use std::alloc::Global;
 
 /// What a push keeps of its bytes.
@@ -25,7 +26,7 @@ pub struct Kept {
 
 fn add(items: &mut Items, item: Option<NewItem>) -> Result<(), StepFault>
     ensures ok { OnOk result (items.new ≡ items.old ++ option_to_list (given_in item)) }
-    ensures err { Rattle.std.specs.Prelude.OnErr result (result ≡ Rattle.std.specs.Prelude.Err StepFault.NoMemory) }
+    ensures err { OnErr result (result ≡ Err StepFault.NoMemory) }
 {
     if let Some(NewItem { item, id }) = item {
         items.push(item, id)?;
@@ -41,6 +42,7 @@ impl Kept {
         requires boxes { HoldsBoxes self.old.state }
         ensures settles { Settles self.old self.new result }
         ensures partial { OnOk result (IsPartial self.new) }
+        ensures grows { OnOk result (Grows self.old self.new) }
     {
         match decide(&self.state, self.held.as_slice()) {
             BoxDecision::Wait => Ok(None),
@@ -73,6 +75,7 @@ impl Kept {
         ensures moves { IfOk result (λ r. (0 < r.0) × (r.0 ≤ length piece.now)) }
         ensures advances { Advances self.old self.new piece.now result }
         ensures partial { OnOk result (IsPartial self.new) }
+        ensures grows { OnOk result (Grows self.old self.new) }
     {
         if 0 < self.skip {
             let count = self.skip.min(piece.len() as u64);
@@ -121,6 +124,37 @@ impl Kept {
             done += count;
         }
         Ok(())
+    }
+
+    /// So many further bytes at the most complete no box but the one that stands here.
+    pub fn due(&self) -> u64
+        requires partial { IsPartial self.now }
+        ensures some { 0 < result }
+        ensures few { (piece : List ℕ) → length piece ≤ result → length (rest_of self.now piece).items ≤ 1 }
+    {
+        if 0 < self.skip {
+            return self.skip;
+        }
+        self.wanted(usize::MAX) as u64
+    }
+
+    /// Lets go of all bytes; the header stays, where one was read.
+    pub fn clear(&mut self, alloc: Global)
+        ensures none { kept_bytes self.new ≡ 0 }
+        ensures header { kept_header self.new ≡ kept_header self.old }
+    {
+        self.held = Held::new(alloc);
+        self.state.moof = None;
+        if let HeaderStage::Gathering {
+            manifest: _,
+            moov: _,
+        } = &self.state.stage
+        {
+            self.state.stage = HeaderStage::Gathering {
+                manifest: None,
+                moov: None,
+            };
+        }
     }
 
     /// Whether the bytes end inside a box, or behind a `moof`.

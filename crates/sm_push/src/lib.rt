@@ -6,15 +6,16 @@ mod fault;
 mod header;
 mod held;
 mod kept;
-mod laws;
+mod law;
 mod same;
 mod session;
 mod step;
 mod track;
 
 pub use fault::PushFault;
-pub use laws::{
+pub use law::{
     by_boxes, front, items_are_no_more_than_bytes, items_are_valid, texts_of_boxes_have_no_rest,
+    written_header_is_read,
 };
 pub use session::Push;
 pub use sm_model::{Item, Items};

@@ -1,10 +1,9 @@
 //! A push session.
-ghost use Rattle.std.specs.Prelude.{◌≡◌, ◌<◌, ◌↔◌, Bool, true, false, List, ℕ, [], IsTrue, IsErrOf, OnOk, OnErr};
+ghost use Rattle.std.specs.Prelude.{◌≡◌, ◌<◌, ◌≤◌, ◌+◌, ◌++◌, ◌↔◌, length, Bool, true, false, List, ℕ, [], IsTrue, IsErrOf, OnOk, OnErr};
 ghost use Rattle.sm_model.specs.Body.{body};
 ghost use Rattle.sm_model.specs.Body;
 ghost use Rattle.sm_model.specs.Header.{id_for};
-ghost use Rattle.sm_push.specs.Held.{held_bytes};
-ghost use Rattle.sm_push.specs.Standing.{Stands, Answers, Ends};
+ghost use Rattle.sm_push.specs.Standing.{Stands, Answers, Ends, held_bytes, header_of};
 
 use crate::fault::{PushFault, StepFault};
 use crate::held::Held;
@@ -37,7 +36,7 @@ impl Model for Push {
 }
 
 fn start(alloc: Global, headerless: bool) -> Kept
-    ensures { result ≡ record { state = Body.start headerless; held = []; skip = 0 } }
+    ensures { result ≡ record { state = Body.push_start headerless; held = []; skip = 0 } }
 {
     Kept {
         state: PushState {
@@ -83,33 +82,56 @@ impl Push {
     }
 
     /// Takes the next piece of the body, and answers the items that it completes. After a refusal, and after want of
-    /// memory, it answers from then on that it has failed. It takes time in proportion to the piece and what that
-    /// completes, however small the pieces are, and copies the bytes of samples into their item once.
+    /// memory, it answers from then on that it has failed, holds no bytes any more, and keeps the header, where it read
+    /// one. It takes time in proportion to the piece and what that completes, however small the pieces are, and copies the
+    /// bytes of samples into their item once. How many items a piece may complete is up to the caller: `due` bounds it.
     pub fn feed(&mut self, piece: &[u8]) -> Result<Items, PushFault>
         // Whatever bytes it stands for.
         ensures answers { (headerless : Bool) (b : List ℕ) → Stands headerless self.old b → Answers headerless b piece.now self.new result }
         ensures failed { IsErrOf result PushFault.Failed ↔ IsTrue self.old.failed }
         ensures fails { OnErr result (IsTrue self.new.failed) }
-        // An mdat of 16 MiB and its head, a moof of 2 MiB, and one box of a header that is not complete, of 1 MiB.
-        ensures holds { OnOk result (held_bytes self.new.kept < 19922960) }
+        ensures unchanged { IsErrOf result PushFault.Failed → self.new ≡ self.old }
+        // An mdat of 64 MiB and its head, and one box of a header that is not complete, of 1 MiB. Beside these it holds what a
+        // moof said, of 65,536 samples at the most.
+        ensures holds { held_bytes self.new < 68157456 }
+        ensures freed { OnErr result (held_bytes self.new ≡ 0) }
     {
         if self.failed {
             return Err(PushFault::Failed);
         }
-        self.failed = true;
         let mut items = Items::new(self.alloc);
         match self.kept.take_piece(self.alloc, &mut items, piece) {
             Ok(()) => {
                 self.count = self.count.saturating_add(piece.len() as u64);
-                self.failed = false;
                 Ok(items)
             }
-            Err(StepFault::Refused(refusal)) => Err(PushFault::Refused {
-                before: items,
-                refusal,
-            }),
-            Err(StepFault::NoMemory) => Err(PushFault::NoMemory),
+            Err(StepFault::Refused(refusal)) => {
+                self.failed = true;
+                self.kept.clear(self.alloc);
+                Err(PushFault::Refused {
+                    before: items,
+                    refusal,
+                })
+            }
+            Err(StepFault::NoMemory) => {
+                self.failed = true;
+                self.kept.clear(self.alloc);
+                Err(PushFault::NoMemory)
+            }
         }
+    }
+
+    /// A piece of so many bytes, or fewer, gives one item at the most. It is at least 1, and no less than what is missing of
+    /// the box that was begun, once its head is there. It takes no memory.
+    pub fn due(&self) -> u64
+        ensures some { 0 < result }
+        ensures few { (headerless : Bool) (b piece : List ℕ) → Stands headerless self.now b → length piece ≤ result
+            → length (body headerless (b ++ piece)).items ≤ length (body headerless b).items + 1 }
+    {
+        if self.failed {
+            return 1;
+        }
+        self.kept.due()
     }
 
     /// Says whether the body may end here: not inside a box, and not between a `moof` and its `mdat`. `Ok` changes nothing,
@@ -119,12 +141,15 @@ impl Push {
         ensures failed { IsErrOf result PushFault.Failed ↔ IsTrue self.old.failed }
         ensures fails { OnErr result (IsTrue self.new.failed) }
         ensures ok { OnOk result (self.new ≡ self.old) }
+        ensures unchanged { IsErrOf result PushFault.Failed → self.new ≡ self.old }
+        ensures header { header_of self.new ≡ header_of self.old }
     {
         if self.failed {
             return Err(PushFault::Failed);
         }
         if self.kept.is_inside() {
             self.failed = true;
+            self.kept.clear(self.alloc);
             return Err(PushFault::Refused {
                 before: Items::new(self.alloc),
                 refusal: Refusal {
@@ -137,9 +162,9 @@ impl Push {
     }
 
     /// The track_ID that the header gives to the track of this name and bitrate. None where no header was read, or it has
-    /// no such track. It takes no memory.
+    /// no such track. A push that has failed keeps its header. It takes no memory.
     pub fn track_id(&self, stream: &Name, bitrate: u32) -> Option<u32>
-        ensures { (headerless : Bool) (b : List ℕ) → Stands headerless self.now b → result ≡ id_for stream.now bitrate (body headerless b).header }
+        ensures { result ≡ id_for stream.now bitrate (header_of self.now) }
     {
         match &self.kept.state.stage {
             HeaderStage::Complete(tracks) => id_for(stream, bitrate, tracks.as_slice()),

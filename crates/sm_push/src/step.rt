@@ -1,23 +1,25 @@
 //! What whole boxes give, and leave for later ones.
-ghost use Rattle.std.specs.Prelude.{◌≡◌, ◌≤◌, length, drop, OnOk, IfOk, Some};
+ghost use Rattle.std.specs.Prelude.{◌≡◌, ◌≤◌, length, drop, OnOk, OnErr, IfOk, Some};
 ghost use Rattle.sm_model.specs.Boxes.{IsOneBox, box_of};
 ghost use Rattle.sm_model.specs.Frag.{moof_run};
 ghost use Rattle.sm_model.specs.Moov.{no_defaults};
 ghost use Rattle.sm_model.specs.Header.{header_of};
 ghost use Rattle.sm_model.specs.Items.{given_of};
 ghost use Rattle.sm_model.specs.Items as items;
-ghost use Rattle.sm_model.specs.PushBoxes.{taken, passed, past, text_of, named, moof_taken, pending, track_in, mdat_taken, moov_taken, manifest_taken, header_taken};
-ghost use Rattle.sm_push.specs.Steps.{Takes, HoldsBoxes, AreBoxes};
+ghost use Rattle.sm_model.specs.Body.{header_in};
+ghost use Rattle.sm_model.specs.PushBoxes.{taken, passed, awaiting, past, manifest_text, named, moof_taken, pending, track_in, mdat_taken, moov_taken, manifest_taken, header_taken};
+ghost use Rattle.sm_push.specs.Steps.{Takes, HoldsBoxes, IsPending, track_for, defaults_in};
 ghost use Rattle.sm_push.specs.Held.{most_of};
 
 use crate::fault::{StepFault, refuse};
 use crate::header::{HeaderFault, read_header};
-use crate::track::{NO_DEFAULTS, track_in};
+use crate::track::{NO_DEFAULTS, defaults_of, track_in};
+use sm_model::law::{causes_are_without_defaults, read_is_sound, track_id_is_of_run};
 use sm_model::{
-    Bytes, Cause, Fragment, HeaderStage, HeaderTrack, Item, PendingMoof, PushState, RawFragment,
-    TopBox,
+    Bytes, Cause, Defaults, Fragment, HeaderStage, HeaderTrack, Item, PendingMoof, PushState,
+    RawFragment, Run, TopBox,
 };
-use sm_moof::{MoofFault, body_of, read_fragment, read_moof};
+use sm_moof::{MoofFault, body_of, finish, read_moof, track_of};
 use std::alloc::Global;
 use std::mem;
 
@@ -38,7 +40,7 @@ pub(crate) fn pass(state: &mut PushState, size: u64)
 // The text of a live server manifest box, behind the user type, and version and flags.
 fn text_of(manifest: &[u8]) -> &[u8]
     requires { IsOneBox manifest.now }
-    ensures { result.now ≡ text_of manifest.now }
+    ensures { result.now ≡ manifest_text manifest.now }
 {
     let body = body_of(manifest);
     if body.len() < 20 {
@@ -48,27 +50,51 @@ fn text_of(manifest: &[u8]) -> &[u8]
     text
 }
 
+// The defaults of the track that a `moof` names; zeros where the header has none.
+fn defaults_for(stage: &HeaderStage, moof: &[u8]) -> Defaults
+    requires { IsOneBox moof.now }
+    ensures { result ≡ defaults_in (track_for stage.now moof.now) }
+{
+    match track_of(moof) {
+        Some(id) => defaults_of(stage, id),
+        None => NO_DEFAULTS,
+    }
+}
+
+// Waits for the `mdat` of a `moof` that said this.
+fn wait(state: &mut PushState, run: Run, size: u64, track: HeaderTrack)
+    ensures { state.new ≡ awaiting state.old (Some (record { run = run; size = size; at = state.old.at; track = track })) size }
+{
+    state.moof = Some(PendingMoof {
+        run,
+        size,
+        at: state.at,
+        track,
+    });
+    pass(state, size);
+}
+
+// A `moof` is read once, with the defaults of the track that it names: no cause depends on them.
 fn take_moof(
     alloc: Global,
     state: &mut PushState,
-    whole: Bytes,
+    whole: &[u8],
 ) -> Result<Option<NewItem>, StepFault>
-    requires whole { IsOneBox whole }
-    requires short { length whole ≤ most_of TopBox.Moof }
+    requires whole { IsOneBox whole.now }
+    requires short { length whole.now ≤ most_of TopBox.Moof }
     requires boxes { HoldsBoxes state.old }
-    ensures takes { Takes state.new result (moof_taken (moof_run no_defaults whole) state.old whole) }
+    ensures takes { Takes state.new result (moof_taken (moof_run no_defaults whole.now) state.old whole.now) }
     ensures boxes { OnOk result (HoldsBoxes state.new) }
+    ensures header { OnErr result (header_in state.new.stage ≡ header_in state.old.stage) }
 {
-    match read_moof(alloc, whole.as_slice(), &NO_DEFAULTS) {
+    causes_are_without_defaults();
+    track_id_is_of_run();
+    read_is_sound();
+    let defaults = defaults_for(&state.stage, whole);
+    match read_moof(alloc, whole, &defaults) {
         Ok(run) => match track_in(alloc, &state.stage, run.id)? {
             Some(track) => {
-                let size = whole.len();
-                state.moof = Some(PendingMoof {
-                    bytes: whole,
-                    at: state.at,
-                    track,
-                });
-                pass(state, size);
+                wait(state, run, whole.len() as u64, track);
                 Ok(None)
             }
             None => Err(refuse(state.at, Cause::UnknownTrack)),
@@ -104,6 +130,7 @@ fn take_mdat(
     requires boxes { HoldsBoxes state.old }
     ensures takes { Takes state.new result (mdat_taken state.old.moof state.old whole.now) }
     ensures boxes { OnOk result (HoldsBoxes state.new) }
+    ensures header { OnErr result (header_in state.new.stage ≡ header_in state.old.stage) }
 {
     let size = whole.len() as u64;
     match mem::replace(&mut state.moof, None) {
@@ -111,16 +138,21 @@ fn take_mdat(
             pass(state, size);
             Ok(None)
         }
-        Some(moof) => {
-            match read_fragment(alloc, moof.bytes.as_slice(), whole, &moof.track.defaults) {
-                Ok(raw) => {
-                    pass(state, size);
-                    Ok(Some(named(moof.track, raw)))
-                }
-                Err(MoofFault::Refused(cause)) => Err(refuse(moof.at, cause)),
-                Err(MoofFault::NoMemory) => Err(StepFault::NoMemory),
+        Some(
+            PendingMoof {
+                run,
+                size: lead,
+                at,
+                track,
+            },
+        ) => match finish(alloc, lead, whole, run) {
+            Ok(raw) => {
+                pass(state, size);
+                Ok(Some(named(track, raw)))
             }
-        }
+            Err(MoofFault::Refused(cause)) => Err(refuse(at, cause)),
+            Err(MoofFault::NoMemory) => Err(StepFault::NoMemory),
+        },
     }
 }
 
@@ -134,9 +166,10 @@ fn complete(
 ) -> Result<Option<NewItem>, StepFault>
     requires manifest { IsOneBox manifest.now }
     requires moov { IsOneBox moov.now }
-    requires moof { AreBoxes state.old.moof }
-    ensures takes { Takes state.new result (header_taken (header_of (text_of manifest.now) (box_of moov.now).body) state.old size) }
+    requires moof { IsPending state.old.moof }
+    ensures takes { Takes state.new result (header_taken (header_of (manifest_text manifest.now) (box_of moov.now).body) state.old size) }
     ensures boxes { OnOk result (HoldsBoxes state.new) }
+    ensures header { OnErr result (header_in state.new.stage ≡ header_in state.old.stage) }
 {
     match read_header(alloc, text_of(manifest), body_of(moov)) {
         Ok(header) => {
@@ -171,6 +204,7 @@ fn take_moov(
     requires boxes { HoldsBoxes state.old }
     ensures takes { Takes state.new result (moov_taken state.old.stage state.old whole) }
     ensures boxes { OnOk result (HoldsBoxes state.new) }
+    ensures header { OnErr result (header_in state.new.stage ≡ header_in state.old.stage) }
 {
     let size = whole.len();
     match mem::replace(&mut state.stage, nothing()) {
@@ -199,10 +233,11 @@ fn take_manifest(
     whole: Bytes,
 ) -> Result<Option<NewItem>, StepFault>
     requires whole { IsOneBox whole }
-    requires short { length whole ≤ most_of TopBox.Moov }
+    requires short { length whole ≤ most_of TopBox.Manifest }
     requires boxes { HoldsBoxes state.old }
     ensures takes { Takes state.new result (manifest_taken state.old.stage state.old whole) }
     ensures boxes { OnOk result (HoldsBoxes state.new) }
+    ensures header { OnErr result (header_in state.new.stage ≡ header_in state.old.stage) }
 {
     let size = whole.len();
     match mem::replace(&mut state.stage, nothing()) {
@@ -238,9 +273,10 @@ pub(crate) fn take(
     requires boxes { HoldsBoxes state.old }
     ensures takes { Takes state.new result (taken state.old sort whole) }
     ensures boxes { OnOk result (HoldsBoxes state.new) }
+    ensures header { OnErr result (header_in state.new.stage ≡ header_in state.old.stage) }
 {
     match sort {
-        TopBox::Moof => take_moof(alloc, state, whole),
+        TopBox::Moof => take_moof(alloc, state, whole.as_slice()),
         TopBox::Mdat => take_mdat(alloc, state, whole.as_slice()),
         TopBox::Moov => take_moov(alloc, state, whole),
         TopBox::Manifest => take_manifest(alloc, state, whole),

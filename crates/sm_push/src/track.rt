@@ -2,6 +2,7 @@
 ghost use Rattle.std.specs.Prelude.{◌≡◌, IfOk};
 ghost use Rattle.sm_model.specs.Header.{track_with, id_for, is_named};
 ghost use Rattle.sm_model.specs.PushBoxes.{track_in};
+ghost use Rattle.sm_push.specs.Steps.{defaults_in};
 
 use crate::same::is_same;
 use sm_model::{Defaults, HeaderStage, HeaderTrack, Name, NoMemory};
@@ -49,6 +50,31 @@ pub(crate) fn track_in(
             bitrate: id,
             defaults: NO_DEFAULTS,
         })),
+    }
+}
+
+#[tactic(auto, using(crate::proofs::HeaderLemmas::track_here, crate::proofs::HeaderLemmas::track_on, crate::proofs::HeaderLemmas::track_end))]
+fn defaults_with(id: u32, tracks: &[HeaderTrack]) -> Defaults
+    ensures { result ≡ defaults_in (track_with id tracks.now) }
+{
+    for track in tracks {
+        if track.id == id {
+            return track.defaults;
+        }
+    }
+    NO_DEFAULTS
+}
+
+/// The defaults of the track of a track_ID; zeros where there is none, and before a header came. It takes no memory.
+pub(crate) fn defaults_of(stage: &HeaderStage, id: u32) -> Defaults
+    ensures { result ≡ defaults_in (track_in stage.now id) }
+{
+    match stage {
+        HeaderStage::Complete(tracks) => defaults_with(id, tracks.as_slice()),
+        HeaderStage::Gathering {
+            manifest: _,
+            moov: _,
+        } => NO_DEFAULTS,
     }
 }
 

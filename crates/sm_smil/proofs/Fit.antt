@@ -19,9 +19,9 @@ use Rattle.sm_model.specs.declared.raw_track.RawTrack.{RawTrack}
 use Rattle.sm_model.specs.declared.track.Kind.{Kind}
 use Rattle.sm_model.specs.declared.track.Kind.TheVariants.{Video, Audio, Text}
 use Rattle.sm_model.specs.Names.{is_name, first_wrong}
-use Rattle.sm_model.specs.LiveTracks.{index_of, value_of, is_private, is_fit, kind_name, name_of}
+use Rattle.sm_model.specs.LiveTracks.{index_of, value_of, is_private, is_fit, kind_name, stream_name}
 use Rattle.sm_model.specs.LiveWalk.{Walk}
-use Rattle.sm_model.specs.LiveFaults.{misfits, inner_faults, is_misread, end_faults, tracks_faults, faults_of, least_from}
+use Rattle.sm_model.specs.LiveFaults.{misfits, inner_faults, is_invalid, end_faults, tracks_faults, faults_of, least_from}
 use Rattle.sm_smil.specs.Answers.{AreFit}
 
 -- digits that are private data decode
@@ -58,7 +58,7 @@ kind_names Audio = rw (plain (kind_name Audio) refl) refl
 kind_names Text = rw (plain (kind_name Text) refl) refl
 
 -- a track's name is one
-pub fit_name : (t : RawTrack) → AreFit t.params → is_name (name_of t) ≡ true
+pub fit_name : (t : RawTrack) → AreFit t.params → is_name (stream_name t) ≡ true
 unfolding is_fit
 fit_name t fit = named (value_of TrackName t.params) (λ v e. fit TrackName v e)
   where
@@ -121,7 +121,7 @@ fits_all (p ∷ ps) none name v found =
 -- a track without an inner fault
 pub inner_fit : (t : RawTrack) → inner_faults t ≡ [] → AreFit t.params
 inner_fit t none =
-    let parts = neither (cond (is_misread t.bitrate) (t.at ∷ []) []) _ none in
+    let parts = neither (cond (is_invalid t.bitrate) (t.at ∷ []) []) _ none in
     fits_all t.params (neither (misfits t.params) _ parts.1).0
 
 tracks_fit : (form : Form) (earlier ts : List RawTrack) → tracks_faults form earlier ts ≡ [] → AllByRecursion (λ t. AreFit t.params) ts

@@ -5,6 +5,8 @@ pub mod Fit
 pub mod Valid
 pub mod ValidAnswers
 pub mod WalkLemmas
+pub mod WalkPlaced
+pub mod WalkRuled
 pub mod WrittenLines
 pub mod OneAnswer
 pub mod WrittenValues

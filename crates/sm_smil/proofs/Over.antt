@@ -4,14 +4,14 @@ use Rattle.sm_model.specs.declared.tag.Tag.{Tag}
 use Rattle.sm_model.specs.declared.tag.Tag.TheVariants.{Start, Finish, Text, End, Bad}
 use Rattle.sm_model.specs.declared.raw_track.Form.{Form}
 use Rattle.sm_model.specs.Tags.{Left, Runs, ends, follows, Next, is_last}
-use Rattle.sm_model.specs.LiveWalk.{Walk, start, step, walk}
+use Rattle.sm_model.specs.LiveWalk.{Walk, nothing_met, step, walk_tags}
 use Rattle.sm_model.specs.LiveManifests.{bad_of}
 use Rattle.sm_smil.specs.Answers.{WalkedOver}
 
 -- what the tags that are left give, the tags of the whole text give
 abbrev pub Leads : Form → Left → Walk → Left → Type 0
 Leads form whole w left =
-    (ts : List Tag) → Runs left ts → (tags : List Tag) × Runs whole tags × (walk form w ts ≡ walk form start tags) × (bad_of ts ≡ bad_of tags)
+    (ts : List Tag) → Runs left ts → (tags : List Tag) × Runs whole tags × (walk_tags form w ts ≡ walk_tags form nothing_met tags) × (bad_of ts ≡ bad_of tags)
 
 abbrev pub IsMiddle : Tag → Type 0
 IsMiddle t = (is_last t ≡ false) × ((ts : List Tag) → bad_of (t ∷ ts) ≡ bad_of ts)

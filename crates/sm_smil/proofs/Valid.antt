@@ -20,9 +20,9 @@ use Rattle.sm_model.specs.declared.track.Kind.TheVariants.{Video, Audio, Text}
 use Rattle.sm_model.specs.declared.smil.SmilTrack.{SmilTrack}
 use Rattle.sm_model.specs.Digits.{is_number, number_of, decimal_from}
 use Rattle.sm_model.specs.Channels.{is_fourcc, IsTrack, Agree, IsChannel, IsUntimed, Differ, IsSmil}
-use Rattle.sm_model.specs.LiveTracks.{is_same, value_of, is_private, is_timescale, is_fit, name_of, bitrate_text, number_in, bitrate_of, id_of, timescale_in, timescale_of, bytes_in, track_of, smil_track, ladder_track}
+use Rattle.sm_model.specs.LiveTracks.{is_same, value_of, is_private, is_timescale, is_fit, stream_name, bitrate_text, number_in, bitrate_of, track_id_of, timescale_in, timescale_of, bytes_in, track_of, smil_track, ladder_track}
 use Rattle.sm_model.specs.LiveWalk.{Walk}
-use Rattle.sm_model.specs.LiveFaults.{is_misread, misfits, inner_faults, are_equal, do_differ, is_kind, clash, share_id, collide, lacks_id, lacks_part, collides_with, end_faults, tracks_faults, open_faults, text_faults, faults_of, least_from}
+use Rattle.sm_model.specs.LiveFaults.{is_invalid, misfits, inner_faults, are_equal, do_differ, are_one_kind, clash, share_id, collide, lacks_id, lacks_part, collides_with, end_faults, tracks_faults, open_faults, text_faults, faults_of, least_from}
 use Rattle.sm_smil.specs.Answers.{AreFit}
 use Rattle.sm_smil.proofs.Fit.{neither, none_least, fits_all}
 
@@ -64,14 +64,14 @@ ends_clean form earlier t e = either_false (lacks_part form t) (collides_with fo
 -- a track without a fault of its own
 pub record IsClean (form : Form) (t : RawTrack) : Type 0 where
   pub whole : lacks_part form t ≡ false
-  pub read : is_misread t.bitrate ≡ false
+  pub read : is_invalid t.bitrate ≡ false
   pub fit : AreFit t.params
 
 clean : (form : Form) (t : RawTrack) → inner_faults t ≡ [] → lacks_part form t ≡ false → IsClean form t
 clean form t none whole =
-    let parts = neither (cond (is_misread t.bitrate) (t.at ∷ []) []) _ none in record {
+    let parts = neither (cond (is_invalid t.bitrate) (t.at ∷ []) []) _ none in record {
       whole = whole;
-      read = none_of (is_misread t.bitrate) t.at parts.0;
+      read = none_of (is_invalid t.bitrate) t.at parts.0;
       fit = fits_all t.params (neither (misfits t.params) _ parts.1).0;
     }
 
@@ -130,7 +130,7 @@ param_known : (o : Option (List ℕ)) → is_none o ≡ false → ((v : List ℕ
 param_known None some fit = cc
 param_known (Some v) some fit = (decimal_from 0 v, number_known v (fit v refl))
 
-bitrate_text_known : (o : Option (List ℕ)) (ps : List SmilParam) → is_none (bitrate_text o ps) ≡ false → is_misread o ≡ false → AreFit ps → (n : ℕ) × (number_in (bitrate_text o ps) ≡ Some n)
+bitrate_text_known : (o : Option (List ℕ)) (ps : List SmilParam) → is_none (bitrate_text o ps) ≡ false → is_invalid o ≡ false → AreFit ps → (n : ℕ) × (number_in (bitrate_text o ps) ≡ Some n)
 unfolding is_fit
 bitrate_text_known (Some v) ps some read fit = (decimal_from 0 v, number_known v (not_misread (is_number v) read))
 bitrate_text_known None ps some read fit = param_known (value_of SystemBitrate ps) some (λ v e. fit SystemBitrate v e)
@@ -141,7 +141,7 @@ bitrate_known form t clean =
     let parts = either_false (is_none (bitrate_text t.bitrate t.params)) (lacks_id form t.params) clean.whole in
     bitrate_text_known t.bitrate t.params parts.0 clean.read clean.fit
 
-pub id_known : (t : RawTrack) → IsClean Pushed t → (n : ℕ) × (id_of t ≡ Some n)
+pub id_known : (t : RawTrack) → IsClean Pushed t → (n : ℕ) × (track_id_of t ≡ Some n)
 unfolding lacks_part is_fit
 id_known t clean =
     let parts = either_false (is_none (bitrate_text t.bitrate t.params)) (lacks_id Pushed t.params) clean.whole in
@@ -155,10 +155,11 @@ timescale_known form t clean = said (value_of TimeScale t.params) (λ v e. clean
     said None fit = (10000000, omega arith, refl)
     said (Some v) fit =
         let parts = and_parts (is_number v) (ltb 0 (decimal_from 0 v)) (fit v refl) in
-        (decimal_from 0 v, ltb-true 0 (decimal_from 0 v) parts.1, number_known v parts.0)
+        let good : is_timescale v ≡ true = fit v refl in
+        (decimal_from 0 v, ltb-true 0 (decimal_from 0 v) parts.1, rw good (number_known v parts.0))
 
 -- what two clean tracks that stand apart differ and agree in
-kinds_equal : (a b : Kind) → not (is_kind a b) ≡ false → a ≡ b
+kinds_equal : (a b : Kind) → not (are_one_kind a b) ≡ false → a ≡ b
 kinds_equal Video Video e = refl
 kinds_equal Audio Audio e = refl
 kinds_equal Text Text e = refl
@@ -187,16 +188,16 @@ and_false false b goes e = cc
 -- what tracks of one name that don't clash differ and agree in
 pub record AreAlike (a b : RawTrack) : Type 0 where
   pub bitrates : are_equal (bitrate_of a) (bitrate_of b) ≡ false
-  pub kinds : not (is_kind a.kind b.kind) ≡ false
+  pub kinds : not (are_one_kind a.kind b.kind) ≡ false
   pub timescales : do_differ (timescale_of a) (timescale_of b) ≡ false
 
-alike : (a b : RawTrack) → clash a b ≡ false → name_of a ≡ name_of b → AreAlike a b
+alike : (a b : RawTrack) → clash a b ≡ false → stream_name a ≡ stream_name b → AreAlike a b
 unfolding clash
 alike a b apart same =
-    let named = (bytes_eq-Decides (name_of a) (name_of b)).1 same in
-    let rest = and_false (is_same (name_of a) (name_of b)) (are_equal (bitrate_of a) (bitrate_of b) || (not (is_kind a.kind b.kind) || do_differ (timescale_of a) (timescale_of b))) named apart in
+    let named = (bytes_eq-Decides (stream_name a) (stream_name b)).1 same in
+    let rest = and_false (is_same (stream_name a) (stream_name b)) (are_equal (bitrate_of a) (bitrate_of b) || (not (are_one_kind a.kind b.kind) || do_differ (timescale_of a) (timescale_of b))) named apart in
     let first = either_false (are_equal (bitrate_of a) (bitrate_of b)) _ rest in
-    let second = either_false (not (is_kind a.kind b.kind)) _ first.1 in
+    let second = either_false (not (are_one_kind a.kind b.kind)) _ first.1 in
     record { bitrates = first.0; kinds = second.0; timescales = second.1 }
 
 -- a number that is there is the track's
@@ -261,7 +262,7 @@ smil_differ a b ca cb apart =
     let y = bitrate_known Pushed b cb in
     let s = id_known a ca in
     let t = id_known b cb in record {
-      id = λ e. differ (id_of a) (id_of b) s.0 t.0 s.1 t.1 free.1 (sym (given _ _ s.1) ∙ (e ∙ given _ _ t.1));
+      id = λ e. differ (track_id_of a) (track_id_of b) s.0 t.0 s.1 t.1 free.1 (sym (given _ _ s.1) ∙ (e ∙ given _ _ t.1));
       apart = λ same e. differ (bitrate_of a) (bitrate_of b) x.0 y.0 x.1 y.1 (alike a b free.0 same).bitrates (sym (given _ _ x.1) ∙ (e ∙ given _ _ y.1));
       kind = λ same. kinds_equal a.kind b.kind (alike a b free.0 same).kinds;
     }

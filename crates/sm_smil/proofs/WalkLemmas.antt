@@ -9,7 +9,7 @@ use Rattle.sm_model.specs.declared.track.Kind.{Kind}
 use Rattle.sm_model.specs.declared.raw_track.Form.{Form}
 use Rattle.sm_model.specs.declared.raw_track.RawTrack.{RawTrack}
 use Rattle.sm_model.specs.LiveTracks.{is_same}
-use Rattle.sm_model.specs.LiveWalk.{Walk, start, is_switch, track_kind, kind_in, enters, begins, with_current, passes, meets, starts, finishes, step, walk, first_place}
+use Rattle.sm_model.specs.LiveWalk.{Walk, nothing_met, is_switch, track_kind, kind_in, enters, begins, with_current, passes, meets, begins_element, ends_element, step, walk_tags, first_place}
 
 -- at most 64 tracks have ended, and fewer where one hasn't, which then is open
 pub record Fits (w : Walk) : Type 0 where
@@ -23,7 +23,7 @@ switch_len (a ∷ b ∷ []) e = cc
 switch_len (a ∷ b ∷ c ∷ []) e = refl
 switch_len (a ∷ b ∷ c ∷ d ∷ rest) e = cc
 
-at_switch : (path : List (List ℕ)) (name : List ℕ) (k : Kind) → track_kind path name ≡ Some k → length path ≡ 3
+pub at_switch : (path : List (List ℕ)) (name : List ℕ) (k : Kind) → track_kind path name ≡ Some k → length path ≡ 3
 at_switch path name k e = tested (is_switch path) refl e
   where
     tested : (b : Bool) → is_switch path ≡ b → cond b (kind_in name) None ≡ Some k → length path ≡ 3
@@ -61,7 +61,7 @@ was_open form attributes at (Some u) t e = (u, refl)
 passes_keeps : (form : Form) (w : Walk) (name : List ℕ) (attributes : List Attribute) (at : ℕ) → Keeps w (passes form w name attributes at)
 passes_keeps form w name attributes at = tested (eqb (length w.path) 0) (is_same name (codes "smil")) (eqb (length w.path) 4 && is_same name (codes "param"))
   where
-    tested : (a b c : Bool) → Keeps w (cond a (cond b w (record w { other = Some at })) (cond c (record w { current = with_current form attributes at w.current }) w))
+    tested : (a b c : Bool) → Keeps w (cond a (cond b w (record w { other = first_place w.other at })) (cond c (record w { current = with_current form attributes at w.current }) w))
     tested true true c = record { done = refl; current = λ t e. (t, e) }
     tested true false c = record { done = refl; current = λ t e. (t, e) }
     tested false b true = record { done = refl; current = λ t e. was_open form attributes at w.current t e }
@@ -76,14 +76,14 @@ keeps_fits w v p keeps longer fits = record {
       (omega (arith, old.0, longer), rw keeps.done old.1);
 }
 
-starts_fits : (form : Form) (w : Walk) (name : List ℕ) (attributes : List Attribute) (empty : Bool) (at : ℕ) → Fits w → Fits (starts form w name attributes empty at)
+starts_fits : (form : Form) (w : Walk) (name : List ℕ) (attributes : List Attribute) (empty : Bool) (at : ℕ) → Fits w → Fits (begins_element form w name attributes empty at)
 starts_fits form w name attributes empty at fits = tested (track_kind w.path name) (λ k e. at_switch w.path name k e)
   where
     tested : (o : Option Kind) → ((k : Kind) → o ≡ Some k → length w.path ≡ 3) → Fits (record (meets form w name attributes empty at o) { path = enters empty name w.path })
     tested None len = keeps_fits w _ _ (passes_keeps form w name attributes at) (entered empty name w.path) fits
     tested (Some k) len = begins_fits w name empty _ fits (len k refl)
 
-finishes_fits : (w : Walk) (p : List (List ℕ)) → length w.path ≤ length p + 1 → Fits w → Fits (finishes w p)
+finishes_fits : (w : Walk) (p : List (List ℕ)) → length w.path ≤ length p + 1 → Fits w → Fits (ends_element w p)
 finishes_fits w p longer fits = tested (eqb (length p) 3) refl
   where
     joined : (o : Option RawTrack) → w.current ≡ o → length (w.done ++ option_to_list o) ≤ 64
@@ -108,9 +108,9 @@ step_fits form w (Text at) fits = fits
 step_fits form w End fits = fits
 step_fits form w (Bad at) fits = fits
 
-walk_fits : (form : Form) (w : Walk) (tags : List Tag) → Fits w → Fits (walk form w tags)
+walk_fits : (form : Form) (w : Walk) (tags : List Tag) → Fits w → Fits (walk_tags form w tags)
 walk_fits form w [] fits = fits
 walk_fits form w (t ∷ ts) fits = walk_fits form (step form w t) ts (step_fits form w t fits)
 
-pub few_tracks : (form : Form) (tags : List Tag) (w : Walk) → w ≡ walk form start tags → length w.done ≤ 64
-few_tracks form tags w is = rw is (walk_fits form start tags (record { few = omega arith; inside = λ t e. cc e })).few
+pub few_tracks : (form : Form) (tags : List Tag) (w : Walk) → w ≡ walk_tags form nothing_met tags → length w.done ≤ 64
+few_tracks form tags w is = rw is (walk_fits form nothing_met tags (record { few = omega arith; inside = λ t e. cc e })).few

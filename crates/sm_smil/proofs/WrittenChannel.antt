@@ -15,56 +15,75 @@ use Rattle.sm_model.specs.declared.markup.Markup.{Markup}
 use Rattle.sm_model.specs.declared.markup.Markup.TheVariants as markup
 use Rattle.sm_model.specs.declared.markup.Lead.{Lead}
 use Rattle.sm_model.specs.declared.markup.Lead.TheVariants as lead
-use Rattle.sm_model.specs.declared.raw_track.Form.TheVariants.{Ladder}
-use Rattle.sm_model.specs.declared.raw_track.ParamName.TheVariants.{TrackName, TimeScale, FourCc, CodecPrivateData, MaxWidth, MaxHeight, AudioTag, Channels, SamplingRate, BitsPerSample, PacketSize}
+use Rattle.sm_model.specs.declared.raw_track.Form.{Form}
+use Rattle.sm_model.specs.declared.raw_track.Form.TheVariants.{Pushed, Ladder}
+use Rattle.sm_model.specs.declared.smil.SmilTrack.{SmilTrack}
+use Rattle.sm_model.specs.declared.raw_track.ParamName.TheVariants.{TrackId, TrackName, TimeScale, FourCc, CodecPrivateData, MaxWidth, MaxHeight, AudioTag, Channels, SamplingRate, BitsPerSample, PacketSize}
 use Rattle.sm_model.specs.declared.raw_track.RawTrack.{RawTrack}
 use Rattle.sm_model.specs.declared.track.Kind.{Kind}
 use Rattle.sm_model.specs.declared.track.Kind.TheVariants as kind
 use Rattle.sm_model.specs.declared.track.Track.{Track}
 use Rattle.sm_model.specs.Channels.{IsTrack, Agree, IsChannel, IsNarrowTrack}
 use Rattle.sm_model.specs.TagParts.{name_at}
-use Rattle.sm_model.specs.TagMarkup.{Markups, lead_at, finish_at, instruction_at, past}
+use Rattle.sm_model.specs.TagMarkup.{Markups, lead_at, finish_at, instruction_at, past_word}
 use Rattle.sm_model.specs.Tags.{Left, Founds, bare, marked, skipped, Next, ends, begin, without_zeros, without_mark}
-use Rattle.sm_model.specs.LiveTracks.{is_same, value_of, number_in, name_of, bitrate_of, timescale_of, bytes_in, numbers_of, track_of, ladder_track}
-use Rattle.sm_model.specs.LiveWalk.{Walk, start, walk}
-use Rattle.sm_model.specs.LiveFaults.{inner_faults, is_kind, clash, collide, lacks_part, collides_with, end_faults, tracks_faults, text_faults}
-use Rattle.sm_model.specs.LiveManifests.{bad_of, fault_of, judged, IsLadder}
+use Rattle.sm_model.specs.LiveTracks.{is_same, value_of, number_in, stream_name, bitrate_of, timescale_of, bytes_in, numbers_of, track_id_of, track_of, smil_track, ladder_track}
+use Rattle.sm_model.specs.LiveWalk.{Walk, nothing_met, walk_tags}
+use Rattle.sm_model.specs.LiveFaults.{inner_faults, are_one_kind, clash, collide, lacks_part, collides_with, end_faults, tracks_faults, text_faults, share_id, faults_of, least_from}
+use Rattle.sm_model.specs.LiveManifests.{bad_of, fault_of, tracks_or_fault, IsLadder, IsLiveManifest}
 use Rattle.sm_model.specs.LiveText.{track_lines, tracks_lines, head_lines, foot_lines, live_text}
+use Rattle.sm_smil.specs.Untimed.{untimed_tracks}
 use Rattle.sm_smil.proofs.Fit.{neither}
-use Rattle.sm_smil.proofs.OneReading.{one_ladder}
+use Rattle.sm_smil.proofs.OneReading.{one_ladder, one_live_manifest}
 use Rattle.sm_model.specs.TagText.{left_at}
 use Rattle.sm_tag.proofs.WrittenTags.{append_nil, Starts-again}
 use Rattle.sm_tag.proofs.WrittenNext.{next_finish}
-use Rattle.sm_smil.proofs.WrittenLines.{Leads, IsGood, Begins, in_switch, start_line, finish_line, on_start, on_finish, feed_read}
-use Rattle.sm_smil.proofs.WrittenValues.{IsWritable, decimal_number, decimal_again, option_again}
+use Rattle.sm_smil.proofs.WrittenLines.{Leads, Begins, in_switch, start_line, finish_line, on_start, on_finish, feed_read}
+use Rattle.sm_smil.proofs.WrittenValues.{IsWritable, decimal_number, decimal_again, timescale_fits, option_again}
 use Rattle.sm_smil.proofs.WrittenTracks.{Stage, walk_out, track_read, track_begins}
 
--- what was read of a track is the track, without a fault
-pub record IsRead (t : Track) (raw : RawTrack) : Type 0 where
-  pub track : ladder_track raw ≡ t
-  pub name : name_of raw ≡ t.name
+-- the timescale that is compared: a pushed header says none
+abbrev pub ticks_said : Form → Track → ℕ
+ticks_said Pushed t = 10000000
+ticks_said Ladder t = t.timescale
+
+-- what was read of a track is the track with its track_ID, whatever its timescale, without a fault
+pub record IsRead (form : Form) (id : ℕ) (t : Track) (raw : RawTrack) : Type 0 where
+  pub track : (ticks : ℕ) → track_of ticks raw ≡ record t { timescale = ticks }
+  pub name : stream_name raw ≡ t.name
   pub kind : raw.kind ≡ t.kind
   pub bitrate : bitrate_of raw ≡ Some t.bitrate
-  pub timescale : timescale_of raw ≡ Some t.timescale
+  pub own_id : track_id_of raw ≡ Some id
+  pub timescale : timescale_of raw ≡ Some (ticks_said form t)
   pub clean : inner_faults raw ≡ []
-  pub whole : lacks_part Ladder raw ≡ false
+  pub whole : lacks_part form raw ≡ false
 
-read_name : (id : ℕ) (t : Track) (raw : RawTrack) → Stage id t 13 raw → name_of raw ≡ t.name
-read_name id t raw s = rw (s.said TrackName) refl
+read_name : (form : Form) (id : ℕ) (t : Track) (raw : RawTrack) → Stage form id t 13 raw → stream_name raw ≡ t.name
+read_name form id t raw s = rw (s.said TrackName) refl
 
-read_bitrate : (id : ℕ) (t : Track) (raw : RawTrack) → IsWritable id t → Stage id t 13 raw → bitrate_of raw ≡ Some t.bitrate
-read_bitrate id t raw fits s = rw s.bitrate (decimal_again t.bitrate fits.narrow.bitrate)
+read_bitrate : (form : Form) (id : ℕ) (t : Track) (raw : RawTrack) → IsWritable id t → Stage form id t 13 raw → bitrate_of raw ≡ Some t.bitrate
+read_bitrate form id t raw fits s = rw s.bitrate (decimal_again t.bitrate fits.narrow.bitrate)
 
-read_timescale : (id : ℕ) (t : Track) (raw : RawTrack) → IsWritable id t → Stage id t 13 raw → timescale_of raw ≡ Some t.timescale
-read_timescale id t raw fits s = rw (s.said TimeScale) (decimal_again t.timescale fits.narrow.timescale)
+read_id : (form : Form) (id : ℕ) (t : Track) (raw : RawTrack) → IsWritable id t → Stage form id t 13 raw → track_id_of raw ≡ Some id
+read_id form id t raw fits s = rw (s.said TrackId) (decimal_again id fits.small)
 
-read_private : (id : ℕ) (t : Track) (raw : RawTrack) → IsWritable id t → Stage id t 13 raw → bytes_in (value_of CodecPrivateData raw.params) ≡ t.private
-read_private id t raw fits s =
+read_timescale : (form : Form) (id : ℕ) (t : Track) (raw : RawTrack) → IsWritable id t → Stage form id t 13 raw → timescale_of raw ≡ Some (ticks_said form t)
+read_timescale Pushed id t raw fits s = rw (s.said TimeScale) refl
+read_timescale Ladder id t raw fits s =
+    rw (s.said TimeScale, timescale_fits t.timescale fits.narrow.timescale fits.track.ticks) (decimal_again t.timescale fits.narrow.timescale)
+
+read_whole : (form : Form) (id : ℕ) (t : Track) (raw : RawTrack) → Stage form id t 13 raw → lacks_part form raw ≡ false
+unfolding lacks_part
+read_whole Pushed id t raw s = rw (s.bitrate, s.said TrackId) refl
+read_whole Ladder id t raw s = rw s.bitrate refl
+
+read_private : (form : Form) (id : ℕ) (t : Track) (raw : RawTrack) → IsWritable id t → Stage form id t 13 raw → bytes_in (value_of CodecPrivateData raw.params) ≡ t.private
+read_private form id t raw fits s =
     rw (s.said CodecPrivateData) (ap (λ r. result_unwrap_or r []) (decode_of-encode_upper t.private fits.narrow.private))
 
-read_numbers : (id : ℕ) (t : Track) (raw : RawTrack) → IsWritable id t → Stage id t 13 raw → numbers_of raw ≡ t.numbers
+read_numbers : (form : Form) (id : ℕ) (t : Track) (raw : RawTrack) → IsWritable id t → Stage form id t 13 raw → numbers_of raw ≡ t.numbers
 unfolding numbers_of
-read_numbers id t raw fits s =
+read_numbers form id t raw fits s =
     let n = fits.narrow.numbers in
     let w1 : number_in (value_of MaxWidth raw.params) ≡ t.numbers.width = ap number_in (s.said MaxWidth) ∙ option_again t.numbers.width n.width in
     let w2 : number_in (value_of MaxHeight raw.params) ≡ t.numbers.height = ap number_in (s.said MaxHeight) ∙ option_again t.numbers.height n.height in
@@ -75,100 +94,127 @@ read_numbers id t raw fits s =
     let w7 : number_in (value_of PacketSize raw.params) ≡ t.numbers.packet = ap number_in (s.said PacketSize) ∙ option_again t.numbers.packet n.packet in
     rw (w1, w2, w3, w4, w5, w6, w7) refl
 
-read_track : (id : ℕ) (t : Track) (raw : RawTrack) → IsWritable id t → Stage id t 13 raw → ladder_track raw ≡ t
+read_track : (form : Form) (id : ℕ) (t : Track) (raw : RawTrack) → IsWritable id t → Stage form id t 13 raw → (ticks : ℕ) → track_of ticks raw ≡ record t { timescale = ticks }
 unfolding track_of
-read_track id t raw fits s =
+read_track form id t raw fits s ticks =
     let k = s.kind in
-    let n = read_name id t raw s in
-    let b : unwrap_or (bitrate_of raw) 0 ≡ t.bitrate = ap (λ o. unwrap_or o 0) (read_bitrate id t raw fits s) in
-    let ts : unwrap_or (timescale_of raw) 0 ≡ t.timescale = ap (λ o. unwrap_or o 0) (read_timescale id t raw fits s) in
+    let n = read_name form id t raw s in
+    let b : unwrap_or (bitrate_of raw) 0 ≡ t.bitrate = ap (λ o. unwrap_or o 0) (read_bitrate form id t raw fits s) in
     let f : unwrap_or (value_of FourCc raw.params) [] ≡ t.fourcc = ap (λ o. unwrap_or o []) (s.said FourCc) in
-    let p = read_private id t raw fits s in
-    let m = read_numbers id t raw fits s in
-    rw (n, b, ts, f, p, m, k) refl
+    let p = read_private form id t raw fits s in
+    let m = read_numbers form id t raw fits s in
+    rw (n, b, f, p, m, k) refl
 
-pub is_read : (id : ℕ) (t : Track) (raw : RawTrack) → IsWritable id t → Stage id t 13 raw → IsRead t raw
-unfolding lacks_part
-is_read id t raw fits s = record {
-  track = read_track id t raw fits s;
-  name = read_name id t raw s;
+pub is_read : (form : Form) (id : ℕ) (t : Track) (raw : RawTrack) → IsWritable id t → Stage form id t 13 raw → IsRead form id t raw
+is_read form id t raw fits s = record {
+  track = read_track form id t raw fits s;
+  name = read_name form id t raw s;
   kind = s.kind;
-  bitrate = read_bitrate id t raw fits s;
-  timescale = read_timescale id t raw fits s;
+  bitrate = read_bitrate form id t raw fits s;
+  own_id = read_id form id t raw fits s;
+  timescale = read_timescale form id t raw fits s;
   clean = rw (s.bitrate, s.fit, s.again, decimal_number t.bitrate fits.narrow.bitrate) refl;
-  whole = rw s.bitrate refl;
+  whole = read_whole form id t raw s;
 }
 
-kind_refl : (k : Kind) → is_kind k k ≡ true
+kind_refl : (k : Kind) → are_one_kind k k ≡ true
 kind_refl kind.Video = refl
 kind_refl kind.Audio = refl
 kind_refl kind.Text = refl
 
-kinds_same : (a b : Kind) → a ≡ b → is_kind a b ≡ true
+kinds_same : (a b : Kind) → a ≡ b → are_one_kind a b ≡ true
 kinds_same a b e = rw e (kind_refl b)
 
--- tracks that agree don't collide
-apart : (a b : Track) (x y : RawTrack) → IsRead a x → IsRead b y → Agree a b → collide Ladder x y ≡ false
-unfolding collide clash
-apart a b x y is it agree =
+ticks_same : (form : Form) (a b : Track) → a.timescale ≡ b.timescale → ticks_said form a ≡ ticks_said form b
+ticks_same Pushed a b e = refl
+ticks_same Ladder a b e = e
+
+-- tracks that agree don't clash
+no_clash : (form : Form) (i j : ℕ) (a b : Track) (x y : RawTrack) → IsRead form i a x → IsRead form j b y → Agree a b → clash x y ≡ false
+unfolding clash
+no_clash form i j a b x y is it agree =
     rw (is.name, it.name, is.bitrate, it.bitrate, is.kind, it.kind, is.timescale, it.timescale) (tested (is_same a.name b.name) refl)
   where
-    tested : (same : Bool) → is_same a.name b.name ≡ same → ((same && (eqb a.bitrate b.bitrate || (not (is_kind a.kind b.kind) || not (eqb a.timescale b.timescale)))) || false) ≡ false
+    tested : (same : Bool) → is_same a.name b.name ≡ same
+        → (same && (eqb a.bitrate b.bitrate || (not (are_one_kind a.kind b.kind) || not (eqb (ticks_said form a) (ticks_said form b))))) ≡ false
     tested false e = refl
     tested true e =
         let named = (bytes_eq-Decides a.name b.name).0 e in
         let r : eqb a.bitrate b.bitrate ≡ false = ne_eqb a.bitrate b.bitrate (agree.apart named) in
-        let k : is_kind a.kind b.kind ≡ true = kinds_same a.kind b.kind (agree.kind named) in
-        let t : eqb a.timescale b.timescale ≡ true = eq-eqb a.timescale b.timescale (agree.timescale named) in
+        let k : are_one_kind a.kind b.kind ≡ true = kinds_same a.kind b.kind (agree.kind named) in
+        let t : eqb (ticks_said form a) (ticks_said form b) ≡ true = eq-eqb (ticks_said form a) (ticks_said form b) (ticks_same form a b (agree.timescale named)) in
         rw (r, k, t) refl
 
--- each of these was read as one of those
-abbrev pub AreRead : List RawTrack → List Track → Type 0
-AreRead [] [] = Unit {0}
-AreRead (x ∷ xs) (t ∷ ts) = IsRead t x × AreRead xs ts
-AreRead [] (t ∷ ts) = ⊥
-AreRead (x ∷ xs) [] = ⊥
+no_shared_id : (form : Form) (i j : ℕ) (a b : Track) (x y : RawTrack) → IsRead form i a x → IsRead form j b y → (i ≡ j → ⊥) → share_id form x y ≡ false
+no_shared_id Ladder i j a b x y is it ne = refl
+no_shared_id Pushed i j a b x y is it ne = rw (is.own_id, it.own_id) (ne_eqb i j ne)
 
-read_push : (xs : List RawTrack) (ts : List Track) (x : RawTrack) (t : Track) → AreRead xs ts → IsRead t x → AreRead (xs ++ x ∷ []) (ts ++ t ∷ [])
-read_push [] [] x t are is = (is, tt)
-read_push (y ∷ ys) (u ∷ us) x t are is = (are.0, read_push ys us x t are.1 is)
-read_push [] (u ∷ us) x t are is = absurd are
-read_push (y ∷ ys) [] x t are is = absurd are
+apart : (form : Form) (i j : ℕ) (a b : Track) (x y : RawTrack) → IsRead form i a x → IsRead form j b y → (i ≡ j → ⊥) → Agree a b → collide form x y ≡ false
+unfolding collide
+apart form i j a b x y is it ne agree = rw (no_clash form i j a b x y is it agree, no_shared_id form i j a b x y is it ne) refl
 
-read_map : (xs : List RawTrack) (ts : List Track) → AreRead xs ts → map ladder_track xs ≡ ts
-read_map [] [] are = refl
-read_map (x ∷ xs) (t ∷ ts) are = rw (are.0.track, read_map xs ts are.1) refl
-read_map [] (t ∷ ts) are = absurd are
-read_map (x ∷ xs) [] are = absurd are
+-- each of these was read as one of those, whose track_IDs begin at id
+abbrev pub AreRead : Form → ℕ → List RawTrack → List Track → Type 0
+AreRead form id [] [] = Unit {0}
+AreRead form id (x ∷ xs) (t ∷ ts) = IsRead form id t x × AreRead form (id + 1) xs ts
+AreRead form id [] (t ∷ ts) = ⊥
+AreRead form id (x ∷ xs) [] = ⊥
 
-read_len : (xs : List RawTrack) (ts : List Track) → AreRead xs ts → length xs ≡ length ts
-read_len [] [] are = refl
-read_len (x ∷ xs) (t ∷ ts) are = ap suc (read_len xs ts are.1)
-read_len [] (t ∷ ts) are = absurd are
-read_len (x ∷ xs) [] are = absurd are
+read_push : (form : Form) (id j : ℕ) (xs : List RawTrack) (ts : List Track) (x : RawTrack) (t : Track)
+    → j ≡ id + length ts → AreRead form id xs ts → IsRead form j t x → AreRead form id (xs ++ x ∷ []) (ts ++ t ∷ [])
+read_push form id j [] [] x t e are is =
+    let here : j ≡ id = omega (arith, e) in
+    (subst (λ (k : ℕ). IsRead form k t x) here is, tt)
+read_push form id j (y ∷ ys) (u ∷ us) x t e are is = (are.0, read_push form (id + 1) j ys us x t (omega (arith, e)) are.1 is)
+read_push form id j [] (u ∷ us) x t e are is = absurd are
+read_push form id j (y ∷ ys) [] x t e are is = absurd are
 
-collides_none : (xs : List RawTrack) (ts : List Track) (x : RawTrack) (t : Track) → AreRead xs ts → AllByRecursion (λ u. Agree u t) ts → IsRead t x → collides_with Ladder xs x ≡ false
-collides_none [] [] x t are agree is = refl
-collides_none (y ∷ ys) (u ∷ us) x t are agree is =
-    let first : collide Ladder y x ≡ false = apart u t y x are.0 is agree.0 in
-    rw first (collides_none ys us x t are.1 agree.1 is)
-collides_none [] (u ∷ us) x t are agree is = absurd are
-collides_none (y ∷ ys) [] x t are agree is = absurd are
+ladder_map : (id : ℕ) (xs : List RawTrack) (ts : List Track) → AreRead Ladder id xs ts → map ladder_track xs ≡ ts
+ladder_map id [] [] are = refl
+ladder_map id (x ∷ xs) (t ∷ ts) are =
+    let ticks : unwrap_or (timescale_of x) 0 ≡ t.timescale = ap (λ o. unwrap_or o 0) are.0.timescale in
+    let first : ladder_track x ≡ t = ap (λ (n : ℕ). track_of n x) ticks ∙ are.0.track t.timescale in
+    rw (first, ladder_map (id + 1) xs ts are.1) refl
+ladder_map id [] (t ∷ ts) are = absurd are
+ladder_map id (x ∷ xs) [] are = absurd are
 
-faults_push : (earlier xs : List RawTrack) (x : RawTrack) → tracks_faults Ladder earlier xs ≡ [] → inner_faults x ≡ [] → end_faults Ladder (earlier ++ xs) x ≡ [] → tracks_faults Ladder earlier (xs ++ x ∷ []) ≡ []
-faults_push earlier [] x none inner end =
-    let P : List RawTrack → Type 0 = λ l. end_faults Ladder l x ≡ [] in
-    let here : end_faults Ladder earlier x ≡ [] = subst P (append_nil earlier) end in
+pushed_map : (id : ℕ) (xs : List RawTrack) (ts : List Track) → AreRead Pushed id xs ts → map smil_track xs ≡ untimed_tracks id ts
+pushed_map id [] [] are = refl
+pushed_map id (x ∷ xs) (t ∷ ts) are =
+    let own : unwrap_or (track_id_of x) 0 ≡ id = ap (λ o. unwrap_or o 0) are.0.own_id in
+    rw (own, are.0.track 0, pushed_map (id + 1) xs ts are.1) refl
+pushed_map id [] (t ∷ ts) are = absurd are
+pushed_map id (x ∷ xs) [] are = absurd are
+
+read_len : (form : Form) (id : ℕ) (xs : List RawTrack) (ts : List Track) → AreRead form id xs ts → length xs ≡ length ts
+read_len form id [] [] are = refl
+read_len form id (x ∷ xs) (t ∷ ts) are = ap suc (read_len form (id + 1) xs ts are.1)
+read_len form id [] (t ∷ ts) are = absurd are
+read_len form id (x ∷ xs) [] are = absurd are
+
+collides_none : (form : Form) (id j : ℕ) (xs : List RawTrack) (ts : List Track) (x : RawTrack) (t : Track)
+    → id + length ts ≤ j → AreRead form id xs ts → AllByRecursion (λ u. Agree u t) ts → IsRead form j t x → collides_with form xs x ≡ false
+collides_none form id j [] [] x t le are agree is = refl
+collides_none form id j (y ∷ ys) (u ∷ us) x t le are agree is =
+    let first : collide form y x ≡ false = apart form id j u t y x are.0 is (λ e. omega (arith, e, le)) agree.0 in
+    rw first (collides_none form (id + 1) j ys us x t (omega (arith, le)) are.1 agree.1 is)
+collides_none form id j [] (u ∷ us) x t le are agree is = absurd are
+collides_none form id j (y ∷ ys) [] x t le are agree is = absurd are
+
+faults_push : (form : Form) (earlier xs : List RawTrack) (x : RawTrack) → tracks_faults form earlier xs ≡ [] → inner_faults x ≡ [] → end_faults form (earlier ++ xs) x ≡ [] → tracks_faults form earlier (xs ++ x ∷ []) ≡ []
+faults_push form earlier [] x none inner end =
+    let P : List RawTrack → Type 0 = λ l. end_faults form l x ≡ [] in
+    let here : end_faults form earlier x ≡ [] = subst P (append_nil earlier) end in
     rw (inner, here) refl
-faults_push earlier (y ∷ ys) x none inner end =
-    let parts = neither (inner_faults y ++ end_faults Ladder earlier y) _ none in
-    let P : List RawTrack → Type 0 = λ l. end_faults Ladder l x ≡ [] in
-    let here : end_faults Ladder ((earlier ++ y ∷ []) ++ ys) x ≡ [] = subst P (sym (append_assoc earlier (y ∷ []) ys)) end in
-    rw (parts.0, faults_push (earlier ++ y ∷ []) ys x parts.1 inner here) refl
+faults_push form earlier (y ∷ ys) x none inner end =
+    let parts = neither (inner_faults y ++ end_faults form earlier y) _ none in
+    let P : List RawTrack → Type 0 = λ l. end_faults form l x ≡ [] in
+    let here : end_faults form ((earlier ++ y ∷ []) ++ ys) x ≡ [] = subst P (sym (append_assoc earlier (y ∷ []) ys)) end in
+    rw (parts.0, faults_push form (earlier ++ y ∷ []) ys x parts.1 inner here) refl
 
-end_none : (earlier : List RawTrack) (x : RawTrack) → lacks_part Ladder x ≡ false → collides_with Ladder earlier x ≡ false → end_faults Ladder earlier x ≡ []
+end_none : (form : Form) (earlier : List RawTrack) (x : RawTrack) → lacks_part form x ≡ false → collides_with form earlier x ≡ false → end_faults form earlier x ≡ []
 unfolding end_faults
-end_none earlier x whole free = rw (whole, free) refl
+end_none form earlier x whole free = rw (whole, free) refl
 
 -- ---- the foot
 
@@ -188,17 +234,17 @@ lead_end : lead_at false (10 ∷ []) ≡ (lead.Ended, 0, [])
 unfolding lead_at
 lead_end = refl
 
-text_end : (size : ℕ) (channel : List Track) (end : ℕ) (w : Walk) → IsGood size channel w → Leads size channel (left_at size end (10 ∷ []) []) w
-text_end size channel end w good =
+text_end : (form : Form) (size : ℕ) (Good : Walk → Type 0) (end : ℕ) (w : Walk) → Good w → Leads form Good (left_at size end (10 ∷ []) []) w
+text_end form size Good end w good =
     (End ∷ [], ends _ ((lead.Ended, markup.Skipped, 0, []), bare lead_end (λ e. cc e), refl) refl, refl, good)
 
-foot_read : (size : ℕ) (channel : List Track) (end : ℕ) (done : List RawTrack) → IsGood size channel (record { path = []; other = None; done = done; current = None; over = None }) → Leads size channel (left_at size end foot_lines in_switch) (walk_out done)
-foot_read size channel end done good =
+foot_read : (form : Form) (size : ℕ) (Good : Walk → Type 0) (end : ℕ) (done : List RawTrack) → Good (record { path = []; other = None; done = done; current = None; over = None }) → Leads form Good (left_at size end foot_lines in_switch) (walk_out done)
+foot_read form size Good end done good =
     let in_body = codes "smil" ∷ codes "body" ∷ [] in
     let in_smil = codes "smil" ∷ [] in
-    finish_line size channel end (codes "</body>\n</smil>\n") (codes "/switch>\n</body>\n</smil>\n") in_switch (codes "switch") (walk_out done) (_, refl) (refl, refl) (refl, refl) refl (sym (switch_end (codes "</body>\n</smil>\n"))) (λ a.
-    finish_line size channel end (codes "</smil>\n") (codes "/body>\n</smil>\n") in_body (codes "body") (record { path = in_body; other = None; done = done; current = None; over = None }) (_, refl) (refl, refl) (refl, refl) refl (sym (body_end (codes "</smil>\n"))) (λ b.
-    on_finish size channel _ _ (codes "smil") (end - length (codes "</smil>\n")) (record { path = in_smil; other = None; done = done; current = None; over = None }) (next_finish size end (codes "/smil>\n") (10 ∷ []) in_smil (codes "smil") (refl, refl) refl (sym smil_end)) (text_end size channel end _ good)))
+    finish_line form size Good end (codes "</body>\n</smil>\n") (codes "/switch>\n</body>\n</smil>\n") in_switch (codes "switch") (walk_out done) (_, refl) (refl, refl) (refl, refl) refl (sym (switch_end (codes "</body>\n</smil>\n"))) (λ a.
+    finish_line form size Good end (codes "</smil>\n") (codes "/body>\n</smil>\n") in_body (codes "body") (record { path = in_body; other = None; done = done; current = None; over = None }) (_, refl) (refl, refl) (refl, refl) refl (sym (body_end (codes "</smil>\n"))) (λ b.
+    on_finish form size Good _ _ (codes "smil") (end - length (codes "</smil>\n")) (record { path = in_smil; other = None; done = done; current = None; over = None }) (next_finish size end (codes "/smil>\n") (10 ∷ []) in_smil (codes "smil") (refl, refl) refl (sym smil_end)) (text_end form size Good end _ good)))
 
 -- ---- the tracks
 
@@ -226,27 +272,28 @@ tracks_begin : (id : ℕ) (ts : List Track) → Begins (tracks_lines id ts ++ fo
 tracks_begin id [] = (_, refl)
 tracks_begin id (t ∷ ts) = rw (append_assoc (track_lines id t) (tracks_lines (id + 1) ts) foot_lines) (track_begins id t (tracks_lines (id + 1) ts ++ foot_lines))
 
-some_done : (size : ℕ) (done : List RawTrack) → 0 < length done → text_faults size None done ≡ []
-some_done size [] some = absurd (omega arith)
-some_done size (d ∷ ds) some = refl
+-- the walk at the end of the text
+abbrev walk_end : List RawTrack → Walk
+walk_end done = record { path = []; other = None; done = done; current = None; over = None }
 
-tracks_read : (size : ℕ) (channel : List Track) (end : ℕ) (done : List RawTrack) (before rest : List Track) (id : ℕ) → before ++ rest ≡ channel → 0 < length channel → length channel ≤ 64 → AreRead done before → tracks_faults Ladder [] done ≡ [] → AreWritable id rest → AgreeWith before rest → PairsAgree rest → Leads size channel (left_at size end (tracks_lines id rest ++ foot_lines) in_switch) (walk_out done)
-tracks_read size channel end done before [] id whole some few are none fits with_before agree =
+tracks_read : (form : Form) (size : ℕ) (Good : Walk → Type 0) (end : ℕ) (channel : List Track) (done : List RawTrack) (before rest : List Track) (id : ℕ) → before ++ rest ≡ channel → length channel ≤ 64
+    → ((xs : List RawTrack) → AreRead form 1 xs channel → tracks_faults form [] xs ≡ [] → Good (walk_end xs)) → id ≡ 1 + length before → AreRead form 1 done before → tracks_faults form [] done ≡ []
+    → AreWritable id rest → AgreeWith before rest → PairsAgree rest → Leads form Good (left_at size end (tracks_lines id rest ++ foot_lines) in_switch) (walk_out done)
+tracks_read form size Good end channel done before [] id whole few reaches place are none fits with_before agree =
     let all : before ≡ channel = sym (append_nil before) ∙ whole in
-    let count : length done ≡ length before = read_len done before are in
-    let long : length before ≡ length channel = ap length all in
-    let last = some_done size done (omega (arith, count, long)) in
-    foot_read size channel end done (rw (none, last) refl, read_map done before are ∙ all)
-tracks_read size channel end done before (t ∷ ts) id whole some few are none fits with_before agree =
-    let count : length done ≡ length before = read_len done before are in
+    foot_read form size Good end done (reaches done (subst (λ (ts : List Track). AreRead form 1 done ts) all are) none)
+tracks_read form size Good end channel done before (t ∷ ts) id whole few reaches place are none fits with_before agree =
+    let count : length done ≡ length before = read_len form 1 done before are in
     let long : length before + length (t ∷ ts) ≡ length channel = sym (length-append before (t ∷ ts)) ∙ ap length whole in
     let room : length done < 64 = omega (arith, count, long) in
-    let P : List ℕ → Type 0 = λ l. Leads size channel (left_at size end l in_switch) (walk_out done) in
+    let more : id + 1 ≡ 1 + length (before ++ t ∷ []) = omega (arith, place, length-append before (t ∷ [])) in
+    let P : List ℕ → Type 0 = λ l. Leads form Good (left_at size end l in_switch) (walk_out done) in
     subst P (sym (append_assoc (track_lines id t) (tracks_lines (id + 1) ts) foot_lines))
-    (track_read size channel end (tracks_lines (id + 1) ts ++ foot_lines) id t done (tracks_begin (id + 1) ts) fits.0 room (λ raw stage.
-    let is = is_read id t raw fits.0 stage in
-    let free = collides_none done before raw t are with_before.0 is in
-    tracks_read size channel end (done ++ raw ∷ []) (before ++ t ∷ []) ts (id + 1) (append_assoc before (t ∷ []) ts ∙ whole) some few (read_push done before raw t are is) (faults_push [] done raw none is.clean (end_none done raw is.whole free)) fits.1 (with_push before t ts with_before.1 agree.0) agree.1))
+    (track_read form size Good end (tracks_lines (id + 1) ts ++ foot_lines) id t done (tracks_begin (id + 1) ts) fits.0 room (λ raw stage.
+    let is = is_read form id t raw fits.0 stage in
+    let free = collides_none form 1 id done before raw t (omega (arith, place)) are with_before.0 is in
+    tracks_read form size Good end channel (done ++ raw ∷ []) (before ++ t ∷ []) ts (id + 1) (append_assoc before (t ∷ []) ts ∙ whole) few reaches more (read_push form 1 id done before raw t place are is)
+    (faults_push form [] done raw none is.clean (end_none form done raw is.whole free)) fits.1 (with_push before t ts with_before.1 agree.0) agree.1))
 
 -- ---- the head
 
@@ -261,7 +308,7 @@ abbrev behind_second : List ℕ → List ℕ
 behind_second x = codes "<head/>\n<body>\n<switch>\n" ++ x
 
 first_line : (x : List ℕ) → instruction_at (codes "xml version=\"1.0\" encoding=\"utf-8\"?>\n" ++ behind_first x) ≡ Ok (markup.Skipped, 10 ∷ behind_first x)
-unfolding instruction_at past
+unfolding instruction_at past_word
 first_line x = refl
 
 lead_first : (cs : List ℕ) → lead_at false (60 ∷ cs) ≡ (lead.Tag, length (60 ∷ cs), cs)
@@ -285,17 +332,17 @@ head_next size end x =
     let second : Founds false (10 ∷ behind_first x) f = marked (lead_second (codes "smil xmlns=\"http://www.w3.org/2001/SMIL20/Language\">\n" ++ behind_second x)) (second_line x) (λ e. cc e) in
     (f, skipped (lead_first _) (sym (first_line x)) second, refl)
 
-head_read : (size : ℕ) (channel : List Track) (end : ℕ) (x : List ℕ) → Begins x → Leads size channel (left_at size end x in_switch) (walk_out []) → Leads size channel (first_left size end (head_lines ++ x)) start
-head_read size channel end x begins go =
+head_read : (form : Form) (size : ℕ) (Good : Walk → Type 0) (end : ℕ) (x : List ℕ) → Begins x → Leads form Good (left_at size end x in_switch) (walk_out []) → Leads form Good (first_left size end (head_lines ++ x)) nothing_met
+head_read form size Good end x begins go =
     let in_smil = codes "smil" ∷ [] in
     let in_body = codes "smil" ∷ codes "body" ∷ [] in
     let w1 : Walk = record { path = in_smil; other = None; done = []; current = None; over = None } in
     let w2 : Walk = record { path = in_body; other = None; done = []; current = None; over = None } in
-    on_start size channel _ _ (codes "smil") smil_attributes false (end - length (behind_first x)) start (head_next size end x)
-    (feed_read size channel end (behind_second x) in_smil w1 (_, refl) (refl, refl)
-    (start_line size channel end (codes "<body>\n<switch>\n" ++ x) in_smil (codes "head") [] true w1 (_, refl) (refl, refl) (refl, refl) (Starts-again (codes "head") [] true (10 ∷ (codes "<body>\n<switch>\n" ++ x)) (refl, refl) tt) (λ a.
-    start_line size channel end (codes "<switch>\n" ++ x) in_smil (codes "body") [] false w1 (_, refl) (refl, refl) (refl, refl) (Starts-again (codes "body") [] false (10 ∷ (codes "<switch>\n" ++ x)) (refl, refl) tt) (λ b.
-    start_line size channel end x in_body (codes "switch") [] false w2 begins (refl, refl) (refl, refl) (Starts-again (codes "switch") [] false (10 ∷ x) (refl, refl) tt) (λ c. go)))))
+    on_start form size Good _ _ (codes "smil") smil_attributes false (end - length (behind_first x)) nothing_met (head_next size end x)
+    (feed_read form size Good end (behind_second x) in_smil w1 (_, refl) (refl, refl)
+    (start_line form size Good end (codes "<body>\n<switch>\n" ++ x) in_smil (codes "head") [] true w1 (_, refl) (refl, refl) (refl, refl) (Starts-again (codes "head") [] true (10 ∷ (codes "<body>\n<switch>\n" ++ x)) (refl, refl) tt) (λ a.
+    start_line form size Good end (codes "<switch>\n" ++ x) in_smil (codes "body") [] false w1 (_, refl) (refl, refl) (refl, refl) (Starts-again (codes "body") [] false (10 ∷ (codes "<switch>\n" ++ x)) (refl, refl) tt) (λ b.
+    start_line form size Good end x in_body (codes "switch") [] false w2 begins (refl, refl) (refl, refl) (Starts-again (codes "switch") [] false (10 ∷ x) (refl, refl) tt) (λ c. go)))))
 
 -- ---- the whole text
 
@@ -324,23 +371,51 @@ with_none : (rest : List Track) → AgreeWith [] rest
 with_none [] = tt
 with_none (u ∷ us) = (tt, with_none us)
 
--- the text leads to its channel
-leads_channel : (channel : List Track) → IsChannel channel → All IsNarrowTrack channel → Leads (length (live_text channel)) channel (begin (live_text channel)) start
+-- the text leads to what its tracks are read as
+leads_channel : (form : Form) (Good : Walk → Type 0) (channel : List Track) → IsChannel channel → All IsNarrowTrack channel
+    → ((xs : List RawTrack) → AreRead form 1 xs channel → tracks_faults form [] xs ≡ [] → Good (walk_end xs)) → Leads form Good (begin (live_text channel)) nothing_met
 unfolding live_text
-leads_channel channel is narrow =
+leads_channel form Good channel is narrow reaches =
     let x = tracks_lines 1 channel ++ foot_lines in
     let text = head_lines ++ x in
     let clean : without_zeros text ≡ text = no_zeros text (head_lines ++ (tracks_lines 1 channel ++ codes "</switch>\n</body>\n</smil>")) (ends_feed head_lines (tracks_lines 1 channel) (codes "</switch>\n</body>\n</smil>")) in
     let few = is.few in
-    let P : Left → Type 0 = λ s. Leads (length text) channel s start in
+    let P : Left → Type 0 = λ s. Leads form Good s nothing_met in
     subst P (sym (begins_first text _ clean refl))
-    (head_read (length text) channel (length text) x (tracks_begin 1 channel)
-    (tracks_read (length text) channel (length text) [] [] channel 1 refl is.some is.few tt refl (writable 1 channel (omega arith) (recursion_from_All IsTrack channel is.each) (recursion_from_All IsNarrowTrack channel narrow)) (with_none channel) (agree_pairs channel is.agree)))
+    (head_read form (length text) Good (length text) x (tracks_begin 1 channel)
+    (tracks_read form (length text) Good (length text) channel [] [] channel 1 refl is.few reaches refl tt refl
+    (writable 1 channel (omega arith) (recursion_from_All IsTrack channel is.each) (recursion_from_All IsNarrowTrack channel narrow)) (with_none channel) (agree_pairs channel is.agree)))
 
-judged_good : (channel : List Track) (size : ℕ) (tags : List Tag) → bad_of tags ≡ None → IsGood size channel (walk Ladder start tags) → judged ladder_track (fault_of Ladder size tags) (walk Ladder start tags).done ≡ Ok channel
-judged_good channel size tags bad good = rw (bad, good.0) (ap Ok good.1)
+-- what is walked over gives these tracks, and nothing is at fault
+record IsGood {X : Type 0} (track : RawTrack → X) (form : Form) (wanted : List X) (size : ℕ) (w : Walk) : Type 0 where
+  none : least_from None (faults_of form size None w) ≡ None
+  tracks : map track w.done ≡ wanted
+
+some_done : (size : ℕ) (done : List RawTrack) → 0 < length done → text_faults size None done ≡ []
+some_done size [] some = absurd (omega arith)
+some_done size (d ∷ ds) some = refl
+
+no_faults : (form : Form) (channel : List Track) (size : ℕ) (xs : List RawTrack) → IsChannel channel → AreRead form 1 xs channel → tracks_faults form [] xs ≡ [] → least_from None (faults_of form size None (walk_end xs)) ≡ None
+no_faults form channel size xs is are none =
+    let count : length xs ≡ length channel = read_len form 1 xs channel are in
+    let last = some_done size xs (omega (arith, count, is.some)) in
+    rw (none, last) refl
+
+given : {X : Type 0} (track : RawTrack → X) (form : Form) (wanted : List X) (size : ℕ) (tags : List Tag) → bad_of tags ≡ None → IsGood track form wanted size (walk_tags form nothing_met tags)
+    → tracks_or_fault track (fault_of form size tags) (walk_tags form nothing_met tags).done ≡ Ok wanted
+given track form wanted size tags bad good = rw (bad, good.none) (ap Ok good.tracks)
 
 pub live_text_gives : (channel : List Track) → IsChannel channel → All IsNarrowTrack channel → (r : Result (List Track) ℕ) → IsLadder (live_text channel) r → r ≡ Ok channel
 live_text_gives channel is narrow r read =
-    let good = leads_channel channel is narrow in
-    one_ladder (live_text channel) r (Ok channel) read (good.0, good.1, sym (judged_good channel (length (live_text channel)) good.0 good.2 good.3))
+    let size = length (live_text channel) in
+    let good = leads_channel Ladder (IsGood ladder_track Ladder channel size) channel is narrow
+    (λ xs are none. record { none = no_faults Ladder channel size xs is are none; tracks = ladder_map 1 xs channel are }) in
+    one_ladder (live_text channel) r (Ok channel) read (good.0, good.1, sym (given ladder_track Ladder channel size good.0 good.2 good.3))
+
+pub live_text_pushes : (channel : List Track) → IsChannel channel → All IsNarrowTrack channel → (r : Result (List SmilTrack) ℕ) → IsLiveManifest (live_text channel) r → r ≡ Ok (untimed_tracks 1 channel)
+live_text_pushes channel is narrow r read =
+    let size = length (live_text channel) in
+    let wanted = untimed_tracks 1 channel in
+    let good = leads_channel Pushed (IsGood smil_track Pushed wanted size) channel is narrow
+    (λ xs are none. record { none = no_faults Pushed channel size xs is are none; tracks = pushed_map 1 xs channel are }) in
+    one_live_manifest (live_text channel) r (Ok wanted) read (good.0, good.1, sym (given smil_track Pushed wanted size good.0 good.2 good.3))

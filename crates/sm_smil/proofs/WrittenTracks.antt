@@ -9,7 +9,8 @@ use Rattle.sm_model.specs.declared.track.Kind.{Kind}
 use Rattle.sm_model.specs.declared.track.Kind.TheVariants as kind
 use Rattle.sm_model.specs.declared.track.Params.{Params}
 use Rattle.sm_model.specs.declared.track.Track.{Track}
-use Rattle.sm_model.specs.declared.raw_track.Form.TheVariants.{Ladder}
+use Rattle.sm_model.specs.declared.raw_track.Form.{Form}
+use Rattle.sm_model.specs.declared.raw_track.Form.TheVariants.{Pushed, Ladder}
 use Rattle.sm_model.specs.declared.raw_track.ParamName.{ParamName}
 use Rattle.sm_model.specs.declared.raw_track.ParamName.TheVariants.{SystemBitrate, TrackId, TrackName, TimeScale, FourCc, CodecPrivateData, MaxWidth, MaxHeight, AudioTag, Channels, SamplingRate, BitsPerSample, PacketSize}
 use Rattle.sm_model.specs.declared.raw_track.SmilParam.{SmilParam}
@@ -53,26 +54,26 @@ with_param_first : (t : RawTrack) (p : SmilParam) → value_of p.name t.params �
 with_param_first t p e = rw e refl
 
 -- the params of the track were read whose names stand before the k-th, and no others
-pub record Stage (id : ℕ) (t : Track) (k : ℕ) (raw : RawTrack) : Type 0 where
+pub record Stage (form : Form) (id : ℕ) (t : Track) (k : ℕ) (raw : RawTrack) : Type 0 where
   pub kind : raw.kind ≡ t.kind
   pub bitrate : raw.bitrate ≡ Some (decimal t.bitrate)
   pub again : raw.again ≡ None
   pub fit : misfits raw.params ≡ []
-  pub said : (name : ParamName) → value_of name raw.params ≡ cond (ltb (index_of name) k) (expected id t name) None
+  pub said : (name : ParamName) → value_of name raw.params ≡ cond (ltb (index_of name) k) (expected form id t name) None
 
-absent : (id : ℕ) (t : Track) (raw : RawTrack) (name : ParamName) → Stage id t (index_of name) raw → value_of name raw.params ≡ None
-absent id t raw name stage =
+absent : (form : Form) (id : ℕ) (t : Track) (raw : RawTrack) (name : ParamName) → Stage form id t (index_of name) raw → value_of name raw.params ≡ None
+absent form id t raw name stage =
     let out : ltb (index_of name) (index_of name) ≡ false = le-ltb (index_of name) (index_of name) (omega arith) in
     rw out at (stage.said name)
 
 -- names before the k-th, it, and those behind it
-below : (id : ℕ) (t : Track) (raw : RawTrack) (name n : ParamName) → Stage id t (index_of name) raw → index_of n < index_of name → value_of n raw.params ≡ expected id t n
-below id t raw name n stage lt =
+below : (form : Form) (id : ℕ) (t : Track) (raw : RawTrack) (name n : ParamName) → Stage form id t (index_of name) raw → index_of n < index_of name → value_of n raw.params ≡ expected form id t n
+below form id t raw name n stage lt =
     let before : ltb (index_of n) (index_of name) ≡ true = lt-ltb (index_of n) (index_of name) lt in
     rw before at (stage.said n)
 
-from_there : (id : ℕ) (t : Track) (raw : RawTrack) (name n : ParamName) → Stage id t (index_of name) raw → index_of name ≤ index_of n → value_of n raw.params ≡ None
-from_there id t raw name n stage le =
+from_there : (form : Form) (id : ℕ) (t : Track) (raw : RawTrack) (name n : ParamName) → Stage form id t (index_of name) raw → index_of name ≤ index_of n → value_of n raw.params ≡ None
+from_there form id t raw name n stage le =
     let out : ltb (index_of n) (index_of name) ≡ false = le-ltb (index_of n) (index_of name) le in
     rw out at (stage.said n)
 
@@ -80,59 +81,59 @@ other_index : (name n : ParamName) → (index_of n ≡ index_of name → ⊥) �
 other_index name n apart = ne_eqb (index_of name) (index_of n) (λ e. apart (sym e))
 
 -- what is said of a name behind one param more
-abbrev IsSaid : ℕ → Track → RawTrack → ParamName → List ℕ → ParamName → Type 0
-IsSaid id t raw name value n =
-    value_or (value_of n raw.params) (cond (eqb (index_of name) (index_of n)) (Some value) None) ≡ cond (ltb (index_of n) (index_of name + 1)) (expected id t n) None
+abbrev IsSaid : Form → ℕ → Track → RawTrack → ParamName → List ℕ → ParamName → Type 0
+IsSaid form id t raw name value n =
+    value_or (value_of n raw.params) (cond (eqb (index_of name) (index_of n)) (Some value) None) ≡ cond (ltb (index_of n) (index_of name + 1)) (expected form id t n) None
 
-said_more : (id : ℕ) (t : Track) (raw : RawTrack) (name : ParamName) (value : List ℕ) → expected id t name ≡ Some value → Stage id t (index_of name) raw → (n : ParamName) → ((index_of n < index_of name) ⊎ (index_of name ≤ index_of n)) → ((index_of n ≡ index_of name) ⊎ (index_of n ≡ index_of name → ⊥)) → IsSaid id t raw name value n
-said_more id t raw name value is stage n (inl lt) other =
+said_more : (form : Form) (id : ℕ) (t : Track) (raw : RawTrack) (name : ParamName) (value : List ℕ) → expected form id t name ≡ Some value → Stage form id t (index_of name) raw → (n : ParamName) → ((index_of n < index_of name) ⊎ (index_of name ≤ index_of n)) → ((index_of n ≡ index_of name) ⊎ (index_of n ≡ index_of name → ⊥)) → IsSaid form id t raw name value n
+said_more form id t raw name value is stage n (inl lt) other =
     let after : ltb (index_of n) (index_of name + 1) ≡ true = lt-ltb (index_of n) (index_of name + 1) (omega arith) in
     let apart : eqb (index_of name) (index_of n) ≡ false = ne_eqb (index_of name) (index_of n) (λ e. omega arith) in
-    rw (apart, after) (value_or_none (value_of n raw.params) ∙ below id t raw name n stage lt)
-said_more id t raw name value is stage n (inr le) (inl same) =
+    rw (apart, after) (value_or_none (value_of n raw.params) ∙ below form id t raw name n stage lt)
+said_more form id t raw name value is stage n (inr le) (inl same) =
     let after : ltb (index_of n) (index_of name + 1) ≡ true = lt-ltb (index_of n) (index_of name + 1) (omega arith) in
     let here : eqb (index_of name) (index_of n) ≡ true = eq-eqb (index_of name) (index_of n) (sym same) in
-    let none : value_of n raw.params ≡ None = from_there id t raw name n stage le in
-    rw (none, here, after) (sym (ap (expected id t) (same_name n name (eq-eqb (index_of n) (index_of name) same)) ∙ is))
-said_more id t raw name value is stage n (inr le) (inr apart) =
+    let none : value_of n raw.params ≡ None = from_there form id t raw name n stage le in
+    rw (none, here, after) (sym (ap (expected form id t) (same_name n name (eq-eqb (index_of n) (index_of name) same)) ∙ is))
+said_more form id t raw name value is stage n (inr le) (inr apart) =
     let after : ltb (index_of n) (index_of name + 1) ≡ false = le-ltb (index_of n) (index_of name + 1) (omega arith) in
     let other : eqb (index_of name) (index_of n) ≡ false = other_index name n apart in
-    let none : value_of n raw.params ≡ None = from_there id t raw name n stage le in
+    let none : value_of n raw.params ≡ None = from_there form id t raw name n stage le in
     rw (none, other, after) refl
 
-add_stage : (id : ℕ) (t : Track) (raw : RawTrack) (name : ParamName) (value : List ℕ) (at : ℕ) → expected id t name ≡ Some value → is_fit name value ≡ true → Stage id t (index_of name) raw → Stage id t (index_of name + 1) (with_param raw (record { name = name; value = value; at = at }))
-add_stage id t raw name value at is fit stage =
+add_stage : (form : Form) (id : ℕ) (t : Track) (raw : RawTrack) (name : ParamName) (value : List ℕ) (at : ℕ) → expected form id t name ≡ Some value → is_fit name value ≡ true → Stage form id t (index_of name) raw → Stage form id t (index_of name + 1) (with_param raw (record { name = name; value = value; at = at }))
+add_stage form id t raw name value at is fit stage =
     let p : SmilParam = record { name = name; value = value; at = at } in
-    let first : with_param raw p ≡ record raw { params = raw.params ++ p ∷ [] } = with_param_first raw p (absent id t raw name stage) in
+    let first : with_param raw p ≡ record raw { params = raw.params ++ p ∷ [] } = with_param_first raw p (absent form id t raw name stage) in
     rw first (record {
       kind = stage.kind;
       bitrate = stage.bitrate;
       again = stage.again;
       fit = misfits_push raw.params p stage.fit fit;
-      said = λ n. value_of_push n raw.params p ∙ said_more id t raw name value is stage n (cases_lt (index_of n) (index_of name)) (cases_eq (index_of n) (index_of name));
+      said = λ n. value_of_push n raw.params p ∙ said_more form id t raw name value is stage n (cases_lt (index_of n) (index_of name)) (cases_eq (index_of n) (index_of name));
     })
 
-abbrev IsStill : ℕ → Track → RawTrack → ParamName → ParamName → Type 0
-IsStill id t raw name n = value_of n raw.params ≡ cond (ltb (index_of n) (index_of name + 1)) (expected id t n) None
+abbrev IsStill : Form → ℕ → Track → RawTrack → ParamName → ParamName → Type 0
+IsStill form id t raw name n = value_of n raw.params ≡ cond (ltb (index_of n) (index_of name + 1)) (expected form id t n) None
 
-said_still : (id : ℕ) (t : Track) (raw : RawTrack) (name : ParamName) → expected id t name ≡ None → Stage id t (index_of name) raw → (n : ParamName) → ((index_of n < index_of name) ⊎ (index_of name ≤ index_of n)) → ((index_of n ≡ index_of name) ⊎ (index_of n ≡ index_of name → ⊥)) → IsStill id t raw name n
-said_still id t raw name is stage n (inl lt) other =
+said_still : (form : Form) (id : ℕ) (t : Track) (raw : RawTrack) (name : ParamName) → expected form id t name ≡ None → Stage form id t (index_of name) raw → (n : ParamName) → ((index_of n < index_of name) ⊎ (index_of name ≤ index_of n)) → ((index_of n ≡ index_of name) ⊎ (index_of n ≡ index_of name → ⊥)) → IsStill form id t raw name n
+said_still form id t raw name is stage n (inl lt) other =
     let after : ltb (index_of n) (index_of name + 1) ≡ true = lt-ltb (index_of n) (index_of name + 1) (omega arith) in
-    rw after (below id t raw name n stage lt)
-said_still id t raw name is stage n (inr le) (inl same) =
+    rw after (below form id t raw name n stage lt)
+said_still form id t raw name is stage n (inr le) (inl same) =
     let after : ltb (index_of n) (index_of name + 1) ≡ true = lt-ltb (index_of n) (index_of name + 1) (omega arith) in
-    rw after (from_there id t raw name n stage le ∙ sym (ap (expected id t) (same_name n name (eq-eqb (index_of n) (index_of name) same)) ∙ is))
-said_still id t raw name is stage n (inr le) (inr apart) =
+    rw after (from_there form id t raw name n stage le ∙ sym (ap (expected form id t) (same_name n name (eq-eqb (index_of n) (index_of name) same)) ∙ is))
+said_still form id t raw name is stage n (inr le) (inr apart) =
     let after : ltb (index_of n) (index_of name + 1) ≡ false = le-ltb (index_of n) (index_of name + 1) (omega arith) in
-    rw after (from_there id t raw name n stage le)
+    rw after (from_there form id t raw name n stage le)
 
-skip_stage : (id : ℕ) (t : Track) (raw : RawTrack) (name : ParamName) → expected id t name ≡ None → Stage id t (index_of name) raw → Stage id t (index_of name + 1) raw
-skip_stage id t raw name is stage = record {
+skip_stage : (form : Form) (id : ℕ) (t : Track) (raw : RawTrack) (name : ParamName) → expected form id t name ≡ None → Stage form id t (index_of name) raw → Stage form id t (index_of name + 1) raw
+skip_stage form id t raw name is stage = record {
   kind = stage.kind;
   bitrate = stage.bitrate;
   again = stage.again;
   fit = stage.fit;
-  said = λ n. said_still id t raw name is stage n (cases_lt (index_of n) (index_of name)) (cases_eq (index_of n) (index_of name));
+  said = λ n. said_still form id t raw name is stage n (cases_lt (index_of n) (index_of name)) (cases_eq (index_of n) (index_of name));
 }
 
 -- between two tracks, and inside one
@@ -143,23 +144,23 @@ abbrev pub walk_in : Kind → List RawTrack → RawTrack → Walk
 walk_in k done raw = record { path = in_track k; other = None; done = done; current = Some raw; over = None }
 
 -- the rest of the text gives the channel, whatever the places of what was read
-abbrev GoesOn : ℕ → List Track → ℕ → List ℕ → ℕ → Track → List RawTrack → ℕ → Type 0
-GoesOn size channel end x id t done k =
-    (raw : RawTrack) → Stage id t k raw → Leads size channel (left_at size end x (in_track t.kind)) (walk_in t.kind done raw)
+abbrev GoesOn : Form → ℕ → (Walk → Type 0) → ℕ → List ℕ → ℕ → Track → List RawTrack → ℕ → Type 0
+GoesOn form size Good end x id t done k =
+    (raw : RawTrack) → Stage form id t k raw → Leads form Good (left_at size end x (in_track t.kind)) (walk_in t.kind done raw)
 
-param_stage : (size : ℕ) (channel : List Track) (end : ℕ) (x : List ℕ) (id : ℕ) (t : Track) (done : List RawTrack) (raw : RawTrack) (name : ParamName) (text value : List ℕ) → Begins x → list_all is_plain text ≡ true → param_name text ≡ Some name → is_read Ladder raw name ≡ true → expected id t name ≡ Some value → list_all is_plain value ≡ true → is_fit name value ≡ true → Stage id t (index_of name) raw → GoesOn size channel end x id t done (index_of name + 1) → Leads size channel (left_at size end (param_line text value ++ x) (in_track t.kind)) (walk_in t.kind done raw)
-param_stage size channel end x id t done raw name text value begins plain_name named reads is plain fit stage go =
-    param_read size channel end x t.kind text value (walk_in t.kind done raw) begins plain_name plain (λ at.
-    let P : Walk → Type 0 = λ w. Leads size channel (left_at size end x (in_track t.kind)) w in
+param_stage : (form : Form) (size : ℕ) (Good : Walk → Type 0) (end : ℕ) (x : List ℕ) (id : ℕ) (t : Track) (done : List RawTrack) (raw : RawTrack) (name : ParamName) (text value : List ℕ) → Begins x → list_all is_plain text ≡ true → param_name text ≡ Some name → is_read form raw name ≡ true → expected form id t name ≡ Some value → list_all is_plain value ≡ true → is_fit name value ≡ true → Stage form id t (index_of name) raw → GoesOn form size Good end x id t done (index_of name + 1) → Leads form Good (left_at size end (param_line text value ++ x) (in_track t.kind)) (walk_in t.kind done raw)
+param_stage form size Good end x id t done raw name text value begins plain_name named reads is plain fit stage go =
+    param_read form size Good end x t.kind text value (walk_in t.kind done raw) begins plain_name plain (λ at.
+    let P : Walk → Type 0 = λ w. Leads form Good (left_at size end x (in_track t.kind)) w in
     let next : RawTrack = with_param raw (record { name = name; value = value; at = at }) in
-    let met : step Ladder (walk_in t.kind done raw) (Start (codes "param") (param_attributes text value) true at) ≡ walk_in t.kind done next = rw (named, reads) refl in
-    subst P (sym met) (go next (add_stage id t raw name value at is fit stage)))
+    let met : step form (walk_in t.kind done raw) (Start (codes "param") (param_attributes text value) true at) ≡ walk_in t.kind done next = rw (named, reads) refl in
+    subst P (sym met) (go next (add_stage form id t raw name value at is fit stage)))
 
-option_stage : (size : ℕ) (channel : List Track) (end : ℕ) (x : List ℕ) (id : ℕ) (t : Track) (done : List RawTrack) (raw : RawTrack) (name : ParamName) (text : List ℕ) (o : Option ℕ) → Begins x → list_all is_plain text ≡ true → param_name text ≡ Some name → is_read Ladder raw name ≡ true → expected id t name ≡ option_map decimal o → IsNarrowOption o → ((n : ℕ) → n < 2 ^ 32 → is_fit name (decimal n) ≡ true) → Stage id t (index_of name) raw → GoesOn size channel end x id t done (index_of name + 1) → Leads size channel (left_at size end (option_line text o ++ x) (in_track t.kind)) (walk_in t.kind done raw)
-option_stage size channel end x id t done raw name text None begins plain_name named reads is narrow fit stage go =
-    go raw (skip_stage id t raw name is stage)
-option_stage size channel end x id t done raw name text (Some n) begins plain_name named reads is narrow fit stage go =
-    param_stage size channel end x id t done raw name text (decimal n) begins plain_name named reads is (decimal_plain n (narrow n refl)) (fit n (narrow n refl)) stage go
+option_stage : (form : Form) (size : ℕ) (Good : Walk → Type 0) (end : ℕ) (x : List ℕ) (id : ℕ) (t : Track) (done : List RawTrack) (raw : RawTrack) (name : ParamName) (text : List ℕ) (o : Option ℕ) → Begins x → list_all is_plain text ≡ true → param_name text ≡ Some name → is_read form raw name ≡ true → expected form id t name ≡ option_map decimal o → IsNarrowOption o → ((n : ℕ) → n < 2 ^ 32 → is_fit name (decimal n) ≡ true) → Stage form id t (index_of name) raw → GoesOn form size Good end x id t done (index_of name + 1) → Leads form Good (left_at size end (option_line text o ++ x) (in_track t.kind)) (walk_in t.kind done raw)
+option_stage form size Good end x id t done raw name text None begins plain_name named reads is narrow fit stage go =
+    go raw (skip_stage form id t raw name is stage)
+option_stage form size Good end x id t done raw name text (Some n) begins plain_name named reads is narrow fit stage go =
+    param_stage form size Good end x id t done raw name text (decimal n) begins plain_name named reads is (decimal_plain n (narrow n refl)) (fit n (narrow n refl)) stage go
 
 option_begins : (text : List ℕ) (o : Option ℕ) (x : List ℕ) → Begins x → Begins (option_line text o ++ x)
 option_begins text None x begins = begins
@@ -226,9 +227,23 @@ is_codec : param_name (codes "CodecPrivateData") ≡ Some CodecPrivateData
 unfolding param_name text_param number_param video_param audio_param
 is_codec = refl
 
-numbers_stage : (size : ℕ) (channel : List Track) (end : ℕ) (x : List ℕ) (id : ℕ) (t : Track) (done : List RawTrack) (raw : RawTrack) → Begins x → IsNarrowTrack t → Stage id t 6 raw → GoesOn size channel end x id t done 13 → Leads size channel (left_at size end (number_lines t.numbers ++ x) (in_track t.kind)) (walk_in t.kind done raw)
+-- the timescale, which a ladder reads and a pushed header passes over
+scale_stage : (form : Form) (size : ℕ) (Good : Walk → Type 0) (end : ℕ) (x : List ℕ) (id : ℕ) (t : Track) (done : List RawTrack) (raw : RawTrack)
+    → Begins x → IsWritable id t → Stage form id t 3 raw → GoesOn form size Good end x id t done 4
+    → Leads form Good (left_at size end (number_line (codes "TimeScale") t.timescale ++ x) (in_track t.kind)) (walk_in t.kind done raw)
 unfolding is_fit
-numbers_stage size channel end x id t done raw begins narrow stage go =
+scale_stage Ladder size Good end x id t done raw begins fits stage go =
+    param_stage Ladder size Good end x id t done raw TimeScale (codes "TimeScale") (decimal t.timescale) begins refl is_time_scale refl refl
+    (decimal_plain t.timescale fits.narrow.timescale) (timescale_fits t.timescale fits.narrow.timescale fits.track.ticks) stage go
+scale_stage Pushed size Good end x id t done raw begins fits stage go =
+    param_read Pushed size Good end x t.kind (codes "TimeScale") (decimal t.timescale) (walk_in t.kind done raw) begins refl (decimal_plain t.timescale fits.narrow.timescale) (λ at.
+    let P : Walk → Type 0 = λ w. Leads Pushed Good (left_at size end x (in_track t.kind)) w in
+    let met : step Pushed (walk_in t.kind done raw) (Start (codes "param") (param_attributes (codes "TimeScale") (decimal t.timescale)) true at) ≡ walk_in t.kind done raw = rw is_time_scale refl in
+    subst P (sym met) (go raw (skip_stage Pushed id t raw TimeScale refl stage)))
+
+numbers_stage : (form : Form) (size : ℕ) (Good : Walk → Type 0) (end : ℕ) (x : List ℕ) (id : ℕ) (t : Track) (done : List RawTrack) (raw : RawTrack) → Begins x → IsNarrowTrack t → Stage form id t 6 raw → GoesOn form size Good end x id t done 13 → Leads form Good (left_at size end (number_lines t.numbers ++ x) (in_track t.kind)) (walk_in t.kind done raw)
+unfolding is_fit
+numbers_stage form size Good end x id t done raw begins narrow stage go =
     let n = narrow.numbers in
     let b1 = option_begins (codes "PacketSize") t.numbers.packet x begins in
     let b2 = option_begins (codes "BitsPerSample") t.numbers.bits _ b1 in
@@ -236,15 +251,15 @@ numbers_stage size channel end x id t done raw begins narrow stage go =
     let b4 = option_begins (codes "Channels") t.numbers.channels _ b3 in
     let b5 = option_begins (codes "AudioTag") t.numbers.tag _ b4 in
     let b6 = option_begins (codes "MaxHeight") t.numbers.height _ b5 in
-    let P : List ℕ → Type 0 = λ l. Leads size channel (left_at size end l (in_track t.kind)) (walk_in t.kind done raw) in
+    let P : List ℕ → Type 0 = λ l. Leads form Good (left_at size end l (in_track t.kind)) (walk_in t.kind done raw) in
     subst P (sym (numbers_text t.numbers x))
-    (option_stage size channel end _ id t done raw MaxWidth (codes "MaxWidth") t.numbers.width b6 refl is_width refl refl n.width decimal_number stage (λ r1 s1.
-    option_stage size channel end _ id t done r1 MaxHeight (codes "MaxHeight") t.numbers.height b5 refl is_height refl refl n.height decimal_number s1 (λ r2 s2.
-    option_stage size channel end _ id t done r2 AudioTag (codes "AudioTag") t.numbers.tag b4 refl is_tag refl refl n.tag decimal_number s2 (λ r3 s3.
-    option_stage size channel end _ id t done r3 Channels (codes "Channels") t.numbers.channels b3 refl is_channels refl refl n.channels decimal_number s3 (λ r4 s4.
-    option_stage size channel end _ id t done r4 SamplingRate (codes "SamplingRate") t.numbers.rate b2 refl is_rate refl refl n.rate decimal_number s4 (λ r5 s5.
-    option_stage size channel end _ id t done r5 BitsPerSample (codes "BitsPerSample") t.numbers.bits b1 refl is_bits refl refl n.bits decimal_number s5 (λ r6 s6.
-    option_stage size channel end x id t done r6 PacketSize (codes "PacketSize") t.numbers.packet begins refl is_packet refl refl n.packet decimal_number s6 go)))))))
+    (option_stage form size Good end _ id t done raw MaxWidth (codes "MaxWidth") t.numbers.width b6 refl is_width refl refl n.width decimal_number stage (λ r1 s1.
+    option_stage form size Good end _ id t done r1 MaxHeight (codes "MaxHeight") t.numbers.height b5 refl is_height refl refl n.height decimal_number s1 (λ r2 s2.
+    option_stage form size Good end _ id t done r2 AudioTag (codes "AudioTag") t.numbers.tag b4 refl is_tag refl refl n.tag decimal_number s2 (λ r3 s3.
+    option_stage form size Good end _ id t done r3 Channels (codes "Channels") t.numbers.channels b3 refl is_channels refl refl n.channels decimal_number s3 (λ r4 s4.
+    option_stage form size Good end _ id t done r4 SamplingRate (codes "SamplingRate") t.numbers.rate b2 refl is_rate refl refl n.rate decimal_number s4 (λ r5 s5.
+    option_stage form size Good end _ id t done r5 BitsPerSample (codes "BitsPerSample") t.numbers.bits b1 refl is_bits refl refl n.bits decimal_number s5 (λ r6 s6.
+    option_stage form size Good end x id t done r6 PacketSize (codes "PacketSize") t.numbers.packet begins refl is_packet refl refl n.packet decimal_number s6 go)))))))
 
 track_text : (id : ℕ) (t : Track) (x : List ℕ) → track_lines id t ++ x ≡ opening_line t.kind t.bitrate ++ (number_line (codes "trackID") id ++ (param_line (codes "trackName") t.name ++ (number_line (codes "TimeScale") t.timescale ++ (param_line (codes "FourCC") t.fourcc ++ (param_line (codes "CodecPrivateData") (encode_upper t.private) ++ (number_lines t.numbers ++ (closing_line t.kind ++ x)))))))
 unfolding track_lines
@@ -263,10 +278,10 @@ opened_kind kind.Text = refl
 abbrev opened_track : Track → ℕ → RawTrack
 opened_track t at = record { kind = t.kind; at = at; bitrate = Some (decimal t.bitrate); params = []; again = None }
 
-first_stage : (id : ℕ) (t : Track) (at : ℕ) → Stage id t 1 (opened_track t at)
-first_stage id t at = record { kind = refl; bitrate = refl; again = refl; fit = refl; said = unsaid }
+first_stage : (form : Form) (id : ℕ) (t : Track) (at : ℕ) → Stage form id t 1 (opened_track t at)
+first_stage form id t at = record { kind = refl; bitrate = refl; again = refl; fit = refl; said = unsaid }
   where
-    unsaid : (name : ParamName) → None ≡ cond (ltb (index_of name) 1) (expected id t name) None
+    unsaid : (name : ParamName) → None ≡ cond (ltb (index_of name) 1) (expected form id t name) None
     unsaid SystemBitrate = refl
     unsaid TrackId = refl
     unsaid TrackName = refl
@@ -282,9 +297,9 @@ first_stage id t at = record { kind = refl; bitrate = refl; again = refl; fit = 
     unsaid PacketSize = refl
 
 -- a written track is read, with some places
-pub track_read : (size : ℕ) (channel : List Track) (end : ℕ) (x : List ℕ) (id : ℕ) (t : Track) (done : List RawTrack) → Begins x → IsWritable id t → length done < 64 → ((raw : RawTrack) → Stage id t 13 raw → Leads size channel (left_at size end x in_switch) (walk_out (done ++ raw ∷ []))) → Leads size channel (left_at size end (track_lines id t ++ x) in_switch) (walk_out done)
+pub track_read : (form : Form) (size : ℕ) (Good : Walk → Type 0) (end : ℕ) (x : List ℕ) (id : ℕ) (t : Track) (done : List RawTrack) → Begins x → IsWritable id t → length done < 64 → ((raw : RawTrack) → Stage form id t 13 raw → Leads form Good (left_at size end x in_switch) (walk_out (done ++ raw ∷ []))) → Leads form Good (left_at size end (track_lines id t ++ x) in_switch) (walk_out done)
 unfolding is_fit
-track_read size channel end x id t done begins fits room go =
+track_read form size Good end x id t done begins fits room go =
     let narrow = fits.narrow in
     let c1 = closing_begins t.kind x in
     let c2 = numbers_begin t.numbers _ c1 in
@@ -294,16 +309,16 @@ track_read size channel end x id t done begins fits room go =
     let c6 = param_begins (codes "trackName") t.name (number_line (codes "TimeScale") t.timescale ++ (param_line (codes "FourCC") t.fourcc ++ (param_line (codes "CodecPrivateData") (encode_upper t.private) ++ (number_lines t.numbers ++ (closing_line t.kind ++ x))))) in
     let c7 = param_begins (codes "trackID") (decimal id) (param_line (codes "trackName") t.name ++ (number_line (codes "TimeScale") t.timescale ++ (param_line (codes "FourCC") t.fourcc ++ (param_line (codes "CodecPrivateData") (encode_upper t.private) ++ (number_lines t.numbers ++ (closing_line t.kind ++ x)))))) in
     let few : leb 64 (length done) ≡ false = lt-leb 64 (length done) room in
-    let P : List ℕ → Type 0 = λ l. Leads size channel (left_at size end l in_switch) (walk_out done) in
+    let P : List ℕ → Type 0 = λ l. Leads form Good (left_at size end l in_switch) (walk_out done) in
     subst P (sym (track_text id t x))
-    (opening_read size channel end _ t.kind t.bitrate (walk_out done) c7 (decimal_plain t.bitrate narrow.bitrate) (λ at.
-    let Q : Walk → Type 0 = λ w. Leads size channel (left_at size end (number_line (codes "trackID") id ++ (param_line (codes "trackName") t.name ++ (number_line (codes "TimeScale") t.timescale ++ (param_line (codes "FourCC") t.fourcc ++ (param_line (codes "CodecPrivateData") (encode_upper t.private) ++ (number_lines t.numbers ++ (closing_line t.kind ++ x))))))) (in_track t.kind)) w in
-    let met : step Ladder (walk_out done) (Start (element_name t.kind) (track_attributes t.bitrate) false at) ≡ walk_in t.kind done (opened_track t at) = rw (opened_kind t.kind, few) refl in
+    (opening_read form size Good end _ t.kind t.bitrate (walk_out done) c7 (decimal_plain t.bitrate narrow.bitrate) (λ at.
+    let Q : Walk → Type 0 = λ w. Leads form Good (left_at size end (number_line (codes "trackID") id ++ (param_line (codes "trackName") t.name ++ (number_line (codes "TimeScale") t.timescale ++ (param_line (codes "FourCC") t.fourcc ++ (param_line (codes "CodecPrivateData") (encode_upper t.private) ++ (number_lines t.numbers ++ (closing_line t.kind ++ x))))))) (in_track t.kind)) w in
+    let met : step form (walk_out done) (Start (element_name t.kind) (track_attributes t.bitrate) false at) ≡ walk_in t.kind done (opened_track t at) = rw (opened_kind t.kind, few) refl in
     subst Q (sym met)
-    (param_stage size channel end _ id t done (opened_track t at) TrackId (codes "trackID") (decimal id) c6 refl is_id refl refl (decimal_plain id fits.small) (decimal_number id fits.small) (first_stage id t at) (λ r2 s2.
-    param_stage size channel end _ id t done r2 TrackName (codes "trackName") t.name c5 refl is_track_name refl refl (name_plain t.name narrow.name) narrow.name s2 (λ r3 s3.
-    param_stage size channel end _ id t done r3 TimeScale (codes "TimeScale") (decimal t.timescale) c4 refl is_time_scale refl refl (decimal_plain t.timescale narrow.timescale) (timescale_fits t.timescale narrow.timescale fits.track.ticks) s3 (λ r4 s4.
-    param_stage size channel end _ id t done r4 FourCc (codes "FourCC") t.fourcc c3 refl is_four_cc refl refl (fourcc_plain t.fourcc fits.track.fourcc) fits.track.fourcc s4 (λ r5 s5.
-    param_stage size channel end _ id t done r5 CodecPrivateData (codes "CodecPrivateData") (encode_upper t.private) c2 refl is_codec refl refl (private_plain t.private) (private_again t.private narrow.private fits.track.short) s5 (λ r6 s6.
-    numbers_stage size channel end _ id t done r6 c1 narrow s6 (λ r s.
-    closing_read size channel end x t.kind (walk_in t.kind done r) begins (λ place. go r s))))))))))
+    (param_stage form size Good end _ id t done (opened_track t at) TrackId (codes "trackID") (decimal id) c6 refl is_id refl refl (decimal_plain id fits.small) (decimal_number id fits.small) (first_stage form id t at) (λ r2 s2.
+    param_stage form size Good end _ id t done r2 TrackName (codes "trackName") t.name c5 refl is_track_name refl refl (name_plain t.name narrow.name) narrow.name s2 (λ r3 s3.
+    scale_stage form size Good end _ id t done r3 c4 fits s3 (λ r4 s4.
+    param_stage form size Good end _ id t done r4 FourCc (codes "FourCC") t.fourcc c3 refl is_four_cc refl refl (fourcc_plain t.fourcc fits.track.fourcc) fits.track.fourcc s4 (λ r5 s5.
+    param_stage form size Good end _ id t done r5 CodecPrivateData (codes "CodecPrivateData") (encode_upper t.private) c2 refl is_codec refl refl (private_plain t.private) (private_again t.private narrow.private fits.track.short) s5 (λ r6 s6.
+    numbers_stage form size Good end _ id t done r6 c1 narrow s6 (λ r s.
+    closing_read form size Good end x t.kind (walk_in t.kind done r) begins (λ place. go r s))))))))))

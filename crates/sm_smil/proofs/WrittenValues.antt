@@ -9,6 +9,8 @@ use Rattle.std.proofs.lemmas.List.Sums.{list_all-from_AllPass}
 use Rattle.hex.specs.Hex.{encode_upper, encode_with, upper_digits, is_hex_digit, IsBytes}
 use Rattle.hex.proofs.HexLemmas.{length-encode_with, decode_of-encode_upper, decode_of-ok}
 use Rattle.sm_model.specs.declared.track.Track.{Track}
+use Rattle.sm_model.specs.declared.raw_track.Form.{Form}
+use Rattle.sm_model.specs.declared.raw_track.Form.TheVariants.{Pushed, Ladder}
 use Rattle.sm_model.specs.declared.raw_track.ParamName.{ParamName}
 use Rattle.sm_model.specs.declared.raw_track.ParamName.TheVariants.{SystemBitrate, TrackId, TrackName, TimeScale, FourCc, CodecPrivateData, MaxWidth, MaxHeight, AudioTag, Channels, SamplingRate, BitsPerSample, PacketSize}
 use Rattle.sm_model.specs.Digits.{is_digit, decimal_from, is_number, number_of}
@@ -103,21 +105,26 @@ private_again b bytes short =
     let digits : list_all is_hex_digit (encode_upper b) ≡ true = list_all-from_AllPass is_hex_digit (encode_upper b) good.1 in
     rw (few, even, digits) refl
 
--- what a written track says by its params
-abbrev pub expected : ℕ → Track → ParamName → Option (List ℕ)
-expected id t SystemBitrate = None
-expected id t TrackId = Some (decimal id)
-expected id t TrackName = Some t.name
-expected id t TimeScale = Some (decimal t.timescale)
-expected id t FourCc = Some t.fourcc
-expected id t CodecPrivateData = Some (encode_upper t.private)
-expected id t MaxWidth = option_map decimal t.numbers.width
-expected id t MaxHeight = option_map decimal t.numbers.height
-expected id t AudioTag = option_map decimal t.numbers.tag
-expected id t Channels = option_map decimal t.numbers.channels
-expected id t SamplingRate = option_map decimal t.numbers.rate
-expected id t BitsPerSample = option_map decimal t.numbers.bits
-expected id t PacketSize = option_map decimal t.numbers.packet
+-- a pushed header passes over the timescale
+abbrev pub expected_scale : Form → Track → Option (List ℕ)
+expected_scale Pushed t = None
+expected_scale Ladder t = Some (decimal t.timescale)
+
+-- what a written track says by the params that are read
+abbrev pub expected : Form → ℕ → Track → ParamName → Option (List ℕ)
+expected form id t SystemBitrate = None
+expected form id t TrackId = Some (decimal id)
+expected form id t TrackName = Some t.name
+expected form id t TimeScale = expected_scale form t
+expected form id t FourCc = Some t.fourcc
+expected form id t CodecPrivateData = Some (encode_upper t.private)
+expected form id t MaxWidth = option_map decimal t.numbers.width
+expected form id t MaxHeight = option_map decimal t.numbers.height
+expected form id t AudioTag = option_map decimal t.numbers.tag
+expected form id t Channels = option_map decimal t.numbers.channels
+expected form id t SamplingRate = option_map decimal t.numbers.rate
+expected form id t BitsPerSample = option_map decimal t.numbers.bits
+expected form id t PacketSize = option_map decimal t.numbers.packet
 
 -- a track that can be written, with its track_ID
 pub record IsWritable (id : ℕ) (t : Track) : Type 0 where

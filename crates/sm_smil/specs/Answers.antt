@@ -6,7 +6,7 @@ use Rattle.sm_model.specs.declared.raw_track.ParamName.{ParamName}
 use Rattle.sm_model.specs.declared.raw_track.SmilParam.{SmilParam}
 use Rattle.sm_model.specs.Tags.{Left, Runs}
 use Rattle.sm_model.specs.LiveTracks.{value_of, is_fit}
-use Rattle.sm_model.specs.LiveWalk.{Walk, start, walk}
+use Rattle.sm_model.specs.LiveWalk.{Walk, nothing_met, walk_tags}
 use Rattle.sm_model.specs.LiveManifests.{bad_of}
 use Rattle.sm_smil.specs.declared.fault.SmilFault.{SmilFault}
 use Rattle.sm_smil.specs.declared.fault.SmilFault.TheVariants.{Bad, NoMemory}
@@ -19,7 +19,7 @@ Answers (Err NoMemory) R = Unit {0}
 
 -- these tags were walked over, up to a tag at fault or the end
 abbrev pub WalkedOver : Form → Left → Walk → Option ℕ → Type 0
-WalkedOver form left w bad = (tags : List Tag) × Runs left tags × (w ≡ walk form start tags) × (bad ≡ bad_of tags)
+WalkedOver form left w bad = (tags : List Tag) × Runs left tags × (w ≡ walk_tags form nothing_met tags) × (bad ≡ bad_of tags)
 
 -- each param that counts has a value that fits
 abbrev pub AreFit : List SmilParam → Type 0

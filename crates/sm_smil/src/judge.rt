@@ -3,8 +3,10 @@ ghost use Rattle.std.specs.Prelude.{◌≡◌, ◌++◌, [], None, option_map, o
 ghost use Rattle.std.specs.List.{list_all};
 ghost use Rattle.hex.specs.Hex.{is_hex_digit};
 ghost use Rattle.sm_model.specs.Digits.{is_number};
-ghost use Rattle.sm_model.specs.LiveTracks.{value_of, is_private, is_timescale, is_fit, kind_name, name_of, bitrate_text, number_in, bitrate_of, id_of, timescale_in, timescale_of};
-ghost use Rattle.sm_model.specs.LiveFaults.{is_misread, misfits, inner_faults, are_equal, do_differ, is_kind, clash, share_id, collide, lacks_id, lacks_part, collides_with, end_faults, tracks_faults, open_faults, text_faults, faults_of, sooner, least_from};
+ghost use Rattle.sm_model.specs.LiveTracks.{value_of, is_private, is_timescale, is_fit, kind_name, stream_name, bitrate_text, number_in, bitrate_of, track_id_of};
+ghost use Rattle.sm_model.specs.LiveTracks.{ticks_of, timescale_in, timescale_of};
+ghost use Rattle.sm_model.specs.LiveFaults.{is_invalid, misfits, inner_faults, are_equal, do_differ, are_one_kind, clash, share_id, collide, lacks_id, lacks_part};
+ghost use Rattle.sm_model.specs.LiveFaults.{collides_with, end_faults, tracks_faults, open_faults, text_faults, faults_of, sooner, least_from};
 
 use crate::names::value_of;
 use crate::walk::Walk;
@@ -90,7 +92,7 @@ fn note_misfits(fault: &mut Option<u64>, params: &[SmilParam])
 }
 
 fn is_misread(text: Option<&[u8]>) -> bool
-    ensures { result ≡ is_misread (option_map (λ x. x.now) text.entry) }
+    ensures { result ≡ is_invalid (option_map (λ x. x.now) text.entry) }
 {
     match text {
         None => false,
@@ -151,13 +153,24 @@ pub fn number_at(name: ParamName, track: &RawTrack) -> Option<u32>
     number_in(value_of(name, track.params.as_slice()))
 }
 
-/// The timescale of a track, 10,000,000 where it says none, if it is a number.
+// The timescale that a text is, from 1 on.
+fn ticks_of(text: &[u8]) -> Option<u32>
+    ensures { result ≡ ticks_of text.now }
+{
+    if is_timescale(text) {
+        number_of(text)
+    } else {
+        None
+    }
+}
+
+/// The timescale of a track, 10,000,000 where it says none; none where what it says is no timescale.
 pub fn timescale_of(track: &RawTrack) -> Option<u32>
     ensures { result ≡ timescale_of track.now }
 {
     match value_of(ParamName::TimeScale, track.params.as_slice()) {
         None => Some(10000000),
-        Some(text) => number_of(text),
+        Some(text) => ticks_of(text),
     }
 }
 
@@ -173,7 +186,7 @@ fn kind_name(kind: Kind) -> &'static [u8]
 
 /// The name of a track, as it stands there or that of its kind.
 pub fn name_of(track: &RawTrack) -> &[u8]
-    ensures { result.now ≡ name_of track.now }
+    ensures { result.now ≡ stream_name track.now }
 {
     match value_of(ParamName::TrackName, track.params.as_slice()) {
         None => kind_name(track.kind),
@@ -200,7 +213,7 @@ fn do_differ(a: Option<u32>, b: Option<u32>) -> bool
 }
 
 fn is_kind(a: Kind, b: Kind) -> bool
-    ensures { result ≡ is_kind a b }
+    ensures { result ≡ are_one_kind a b }
 {
     match a {
         Kind::Video => matches!(b, Kind::Video),

@@ -3,7 +3,7 @@
 
 mod fault;
 mod judge;
-mod laws;
+mod law;
 mod names;
 mod put;
 mod read;
@@ -11,9 +11,9 @@ mod track;
 mod walk;
 
 pub use fault::SmilFault;
-pub use laws::{
-    live_manifest_has_one_answer, live_manifests_are_valid, live_text_is_read_as_its_channel,
-    text_has_one_reading,
+pub use law::{
+    live_manifest_has_one_answer, live_manifests_are_by_rule, live_manifests_are_valid,
+    live_text_is_read_as_its_channel, text_has_one_reading,
 };
 pub use put::put_live_manifest;
 pub use read::{read_ladder, read_live_manifest};

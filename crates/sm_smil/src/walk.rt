@@ -145,11 +145,11 @@ fn raw_track(
 }
 
 impl Walk {
-    ghost use Rattle.sm_model.specs.LiveWalk.{start, step, begins, passes, meets, starts, finishes};
+    ghost use Rattle.sm_model.specs.LiveWalk.{nothing_met, step, begins, passes, meets, begins_element, ends_element};
 
     /// Nothing was met yet.
     pub fn new(alloc: Global) -> Walk
-        ensures { result ≡ start }
+        ensures { result ≡ nothing_met }
     {
         Walk {
             path: Vec::new(alloc),
@@ -213,7 +213,7 @@ impl Walk {
     {
         if self.path.is_empty() {
             if name != b"smil".as_slice() {
-                self.other = Some(at);
+                keep_first(&mut self.other, at);
             }
             return Ok(());
         }
@@ -254,7 +254,7 @@ impl Walk {
         empty: bool,
         at: u64,
     ) -> Result<(), NoMemory>
-        ensures { OnOk result (self.new ≡ starts form self.old name attributes.now empty at) }
+        ensures { OnOk result (self.new ≡ begins_element form self.old name attributes.now empty at) }
     {
         self.meet(alloc, form, name.as_slice(), attributes, empty, at)?;
         if !empty {
@@ -264,7 +264,7 @@ impl Walk {
     }
 
     fn finish(&mut self) -> Result<(), NoMemory>
-        ensures { OnOk result (self.new ≡ finishes self.old (take (length self.old.path - 1) self.old.path)) }
+        ensures { OnOk result (self.new ≡ ends_element self.old (take (length self.old.path - 1) self.old.path)) }
     {
         let _ = self.path.pop();
         if self.path.len() == 3 {

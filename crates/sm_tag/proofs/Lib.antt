@@ -6,3 +6,7 @@ pub mod Zeros
 pub mod Unique
 pub mod WrittenTags
 pub mod WrittenNext
+pub mod GrammarSound
+pub mod GrammarRead
+pub mod Standing
+pub mod Wrong

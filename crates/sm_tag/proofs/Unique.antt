@@ -12,17 +12,17 @@ use Rattle.sm_model.specs.TagMarkup.{Starts, unnamed, named, Markups, lead_at}
 use Rattle.sm_model.specs.Tags as tags
 use Rattle.sm_model.specs.Tags.{Left, Founds, bare, lost, stray, marked, skipped, Next, gives, Runs, ends, follows}
 
-abbrev ok_or : {A : Type 0} → A → Result A Stop → A
+abbrev pub ok_or : {A : Type 0} → A → Result A Stop → A
 ok_or d (Ok x) = x
 ok_or d (Err e) = d
 
 -- two facts on what one step gives
-pairs : {A B : Type 0} {a c : A} {b d : B} (r : Result (A × B) Stop) → r ≡ Ok (a, b) → r ≡ Ok (c, d) → (a ≡ c) × (b ≡ d)
+pub pairs : {A B : Type 0} {a c : A} {b d : B} (r : Result (A × B) Stop) → r ≡ Ok (a, b) → r ≡ Ok (c, d) → (a ≡ c) × (b ≡ d)
 pairs {A = A} {B = B} {a = a} {b = b} r e f =
     let same = ap (ok_or (a, b)) (sym e ∙ f) in
     (ap (λ (p : A × B). p.0) same, ap (λ (p : A × B). p.1) same)
 
-triples : {A B C : Type 0} {a x : A} {b y : B} {c z : C} (r : Result (A × B × C) Stop) → r ≡ Ok (a, b, c) → r ≡ Ok (x, y, z) → (a ≡ x) × (b ≡ y) × (c ≡ z)
+pub triples : {A B C : Type 0} {a x : A} {b y : B} {c z : C} (r : Result (A × B × C) Stop) → r ≡ Ok (a, b, c) → r ≡ Ok (x, y, z) → (a ≡ x) × (b ≡ y) × (c ≡ z)
 triples {A = A} {B = B} {C = C} {a = a} {b = b} {c = c} r e f =
     let same = ap (ok_or (a, b, c)) (sym e ∙ f) in
     (ap (λ (p : A × B × C). p.0) same, ap (λ (p : A × B × C). p.1) same, ap (λ (p : A × B × C). p.2) same)
@@ -180,7 +180,7 @@ Founds-unique inside {bytes = bytes} (skipped {more = x} e m h) (skipped {more =
     let one = pairs {a = Skipped} {c = Skipped} {b = x} {d = z} (Ok (Skipped, x)) refl (same_markup inside bytes (Ok (Skipped, x)) (Ok (Skipped, z)) e m f n) in
     Founds-unique inside h (rw (← one.1) at k)
 
-steps : (s : Left) (bad : Option ℕ) (a b : Tag × Left) → tags.goes_on s a bad → tags.goes_on s b bad → a ≡ b
+steps : (s : Left) (bad : Option ℕ) (a b : Tag × Left) → tags.continues s a bad → tags.continues s b bad → a ≡ b
 steps s (Some at) a b h k = h ∙ sym k
 steps s None a b h k =
     let one = Founds-unique _ h.1 k.1 in

@@ -4,7 +4,7 @@ use Rattle.std.specs.List.{list_all}
 use Rattle.std.proofs.lemmas.Bool.{and_parts, eqb-true, lt-ltb}
 use Rattle.sm_model.specs.declared.tag.Attribute.{Attribute}
 use Rattle.sm_model.specs.declared.markup.Markup.TheVariants as markup
-use Rattle.sm_model.specs.TagBytes.{is_tag_start, is_tag_byte, front, behind}
+use Rattle.sm_model.specs.TagBytes.{is_tag_start, is_tag_byte, prefix, remaining}
 use Rattle.sm_model.specs.TagParts.{piece_at, Values, closed, goes_on, name_at, opening_at, quote_at, AttributeAt, opened, mark_at, Tails, ended, another}
 use Rattle.sm_model.specs.TagMarkup.{Starts, named, finish_at}
 use Rattle.sm_model.specs.TagText.{is_plain, IsTagName, closing, attributes_then, AreWritten}
@@ -34,7 +34,7 @@ Values-plain (c ∷ v) plain text rest =
     let P : List ℕ → Type 0 = λ t. Values 34 text (c ∷ v ++ 34 ∷ rest) (Ok (t, rest)) in
     subst P (append_assoc text (c ∷ []) v) (goes_on (plain_piece c (v ++ 34 ∷ rest) parts.0) (Values-plain v parts.1 (text ++ c ∷ []) rest))
 
-front_until : (p : ℕ → Bool) (xs : List ℕ) (c : ℕ) (more : List ℕ) → list_all p xs ≡ true → p c ≡ false → front p (xs ++ c ∷ more) ≡ xs
+pub front_until : (p : ℕ → Bool) (xs : List ℕ) (c : ℕ) (more : List ℕ) → list_all p xs ≡ true → p c ≡ false → prefix p (xs ++ c ∷ more) ≡ xs
 front_until p [] c more all stop = rw stop refl
 front_until p (x ∷ xs) c more all stop =
     let h = and_parts (p x) (list_all p xs) all in
@@ -42,20 +42,20 @@ front_until p (x ∷ xs) c more all stop =
     let goes : p x ≡ true = h.0 in
     rw (goes, rest) refl
 
-behind_until : (p : ℕ → Bool) (xs : List ℕ) (c : ℕ) (more : List ℕ) → list_all p xs ≡ true → p c ≡ false → behind p (xs ++ c ∷ more) ≡ c ∷ more
+pub behind_until : (p : ℕ → Bool) (xs : List ℕ) (c : ℕ) (more : List ℕ) → list_all p xs ≡ true → p c ≡ false → remaining p (xs ++ c ∷ more) ≡ c ∷ more
 behind_until p [] c more all stop = rw stop refl
 behind_until p (x ∷ xs) c more all stop =
     let h = and_parts (p x) (list_all p xs) all in
     let goes : p x ≡ true = h.0 in
     rw goes (behind_until p xs c more h.1 stop)
 
-name_again : (n : List ℕ) (stop : ℕ) (rest : List ℕ) → IsTagName n → is_tag_byte stop ≡ false → name_at (n ++ stop ∷ rest) ≡ Ok (n, stop ∷ rest)
+pub name_again : (n : List ℕ) (stop : ℕ) (rest : List ℕ) → IsTagName n → is_tag_byte stop ≡ false → name_at (n ++ stop ∷ rest) ≡ Ok (n, stop ∷ rest)
 unfolding name_at
 name_again [] stop rest is ends = absurd is
 name_again (c ∷ cs) stop rest is ends =
     let others = (and_parts (is_tag_byte c) (list_all is_tag_byte cs) is.1).1 in
-    let f : front is_tag_byte (cs ++ stop ∷ rest) ≡ cs = front_until is_tag_byte cs stop rest others ends in
-    let b : behind is_tag_byte (cs ++ stop ∷ rest) ≡ stop ∷ rest = behind_until is_tag_byte cs stop rest others ends in
+    let f : prefix is_tag_byte (cs ++ stop ∷ rest) ≡ cs = front_until is_tag_byte cs stop rest others ends in
+    let b : remaining is_tag_byte (cs ++ stop ∷ rest) ≡ stop ∷ rest = behind_until is_tag_byte cs stop rest others ends in
     let s : is_tag_start c ≡ true = is.0 in
     rw (s, f, b) refl
 
@@ -100,7 +100,7 @@ pub append_nil : {A : Type 0} (xs : List A) → xs ++ [] ≡ xs
 append_nil [] = refl
 append_nil (x ∷ xs) = ap (λ l. x ∷ l) (append_nil xs)
 
-append_push : (xs : List Attribute) (a : Attribute) (ys : List Attribute) → (xs ++ a ∷ []) ++ ys ≡ xs ++ a ∷ ys
+pub append_push : (xs : List Attribute) (a : Attribute) (ys : List Attribute) → (xs ++ a ∷ []) ++ ys ≡ xs ++ a ∷ ys
 append_push [] a ys = refl
 append_push (x ∷ xs) a ys = ap (λ l. x ∷ l) (append_push xs a ys)
 
@@ -110,8 +110,8 @@ Tails-again [] seen empty rest are =
     subst P (sym (append_nil seen)) (ended (mark_end empty rest))
 Tails-again (a ∷ others) seen empty rest are =
     let P : List Attribute → Type 0 = λ l. Tails seen (attributes_then (a ∷ others) (closing empty rest)) (Ok (l, empty, rest)) in
-    let behind = attributes_then others (closing empty rest) in
-    subst P (append_push seen a others) (another (mark_name a.name (61 ∷ 34 ∷ a.value ++ 34 ∷ behind) are.0) (attribute_again a behind are.0 are.1) are.2 (Tails-again others (seen ++ a ∷ []) empty rest are.3))
+    let remaining = attributes_then others (closing empty rest) in
+    subst P (append_push seen a others) (another (mark_name a.name (61 ∷ 34 ∷ a.value ++ 34 ∷ remaining) are.0) (attribute_again a remaining are.0 are.1) are.2 (Tails-again others (seen ++ a ∷ []) empty rest are.3))
 
 before_attributes : (n : List ℕ) (others : List Attribute) (empty : Bool) (rest : List ℕ) → IsTagName n → name_at (n ++ attributes_then others (closing empty rest)) ≡ Ok (n, attributes_then others (closing empty rest))
 before_attributes n [] true rest is = name_again n 47 (62 ∷ rest) is refl

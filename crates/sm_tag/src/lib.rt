@@ -3,7 +3,7 @@
 
 mod attribute;
 mod halt;
-mod laws;
+mod law;
 mod lead;
 mod markup;
 mod reference;
@@ -11,7 +11,10 @@ mod scan;
 mod tags;
 mod value;
 
-pub use laws::{text_has_one_list_of_tags, written_tags_are_read};
+pub use law::{
+    tags_are_of_the_grammar, tags_stand_at_their_places, text_has_one_list_of_tags,
+    what_follows_mends_nothing, written_tags_are_read,
+};
 pub use sm_model::{Attribute, Attributes, Tag};
 pub use tags::Tags;
 

@@ -1,6 +1,6 @@
 //! References in values.
 ghost use Rattle.std.specs.Prelude.{◌≡◌, ◌≤◌, ℕ, List, Result, length, IfOk};
-ghost use Rattle.sm_model.specs.TagParts.{Stop, or_else, named, number_end, number_at, reference_at};
+ghost use Rattle.sm_model.specs.TagParts.{Stop, or_else, entity_at, number_end, number_at, reference_at};
 ghost use Rattle.sm_tag.specs.Reads.{Gives};
 
 use crate::halt::Halt;
@@ -8,14 +8,14 @@ use crate::scan::{Class, byte_of, split, word_of};
 use sm_model::decimal_up_to;
 
 // What was found, or else the character that this word stands for.
-#[tactic(auto, unfolding(sm_model::specs::TagParts::named))]
+#[tactic(auto, unfolding(sm_model::specs::TagParts::entity_at))]
 fn named_or<'a>(
     found: Result<(char, &'a [u8]), Halt>,
     word: &[u8],
     c: char,
     bytes: &'a [u8],
 ) -> Result<(char, &'a [u8]), Halt>
-    ensures read { (r : Result (ℕ × List ℕ) Stop) → Gives (λ x. (x.0, x.1.now)) found.entry r → Gives (λ x. (x.0, x.1.now)) result (or_else r (named word.now c bytes.now)) }
+    ensures read { (r : Result (ℕ × List ℕ) Stop) → Gives (λ x. (x.0, x.1.now)) found.entry r → Gives (λ x. (x.0, x.1.now)) result (or_else r (entity_at word.now c bytes.now)) }
     ensures shorter { IfOk found.entry (λ x. length x.1.now ≤ length bytes.now) → IfOk result (λ x. length x.1.now ≤ length bytes.now) }
 {
     match found {

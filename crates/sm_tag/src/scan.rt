@@ -1,8 +1,8 @@
 //! Runs of bytes, names and fixed words.
 ghost use Rattle.std.specs.Prelude.{◌≡◌, ◌<◌, ◌≤◌, ◌+◌, length, IfOk};
-ghost use Rattle.sm_model.specs.TagBytes.{is_tag_start, front, behind};
+ghost use Rattle.sm_model.specs.TagBytes.{is_tag_start, prefix, remaining};
 ghost use Rattle.sm_model.specs.TagParts.{name_at, byte_at, word_at};
-ghost use Rattle.sm_model.specs.TagMarkup.{past};
+ghost use Rattle.sm_model.specs.TagMarkup.{past_word};
 ghost use Rattle.sm_tag.specs.Reads.{is_of, Gives};
 
 use crate::halt::Halt;
@@ -44,8 +44,8 @@ fn is_of(class: Class, c: u8) -> bool
 
 /// The longest front of bytes of a class, and what is behind it.
 pub fn split(class: Class, bytes: &[u8]) -> (&[u8], &[u8])
-    ensures front { result.0.now ≡ front (is_of class) bytes.now }
-    ensures behind { result.1.now ≡ behind (is_of class) bytes.now }
+    ensures prefix { result.0.now ≡ prefix (is_of class) bytes.now }
+    ensures remaining { result.1.now ≡ remaining (is_of class) bytes.now }
     ensures parts { length result.0.now + length result.1.now ≡ length bytes.now }
 {
     let mut end = 0;
@@ -57,7 +57,7 @@ pub fn split(class: Class, bytes: &[u8]) -> (&[u8], &[u8])
 
 /// What is behind white space.
 pub fn skip_spaces(bytes: &[u8]) -> &[u8]
-    ensures rest { result.now ≡ behind (is_of Class.Space) bytes.now }
+    ensures rest { result.now ≡ remaining (is_of Class.Space) bytes.now }
     ensures shorter { length result.now ≤ length bytes.now }
 {
     let (_, rest) = split(Class::Space, bytes);
@@ -115,9 +115,9 @@ pub fn word_of<'a>(word: &[u8], bytes: &'a [u8]) -> Result<&'a [u8], Halt>
 }
 
 /// What is behind the first such word.
-#[tactic(auto, unfolding(sm_model::specs::TagMarkup::past))]
+#[tactic(auto, unfolding(sm_model::specs::TagMarkup::past_word))]
 pub fn past_of<'a>(word: &[u8], bytes: &'a [u8]) -> Result<&'a [u8], Halt>
-    ensures read { Gives (λ x. x.now) result (past word.now bytes.now) }
+    ensures read { Gives (λ x. x.now) result (past_word word.now bytes.now) }
     ensures shorter { IfOk result (λ x. length x.now ≤ length bytes.now) }
 {
     let mut rest = bytes;

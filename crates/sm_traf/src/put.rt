@@ -3,7 +3,7 @@ ghost use Rattle.std.specs.Prelude.{◌≡◌, ◌≤◌, ◌<◌, ◌^◌, ◌+
 ghost use Rattle.std.specs.List.{flat_map};
 ghost use Rattle.sm_model.specs.Numbers.{number32};
 ghost use Rattle.sm_model.specs.Fragments.{sample_bytes, IsValid};
-ghost use Rattle.sm_model.specs.FragText.{row, pair, tfhd, trun, tfxd, tfrf, tfrf_box, traf, ahead_len};
+ghost use Rattle.sm_model.specs.FragText.{row_text, pair, tfhd, trun, tfxd_box, tfrf, tfrf_box, traf_box, ahead_len};
 
 use crate::parts::{TFRF, TFXD};
 use sm_box::{append_head, append_u32, append_u64};
@@ -35,8 +35,8 @@ fn append_tfhd(out: &mut Vec<u8>, id: u32) -> Result<(), NoMemory>
 }
 
 fn append_row(out: &mut Vec<u8>, sample: &Sample) -> Result<(), NoMemory>
-    requires { length sample.now.bytes ≤ 16777216 }
-    ensures { OnOk result (out.new.items ≡ out.old.items ++ row sample.now) }
+    requires { length sample.now.bytes ≤ 67108864 }
+    ensures { OnOk result (out.new.items ≡ out.old.items ++ row_text sample.now) }
 {
     append_u32(out, sample.duration)?;
     append_u32(out, sample.bytes.len() as u32)?;
@@ -45,8 +45,8 @@ fn append_row(out: &mut Vec<u8>, sample: &Sample) -> Result<(), NoMemory>
 }
 
 fn append_rows(out: &mut Vec<u8>, samples: &[Sample]) -> Result<(), NoMemory>
-    requires { sample_bytes samples.now ≤ 16777216 }
-    ensures { OnOk result (out.new.items ≡ out.old.items ++ flat_map row samples.now) }
+    requires { sample_bytes samples.now ≤ 67108864 }
+    ensures { OnOk result (out.new.items ≡ out.old.items ++ flat_map row_text samples.now) }
 {
     for sample in samples {
         append_row(out, sample)?;
@@ -61,7 +61,7 @@ fn append_trun(
     samples: &[Sample],
 ) -> Result<(), NoMemory>
     requires few { length samples.now ≤ 65536 }
-    requires short { sample_bytes samples.now ≤ 16777216 }
+    requires short { sample_bytes samples.now ≤ 67108864 }
     ensures { OnOk result (out.new.items ≡ out.old.items ++ trun start signed samples.now) }
 {
     let count = samples.len() as u32;
@@ -73,7 +73,7 @@ fn append_trun(
 }
 
 fn append_tfxd(out: &mut Vec<u8>, time: u64, duration: u64) -> Result<(), NoMemory>
-    ensures { OnOk result (out.new.items ≡ out.old.items ++ tfxd time duration) }
+    ensures { OnOk result (out.new.items ≡ out.old.items ++ tfxd_box time duration) }
 {
     append_head(out, 44, b"uuid")?;
     out.extend_from_slice(&TFXD)?;
@@ -134,7 +134,7 @@ pub fn append_traf(
 ) -> Result<(), NoMemory>
     requires valid { IsValid fragment.now }
     requires few { length ahead.now ≤ 255 }
-    ensures { OnOk result (out.new.items ≡ out.old.items ++ traf id data_offset fragment.now ahead.now) }
+    ensures { OnOk result (out.new.items ≡ out.old.items ++ traf_box id data_offset fragment.now ahead.now) }
 {
     let samples = fragment.samples.as_slice();
     append_head(out, traf_len(samples, ahead), b"traf")?;
@@ -155,7 +155,7 @@ pub fn put_traf(
 ) -> Result<Bytes, NoMemory>
     requires valid { IsValid fragment.now }
     requires few { length ahead.now ≤ 255 }
-    ensures { IfOk result (λ text. text ≡ traf id data_offset fragment.now ahead.now) }
+    ensures { IfOk result (λ text. text ≡ traf_box id data_offset fragment.now ahead.now) }
 {
     let size = traf_len(fragment.samples.as_slice(), ahead);
     let mut out = Vec::with_capacity(alloc, size as usize)?;
@@ -166,7 +166,7 @@ pub fn put_traf(
 /// The whole box, 44 bytes, of a fragment's time and duration in ticks of its track's timescale, in version 1 with 64
 /// bits each ([MS-SSTR] 2.2.4.4).
 pub fn put_tfxd(alloc: Global, time: u64, duration: u64) -> Result<Bytes, NoMemory>
-    ensures { IfOk result (λ text. text ≡ tfxd time duration) }
+    ensures { IfOk result (λ text. text ≡ tfxd_box time duration) }
 {
     let mut out = Vec::with_capacity(alloc, 44)?;
     append_tfxd(&mut out, time, duration)?;

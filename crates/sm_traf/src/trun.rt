@@ -1,7 +1,7 @@
 //! The samples of a track fragment (`trun`, ISO/IEC 14496-12, 8.8.8).
 ghost use Rattle.std.specs.Prelude.{◌≡◌, ◌≤◌, ◌<◌, ◌+◌, length, IsTrue, IfOk};
 ghost use Rattle.sm_model.specs.Numbers.{number32_at};
-ghost use Rattle.sm_model.specs.Fields.{has, field, row_len, rows_at, trun_fits, row_at, row, rows, start};
+ghost use Rattle.sm_model.specs.Fields.{has, field, row_len, rows_at, trun_fits, row_at, row, rows, data_offset};
 
 use crate::fields::{field, given, has, version};
 use sm_box::u32_at;
@@ -100,10 +100,10 @@ pub(crate) fn rows_of(alloc: Global, defaults: &Defaults, body: &[u8]) -> Result
 }
 
 /// Where the first sample starts, in bytes from the first byte of the `moof`, if the body says it.
-#[tactic(auto, using(crate::proofs::FieldLemmas::run_fits), unfolding(sm_model::specs::Fields::start, sm_model::specs::Fields::rows_at, sm_model::specs::Fields::field))]
+#[tactic(auto, using(crate::proofs::FieldLemmas::run_fits), unfolding(sm_model::specs::Fields::data_offset, sm_model::specs::Fields::rows_at, sm_model::specs::Fields::field))]
 pub(crate) fn start_of(body: &[u8]) -> Option<i64>
     requires { IsTrue (trun_fits body.now) }
-    ensures { result ≡ start body.now }
+    ensures { result ≡ data_offset body.now }
 {
     if has(u32_at(body, 0), 0x1) {
         Some(u32_at(body, 8).cast_signed() as i64)

@@ -3,7 +3,7 @@ use Rattle.std.specs.Prelude.{◌≡◌, ◌≤◌, ◌++◌, ℕ, true, List, [
 use Rattle.std.specs.Io.KnownBytes.{Consumes, IsAtEnd}
 use Rattle.sm_model.specs.declared.cause.Refusal.{Refusal}
 use Rattle.sm_model.specs.declared.fragment.Fragment.{Fragment}
-use Rattle.sm_model.specs.Causes.{number_of, name_of}
+use Rattle.sm_model.specs.Causes.{cause_number, cause_name}
 use Rattle.sm_model.specs.FragText.{frag_text}
 use Rattle.sm_model.specs.Items.{first_of}
 use Rattle.sm_model.specs.Body.{body, body_end}
@@ -59,7 +59,7 @@ pub record IsAbsent (input : List ℕ) (track time : ℕ) : Type 0 where
 -- the place, the number and the name of a cause
 abbrev pub refusal_line : Refusal → List ℕ
 refusal_line r =
-    codes "error: input at " ++ (decimal r.at ++ (codes ": " ++ (decimal (number_of r.cause) ++ (codes " " ++ (name_of r.cause ++ codes "\n")))))
+    codes "error: input at " ++ (decimal r.at ++ (codes ": " ++ (decimal (cause_number r.cause) ++ (codes " " ++ (cause_name r.cause ++ codes "\n")))))
 
 -- the input is no whole push, and this line says where and why
 pub record IsRefused (input line : List ℕ) : Type 0 where

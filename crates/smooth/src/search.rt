@@ -101,8 +101,8 @@ impl Search {
         }
     }
 
-    /// Takes the next piece.
-    pub fn take(&mut self, piece: &[u8]) -> Result<(), NoMemory>
+    // Takes a part of a piece.
+    fn take_part(&mut self, piece: &[u8]) -> Result<(), NoMemory>
         requires { (b : List ℕ) × Looks self.old b × (length b + length piece.now ≤ limit) }
         ensures looks { (b : List ℕ) → Looks self.old b → OnOk result (Looks self.new (b ++ piece.now)) }
         ensures asked { (self.new.track ≡ self.old.track) × (self.new.time ≡ self.old.time) }
@@ -122,13 +122,30 @@ impl Search {
         Ok(())
     }
 
+    /// Takes the next piece. It hands it on in parts that complete one item at the most, so that no more than one fragment
+    /// beside the one found is held.
+    pub fn take(&mut self, piece: &[u8]) -> Result<(), NoMemory>
+        requires { (b : List ℕ) × Looks self.old b × (length b + length piece.now ≤ limit) }
+        ensures looks { (b : List ℕ) → Looks self.old b → OnOk result (Looks self.new (b ++ piece.now)) }
+        ensures asked { (self.new.track ≡ self.old.track) × (self.new.time ≡ self.old.time) }
+    {
+        let mut done = 0;
+        while done < piece.len() {
+            let rest = &piece[done..];
+            let count = self.push.due().min(rest.len() as u64) as usize;
+            self.take_part(&rest[..count])?;
+            done += count;
+        }
+        Ok(())
+    }
+
     // Why the bytes are no whole push, if they are none.
     fn refusal_at_end(&mut self) -> Result<Option<Refusal>, NoMemory>
         ensures refusal { (b : List ℕ) → Looks self.old b → IfOk result (λ r. r ≡ body_end true b) }
         ensures asked { (self.new.track ≡ self.old.track) × (self.new.time ≡ self.old.time) × (self.new.found ≡ self.old.found) × (self.new.count ≡ self.old.count) }
     {
         if self.refusal.is_some() {
-            return Ok(self.refusal);
+            return Ok(self.refusal.take());
         }
         match self.push.end() {
             Ok(()) => Ok(None),

@@ -355,7 +355,7 @@ fn a_moof_alone_and_then_its_mdat(rt: HostRuntime) -> Result<(), Fail> {
     assert_eq!(rt; (run.id, run.time, run.duration), (1, 5, 2));
     assert_eq!(rt; run.start, None);
     assert_eq!(rt; run.samples.len(), 1);
-    let raw = finish(alloc, &moof, MDAT, run)?;
+    let raw = finish(alloc, moof.len() as u64, MDAT, run)?;
     assert_eq!(rt; raw.ahead.as_slice(), [(7, 2)].as_slice());
     assert_eq!(rt; bytes_of(alloc, &raw)?.as_slice(), b"A".as_slice());
     Ok(())

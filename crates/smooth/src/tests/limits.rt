@@ -50,7 +50,7 @@ fn of_samples(alloc: Global, count: u32, size: u32) -> Result<Vec<u8>, Fail> {
 #[test]
 fn samples_at_their_limits(rt: HostRuntime) -> Result<(), Fail> {
     let alloc = rt.alloc();
-    let taken = [(1, 0), (3, 5), (65_536, 0), (1, 16_777_216), (65_536, 256)];
+    let taken = [(1, 0), (3, 5), (65_536, 0), (1, 67_108_864), (65_536, 256)];
     for (count, size) in taken {
         let text = of_samples(alloc, count, size)?;
         let (status, printed) = run(alloc, &["pick", "1", "0"], &text)?;

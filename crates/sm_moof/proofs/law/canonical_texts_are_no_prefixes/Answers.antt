@@ -7,7 +7,7 @@ use Rattle.sm_moof.proofs.law.canonical_texts_are_no_prefixes.Goals as goal
 
 pub returns : goal.returns
 returns x = λ c d r s p q e.
-    let law = x.written_is_read.ensures in
+    let law = x.written_fragment_is_read.ensures in
     let v = is_written c p in
     let w = is_written d q in
     let m = moof c.seq c.id c.fragment [] in

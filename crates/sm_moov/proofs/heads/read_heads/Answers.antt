@@ -2,7 +2,7 @@ use Rattle.std.proofs.Common.{◌≡◌, ◌∙◌, ap, sym}
 use Rattle.std.specs.Prelude.{codes}
 use Rattle.std.specs.Option.{option_and_then}
 use Rattle.sm_model.specs.Boxes.{box_of}
-use Rattle.sm_model.specs.Moov.{traks_of, trak, alone}
+use Rattle.sm_model.specs.Moov.{traks_of, trak, single}
 use Rattle.sm_box.specs.Place.{left}
 use Rattle.sm_box.proofs.Split.{begins, more, inner, done, bad}
 use Rattle.sm_moov.proofs.GatherLemmas.{gather-none}
@@ -11,7 +11,7 @@ use Rattle.sm_moov.proofs.heads.read_heads.Goals as goal
 pub walk-init : goal.walk-init
 walk-init c =
     begins _ _ (λ xs. c.new-heads.result ≡ traks_of xs) c.new-children.ensures.body c.new-children.ensures.at
-    (c.new-heads.ensures ∙ sym (gather-none (λ b. alone (trak b)) (codes "trak")))
+    (c.new-heads.ensures ∙ sym (gather-none (λ b. single (trak b)) (codes "trak")))
 
 pub walk-preserved : goal.walk-preserved
 walk-preserved c =

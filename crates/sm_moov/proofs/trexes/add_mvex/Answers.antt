@@ -2,7 +2,7 @@ use Rattle.std.proofs.Common.{◌≡◌, ◌∙◌, ap, sym}
 use Rattle.std.specs.Prelude.{codes}
 use Rattle.std.specs.Option.{option_and_then}
 use Rattle.sm_model.specs.Boxes.{box_of}
-use Rattle.sm_model.specs.Moov.{joined, trex, trexes_in, mvex, alone}
+use Rattle.sm_model.specs.Moov.{joined, trex, trexes_in, mvex, single}
 use Rattle.sm_box.specs.Place.{left}
 use Rattle.sm_box.proofs.Split.{begins, more, inner, done, bad}
 use Rattle.sm_moov.proofs.GatherLemmas.{joined-nil, joined-none, gather-none}
@@ -11,7 +11,7 @@ use Rattle.sm_moov.proofs.trexes.add_mvex.Goals as goal
 pub walk-init : goal.walk-init
 walk-init c =
     begins _ _ (λ xs. c.args.trexes.now ≡ joined c.args.trexes.now (trexes_in xs)) c.new-children.ensures.body c.new-children.ensures.at
-    (sym (ap (joined c.args.trexes.now) (gather-none (λ b. alone (trex b)) (codes "trex")) ∙ joined-nil c.args.trexes.now))
+    (sym (ap (joined c.args.trexes.now) (gather-none (λ b. single (trex b)) (codes "trex")) ∙ joined-nil c.args.trexes.now))
 
 pub walk-preserved : goal.walk-preserved
 walk-preserved c =

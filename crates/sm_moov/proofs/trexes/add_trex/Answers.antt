@@ -1,7 +1,7 @@
 use Rattle.std.proofs.Common.{◌≡◌, ◌∙◌, ap, sym, List, ℕ, true, false}
 use Rattle.std.specs.Prelude.{codes, nat_eq}
 use Rattle.std.specs.Cmp.Lexicographic.{pointwise}
-use Rattle.sm_model.specs.Moov.{trex, alone}
+use Rattle.sm_model.specs.Moov.{trex, single}
 use Rattle.sm_moov.proofs.GatherLemmas.{joined-kind, joined-other}
 use Rattle.sm_moov.proofs.trexes.add_trex.Goals as goal
 
@@ -9,11 +9,11 @@ pub returns-in_ok-add : goal.returns-in_ok-add
 returns-in_ok-add c = λ before xs x kind body old.
     let is : pointwise nat_eq x.kind (codes "trex") ≡ true
     = ap (λ (n : List ℕ). pointwise nat_eq n (codes "trex")) kind ∙ sym c.is_kind.ensures ∙ c.if-is_kind.true in
-    joined-kind (λ b. alone (trex b)) (codes "trex") before _ _ _ xs x is old
-    (ap alone c.read_trex.ensures ∙ ap (λ (b : List ℕ). alone (trex b)) (sym body)) c.in_ok-add.ensures
+    joined-kind (λ b. single (trex b)) (codes "trex") before _ _ _ xs x is old
+    (ap single c.read_trex.ensures ∙ ap (λ (b : List ℕ). single (trex b)) (sym body)) c.in_ok-add.ensures
 
 pub returns-else-is_kind : goal.returns-else-is_kind
 returns-else-is_kind c = λ before xs x kind body old.
     let is : pointwise nat_eq x.kind (codes "trex") ≡ false
     = ap (λ (n : List ℕ). pointwise nat_eq n (codes "trex")) kind ∙ sym c.is_kind.ensures ∙ c.if-is_kind.false in
-    joined-other (λ b. alone (trex b)) (codes "trex") before _ xs x is old
+    joined-other (λ b. single (trex b)) (codes "trex") before _ xs x is old

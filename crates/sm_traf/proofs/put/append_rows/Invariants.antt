@@ -1,7 +1,7 @@
 use Rattle.std.proofs.Common.{◌≡◌, ◌++◌, take}
 use Rattle.std.specs.List.{flat_map}
-use Rattle.sm_model.specs.FragText.{row}
+use Rattle.sm_model.specs.FragText.{row_text}
 use Rattle.sm_traf.proofs.put.append_rows.Given as goal
 
 abbrev pub invariant-loop-sample : goal.invariant-loop-sample
-invariant-loop-sample l = l.out.items ≡ l.initial.out.items ++ flat_map row (take l.sample-index l.samples)
+invariant-loop-sample l = l.out.items ≡ l.initial.out.items ++ flat_map row_text (take l.sample-index l.samples)

@@ -7,7 +7,7 @@ use Rattle.sm_push.specs.Steps.{Takes, HoldsBoxes}
 use Rattle.sm_push.specs.Held.{most_of}
 use Rattle.sm_push.proofs.Limits.{take_limited}
 use Rattle.sm_push.proofs.Stable.{taken_whole}
-use Rattle.sm_push.proofs.Steps.{passed_settles, refused_settles, box_settles, box_partial, empty_partial}
+use Rattle.sm_push.proofs.Steps.{passed_settles, refused_settles, box_settles, box_partial, empty_partial, box_grows}
 use Rattle.sm_push.proofs.kept.Kept.settle.Goals as goal
 
 pub take-requires-clause-whole : goal.take-requires-clause-whole
@@ -43,7 +43,12 @@ pub returns-else-len-size-clause-settles : goal.returns-else-len-size-clause-set
 returns-else-len-size-clause-settles c =
     let e : decision c.args.self.now.state c.args.self.now.held ≡ Take c.in-Take.sort c.in-Take.size = cc in
     let step : Takes c.take.new.state c.take.result (taken c.args.self.now.state c.in-Take.sort c.args.self.now.held) = rw c.take-whole.ensures.taken at c.take.ensures.takes in
-    box_settles c.args.self.now (record { state = c.take.new.state; held = c.take-whole.new.self; skip = c.args.self.now.skip }) c.in-Take.sort c.in-Take.size c.take.result c.requires.here e c.requires.fits (omega arith) step c.take-whole.ensures.left refl
+    box_settles c.args.self.now (record { state = c.take.new.state; held = c.take-whole.new.self; skip = c.args.self.now.skip }) c.in-Take.sort c.in-Take.size c.take.result c.requires.here e c.requires.fits (omega arith) step c.take.ensures.header c.take-whole.ensures.left refl
 
 pub returns-else-len-size-clause-partial : goal.returns-else-len-size-clause-partial
 returns-else-len-size-clause-partial c = box_partial c.take.new.state c.take-whole.new.self c.args.self.now.skip c.take.result c.take-whole.ensures.left c.take.ensures.boxes
+
+pub returns-else-len-size-clause-grows : goal.returns-else-len-size-clause-grows
+returns-else-len-size-clause-grows c =
+    let step : Takes c.take.new.state c.take.result (taken c.args.self.now.state c.in-Take.sort c.args.self.now.held) = rw c.take-whole.ensures.taken at c.take.ensures.takes in
+    box_grows c.args.self.now.state c.take.new.state c.in-Take.sort c.args.self.now.held c.take.result step

@@ -1,5 +1,5 @@
 use Rattle.std.proofs.Common.{length, ◌-◌, ◌≤◌}
-use Rattle.sm_push.specs.Standing.{IsPartial}
+use Rattle.sm_push.specs.Standing.{IsPartial, Grows}
 use Rattle.sm_push.proofs.Steps.{Taking}
 use Rattle.sm_push.proofs.kept.Kept.take_piece.Given as goal
 
@@ -7,6 +7,7 @@ abbrev pub invariant-loop-done : goal.invariant-loop-done
 invariant-loop-done l = record {
   partial : IsPartial l.self;
   inside : l.done ≤ length l.piece;
+  grows : Grows l.fn.self l.self;
   taking : Taking l.fn.self l.self l.piece l.done l.items;
 }
 

@@ -1,19 +1,18 @@
-use Rattle.std.proofs.Common.{◌≡◌, length, ap, ◌∙◌, arith}
+use Rattle.std.proofs.Common.{◌≡◌, ℕ, length, ap, ◌∙◌, sym, subst, arith}
 use Rattle.sm_model.specs.declared.push.BoxDecision.TheVariants.{Take}
 use Rattle.sm_model.specs.PushHeads.{decision}
 use Rattle.sm_push.specs.Heads.{IsOpen}
+use Rattle.sm_push.specs.Standing.{StaysInside}
 use Rattle.sm_push.proofs.Steps.{wanted_one, wanted_rest}
 use Rattle.sm_push.proofs.kept.Kept.wanted.Goals as goal
+use Rattle.sm_push.proofs.kept.Kept.wanted.Goals.{in-Take, in_default}
 
-pub returns-in-Take-clause-fits : goal.returns-in-Take-clause-fits
-returns-in-Take-clause-fits c =
-    let e : decision c.args.self.now.state c.args.self.now.held ≡ Take c.in-Take.field-0 c.in-Take.size = cc in
-    let due : IsOpen (length c.args.self.now.held) (Take c.in-Take.field-0 c.in-Take.size) = rw e at c.requires.partial.due in
-    wanted_rest c.args.self.now c.in-Take.field-0 c.in-Take.size c.min.result e (omega (arith, due))
-
-pub returns-in_default : goal.returns-in_default
-returns-in_default c = record {
-  some = omega arith;
-  most = omega arith;
-  fits = wanted_one c.args.self.now c.requires.partial (λ sort size e. c.in_default.not-Take sort size (c.decide.ensures ∙ ap (decision c.args.self.now.state) c.as_slice.ensures ∙ e));
-}
+pub returns-clause-fits : goal.returns-clause-fits
+returns-clause-fits c = elim c.match-decide.branch [
+  | in-Take w ↦
+      let e : decision c.args.self.now.state c.args.self.now.held ≡ Take w.in-Take.field-0 w.in-Take.size = cc in
+      let due : IsOpen (length c.args.self.now.held) (Take w.in-Take.field-0 w.in-Take.size) = rw e at c.requires.partial.due in
+      subst (λ (n : ℕ). StaysInside c.args.self.now n) (sym w.result-is) (wanted_rest c.args.self.now w.in-Take.field-0 w.in-Take.size w.min.result e (omega (arith, due)))
+  | in_default w ↦
+      subst (λ (n : ℕ). StaysInside c.args.self.now n) (sym w.result-is) (wanted_one c.args.self.now c.requires.partial (λ sort size e. w.in_default.not-Take sort size (c.decide.ensures ∙ ap (decision c.args.self.now.state) c.as_slice.ensures ∙ e)))
+]

@@ -1,33 +1,36 @@
-use Rattle.std.proofs.Common.{true, sym, subst, ◌∙◌}
-use Rattle.smooth.specs.Search.{IsLooking, RefusedBy}
-use Rattle.smooth.proofs.Looking.{looking, none_of, stays_refused, all_fit, looks_on, fault_refuses}
+use Rattle.std.proofs.Common.{◌≡◌, ◌≤◌, ◌+◌, ◌-◌, ◌++◌, ℕ, List, length, take, drop, subst, sym, ap, refl, ◌∙◌, arith}
+use Rattle.std.proofs.lemmas.List.{append-nil, append_assoc, take_rest, length-drop, length-take, length-append, take_all}
+use Rattle.std.proofs.Math.Seq.{take-add}
+use Rattle.smooth.specs.Answers.{limit}
+use Rattle.smooth.specs.declared.search.Search.{Search}
+use Rattle.smooth.specs.Search.{Looks}
 use Rattle.smooth.proofs.search.Search.take.Goals as goal
 
-pub returns-then-is_some-clause-looks : goal.returns-then-is_some-clause-looks
-returns-then-is_some-clause-looks c = λ b h. stays_refused c.front.ensures c.args.self.now b c.args.piece.now (sym c.is_some.ensures ∙ c.if-is_some.true) h
+pub loop-done-init : goal.loop-done-init
+loop-done-init c = record {
+  inside = omega arith;
+  looks = λ b h. subst (λ (xs : List ℕ). Looks c.args.self.now xs) (sym (append-nil b)) h;
+  track = refl;
+  time = refl;
+}
 
-pub note-requires : goal.note-requires
-note-requires c =
-    let s : IsLooking c.args.self.now c.requires.0 = looking c.args.self.now c.requires.0 (sym c.is_some.ensures ∙ c.if-is_some.false) c.requires.1 in
-    all_fit c.items_are_no_more_than_bytes.ensures c.args.self.now c.requires.0 c.args.piece.now c.in-Ok.items s (c.in-Ok.ensures.answers true c.requires.0 s.stands).1 c.requires.2
+pub take_part-requires : goal.take_part-requires
+take_part-requires c =
+    (c.requires.0 ++ take c.loop-done.done c.args.piece.now, c.loop-done.invariant.looks c.requires.0 c.requires.1,
+    omega (arith, c.requires.2, c.loop-done.invariant.inside, length-append c.requires.0 (take c.loop-done.done c.args.piece.now), length-take c.loop-done.done c.args.piece.now, ap length (take_rest c.args.piece.now c.loop-done.done), length-drop c.loop-done.done c.args.piece.now, length-take c.min-count.result (take (length c.args.piece.now - c.loop-done.done) (drop c.loop-done.done c.args.piece.now))))
 
-pub returns-in-Ok-clause-looks : goal.returns-in-Ok-clause-looks
-returns-in-Ok-clause-looks c =
-    λ b h.
-    let s : IsLooking c.args.self.now b = looking c.args.self.now b (sym c.is_some.ensures ∙ c.if-is_some.false) h in
-    let a = c.in-Ok.ensures.answers true b s.stands in
-    looks_on c.args.self.now c.note.new.self c.feed.new.self b c.args.piece.now c.in-Ok.items s a.0 a.1 (record {
-      track = c.note.ensures.asked.0;
-      time = c.note.ensures.asked.1;
-      push_is = c.note.ensures.push.0;
-      refusal = c.note.ensures.push.1 ∙ none_of c.args.self.now.refusal (sym c.is_some.ensures ∙ c.if-is_some.false);
-      count = c.note.ensures.count;
-      found = c.note.ensures.found;
-    })
+pub loop-done-preserved : goal.loop-done-preserved
+loop-done-preserved c = record {
+  inside = omega (arith, c.loop-done.invariant.inside, c.min-count.ensures, ap length (take_rest c.args.piece.now c.loop-done.done), length-drop c.loop-done.done c.args.piece.now);
+  looks = λ b h.
+      let more : take (c.loop-done.done + c.min-count.result) c.args.piece.now ≡ take c.loop-done.done c.args.piece.now ++ take c.min-count.result (drop c.loop-done.done c.args.piece.now) = take-add c.loop-done.done c.min-count.result c.args.piece.now in
+      let now = c.in_ok-take_part.ensures.looks (b ++ take c.loop-done.done c.args.piece.now) (c.loop-done.invariant.looks b h) in
+      let here : Looks c.take_part.new.self ((b ++ take c.loop-done.done c.args.piece.now) ++ take c.min-count.result (drop c.loop-done.done c.args.piece.now)) = rw (take_rest c.args.piece.now c.loop-done.done) at now in
+      subst (λ (xs : List ℕ). Looks c.take_part.new.self xs) (append_assoc b (take c.loop-done.done c.args.piece.now) _ ∙ ap (λ (xs : List ℕ). b ++ xs) (sym more)) here;
+  track = c.in_ok-take_part.ensures.asked.0 ∙ c.loop-done.invariant.track;
+  time = c.in_ok-take_part.ensures.asked.1 ∙ c.loop-done.invariant.time;
+}
 
-pub returns-in-Some-clause-looks : goal.returns-in-Some-clause-looks
-returns-in-Some-clause-looks c =
-    λ b h.
-    let s : IsLooking c.args.self.now b = looking c.args.self.now b (sym c.is_some.ensures ∙ c.if-is_some.false) h in
-    fault_refuses b c.args.piece.now c.feed.new.self c.in-Err.fault c.in-Some.refusal (c.in-Err.ensures.answers true b s.stands)
-    (subst (RefusedBy c.in-Err.fault) c.in-Some.is c.refusal_of.ensures)
+pub returns-clause-looks : goal.returns-clause-looks
+returns-clause-looks c b h =
+    subst (λ (xs : List ℕ). Looks c.loop-done.self (b ++ xs)) (take_all c.loop-done.done c.args.piece.now (omega arith)) (c.loop-done.invariant.looks b h)

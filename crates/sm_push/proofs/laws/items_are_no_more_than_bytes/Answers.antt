@@ -1,6 +1,0 @@
-use Rattle.sm_model.specs.Body.{start}
-use Rattle.sm_push.proofs.Counts.{walk_few}
-use Rattle.sm_push.proofs.laws.items_are_no_more_than_bytes.Goals as goal
-
-pub returns : goal.returns
-returns c headerless b = walk_few (start headerless) 0 b

@@ -1,0 +1,70 @@
+//! Laws of push bodies. Each is the contract of a function that does nothing.
+ghost use Rattle.std.specs.Prelude.{◌≡◌, ◌≤◌, ◌++◌, Bool, List, [], ℕ, length, map, All, Ok};
+ghost use Rattle.sm_model.specs.Body.{body, IsFrontOf};
+ghost use Rattle.sm_model.specs.Body;
+ghost use Rattle.sm_model.specs.Boxes.{Box, IsBoxes, box_of};
+ghost use Rattle.std.specs.List.{AllByRecursion};
+ghost use Rattle.sm_push.specs.Boxes.{Splits, boxes_give};
+ghost use Rattle.sm_push.specs.Validity.{IsValidItem};
+ghost use Rattle.sm_push.specs.Written.{written_keys};
+ghost use Rattle.sm_model.specs.declared.track.Track.{Track};
+ghost use Rattle.sm_model.specs.Channels.{IsChannel, IsNarrowTrack};
+ghost use Rattle.sm_model.specs.Header.{header_of};
+ghost use Rattle.sm_model.specs.LiveText.{live_text};
+ghost use Rattle.sm_model.specs.MoovText.{bare_moov};
+
+use sm_box::law::{whole_is_read, whole_stays};
+use sm_model::law::read_is_sound;
+use sm_moov::law::{timescales_are_positive, written_moov_is_read};
+use sm_smil::{
+    live_manifest_has_one_answer, live_manifests_are_valid, live_text_is_read_as_its_channel,
+};
+
+/// What a front of the bytes gives is a front of what they give.
+pub fn front()
+    ensures { (headerless : Bool) (p q : List ℕ) → IsFrontOf (body headerless p) (body headerless (p ++ q)) }
+{}
+
+/// All bytes are whole boxes and a rest in which no whole box stands in front, and give what these give, one box after the
+/// other. The boxes are those of ISO/IEC 14496-12, 4.2.
+pub fn by_boxes()
+    ensures split { (headerless : Bool) (b : List ℕ) → (boxes : List (List ℕ)) × (rest : List ℕ) × Splits b boxes rest × (body headerless b ≡ boxes_give (Body.push_start headerless) boxes rest) }
+    // However they are split.
+    ensures any { (headerless : Bool) (b : List ℕ) (boxes : List (List ℕ)) (rest : List ℕ) → Splits b boxes rest → body headerless b ≡ boxes_give (Body.push_start headerless) boxes rest }
+{
+    whole_is_read();
+}
+
+/// Bytes are whole boxes without a rest exactly where they are a text of boxes, and the boxes are those of the text.
+pub fn texts_of_boxes_have_no_rest()
+    ensures text { (b : List ℕ) (boxes : List (List ℕ)) → Splits b boxes [] → IsBoxes b (map box_of boxes) }
+    ensures boxes { (b : List ℕ) (xs : List Box) → IsBoxes b xs → (boxes : List (List ℕ)) × Splits b boxes [] × (xs ≡ map box_of boxes) }
+{
+    whole_is_read();
+    whole_stays();
+}
+
+/// Bytes give no more items than there are bytes, so that their places fit wherever the number of bytes does.
+pub fn items_are_no_more_than_bytes()
+    ensures { (headerless : Bool) (b : List ℕ) → length (body headerless b).items ≤ length b }
+{}
+
+/// Every item that a push gives is valid: each fragment is, and the channel of each header.
+pub fn items_are_valid()
+    ensures { (headerless : Bool) (b : List ℕ) → AllByRecursion IsValidItem (body headerless b).items }
+{
+    live_manifest_has_one_answer();
+    live_manifests_are_valid();
+    timescales_are_positive();
+    read_is_sound();
+}
+
+/// A valid channel that was written as a header, its live manifest and its bare `moov`, is read as the channel again, whose
+/// tracks have the track_IDs 1, 2 and so on and no defaults. Each track of a real channel is narrow.
+pub fn written_header_is_read()
+    ensures { (channel : List Track) → IsChannel channel → All IsNarrowTrack channel
+        → header_of (live_text channel) (box_of (bare_moov channel)).body ≡ Ok (record { channel = channel; tracks = written_keys 1 channel }) }
+{
+    live_text_is_read_as_its_channel();
+    written_moov_is_read();
+}

@@ -1,5 +1,0 @@
-use Rattle.sm_smil.proofs.ValidAnswers.{live_manifest_valid}
-use Rattle.sm_smil.proofs.laws.live_manifests_are_valid.Goals as goal
-
-pub returns : goal.returns
-returns c = live_manifest_valid

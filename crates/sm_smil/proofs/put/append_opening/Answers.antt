@@ -1,0 +1,9 @@
+use Rattle.std.proofs.lemmas.Result.{IfOk-equal}
+use Rattle.sm_model.specs.LiveText.{opening_line}
+use Rattle.sm_smil.proofs.Joined.{three}
+use Rattle.sm_smil.proofs.put.append_opening.Goals as goal
+
+pub returns : goal.returns
+unfolding opening_line
+returns c =
+    IfOk-equal c.append.result _ _ _ c.append.ensures (rw (c.in_ok-append_two-2.ensures, c.in_ok-append_two.ensures, c.element_name.ensures, c.as_bytes.ensures.value, c.in_ok-text.ensures.ok) (three c.args.out.now.items _ _ _))

@@ -1,8 +1,0 @@
-use Rattle.std.proofs.Common.{rules, append_assoc}
-use Rattle.std.proofs.lemmas.Result.{IfOk-equal}
-use Rattle.sm_model.specs.LiveText.{number_lines}
-use Rattle.sm_smil.proofs.put.put_numbers.Goals as goal
-
-pub returns : goal.returns
-unfolding number_lines
-returns c = search (rules, IfOk-equal, append_assoc)
