@@ -1,0 +1,63 @@
+-- How a run of calls goes on.
+use Rattle.std.proofs.Common.{◌≡◌, ℕ, ◌≤◌, List, refl, ◌∙◌, arith}
+use Rattle.sm_site.specs.Image.{Image, bytes_of}
+use Rattle.sm_site.specs.Meanings.{View, SameLink}
+use Rattle.sm_site.specs.Clauses.{Elapses, NoMore, Throughout}
+use Rattle.sm_site.proofs.Moments.{one_call, weakened, and_then}
+use Rattle.sm_gatelog.specs.Moments.{InFile, Looks, EveryMoment}
+
+module _ {D : Type 0} (view : D → View) (may_leave : D → Image → Type 0) (left_at : D → ℕ → Image → Type 0) where
+  pub by_call : (old new : D) (P : Image → Type 0) → Elapses (view old) (view new) (left_at old) (left_at new) (may_leave old) (may_leave new)
+      → ((c : Image) → may_leave old c → P c) → ((c : Image) → may_leave new c → P c) → EveryMoment view may_leave left_at old new P
+  by_call old new P time from to = record { moments = one_call view left_at old new _ _ _ time (λ t c was. from c was) (λ t c now. to c now); now = to }
+
+  pub by_looks : (old new : D) (P : Image → Type 0) → Looks view may_leave left_at old new → ((c : Image) → may_leave old c → P c) → EveryMoment view may_leave left_at old new P
+  by_looks old new P looks from = record { moments = weakened view left_at old new _ _ looks.moments (λ t c was. from c was); now = λ c now. from c (looks.crash c now) }
+
+  pub by_write : (old new : D) (P Q : Image → Type 0) → Throughout view left_at old new (λ t. P) → ((c : Image) → may_leave new c → P c) → ((c : Image) → P c → Q c) → EveryMoment view may_leave left_at old new Q
+  by_write old new P Q all now so = record { moments = weakened view left_at old new _ _ all (λ t c p. so c p); now = λ c left. so c (now c left) }
+
+  pub every_weaker : (old new : D) (P Q : Image → Type 0) → EveryMoment view may_leave left_at old new P → ((c : Image) → P c → Q c) → EveryMoment view may_leave left_at old new Q
+  every_weaker old new P Q all so = by_write old new P Q all.moments all.now so
+
+  pub every_then : (old mid new : D) (P : Image → Type 0) → EveryMoment view may_leave left_at old mid P → EveryMoment view may_leave left_at mid new P → EveryMoment view may_leave left_at old new P
+  every_then old mid new P first second = record { moments = and_then view left_at old mid new _ first.moments second.moments; now = second.now }
+
+  pub looks_call : (old new : D) → (view new).contents ≡ (view old).contents → NoMore (may_leave old) (may_leave new)
+      → Elapses (view old) (view new) (left_at old) (left_at new) (may_leave old) (may_leave new) → (view old).reads ≤ (view new).reads → SameLink (view old) (view new)
+      → Looks view may_leave left_at old new
+  looks_call old new contents crash time reads link =
+      record { contents = contents; crash = crash; moments = one_call view left_at old new _ _ _ time (λ t c was. was) (λ t c now. crash c now); reads = reads; link = link }
+
+  pub looks_then : (old mid new : D) → Looks view may_leave left_at old mid → Looks view may_leave left_at mid new → Looks view may_leave left_at old new
+  looks_then old mid new first second = record {
+    contents = second.contents ∙ first.contents;
+    crash = λ c now. first.crash c (second.crash c now);
+    moments = and_then view left_at old mid new _ first.moments (weakened view left_at mid new _ _ second.moments (λ t c was. first.crash c was));
+    reads = omega (arith, first.reads, second.reads);
+    link = record {
+      transcript = second.link.transcript ∙ first.link.transcript;
+      script = second.link.script ∙ first.link.script;
+      link_faults = second.link.link_faults ∙ first.link.link_faults;
+      send_faults = second.link.send_faults ∙ first.link.send_faults;
+    };
+  }
+
+  pub looks_same : (d : D) → ((t : ℕ) (c : Image) → left_at d t c → t ≤ (view d).moment) → Looks view may_leave left_at d d
+  looks_same d no_later = record {
+    contents = refl;
+    crash = λ c now. now;
+    moments = record { later = omega arith; keeps = λ t c le. (λ x. x, λ x. x); each = λ t c after left. absurd (omega (arith, no_later t c left)) };
+    reads = omega arith;
+    link = record { transcript = refl; script = refl; link_faults = refl; send_faults = refl };
+  }
+
+-- an old outcome is one
+pub in_file_same : (file : ℕ) (P : List ℕ → Type 0) (old : Image → Type 0) (c : Image) → P (bytes_of c file) → old c → InFile file P old c
+in_file_same file P old c p was = (p, (c, was, λ other apart. refl))
+
+pub in_file_then : (file : ℕ) (P Q : List ℕ → Type 0) (old mid : Image → Type 0) → ((c : Image) → mid c → InFile file Q old c) → (c : Image) → InFile file P mid c → InFile file P old c
+in_file_then file P Q old mid before c (p, (d, was, same)) = let first = before d was in (p, (first.1.0, first.1.1, λ other apart. same other apart ∙ first.1.2 other apart))
+
+pub in_file_weaker : (file : ℕ) (P Q : List ℕ → Type 0) (old : Image → Type 0) → ((b : List ℕ) → P b → Q b) → (c : Image) → InFile file P old c → InFile file Q old c
+in_file_weaker file P Q old so c (p, from) = (so (bytes_of c file) p, from)

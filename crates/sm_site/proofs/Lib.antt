@@ -1,0 +1,16 @@
+pub mod Told
+pub mod Views
+pub mod Moments
+pub mod Lives
+mod Connections
+mod Crashes
+mod Filled
+mod Given
+mod Kept
+mod Opens
+mod Outcomes
+mod Places
+mod Sends
+mod Steps
+pub mod Tearing
+mod Writes

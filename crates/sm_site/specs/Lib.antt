@@ -1,0 +1,12 @@
+pub mod Image
+pub mod Meanings
+pub mod Event
+pub mod Numbers
+pub mod Clauses
+pub mod Scripts
+pub mod Faults
+pub mod Past
+pub mod PastLaws
+pub mod Sites
+pub mod Memory
+pub mod Sending

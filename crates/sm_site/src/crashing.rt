@@ -1,0 +1,67 @@
+//! A site that crashes where it is told to.
+ghost use Rattle.std.specs.Prelude.{◌≡◌, ◌↔◌, ◌++◌, ◌∷◌, [], ℕ, Bool, List, IfOk, IfSome, IsSome, IsTrue, OnOk, OnErr, is_some};
+ghost use Rattle.sm_site.specs.Image.{Image, bytes_of};
+ghost use Rattle.sm_site.specs.Meanings.{Item, sent_on};
+ghost use Rattle.sm_site.specs.Clauses.{Both, SameOutcomes, Settled, Kept};
+ghost use Rattle.sm_site.specs.Scripts.{is_script, deals_of, numbers_after};
+ghost use Rattle.sm_site.specs.Sites.{SameBut, SameCounts, Tells};
+
+use crate::{Piece, Script, Site};
+use std::alloc::AllocError;
+
+/// A site that is told what its link brings and when it crashes, and that tells what went out. It goes on after a crash as
+/// a site does whose machine was started again.
+pub trait Crashing: Site {
+    /// The transcripts of the openings before the last crash, those without an entry left out.
+    ghost openings: { Self → List (List Item) };
+
+    /// Whether memory has run out.
+    ghost is_starved: { Self → Bool };
+
+    /// Adds events to the script. The numbers of its connections go on above those given and those still to come. Want of memory
+    /// leaves the site as it was.
+    fn extend(&mut self, events: Script) -> Result<(), AllocError>
+        requires script { IfSome (Self.Disk.view self.old).script (λ deals. IsTrue (is_script (numbers_after (Self.Link.numbers self.old) deals) events)) }
+        ensures added { OnOk result (Both (Self.Disk.view self.old).script (Self.Disk.view self.new).script (λ old new. new ≡ old ++ deals_of events)) }
+        ensures refused { OnErr result ((Self.Disk.view self.new).script ≡ (Self.Disk.view self.old).script) }
+        ensures view { SameBut (Self.Disk.view self.old) (Self.Disk.view self.new) }
+        ensures crash { SameOutcomes (Self.Disk.may_leave self.old) (Self.Disk.may_leave self.new) }
+        ensures past { (t : ℕ) (c : Image) → Self.Disk.left_at self.new t c ↔ Self.Disk.left_at self.old t c }
+        ensures numbers { Self.Link.numbers self.new ≡ Self.Link.numbers self.old }
+        ensures openings { openings self.new ≡ openings self.old }
+        ensures starved { is_starved self.new ≡ is_starved self.old };
+
+    /// The bytes that went out on a connection since the last crash.
+    fn sent(&self, conn: u64) -> Result<Piece, AllocError>
+        ensures { IfOk result (λ piece. IfSome (Self.Disk.view self.now).transcript (λ items. piece ≡ sent_on conn items)) };
+
+    /// Lets so many further writes and syncs pass. All behind them fail, up to the next crash.
+    fn stop_after(&mut self, calls: u64)
+        ensures view { Self.Disk.view self.new ≡ Self.Disk.view self.old }
+        ensures crash { SameOutcomes (Self.Disk.may_leave self.old) (Self.Disk.may_leave self.new) }
+        ensures past { (t : ℕ) (c : Image) → Self.Disk.left_at self.new t c ↔ Self.Disk.left_at self.old t c }
+        ensures numbers { Self.Link.numbers self.new ≡ Self.Link.numbers self.old }
+        ensures openings { openings self.new ≡ openings self.old }
+        ensures starved { is_starved self.new ≡ is_starved self.old };
+
+    /// Crashes in place, without memory. What it keeps is one of the images that a crash may leave, chosen by the number; then
+    /// nothing is pending, nothing stops, the script is empty, and the transcript begins anew, the old one being put to the others.
+    fn crash_here(&mut self, choice: u8)
+        ensures image { IfSome (Self.Disk.view self.new).contents (Self.Disk.may_leave self.old) }
+        ensures told { is_some (Self.Disk.view self.new).contents ≡ is_some (Self.Disk.view self.old).contents }
+        ensures settled { IfSome (Self.Disk.view self.new).contents (λ now. Settled now (Self.Disk.may_leave self.new)) }
+        ensures transcript { IfSome (Self.Disk.view self.new).transcript (λ items. items ≡ []) }
+        ensures script { IfSome (Self.Disk.view self.new).script (λ deals. deals ≡ []) }
+        ensures openings { IfSome (Self.Disk.view self.old).transcript (λ items. Kept items (openings self.old) (openings self.new)) }
+        ensures numbers { Self.Link.numbers self.new ≡ Self.Link.numbers self.old }
+        ensures counts { SameCounts (Self.Disk.view self.old) (Self.Disk.view self.new) }
+        ensures starved { is_starved self.new ≡ is_starved self.old };
+
+    /// Whether memory has run out. While it hasn't, each fault of the site so far was of a number that was listed, or came behind
+    /// a stop.
+    fn starved(&self) -> bool
+        ensures { result ≡ is_starved self.now };
+
+    /// It tells its contents, its transcript and its script.
+    ghost tells: { (s : Self) → Tells (Self.Disk.view s) };
+}

@@ -1,0 +1,160 @@
+//! How a site in memory is selected, how it goes on, and how it crashes.
+ghost use Rattle.std.specs.Prelude.{◌≡◌, ◌↔◌, ◌≤◌, ◌++◌, ◌∷◌, [], ℕ, List, IfOk, IfSome, IsErrOf, IsOk, IsTrue, OnOk, OnErr, None, Some, refl, false, is_some};
+ghost use Rattle.sm_site.specs.Image.{Image, bytes_of};
+ghost use Rattle.sm_site.specs.Meanings.{sent_on};
+ghost use Rattle.sm_site.specs.Clauses.{Both, Elapses, Kept, Rose, SameOutcomes, Settled};
+ghost use Rattle.sm_site.specs.Past.{chosen, is_open};
+ghost use Rattle.sm_site.specs.Scripts.{deals_of, is_script, numbers_after};
+ghost use Rattle.sm_site.specs.Sites.{SameBut, SameCounts};
+ghost use Rattle.sm_site.specs.Sending.{sent_after};
+ghost use Rattle.sm_site.specs.Memory.{coming, faults_of, site_left_at, site_may_leave, site_numbers, site_openings, site_view, state_of};
+
+use crate::note::has_begun;
+use crate::pending::crash_files;
+use crate::{Crashing, Event, MemorySite, Piece, Script, Site, SiteError, Step};
+use std::alloc::AllocError;
+
+/// Puts events behind a script, all of them or none.
+fn add_events(script: &mut Vec<Event>, events: Vec<Event>) -> Result<(), AllocError>
+    ensures added { OnOk result (script.new.items ≡ script.old.items ++ events.items) }
+    ensures refused { OnErr result (script.new.items ≡ script.old.items) }
+{
+    let mut events = events;
+    script.append(&mut events)?;
+    Ok(())
+}
+
+/// What a step adds to the bytes that went out on a connection.
+fn add_sent(bytes: &mut Vec<u8>, conn: u64, step: &Step) -> Result<(), AllocError>
+    ensures { OnOk result (bytes.new.items ≡ sent_after conn bytes.old.items step.now) }
+{
+    match step {
+        Step::Sent(to, part, _) => {
+            if *to == conn {
+                bytes.extend_from_slice(part)?;
+            }
+        }
+        Step::Crashed(_) => bytes.clear(),
+        _ => {}
+    }
+    Ok(())
+}
+
+impl MemorySite {
+    /// Keeps one image, in place. The record of the next opening begins behind the crash. Behind a crash there is nothing to be done.
+    pub(crate) fn crash_in_place(&mut self, choice: u8)
+        ensures crashed { IsTrue (is_open self.old.past.items) → self.new.past.items ≡ self.old.past.items ++ Step.Crashed choice ∷ [] }
+        ensures same { is_open self.old.past.items ≡ false → self.new.past.items ≡ self.old.past.items }
+        ensures first { self.new.first.items ≡ self.old.first.items }
+        ensures coming { coming self.new ≡ [] }
+        ensures taken { self.new.taken ≡ 0 }
+        ensures counts { SameCounts (site_view self.old) (site_view self.new) }
+        ensures faults { faults_of self.new ≡ record (faults_of self.old) { stop = None } }
+    {
+        crash_files(&mut self.files, &mut self.pending, choice);
+        self.live.clear();
+        self.stop = None;
+        self.script.clear();
+        self.taken = 0;
+        if has_begun(&self.past) {
+            match self.past.push(Step::Crashed(choice)) {
+                Ok(()) => {}
+                Err(_) => unreachable!(),
+            }
+        }
+    }
+}
+
+#[tactic(auto, using(crate::proofs::Steps::stepping))]
+impl Site for MemorySite {
+    ghost one_view = { λ s. refl };
+
+    ghost one_disk = { λ s c. (λ x. x, λ x. x) };
+
+    ghost one_past = { λ s t c. (λ x. x, λ x. x) };
+
+    fn select(&mut self, _store: &str, _port: u16) -> Result<(), SiteError>
+        ensures contents { (site_view self.new).contents ≡ (site_view self.old).contents }
+        ensures calls { (site_view self.new).calls ≡ (site_view self.old).calls }
+        ensures reads { (site_view self.new).reads ≡ (site_view self.old).reads }
+        ensures transcript { (site_view self.new).transcript ≡ (site_view self.old).transcript }
+        ensures script { (site_view self.new).script ≡ (site_view self.old).script }
+        ensures send_faults { (site_view self.new).send_faults ≡ (site_view self.old).send_faults }
+        ensures numbers { site_numbers self.new ≡ site_numbers self.old }
+        ensures disk_faults { (site_view self.old).disk_faults ≤ (site_view self.new).disk_faults }
+        ensures link_faults { (site_view self.old).link_faults ≤ (site_view self.new).link_faults }
+        ensures disk { IsErrOf result SiteError.Disk → Rose (site_view self.old).disk_faults (site_view self.new).disk_faults }
+        ensures link { IsErrOf result SiteError.Link → Rose (site_view self.old).link_faults (site_view self.new).link_faults }
+        ensures crash { SameOutcomes (site_may_leave self.old) (site_may_leave self.new) }
+        ensures time { Elapses (site_view self.old) (site_view self.new) (site_left_at self.old) (site_left_at self.new)
+            (site_may_leave self.old) (site_may_leave self.new) }
+        ensures never { IsOk result }
+        ensures faults { faults_of self.new ≡ faults_of self.old }
+    {
+        Ok(())
+    }
+}
+
+#[tactic(auto, using(crate::proofs::Steps::stepping))]
+impl Crashing for MemorySite {
+    ghost openings = { λ m. site_openings m };
+
+    ghost is_starved = { λ m. (faults_of m).starved };
+
+    ghost tells = { λ m. record { contents = refl; transcript = refl; script = refl } };
+
+    fn extend(&mut self, events: Script) -> Result<(), AllocError>
+        requires script { IfSome (site_view self.old).script (λ deals. IsTrue (is_script (numbers_after (site_numbers self.old) deals) events)) }
+        ensures added { OnOk result (Both (site_view self.old).script (site_view self.new).script (λ old new. new ≡ old ++ deals_of events)) }
+        ensures refused { OnErr result ((site_view self.new).script ≡ (site_view self.old).script) }
+        ensures view { SameBut (site_view self.old) (site_view self.new) }
+        ensures crash { SameOutcomes (site_may_leave self.old) (site_may_leave self.new) }
+        ensures past { (t : ℕ) (c : Image) → site_left_at self.new t c ↔ site_left_at self.old t c }
+        ensures numbers { site_numbers self.new ≡ site_numbers self.old }
+        ensures openings { site_openings self.new ≡ site_openings self.old }
+        ensures starved { (faults_of self.new).starved ≡ (faults_of self.old).starved }
+        ensures faults { faults_of self.new ≡ faults_of self.old }
+    {
+        add_events(&mut self.script, events.into_vec())
+    }
+
+    fn sent(&self, conn: u64) -> Result<Piece, AllocError> {
+        let mut bytes = Vec::new(self.alloc);
+        for step in &self.past {
+            add_sent(&mut bytes, conn, step)?;
+        }
+        Ok(Piece::from_vec(bytes))
+    }
+
+    fn stop_after(&mut self, calls: u64)
+        ensures view { (site_view self.new) ≡ (site_view self.old) }
+        ensures crash { SameOutcomes (site_may_leave self.old) (site_may_leave self.new) }
+        ensures past { (t : ℕ) (c : Image) → site_left_at self.new t c ↔ site_left_at self.old t c }
+        ensures numbers { site_numbers self.new ≡ site_numbers self.old }
+        ensures openings { site_openings self.new ≡ site_openings self.old }
+        ensures starved { (faults_of self.new).starved ≡ (faults_of self.old).starved }
+        ensures faults { faults_of self.new ≡ record (faults_of self.old) { stop = Some calls } }
+    {
+        self.stop = Some(calls);
+    }
+
+    fn crash_here(&mut self, choice: u8)
+        ensures kept { IfSome (site_view self.new).contents (λ now. (file : ℕ) → bytes_of now file ≡ bytes_of (chosen choice (state_of self.old)) file) }
+        ensures image { IfSome (site_view self.new).contents (site_may_leave self.old) }
+        ensures told { is_some (site_view self.new).contents ≡ is_some (site_view self.old).contents }
+        ensures settled { IfSome (site_view self.new).contents (λ now. Settled now (site_may_leave self.new)) }
+        ensures transcript { IfSome (site_view self.new).transcript (λ items. items ≡ []) }
+        ensures script { IfSome (site_view self.new).script (λ deals. deals ≡ []) }
+        ensures openings { IfSome (site_view self.old).transcript (λ items. Kept items (site_openings self.old) (site_openings self.new)) }
+        ensures numbers { site_numbers self.new ≡ site_numbers self.old }
+        ensures counts { SameCounts (site_view self.old) (site_view self.new) }
+        ensures starved { (faults_of self.new).starved ≡ (faults_of self.old).starved }
+        ensures faults { faults_of self.new ≡ record (faults_of self.old) { stop = None } }
+    {
+        self.crash_in_place(choice);
+    }
+
+    fn starved(&self) -> bool {
+        self.starved
+    }
+}
