@@ -218,7 +218,7 @@ impl Catalog {
     }
 
     /// Adds a fragment that was judged to be new, under its place in the log. Takes no memory. One that starts behind all others
-    /// is added in a number of looks that grows with the logarithm; what stands behind a late one moves as one block.
+    /// is added in a number of looks that grows with the logarithm; what stands behind a late one moves one element after the other.
     pub fn add(&mut self, address: &Address, duration: u64, place: u64)
         requires verdict { verdict self.old.channel self.old.adds address.now duration ≡ judged.New }
         requires spare { 1 ≤ spare_of address.now.stream self.old.spares }
