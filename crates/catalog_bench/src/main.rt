@@ -15,7 +15,8 @@ use sm_smil::read_ladder;
 use std::alloc::Global;
 use std::env;
 
-const LADDER: &[u8] = b"<smil><body><switch><video systemBitrate=\"350000\"/><video systemBitrate=\"700000\"/><audio systemBitrate=\"64000\"/></switch></body></smil>";
+const LADDER: &[u8] =
+    b"<smil><body><switch><video systemBitrate=\"350000\"/><video systemBitrate=\"700000\"/><audio systemBitrate=\"64000\"/></switch></body></smil>";
 
 const DURATION: u64 = 20_000_000;
 
