@@ -4,6 +4,7 @@ PROGRAM := crates/smooth/out/smooth
 BENCH := crates/fragment_bench/out/fragment_bench
 CONN := crates/conn_bench/out/conn_bench
 CATALOG_BENCH := crates/catalog_bench/out/catalog_bench
+ARCHIVE_BENCH := crates/archive_bench/out/archive_bench
 
 .PHONY: run test build check bench clean
 
@@ -33,6 +34,8 @@ bench: build
 	bash scripts/bench_conn $(CONN)
 	cd crates/catalog_bench && rt run -- 1 0 1 1 0 > /dev/null
 	bash scripts/bench_catalog $(CATALOG_BENCH)
+	cd crates/archive_bench && rt run -- copy 1 1 > /dev/null
+	bash scripts/bench_archive $(ARCHIVE_BENCH)
 
 clean:
 	rm -rf crates/*/out

@@ -1,9 +1,10 @@
 //! Adds a long event to a catalog, looks each fragment up again, writes the manifest, and reads it.
 //!
-//!     catalog_bench TIMES GAP WRITES READS REVERSED
+//!     catalog_bench TIMES GAP WRITES READS ORDER
 //!
 //! `GAP` ticks lie between two times, so that 0 makes one run of them and 1 as many as there are. The manifest is written
-//! `WRITES` times and read `READS` times. With `REVERSED` 1 the times are added last one first. It prints what it found.
+//! `WRITES` times and read `READS` times. The times are added in order with `ORDER` 0, last one first with 1, and scattered
+//! with 2, for which `TIMES` is a power of two. It prints what it found.
 #![tactic(auto)]
 
 use anyhow::{Result, ensure};
@@ -33,6 +34,26 @@ fn start_of(place: u32, gap: u32) -> u64 {
     (DURATION + gap as u64).saturating_mul(place as u64)
 }
 
+// A number below `times`, another one for each, where `times` is a power of two.
+fn scattered(i: u32, times: u32) -> u32 {
+    let mask = times.saturating_sub(1);
+    let mut x = i & mask;
+    for _round in 0..3u32 {
+        x = x.wrapping_mul(40_503) & mask;
+        x ^= x >> 7;
+    }
+    x
+}
+
+// The place of the time that is added so many steps from the first.
+fn place_of(order: u32, step: u32, times: u32) -> u32 {
+    match order {
+        0 => step,
+        1 => times.saturating_sub(step).saturating_sub(1),
+        _ => scattered(step, times),
+    }
+}
+
 fn add(catalog: &mut Catalog, at: &Address, place: u64) -> Result<()> {
     ensure!(at.time < 0x3fff_ffff_ffff_ffff, "late");
     catalog.reserve(at)?;
@@ -46,13 +67,13 @@ fn add_all(
     tracks: &mut [Address],
     times: u32,
     gap: u32,
-    reversed: u32,
+    order: u32,
 ) -> Result<()> {
     let mut place: u64 = 0;
-    for i in 0..times {
-        let step = if reversed == 1 { times - 1 - i } else { i };
+    for step in 0..times {
+        let i = place_of(order, step, times);
         for at in tracks.iter_mut() {
-            at.time = start_of(step, gap);
+            at.time = start_of(i, gap);
             place = place.saturating_add(1);
             add(catalog, at, place)?;
         }
@@ -83,14 +104,14 @@ fn main(rt: HostRuntime) -> Result<()> {
             *number = word.as_str().parse::<u32>()?;
         }
     }
-    let [times, gap, writes, reads, reversed] = numbers;
+    let [times, gap, writes, reads, order] = numbers;
     let mut catalog = Catalog::new(alloc, read_ladder(alloc, LADDER)?)?;
     let mut tracks = [
         address(alloc, b"video", 350_000)?,
         address(alloc, b"video", 700_000)?,
         address(alloc, b"audio", 64_000)?,
     ];
-    add_all(&mut catalog, &mut tracks, times, gap, reversed)?;
+    add_all(&mut catalog, &mut tracks, times, gap, order)?;
     let found = count_found(&catalog, &mut tracks, times, gap);
     let mut length = 0;
     for _ in 0..writes {

@@ -3,3 +3,5 @@ pub mod LineLaw
 pub mod TextLaw
 pub mod BodyLaw
 pub mod PlainLaw
+pub mod PlaceLaw
+pub mod ReadLaw

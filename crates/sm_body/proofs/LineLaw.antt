@@ -18,19 +18,19 @@ pub place_after-append : (p : Place) (xs ys : List ℕ) → place_after p (xs ++
 place_after-append p [] ys = refl
 place_after-append p (x ∷ xs) ys = place_after-append (next_place p x) xs ys
 
-digit_step : (n v c : ℕ) → IsHex c → n < 15 → v < 2 ^ 56 → next_place (Digits n v) c ≡ Digits (n + 1) (v * 16 + digit_value c)
+pub digit_step : (n v c : ℕ) → IsHex c → n < 15 → v < 2 ^ 56 → next_place (Digits n v) c ≡ Digits (n + 1) (v * 16 + digit_value c)
 digit_step n v c hex room small = grind (arith, nat_tests)
 
-pad_step : (k v c : ℕ) → IsWhite c → k < 255 → next_place (Pad k v) c ≡ Pad (k + 1) v
+pub pad_step : (k v c : ℕ) → IsWhite c → k < 255 → next_place (Pad k v) c ≡ Pad (k + 1) v
 pad_step k v c white room = grind (arith, nat_tests)
 
-pad_first : (n v c : ℕ) → IsWhite c → 0 < n → n < 255 → next_place (Digits n v) c ≡ Pad (n + 1) v
+pub pad_first : (n v c : ℕ) → IsWhite c → 0 < n → n < 255 → next_place (Digits n v) c ≡ Pad (n + 1) v
 pad_first n v c white some room = grind (arith, nat_tests)
 
-extension_first : (n v c : ℕ) → c ≡ 59 → 0 < n → n < 255 → next_place (Digits n v) c ≡ Extension (n + 1) v
+pub extension_first : (n v c : ℕ) → c ≡ 59 → 0 < n → n < 255 → next_place (Digits n v) c ≡ Extension (n + 1) v
 extension_first n v c is some room = grind (arith, nat_tests)
 
-extension_step : (k v c : ℕ) → IsExtensionByte c → k < 255 → next_place (Extension k v) c ≡ Extension (k + 1) v
+pub extension_step : (k v c : ℕ) → IsExtensionByte c → k < 255 → next_place (Extension k v) c ≡ Extension (k + 1) v
 extension_step k v c byte room = grind (arith, nat_tests)
 
 below_56 : (n v : ℕ) → n ≤ 14 → v < 16 ^ n → v < 2 ^ 56

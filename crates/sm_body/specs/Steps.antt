@@ -10,8 +10,8 @@ abbrev pub StepGives : Place → List ℕ → Step → Place → Type 0
 StepGives old bytes (Skip n) new =
     (is_data old ≡ false) × (n ≡ 1) × (n ≤ length bytes) × (new ≡ place_after old (take n bytes)) × (new ≢ Failed) × (new ≢ Ended)
 StepGives old bytes (Body n) new =
-    (is_data old ≡ true) × (0 < n) × (n ≡ min (length bytes) (data_left old)) × (new ≡ place_after old (take n bytes)) × (body_from old (take n bytes) ≡ take n bytes)
-    × (new ≢ Failed)
+    (is_data old ≡ true) × (0 < n) × (n ≡ min (length bytes) (data_left old)) × (new ≡ place_after old (take n bytes))
+    × (body_from old (take n bytes) ≡ take n bytes) × (new ≢ Failed)
 StepGives old bytes (End n) new =
     (is_data old ≡ false) × (n ≤ 1) × (n ≤ length bytes) × (place_after old (take n bytes) ≡ Ended) × (new ≡ Ended)
 StepGives old bytes More new = (bytes ≡ []) × (new ≡ old) × (old ≢ Ended) × (old ≢ Failed)

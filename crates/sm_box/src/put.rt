@@ -1,32 +1,38 @@
 //! Writing numbers and boxes (ISO/IEC 14496-12, 4.2).
-ghost use Rattle.std.specs.Prelude.{◌≡◌, ◌<◌, ◌^◌, ◌+◌, ◌++◌, [], length, OnOk, IfOk};
+ghost use Rattle.std.specs.Prelude.{◌≡◌, ◌<◌, ◌^◌, ◌+◌, ◌++◌, [], length, OnOk, OnErr, IfOk};
 ghost use Rattle.sm_model.specs.Numbers.{number32, number64};
 ghost use Rattle.sm_model.specs.FragText.{box};
+ghost use Rattle.sm_box.specs.Appended.{StaysInFront};
 
 use sm_model::{Bytes, NoMemory};
 use std::alloc::Global;
 
-/// Appends the four bytes of a number.
+/// Appends the four bytes of a number. Without memory for them the bytes stay as they are.
 #[tactic(auto, unfolding(sm_model::specs::Numbers::number32))]
 pub fn append_u32(out: &mut Vec<u8>, number: u32) -> Result<(), NoMemory>
-    ensures { OnOk result (out.new.items ≡ out.old.items ++ number32 number) }
+    ensures ok { OnOk result (out.new.items ≡ out.old.items ++ number32 number) }
+    ensures err { OnErr result (out.new.items ≡ out.old.items) }
 {
     out.extend_from_slice(&number.to_be_bytes())?;
     Ok(())
 }
 
-/// Appends the eight bytes of a number.
+/// Appends the eight bytes of a number. Without memory for them the bytes stay as they are.
 #[tactic(auto, unfolding(sm_model::specs::Numbers::number64))]
 pub fn append_u64(out: &mut Vec<u8>, number: u64) -> Result<(), NoMemory>
-    ensures { OnOk result (out.new.items ≡ out.old.items ++ number64 number) }
+    ensures ok { OnOk result (out.new.items ≡ out.old.items ++ number64 number) }
+    ensures err { OnErr result (out.new.items ≡ out.old.items) }
 {
     out.extend_from_slice(&number.to_be_bytes())?;
     Ok(())
 }
 
-/// Appends a box's 32-bit size, which counts these eight bytes too, and its kind; the body goes behind.
+/// Appends a box's 32-bit size, which counts these eight bytes too, and its kind; the body goes behind. Without memory for all
+/// of it the size may stand there alone.
+#[tactic(auto, using(crate::proofs::FrontStays::stays_same, crate::proofs::FrontStays::stays_behind))]
 pub fn append_head(out: &mut Vec<u8>, size: u32, kind: &[u8; 4]) -> Result<(), NoMemory>
-    ensures { OnOk result (out.new.items ≡ out.old.items ++ box size kind.now []) }
+    ensures ok { OnOk result (out.new.items ≡ out.old.items ++ box size kind.now []) }
+    ensures err { OnErr result (StaysInFront out.old.items out.new.items) }
 {
     append_u32(out, size)?;
     out.extend_from_slice(kind)?;

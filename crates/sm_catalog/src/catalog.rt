@@ -217,8 +217,9 @@ impl Catalog {
         Ok(())
     }
 
-    /// Adds a fragment that was judged to be new, under its place in the log. Takes no memory. One that starts behind all others
-    /// is added in a number of looks that grows with the logarithm; what stands behind a late one moves one element after the other.
+    /// Adds a fragment that was judged to be new, under its place in the log. Takes no memory. One that starts before or behind
+    /// all others mostly moves nothing, and is added in a number of looks that grows with the logarithm; one between others
+    /// moves the fewer of those before it and those behind it.
     pub fn add(&mut self, address: &Address, duration: u64, place: u64)
         requires verdict { verdict self.old.channel self.old.adds address.now duration ≡ judged.New }
         requires spare { 1 ≤ spare_of address.now.stream self.old.spares }

@@ -5,7 +5,13 @@ use std::test::Fail;
 
 const SECOND: u64 = 10_000_000;
 
-fn track(alloc: Global, kind: Kind, name: &[u8], bitrate: u32) -> Result<Track, Fail> {
+fn track(
+    alloc: Global,
+    kind: Kind,
+    name: &[u8],
+    bitrate: u32,
+    width: Option<u32>,
+) -> Result<Track, Fail> {
     Ok(Track {
         kind,
         name: Name::read(alloc, name)?,
@@ -14,7 +20,7 @@ fn track(alloc: Global, kind: Kind, name: &[u8], bitrate: u32) -> Result<Track, 
         fourcc: Bytes::from_slice(alloc, b"")?,
         private: Bytes::from_slice(alloc, b"")?,
         numbers: Params {
-            width: None,
+            width,
             height: None,
             tag: None,
             channels: None,
@@ -25,17 +31,17 @@ fn track(alloc: Global, kind: Kind, name: &[u8], bitrate: u32) -> Result<Track, 
     })
 }
 
-// Video in two qualities, and audio.
-fn channel(alloc: Global) -> Result<Channel, Fail> {
+// Video in two qualities, the lower of that width, and audio.
+fn tracks(alloc: Global, width: u32) -> Result<Vec<Track>, Fail> {
     let mut tracks = Vec::new(alloc);
-    tracks.push(track(alloc, Kind::Video, b"video", 350_000)?)?;
-    tracks.push(track(alloc, Kind::Video, b"video", 700_000)?)?;
-    tracks.push(track(alloc, Kind::Audio, b"audio", 64_000)?)?;
-    Ok(Channel::from_vec(tracks))
+    tracks.push(track(alloc, Kind::Video, b"video", 350_000, Some(width))?)?;
+    tracks.push(track(alloc, Kind::Video, b"video", 700_000, Some(1280))?)?;
+    tracks.push(track(alloc, Kind::Audio, b"audio", 64_000, None)?)?;
+    Ok(tracks)
 }
 
 fn empty(alloc: Global) -> Result<Catalog, Fail> {
-    let channel = channel(alloc)?;
+    let channel = Channel::from_vec(tracks(alloc, 640)?);
     if !channel.is_valid() {
         return Err("the channel is not valid".into());
     }
@@ -166,6 +172,11 @@ fn late_fragments_fill_holes(rt: HostRuntime) -> Result<(), Fail> {
         (4 * SECOND, 2 * SECOND),
     ];
     assert_eq!(rt; copy.listed_times(&video), listed.as_slice());
+    assert_eq!(rt; copy.times(&video), listed.as_slice());
+    assert_eq!(rt; copy.times_len(&video), 3);
+    let last_one = address(alloc, b"video", 700_000, 4 * SECOND)?;
+    assert!(rt; copy.has_time(&last_one));
+    assert_eq!(rt; copy.channel().as_slice().len(), 3);
     assert_eq!(rt; copy.ahead(&video, 0, 1), Some((4 * SECOND, 2 * SECOND)));
     let last = Added {
         track: 0,
@@ -181,41 +192,52 @@ fn late_fragments_fill_holes(rt: HostRuntime) -> Result<(), Fail> {
 fn headers_are_checked_track_by_track(rt: HostRuntime) -> Result<(), Fail> {
     let alloc = rt.alloc();
     let catalog = empty(alloc)?;
-    let mut tracks = channel(alloc)?.into_vec();
-    tracks.push(track(alloc, Kind::Video, b"video", 1_400_000)?)?;
-    let longer = Channel::from_vec(tracks);
-    assert_eq!(rt; catalog.check(&longer), Checked::NotDeclared { index: 3 });
-    let mut other = track(alloc, Kind::Audio, b"audio", 64_000)?;
-    other.numbers.rate = Some(44_100);
-    let mut tracks = Vec::new(alloc);
-    tracks.push(other)?;
+    let same = Channel::from_vec(tracks(alloc, 640)?);
+    assert_eq!(rt; catalog.check(&same), Checked::Agreed);
+    let mut longer = tracks(alloc, 640)?;
+    longer.push(track(alloc, Kind::Video, b"video", 1_400_000, None)?)?;
     assert_eq!(rt;
-        catalog.check(&Channel::from_vec(tracks)),
-        Checked::Clash { index: 0 }
+        catalog.check(&Channel::from_vec(longer)),
+        Checked::NotDeclared { index: 3 }
     );
+    let narrower = Channel::from_vec(tracks(alloc, 320)?);
+    assert_eq!(rt; catalog.check(&narrower), Checked::Clash { index: 0 });
     Ok(())
 }
 
-// A walk over what is kept would take more than 10^11 looks here.
-#[test]
-fn long_events_are_searched_by_halves(rt: HostRuntime) -> Result<(), Fail> {
-    let alloc = rt.alloc();
-    let mut catalog = empty(alloc)?;
-    let mut tracks = [
+const TIMES: u64 = 262_144;
+
+fn three_tracks(alloc: Global) -> Result<[Address; 3], Fail> {
+    Ok([
         address(alloc, b"video", 350_000, 0)?,
         address(alloc, b"video", 700_000, 0)?,
         address(alloc, b"audio", 64_000, 0)?,
-    ];
+    ])
+}
+
+// As many times in each of these tracks, in order or last one first, under places from 1.
+fn long_event(alloc: Global, tracks: &mut [Address], last_first: bool) -> Result<Catalog, Fail> {
+    let mut catalog = empty(alloc)?;
     let mut place: u64 = 0;
-    for i in 0..262_144u64 {
+    for step in 0..TIMES {
+        let i = if last_first { TIMES - 1 - step } else { step };
         for at in tracks.iter_mut() {
             at.time = 2 * SECOND * i;
             place = place.saturating_add(1);
             add(&mut catalog, at, 2 * SECOND, place)?;
         }
     }
+    Ok(catalog)
+}
+
+// A walk over what is kept would take more than 10^11 looks here.
+#[test]
+fn long_events_are_searched_by_halves(rt: HostRuntime) -> Result<(), Fail> {
+    let alloc = rt.alloc();
+    let mut tracks = three_tracks(alloc)?;
+    let catalog = long_event(alloc, &mut tracks, false)?;
     let mut wanted: u64 = 0;
-    for i in 0..262_144u64 {
+    for i in 0..TIMES {
         for at in tracks.iter_mut() {
             at.time = 2 * SECOND * i;
             wanted = wanted.saturating_add(1);
@@ -223,7 +245,23 @@ fn long_events_are_searched_by_halves(rt: HostRuntime) -> Result<(), Fail> {
         }
     }
     let [video, _, audio] = &tracks;
-    assert_eq!(rt; catalog.listed_len(&video.stream), 262_144);
-    assert_eq!(rt; catalog.listed_len(&audio.stream), 262_144);
+    assert_eq!(rt; catalog.listed_len(&video.stream), TIMES);
+    assert_eq!(rt; catalog.listed_len(&audio.stream), TIMES);
+    Ok(())
+}
+
+// Moving all that stands behind each time would take minutes here.
+#[test]
+fn long_events_may_come_last_one_first(rt: HostRuntime) -> Result<(), Fail> {
+    let alloc = rt.alloc();
+    let mut tracks = three_tracks(alloc)?;
+    let catalog = long_event(alloc, &mut tracks, true)?;
+    let [video, _, audio] = &tracks;
+    assert_eq!(rt; catalog.place(audio), Some(3 * TIMES));
+    assert_eq!(rt; catalog.listed_len(&video.stream), TIMES);
+    assert_eq!(rt;
+        catalog.listed(&video.stream, 1),
+        Some((2 * SECOND, 2 * SECOND))
+    );
     Ok(())
 }

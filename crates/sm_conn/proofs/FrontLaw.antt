@@ -187,22 +187,27 @@ same_asked j k e = cc
 -- Law (front): what the front of the bytes gives begins what the bytes give.
 pub front_law : (a b c : Mode) (xs ys : List ℕ) (us ws : List PartItem) → Reads a xs us b → Reads a (xs ++ ys) ws c → (vs : List PartItem) × (ws ≡ us ++ vs)
 front_law a b c xs ys us ws (waiting a1 b1 xs1 us1 k1 is1 wait1 none1 last1) second = (ws, ap (λ u. u ++ ws) (sym none1))
-front_law a b c xs ys us ws (refused a1 b1 xs1 us1 k1 cause1 is1 refuse1 said1 last1) (waiting a2 c2 zs ws2 k2 is2 wait2 none2 last2) = absurd (refused_waits _ cause1 (refused_on (k1 ++ xs) ys cause1 refuse1) (subst IsWaiting (kept_more a k1 k2 xs ys is1 is2) wait2))
+front_law a b c xs ys us ws (refused a1 b1 xs1 us1 k1 cause1 is1 refuse1 said1 last1) (waiting a2 c2 zs ws2 k2 is2 wait2 none2 last2) =
+    absurd (refused_waits _ cause1 (refused_on (k1 ++ xs) ys cause1 refuse1) (subst IsWaiting (kept_more a k1 k2 xs ys is1 is2) wait2))
 front_law a b c xs ys us ws (refused a1 b1 xs1 us1 k1 cause1 is1 refuse1 said1 last1) (refused a2 c2 zs ws2 k2 cause2 is2 refuse2 said2 last2) =
     let z = kept_more a k1 k2 xs ys is1 is2 in
     let one = refused_once _ cause1 cause2 (refused_on (k1 ++ xs) ys cause1 refuse1) (subst (λ (b : List ℕ). IsRefused b cause2) z refuse2) in
     nothing_else us ws (said2 ∙ ap (λ (c : Cause). bad c ∷ []) (sym one) ∙ sym said1)
 front_law a b c xs ys us ws (refused a1 b1 xs1 us1 k1 cause1 is1 refuse1 said1 last1) (whole a2 c2 zs ws2 k2 rest2 h2 asked2 others2 is2 reads2 short2 judge2 inner2 said2) =
     let z = kept_more a k1 k2 xs ys is1 is2 in
-    absurd (refused_head _ rest2 h2 cause1 asked2 (refused_on (k1 ++ xs) ys cause1 refuse1) (subst (λ (b : List ℕ). ReadsRequest b h2 rest2) z reads2) (subst (λ (b : List ℕ). length b ≤ length rest2 + 8192) z short2) judge2)
+    absurd (refused_head _ rest2 h2 cause1 asked2 (refused_on (k1 ++ xs) ys cause1 refuse1) (subst (λ (b : List ℕ). ReadsRequest b h2 rest2) z reads2)
+    (subst (λ (b : List ℕ). length b ≤ length rest2 + 8192) z short2) judge2)
 front_law a b c xs ys us ws (refused a1 b1 xs1 us1 k1 cause1 is1 refuse1 said1 last1) (body a2 c2 zs ws2 place2 close2 is2 still2 fine2 said2 last2) = absurd (cc (is1, is2))
 front_law a b c xs ys us ws (refused a1 b1 xs1 us1 k1 cause1 is1 refuse1 said1 last1) (stopped a2 c2 zs ws2 place2 close2 front2 rest2 others2 is2 splits2 stops2 inner2 said2) = absurd (cc (is1, is2))
 front_law a b c xs ys us ws (refused a1 b1 xs1 us1 k1 cause1 is1 refuse1 said1 last1) (failed a2 c2 zs ws2 place2 close2 front2 x2 rest2 is2 splits2 still2 fine2 stops2 said2 last2) = absurd (cc (is1, is2))
 front_law a b c xs ys us ws (refused a1 b1 xs1 us1 k1 cause1 is1 refuse1 said1 last1) (shut a2 c2 zs ws2 is2 none2 last2) = absurd (cc (is1, is2))
-front_law a b c xs ys us ws (whole a1 b1 xs1 us1 k1 rest1 h1 asked1 others1 is1 reads1 short1 judge1 inner1 said1) (waiting a2 c2 zs ws2 k2 is2 wait2 none2 last2) = absurd (wait2.none h1 (rest1 ++ ys) (subst (λ (b : List ℕ). ReadsRequest b h1 (rest1 ++ ys)) (sym (kept_more a k1 k2 xs ys is1 is2)) (ReadsRequest-append (k1 ++ xs) h1 rest1 ys reads1)))
+front_law a b c xs ys us ws (whole a1 b1 xs1 us1 k1 rest1 h1 asked1 others1 is1 reads1 short1 judge1 inner1 said1) (waiting a2 c2 zs ws2 k2 is2 wait2 none2 last2) =
+    absurd (wait2.none h1 (rest1 ++ ys) (subst (λ (b : List ℕ). ReadsRequest b h1 (rest1 ++ ys)) (sym (kept_more a k1 k2 xs ys is1 is2))
+    (ReadsRequest-append (k1 ++ xs) h1 rest1 ys reads1)))
 front_law a b c xs ys us ws (whole a1 b1 xs1 us1 k1 rest1 h1 asked1 others1 is1 reads1 short1 judge1 inner1 said1) (refused a2 c2 zs ws2 k2 cause2 is2 refuse2 said2 last2) =
     let z = kept_more a k1 k2 xs ys is1 is2 in
-    absurd (refused_head _ (rest1 ++ ys) h1 cause2 asked1 (subst (λ (b : List ℕ). IsRefused b cause2) z refuse2) (ReadsRequest-append (k1 ++ xs) h1 rest1 ys reads1) (omega (arith, short1, length-append (k1 ++ xs) ys, length-append rest1 ys)) judge1)
+    absurd (refused_head _ (rest1 ++ ys) h1 cause2 asked1 (subst (λ (b : List ℕ). IsRefused b cause2) z refuse2) (ReadsRequest-append (k1 ++ xs) h1 rest1 ys reads1)
+    (omega (arith, short1, length-append (k1 ++ xs) ys, length-append rest1 ys)) judge1)
 front_law a b c xs ys us ws (whole a1 b1 xs1 us1 k1 rest1 h1 asked1 others1 is1 reads1 short1 judge1 inner1 said1) (whole a2 c2 zs ws2 k2 rest2 h2 asked2 others2 is2 reads2 short2 judge2 inner2 said2) =
     let z = kept_more a k1 k2 xs ys is1 is2 in
     let same = request_unique _ h1 h2 (rest1 ++ ys) rest2 (ReadsRequest-append (k1 ++ xs) h1 rest1 ys reads1) (subst (λ (b : List ℕ). ReadsRequest b h2 rest2) z reads2) in
@@ -221,7 +226,8 @@ front_law a b c xs ys us ws (whole a1 b1 xs1 us1 k1 rest1 h1 asked1 others1 is1 
 front_law a b c xs ys us ws (body a1 b1 xs1 us1 place1 close1 is1 still1 fine1 said1 last1) (waiting a2 c2 zs ws2 k2 is2 wait2 none2 last2) = absurd (cc (is1, is2))
 front_law a b c xs ys us ws (body a1 b1 xs1 us1 place1 close1 is1 still1 fine1 said1 last1) (refused a2 c2 zs ws2 k2 cause2 is2 refuse2 said2 last2) = absurd (cc (is1, is2))
 front_law a b c xs ys us ws (body a1 b1 xs1 us1 place1 close1 is1 still1 fine1 said1 last1) (whole a2 c2 zs ws2 k2 rest2 h2 asked2 others2 is2 reads2 short2 judge2 inner2 said2) = absurd (cc (is1, is2))
-front_law a b c xs ys us ws (body a1 b1 xs1 us1 place1 close1 is1 still1 fine1 said1 last1) (body a2 c2 zs ws2 place2 close2 is2 still2 fine2 said2 last2) = let same = same_place a place1 place2 is1 is2 in body_joins place1 place2 xs (xs ++ ys) ys us ws [] same said1 refl (said2 ∙ sym (append-nil _))
+front_law a b c xs ys us ws (body a1 b1 xs1 us1 place1 close1 is1 still1 fine1 said1 last1) (body a2 c2 zs ws2 place2 close2 is2 still2 fine2 said2 last2) =
+    let same = same_place a place1 place2 is1 is2 in body_joins place1 place2 xs (xs ++ ys) ys us ws [] same said1 refl (said2 ∙ sym (append-nil _))
 front_law a b c xs ys us ws (body a1 b1 xs1 us1 place1 close1 is1 still1 fine1 said1 last1) (stopped a2 c2 zs ws2 place2 close2 front2 rest2 others2 is2 splits2 stops2 inner2 said2) = let same = same_place a place1 place2 is1 is2 in
     let l = beyond place1 xs ys front2 rest2 splits2 (at_place place1 place2 front2 Ended same stops2) still1 fine1 in
     body_joins place1 place2 xs front2 l.0 us ws (ended close2 ∷ others2) same said1 l.1 said2
@@ -232,9 +238,13 @@ front_law a b c xs ys us ws (body a1 b1 xs1 us1 place1 close1 is1 still1 fine1 s
 front_law a b c xs ys us ws (stopped a1 b1 xs1 us1 place1 close1 front1 rest1 others1 is1 splits1 stops1 inner1 said1) (waiting a2 c2 zs ws2 k2 is2 wait2 none2 last2) = absurd (cc (is1, is2))
 front_law a b c xs ys us ws (stopped a1 b1 xs1 us1 place1 close1 front1 rest1 others1 is1 splits1 stops1 inner1 said1) (refused a2 c2 zs ws2 k2 cause2 is2 refuse2 said2 last2) = absurd (cc (is1, is2))
 front_law a b c xs ys us ws (stopped a1 b1 xs1 us1 place1 close1 front1 rest1 others1 is1 splits1 stops1 inner1 said1) (whole a2 c2 zs ws2 k2 rest2 h2 asked2 others2 is2 reads2 short2 judge2 inner2 said2) = absurd (cc (is1, is2))
-front_law a b c xs ys us ws (stopped a1 b1 xs1 us1 place1 close1 front1 rest1 others1 is1 splits1 stops1 inner1 said1) (body a2 c2 zs ws2 place2 close2 is2 still2 fine2 said2 last2) = let same = same_place a place1 place2 is1 is2 in let joins : xs ++ ys ≡ front1 ++ (rest1 ++ ys) = ap (λ n. n ++ ys) splits1 ∙ append_assoc front1 rest1 ys in
+front_law a b c xs ys us ws (stopped a1 b1 xs1 us1 place1 close1 front1 rest1 others1 is1 splits1 stops1 inner1 said1) (body a2 c2 zs ws2 place2 close2 is2 still2 fine2 said2 last2) =
+    let same = same_place a place1 place2 is1 is2 in
+    let joins : xs ++ ys ≡ front1 ++ (rest1 ++ ys) = ap (λ n. n ++ ys) splits1 ∙ append_assoc front1 rest1 ys in
     absurd (still2 (ap (λ (n : Place). place_after n (xs ++ ys)) same ∙ over_ended place1 front1 (rest1 ++ ys) (xs ++ ys) joins stops1 (λ h. fine2 (ap (λ (n : Place). place_after n (xs ++ ys)) same ∙ h))))
-front_law a b c xs ys us ws (stopped a1 b1 xs1 us1 place1 close1 front1 rest1 others1 is1 splits1 stops1 inner1 said1) (stopped a2 c2 zs ws2 place2 close2 front2 rest2 others2 is2 splits2 stops2 inner2 said2) = let same = same_place a place1 place2 is1 is2 in let joins : xs ++ ys ≡ front1 ++ (rest1 ++ ys) = ap (λ n. n ++ ys) splits1 ∙ append_assoc front1 rest1 ys in
+front_law a b c xs ys us ws (stopped a1 b1 xs1 us1 place1 close1 front1 rest1 others1 is1 splits1 stops1 inner1 said1) (stopped a2 c2 zs ws2 place2 close2 front2 rest2 others2 is2 splits2 stops2 inner2 said2) =
+    let same = same_place a place1 place2 is1 is2 in
+    let joins : xs ++ ys ≡ front1 ++ (rest1 ++ ys) = ap (λ n. n ++ ys) splits1 ∙ append_assoc front1 rest1 ys in
     let fronts = same_front place1 front1 (rest1 ++ ys) front2 rest2 (sym joins ∙ splits2) stops1 (at_place place1 place2 front2 Ended same stops2) in
     let one = same_close a close1 close2 is1 is2 in
     let next : Reads (behind_item close1) (rest1 ++ ys) others2 c
@@ -245,18 +255,26 @@ front_law a b c xs ys us ws (stopped a1 b1 xs1 us1 place1 close1 front1 rest1 ot
           ∙ ap (λ (k : Bool). data_items place1 front1 ++ (ended k ∷ others2)) one
           ∙ ap (λ o. data_items place1 front1 ++ (ended close1 ∷ o)) below.1 ∙ sym (append_assoc (data_items place1 front1) (ended close1 ∷ others1) below.0) ∙ ap (λ u. u ++ below.0) (sym said1),
     )
-front_law a b c xs ys us ws (stopped a1 b1 xs1 us1 place1 close1 front1 rest1 others1 is1 splits1 stops1 inner1 said1) (failed a2 c2 zs ws2 place2 close2 front2 x2 rest2 is2 splits2 still2 fine2 stops2 said2 last2) = let same = same_place a place1 place2 is1 is2 in let joins : xs ++ ys ≡ front1 ++ (rest1 ++ ys) = ap (λ n. n ++ ys) splits1 ∙ append_assoc front1 rest1 ys in
+front_law a b c xs ys us ws (stopped a1 b1 xs1 us1 place1 close1 front1 rest1 others1 is1 splits1 stops1 inner1 said1) (failed a2 c2 zs ws2 place2 close2 front2 x2 rest2 is2 splits2 still2 fine2 stops2 said2 last2) =
+    let same = same_place a place1 place2 is1 is2 in
+    let joins : xs ++ ys ≡ front1 ++ (rest1 ++ ys) = ap (λ n. n ++ ys) splits1 ∙ append_assoc front1 rest1 ys in
     absurd (not_both place1 front1 (rest1 ++ ys) front2 rest2 x2 (sym joins ∙ splits2) stops1
     (λ h. still2 (ap (λ (n : Place). place_after n front2) same ∙ h)) (λ h. fine2 (ap (λ (n : Place). place_after n front2) same ∙ h)) (ap (λ (n : Place). next_place (place_after n front2) x2) (sym same) ∙ stops2))
 front_law a b c xs ys us ws (stopped a1 b1 xs1 us1 place1 close1 front1 rest1 others1 is1 splits1 stops1 inner1 said1) (shut a2 c2 zs ws2 is2 none2 last2) = absurd (cc (is1, is2))
 front_law a b c xs ys us ws (failed a1 b1 xs1 us1 place1 close1 front1 x1 rest1 is1 splits1 still1 fine1 stops1 said1 last1) (waiting a2 c2 zs ws2 k2 is2 wait2 none2 last2) = absurd (cc (is1, is2))
 front_law a b c xs ys us ws (failed a1 b1 xs1 us1 place1 close1 front1 x1 rest1 is1 splits1 still1 fine1 stops1 said1 last1) (refused a2 c2 zs ws2 k2 cause2 is2 refuse2 said2 last2) = absurd (cc (is1, is2))
 front_law a b c xs ys us ws (failed a1 b1 xs1 us1 place1 close1 front1 x1 rest1 is1 splits1 still1 fine1 stops1 said1 last1) (whole a2 c2 zs ws2 k2 rest2 h2 asked2 others2 is2 reads2 short2 judge2 inner2 said2) = absurd (cc (is1, is2))
-front_law a b c xs ys us ws (failed a1 b1 xs1 us1 place1 close1 front1 x1 rest1 is1 splits1 still1 fine1 stops1 said1 last1) (body a2 c2 zs ws2 place2 close2 is2 still2 fine2 said2 last2) = let same = same_place a place1 place2 is1 is2 in let joins : xs ++ ys ≡ front1 ++ (x1 ∷ (rest1 ++ ys)) = ap (λ n. n ++ ys) splits1 ∙ append_assoc front1 (x1 ∷ rest1) ys in
+front_law a b c xs ys us ws (failed a1 b1 xs1 us1 place1 close1 front1 x1 rest1 is1 splits1 still1 fine1 stops1 said1 last1) (body a2 c2 zs ws2 place2 close2 is2 still2 fine2 said2 last2) =
+    let same = same_place a place1 place2 is1 is2 in
+    let joins : xs ++ ys ≡ front1 ++ (x1 ∷ (rest1 ++ ys)) = ap (λ n. n ++ ys) splits1 ∙ append_assoc front1 (x1 ∷ rest1) ys in
     absurd (fine2 (ap (λ (n : Place). place_after n (xs ++ ys)) same ∙ fail_front place1 front1 (rest1 ++ ys) (xs ++ ys) x1 joins stops1))
-front_law a b c xs ys us ws (failed a1 b1 xs1 us1 place1 close1 front1 x1 rest1 is1 splits1 still1 fine1 stops1 said1 last1) (stopped a2 c2 zs ws2 place2 close2 front2 rest2 others2 is2 splits2 stops2 inner2 said2) = let same = same_place a place1 place2 is1 is2 in let joins : xs ++ ys ≡ front1 ++ (x1 ∷ (rest1 ++ ys)) = ap (λ n. n ++ ys) splits1 ∙ append_assoc front1 (x1 ∷ rest1) ys in
+front_law a b c xs ys us ws (failed a1 b1 xs1 us1 place1 close1 front1 x1 rest1 is1 splits1 still1 fine1 stops1 said1 last1) (stopped a2 c2 zs ws2 place2 close2 front2 rest2 others2 is2 splits2 stops2 inner2 said2) =
+    let same = same_place a place1 place2 is1 is2 in
+    let joins : xs ++ ys ≡ front1 ++ (x1 ∷ (rest1 ++ ys)) = ap (λ n. n ++ ys) splits1 ∙ append_assoc front1 (x1 ∷ rest1) ys in
     absurd (not_both place1 front2 rest2 front1 (rest1 ++ ys) x1 (sym splits2 ∙ joins) (at_place place1 place2 front2 Ended same stops2) still1 fine1 stops1)
-front_law a b c xs ys us ws (failed a1 b1 xs1 us1 place1 close1 front1 x1 rest1 is1 splits1 still1 fine1 stops1 said1 last1) (failed a2 c2 zs ws2 place2 close2 front2 x2 rest2 is2 splits2 still2 fine2 stops2 said2 last2) = let same = same_place a place1 place2 is1 is2 in let joins : xs ++ ys ≡ front1 ++ (x1 ∷ (rest1 ++ ys)) = ap (λ n. n ++ ys) splits1 ∙ append_assoc front1 (x1 ∷ rest1) ys in
+front_law a b c xs ys us ws (failed a1 b1 xs1 us1 place1 close1 front1 x1 rest1 is1 splits1 still1 fine1 stops1 said1 last1) (failed a2 c2 zs ws2 place2 close2 front2 x2 rest2 is2 splits2 still2 fine2 stops2 said2 last2) =
+    let same = same_place a place1 place2 is1 is2 in
+    let joins : xs ++ ys ≡ front1 ++ (x1 ∷ (rest1 ++ ys)) = ap (λ n. n ++ ys) splits1 ∙ append_assoc front1 (x1 ∷ rest1) ys in
     let l = longer place1 front1 (x1 ∷ (rest1 ++ ys)) front2 rest2 x2 (sym joins ∙ splits2) (ap (λ (n : Place). next_place (place_after n front2) x2) (sym same) ∙ stops2) fine1 in
     let m = longer place1 front2 (x2 ∷ rest2) front1 (rest1 ++ ys) x1 (sym splits2 ∙ joins) stops1 (λ h. fine2 (ap (λ (n : Place). place_after n front2) same ∙ h)) in
     let one : front2 ≡ front1 = both_longer front1 front2 l.0 m.0 l.1 m.1 in

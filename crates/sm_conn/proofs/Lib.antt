@@ -1,4 +1,3 @@
 pub mod PartsLaw
 pub mod ActLaw
 pub mod FrontLaw
-pub mod WireLaw

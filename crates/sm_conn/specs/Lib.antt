@@ -1,4 +1,3 @@
 pub mod Parts
 pub mod Live
 pub mod Stands
-pub mod Wire

@@ -46,7 +46,7 @@ fn told(rt: &HostRuntime, bytes: &[u8], cut: usize) -> Result<String, Fail> {
 
 #[test]
 fn parts_are_those_of_the_joined_bytes(rt: HostRuntime) -> Result<(), Fail> {
-    let rows: [(&[u8], &str); 12] = [
+    let rows: [(&[u8], &str); 13] = [
         (
             b"GET /a.isml/Manifest HTTP/1.1\r\n\r\nGET /a.isml/QualityLevels(1)/Fragments(v=0) HTTP/1.1\n\n",
             "(get manifest)(get fragment)",
@@ -86,6 +86,11 @@ fn parts_are_those_of_the_joined_bytes(rt: HostRuntime) -> Result<(), Fail> {
         (
             b"POST /a.isml/Streams(a) HTTP/1.1\r\n\r\n",
             "(46 LengthRequired)",
+        ),
+        (
+            b"GET /a.isml/Manifest HTTP/1.1\r\n\r\nPOST /a.isml/Streams(a) HTTP/1.1\nExpect: 100-continue\nTransfer-Encoding: chunked\n\n\
+            a;x=\"\"\r\n0123456789\r\n00\r\n\r\n\r\nGET /a.isml/Manifest HTTP/1.1\r\nConnection: close\r\n\r\nGET /x HTTP/1.1\r\n\r\n",
+            "(get manifest)(continue)(post)0123456789(end)(get manifest close)",
         ),
         (b"GET /x HTTP/3\r\nrest", "(40 BadHead)"),
         (b"GET /x HTTP/1.1\r\n", ""),

@@ -63,7 +63,10 @@ spans_answer bytes end headers spans at (Err (fault.Refused cause)) is = inl (sp
 spans_answer bytes end headers spans at (Err fault.NoMemory) any = any
 
 pub window_is : (bytes : List ℕ) (end : ℕ) → end ≡ min (length bytes) 8192 → take end bytes ≡ window bytes
-window_is bytes end is = ⊎_elim (λ (small : length bytes < 8192). take_all end bytes (omega arith) ∙ sym (take_all 8192 bytes (omega arith))) (λ (big : 8192 ≤ length bytes). let e : end ≡ 8192 = omega arith in ap (λ n. take n bytes) e) (cases_lt (length bytes) 8192)
+window_is bytes end is = ⊎_elim
+    (λ (small : length bytes < 8192). take_all end bytes (omega arith) ∙ sym (take_all 8192 bytes (omega arith)))
+    (λ (big : 8192 ≤ length bytes). let e : end ≡ 8192 = omega arith in ap (λ n. take n bytes) e)
+    (cases_lt (length bytes) 8192)
 
 pub refused_bad : (bytes : List ℕ) (end : ℕ) → end ≡ min (length bytes) 8192 → IsHopeless (take end bytes) → IsRefused bytes BadHead
 refused_bad bytes end is h = inr (inl (refl, subst IsHopeless (window_is bytes end is) h))

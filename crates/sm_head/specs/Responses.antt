@@ -65,3 +65,11 @@ IsRespAnswer bytes (Ok Partial) = IsUnfinished bytes
 IsRespAnswer bytes (Err fault.Bad) =
     ((len : ℕ) × (status : ℕ) × IsReplyAt bytes len status None) ⊎ (HasNoResponse (window bytes) × (IsUnfinished bytes → ⊥))
 IsRespAnswer bytes (Err fault.NoMemory) = ⊤
+
+-- the answer is this one, or that memory ran out
+abbrev pub IsButForMemory : Result RespHead RespFault → Result RespHead RespFault → Type 0
+IsButForMemory answer wanted = (answer ≡ wanted) ⊎ (answer ≡ Err fault.NoMemory)
+
+-- how the body of a written reply is framed: below a status of 200 it has none
+abbrev pub written_framing : ℕ → ℕ → Framing
+written_framing status count = if nat_lt status 200 then framing.None else framing.Counted count

@@ -96,7 +96,8 @@ fn requests_are_judged(rt: HostRuntime) -> Result<(), Fail> {
             "post 84 streams Chunked close",
         ),
         (
-            b"POST /live.isml/Streams(a) HTTP/1.1\r\nTransfer-Encoding: chunked\r\nUser-Agent: Lavf/59.27.100\r\nAccept: */*\r\nConnection: close\r\nHost: 127.0.0.1:18821\r\nIcy-MetaData: 1\r\n\r\n",
+            b"POST /live.isml/Streams(a) HTTP/1.1\r\nTransfer-Encoding: chunked\r\nUser-Agent: Lavf/59.27.100\r\n\
+            Accept: */*\r\nConnection: close\r\nHost: 127.0.0.1:18821\r\nIcy-MetaData: 1\r\n\r\n",
             "post 167 streams Chunked close",
         ),
         (b"PUT /live.isml/Manifest HTTP/1.1\r\n\r\n", "43 Method"),
@@ -255,6 +256,50 @@ fn replies_are_read(rt: HostRuntime) -> Result<(), Fail> {
     let partial: [&[u8]; 3] = [b"", b"HTT", b"HTTP/1.1 200 OK\r\nContent-Length: 1\r\n"];
     for bytes in partial {
         assert_eq!(rt; read_response(rt.alloc(), bytes), Ok(RespHead::Partial));
+    }
+    Ok(())
+}
+
+// The head of a reply with so many fields, at least two, of which the last has a value of so many bytes.
+fn long_reply(rt: &HostRuntime, fields: usize, value: usize) -> Result<Vec<u8>, Fail> {
+    let mut bytes = b"HTTP/1.1 200 OK\r\nContent-Length: 0\r\n"
+        .as_slice()
+        .to_vec(rt.alloc())?;
+    for _ in 2..fields {
+        bytes.extend_from_slice(b"A:\r\n")?;
+    }
+    bytes.extend_from_slice(b"A:")?;
+    for _ in 0..value {
+        bytes.push(b'x')?;
+    }
+    bytes.extend_from_slice(b"\r\n\r\n")?;
+    Ok(bytes)
+}
+
+#[test]
+fn heads_of_replies_have_limits(rt: HostRuntime) -> Result<(), Fail> {
+    let whole = |length: u64| Ok(RespHead::Whole {
+        length,
+        status: 200,
+        framing: Framing::Counted(0),
+    });
+    let rows = [
+        (64, 0, 10000, whole(290)),
+        (65, 0, 10000, Err(RespFault::Bad)),
+        (2, 8150, 10000, whole(8192)),
+        (2, 8151, 10000, Err(RespFault::Bad)),
+        (2, 8150, 8191, Ok(RespHead::Partial)),
+        (2, 8151, 8191, Ok(RespHead::Partial)),
+        (2, 8151, 8192, Err(RespFault::Bad)),
+    ];
+    for (fields, value, cut, wanted) in rows {
+        let bytes = long_reply(&rt, fields, value)?;
+        let front = &bytes.as_slice()[..bytes.len().min(cut)];
+        assert_eq!(rt;
+            read_response(rt.alloc(), front),
+            wanted,
+            "{fields} {value} {cut}"
+        );
     }
     Ok(())
 }

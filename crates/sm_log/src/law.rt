@@ -27,9 +27,10 @@ pub fn listed_times_stay()
         → entry_at start (listed_in (log ++ more) stream) ≡ Some duration }
     ensures kept { (log more : List Entry) (address : Address) (place : ℕ) (f : Fragment) → kept_at log address ≡ Some (place, f)
         → kept_at (log ++ more) address ≡ Some (place, f) }
-    ensures adds { (channel : List Track) (adds more : List Add) (stream : List ℕ) (start duration : ℕ) → entry_at start (listed channel adds stream) ≡ Some duration
-        → entry_at start (listed channel (adds ++ more) stream) ≡ Some duration }
-    ensures places { (adds more : List Add) (address : Address) (place : ℕ) → place_of address adds ≡ Some place → place_of address (adds ++ more) ≡ Some place }
+    ensures adds { (channel : List Track) (adds more : List Add) (stream : List ℕ) (start duration : ℕ)
+        → entry_at start (listed channel adds stream) ≡ Some duration → entry_at start (listed channel (adds ++ more) stream) ≡ Some duration }
+    ensures places { (adds more : List Add) (address : Address) (place : ℕ) → place_of address adds ≡ Some place
+        → place_of address (adds ++ more) ≡ Some place }
 {}
 
 /// A log that was sound while each new time had to start at or behind the last end is sound.
@@ -45,7 +46,8 @@ pub fn sound_logs_grow()
 
 /// What is kept at an address is what was added there; and in a sound log each fragment is the one that is kept at its address.
 pub fn kept_is_added()
-    ensures place { (log : List Entry) (address : Address) → place_of address (adds_of log) ≡ option_map (λ (k : ℕ × Fragment). k.0) (kept_at log address) }
+    ensures place { (log : List Entry) (address : Address)
+        → place_of address (adds_of log) ≡ option_map (λ (k : ℕ × Fragment). k.0) (kept_at log address) }
     ensures one { (front back : List Entry) (f : Fragment) → IsSound (front ++ Keep f ∷ back)
         → kept_at (front ++ Keep f ∷ back) (address_of f) ≡ Some (length front, f) }
 {}

@@ -3,7 +3,8 @@ use Rattle.std.specs.Prelude.{ℕ, zero, suc, ◌+◌, ◌-◌, ◌*◌, ◌==�
 use Rattle.std.specs.Prelude.{◌∷◌, ◌++◌, Option, option_map, Some, None, is_some, Result, Ok, Err, nat_lt, nat_le, if◌then◌else◌, unwrap_or}
 use Rattle.sm_manin.specs.declared.raw.RawTime.{RawTime}
 use Rattle.sm_model.specs.Digits.{number_of}
-use Rattle.sm_manin.specs.Values.{wide_number_of, wide_in}
+use Rattle.sm_model.specs.Digits.{wide_number_of}
+use Rattle.sm_manin.specs.Values.{wide_in}
 
 -- where it starts: as it says, else where the run before it ended
 abbrev pub start_in : ℕ → Option (List ℕ) → Option ℕ

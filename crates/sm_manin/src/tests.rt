@@ -11,28 +11,41 @@ const VIDEO: &[u8] =
 
 const CLOSE: &[u8] = b"</StreamIndex></SmoothStreamingMedia>";
 
-const M1: &[u8] = b"<?xml version=\"1.0\" encoding=\"utf-8\"?>
-<SmoothStreamingMedia MajorVersion=\"2\" MinorVersion=\"2\" TimeScale=\"10000000\" Duration=\"0\" IsLive=\"TRUE\" LookAheadFragmentCount=\"2\" DVRWindowLength=\"0\">
-<StreamIndex Type=\"video\" Name=\"video\" TimeScale=\"10000000\" Chunks=\"1\" QualityLevels=\"2\" Url=\"QualityLevels({bitrate})/Fragments(video={start time})\">
-<QualityLevel Index=\"0\" Bitrate=\"350000\" FourCC=\"H264\" CodecPrivateData=\"000000016742\" MaxWidth=\"640\" MaxHeight=\"360\"/>
-<QualityLevel Index=\"1\" Bitrate=\"700000\" FourCC=\"H264\" CodecPrivateData=\"000000016742\" MaxWidth=\"1280\" MaxHeight=\"720\"/>
-<c t=\"0\" d=\"20000000\"/>
-</StreamIndex>
-<StreamIndex Type=\"audio\" Name=\"audio\" TimeScale=\"10000000\" Chunks=\"1\" QualityLevels=\"1\" Url=\"QualityLevels({bitrate})/Fragments(audio={start time})\">
-<QualityLevel Index=\"0\" Bitrate=\"64000\" FourCC=\"AACL\" CodecPrivateData=\"1210\" AudioTag=\"255\" Channels=\"2\" SamplingRate=\"44100\" BitsPerSample=\"16\" PacketSize=\"4\"/>
-<c t=\"0\" d=\"20000000\"/>
-</StreamIndex>
-</SmoothStreamingMedia>
-";
+const M1: &[u8] = b"<?xml version=\"1.0\" encoding=\"utf-8\"?>\n\
+<SmoothStreamingMedia MajorVersion=\"2\" MinorVersion=\"2\" TimeScale=\"10000000\" Duration=\"0\" IsLive=\"TRUE\" \
+LookAheadFragmentCount=\"2\" DVRWindowLength=\"0\">\n\
+<StreamIndex Type=\"video\" Name=\"video\" TimeScale=\"10000000\" Chunks=\"1\" QualityLevels=\"2\" \
+Url=\"QualityLevels({bitrate})/Fragments(video={start time})\">\n\
+<QualityLevel Index=\"0\" Bitrate=\"350000\" FourCC=\"H264\" CodecPrivateData=\"000000016742\" \
+MaxWidth=\"640\" MaxHeight=\"360\"/>\n\
+<QualityLevel Index=\"1\" Bitrate=\"700000\" FourCC=\"H264\" CodecPrivateData=\"000000016742\" \
+MaxWidth=\"1280\" MaxHeight=\"720\"/>\n\
+<c t=\"0\" d=\"20000000\"/>\n\
+</StreamIndex>\n\
+<StreamIndex Type=\"audio\" Name=\"audio\" TimeScale=\"10000000\" Chunks=\"1\" QualityLevels=\"1\" \
+Url=\"QualityLevels({bitrate})/Fragments(audio={start time})\">\n\
+<QualityLevel Index=\"0\" Bitrate=\"64000\" FourCC=\"AACL\" CodecPrivateData=\"1210\" AudioTag=\"255\" Channels=\"2\" \
+SamplingRate=\"44100\" BitsPerSample=\"16\" PacketSize=\"4\"/>\n\
+<c t=\"0\" d=\"20000000\"/>\n\
+</StreamIndex>\n\
+</SmoothStreamingMedia>\n";
+
+// Where its minor version stands.
+const MINOR: usize = 92;
 
 // Elements `c` of one stream, and the place of the one at fault.
-const BAD_TIMES: [(&[u8], u64, &str); 14] = [
+const BAD_TIMES: [(&[u8], u64, &str); 15] = [
     (b"<c d=\"1\" r=\"0\"/>", 166, "a count of 0"),
     (b"<c d=\"1\" r=\"262145\"/>", 166, "a count of 262,145"),
     (
         b"<c d=\"1\" r=\"262144\"/><c d=\"1\"/>",
         187,
         "262,145 times",
+    ),
+    (
+        b"<c t=\"0\" r=\"2\"/>",
+        166,
+        "two, the last, without a duration",
     ),
     (
         b"<c r=\"2\"/><c t=\"4\" d=\"1\"/>",
@@ -94,7 +107,7 @@ const TIMES: [(&[u8], &[(u64, u64)]); 5] = [
 ];
 
 // Whole texts, and the place of the element at fault.
-const BAD: [(&[u8], u64, &str); 17] = [
+const BAD: [(&[u8], u64, &str); 18] = [
     (b"", 0, "nothing"),
     (b"<a/>", 0, "another element"),
     (b"<SmoothStreamingMedia/>", 0, "no version"),
@@ -154,14 +167,21 @@ const BAD: [(&[u8], u64, &str); 17] = [
         "no bitrate",
     ),
     (
-        b"<SmoothStreamingMedia MajorVersion=\"2\"><StreamIndex Type=\"video\" Url=\"{bitrate}{start time}\"><QualityLevel Bitrate=\"5\"/><QualityLevel Bitrate=\"05\"/>",
+        b"<SmoothStreamingMedia MajorVersion=\"2\"><StreamIndex Type=\"video\" Url=\"{bitrate}{start time}\">\
+        <QualityLevel Bitrate=\"5\"/><QualityLevel Bitrate=\"05\"/>",
         120,
         "a bitrate twice",
     ),
     (
-        b"<SmoothStreamingMedia MajorVersion=\"2\"><StreamIndex Type=\"text\" Url=\"{bitrate}{start time}\"><QualityLevel Bitrate=\"5\"/></StreamIndex><StreamIndex Type=\"text\" Url=\"{bitrate}{start time}\">",
+        b"<SmoothStreamingMedia MajorVersion=\"2\"><StreamIndex Type=\"text\" Url=\"{bitrate}{start time}\">\
+        <QualityLevel Bitrate=\"5\"/></StreamIndex><StreamIndex Type=\"text\" Url=\"{bitrate}{start time}\">",
         133,
         "a name twice",
+    ),
+    (
+        b"<SmoothStreamingMedia MajorVersion=\"2\"><x a></SmoothStreamingMedia>",
+        39,
+        "a bad tag",
     ),
     (
         b"<SmoothStreamingMedia MajorVersion=\"2\"></SmoothStreaming",
@@ -215,15 +235,45 @@ fn times_are_read(rt: HostRuntime) -> Result<(), Fail> {
     Ok(())
 }
 
+// Whether the listing is that of `M1`: two qualities of video, and audio, each with one time.
+fn is_first_listing(listing: &Listing) -> bool {
+    match listing.streams.as_slice() {
+        [video, audio] => {
+            video.kind == Kind::Video
+                && video.name.as_bytes() == b"video".as_slice()
+                && bitrates_are(video, &[350_000, 700_000])
+                && video.times.as_slice() == [(0, 20_000_000)].as_slice()
+                && audio.kind == Kind::Audio
+                && audio.name.as_bytes() == b"audio".as_slice()
+                && bitrates_are(audio, &[64_000])
+                && audio.times.as_slice() == [(0, 20_000_000)].as_slice()
+        }
+        _ => false,
+    }
+}
+
+fn bitrates_are(stream: &StreamListing, bitrates: &[u32]) -> bool {
+    let levels = stream.levels.as_slice();
+    levels.len() == bitrates.len()
+        && levels
+            .iter()
+            .zip(bitrates.iter())
+            .all(|(level, bitrate)| level.bitrate == *bitrate)
+}
+
+// The minor version isn't looked at.
 #[test]
 fn manifests_are_read(rt: HostRuntime) -> Result<(), Fail> {
-    let listing = read_manifest(rt.alloc(), M1)?;
-    assert_eq!(rt; listing.look, 2);
-    assert_eq!(rt; listing.streams.len(), 2);
-    let video = first(&listing)?;
-    assert_eq!(rt; video.kind, Kind::Video);
-    assert_eq!(rt; video.levels.len(), 2);
-    assert_eq!(rt; video.times.as_slice(), [(0, 20_000_000)].as_slice());
+    let alloc = rt.alloc();
+    for minor in [b'2', b'0'] {
+        let mut text = Vec::from_slice(alloc, M1)?;
+        if MINOR < text.len() {
+            text[MINOR] = minor;
+        }
+        let listing = read_manifest(alloc, &text)?;
+        assert_eq!(rt; listing.look, 2);
+        assert!(rt; is_first_listing(&listing));
+    }
     Ok(())
 }
 

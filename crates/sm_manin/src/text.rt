@@ -1,45 +1,9 @@
 //! What the values of attributes say.
-ghost use Rattle.std.specs.Prelude.{◌≡◌, min, option_map};
-ghost use Rattle.std.specs.List.{list_all};
-ghost use Rattle.sm_model.specs.Digits.{is_digit, decimal_from};
-ghost use Rattle.sm_manin.specs.Values.{wide_number_of, wide_in, narrow_in, narrow_or, kind_of, kind_in_type};
+ghost use Rattle.std.specs.Prelude.{◌≡◌, option_map};
+ghost use Rattle.sm_manin.specs.Values.{wide_in, narrow_in, narrow_or, kind_of, kind_in_type};
 ghost use Rattle.sm_manin.specs.Patterns.{begins_with, is_bitrate_field, is_start_field, is_target_byte, pattern_step, is_pattern};
 
-use sm_model::{Bytes, Kind, number_of};
-
-fn are_digits(text: &[u8]) -> bool
-    ensures { result ≡ list_all is_digit text.now }
-{
-    text.iter().all(|c| 48 <= *c && *c <= 57)
-}
-
-// The number that decimal digits write, or 2^64 where it is greater.
-fn wide_up_to(digits: &[u8]) -> u128
-    ensures { result ≡ min (decimal_from 0 digits.now) 18446744073709551616 }
-{
-    let mut number: u128 = 0;
-    for digit in digits {
-        let next = 10 * number + digit.saturating_sub(b'0') as u128;
-        number = next.min(18446744073709551616);
-    }
-    number
-}
-
-/// The number below 2^64 that 1 to 20 digits write.
-#[tactic(auto, unfolding(crate::specs::Values::wide_number_of))]
-pub fn wide_number_of(text: &[u8]) -> Option<u64>
-    ensures { result ≡ wide_number_of text.now }
-{
-    if text.is_empty() || text.len() > 20 || !are_digits(text) {
-        return None;
-    }
-    let number = wide_up_to(text);
-    if number < 18446744073709551616 {
-        Some(number as u64)
-    } else {
-        None
-    }
-}
+use sm_model::{Bytes, Kind, number_of, wide_number_of};
 
 pub fn wide_in(text: &Option<Bytes>) -> Option<u64>
     ensures { result ≡ wide_in text.now }

@@ -6,8 +6,8 @@ ghost use Rattle.sm_manin.specs.RunTimes.{is_before, is_unsettled, unsettled_tim
 
 use crate::note::note;
 use crate::raw::RawTime;
-use crate::text::{wide_in, wide_number_of};
-use sm_model::{Bytes, NoMemory, number_of};
+use crate::text::wide_in;
+use sm_model::{Bytes, NoMemory, number_of, wide_number_of};
 use std::alloc::Global;
 
 fn start_in(end: u64, text: &Option<Bytes>) -> Option<u64>

@@ -7,3 +7,4 @@ pub mod ReadRuns
 pub mod ReadLevels
 pub mod ReadStreams
 pub mod ReadManifest
+pub mod FewestRuns

@@ -10,10 +10,10 @@ use Rattle.std.proofs.lemmas.Str.Parse.{numerals_by_fold, IsNumeralModel}
 use Rattle.percent_encoding.specs.Percent.{percent_encode_byte}
 use Rattle.sm_model.specs.declared.track.Kind.{Kind}
 use Rattle.sm_model.specs.declared.track.Kind.TheVariants as kind
-use Rattle.sm_model.specs.Digits.{is_digit, decimal_from}
+use Rattle.sm_model.specs.Digits.{is_digit, decimal_from, is_wide_number, wide_number_of}
 use Rattle.sm_model.specs.LiveTracks.{kind_name}
 use Rattle.sm_model.specs.TagText as tag
-use Rattle.sm_manin.specs.Values.{wide_number_of, kind_of}
+use Rattle.sm_manin.specs.Values.{kind_of}
 use Rattle.sm_manin.specs.Patterns.{is_target_byte, pattern_from, is_pattern}
 use Rattle.sm_manout.specs.ManifestText.{is_plain, escaped, url}
 use Rattle.sm_tag.proofs.WrittenTags.{not_of}
@@ -36,7 +36,7 @@ pub wide_plain : (n : ℕ) → n < 2 ^ 64 → list_all tag.is_plain (decimal n) 
 wide_plain n lt = digits_plain (decimal n) (digits_decimal own n lt)
 
 pub wide_again : (n : ℕ) → n < 2 ^ 64 → wide_number_of (decimal n) ≡ Some n
-unfolding wide_number_of
+unfolding wide_number_of is_wide_number
 wide_again n lt =
     let some : ltb 0 (length (decimal n)) ≡ true = lt-ltb 0 (length (decimal n)) (decimal_nonempty n lt) in
     let few : leb (length (decimal n)) 20 ≡ true = le-leb (length (decimal n)) 20 (length-decimal-le 20 n (omega arith) (omega arith) (omega arith)) in

@@ -4,12 +4,17 @@ ghost use Rattle.sm_model.specs.declared.track.Track.{Track};
 ghost use Rattle.sm_model.specs.Channels.{IsChannel, IsNarrowTrack};
 ghost use Rattle.sm_log.specs.Times.{AreTimes};
 ghost use Rattle.sm_manin.specs.ManifestRead.{IsManifest};
-ghost use Rattle.sm_manout.specs.ManifestText.{runs, run_times, manifest};
+ghost use Rattle.sm_manout.specs.ManifestText.{TimeRun, runs, run_times, manifest};
 ghost use Rattle.sm_manout.specs.ReadAgain.{listing_again};
 
 /// The runs that times are cut into stand for these times.
 pub fn runs_stand_for_their_times()
     ensures { (times : List (ℕ × ℕ)) → run_times (runs times) ≡ times }
+{}
+
+/// They are the fewest: no list of runs that stands for the same times is shorter.
+pub fn runs_are_the_fewest()
+    ensures { (times : List (ℕ × ℕ)) (others : List TimeRun) → run_times others ≡ times → length (runs times) ≤ length others }
 {}
 
 /// The manifest of a valid channel is read as its streams, with their qualities and times, where no stream has more than

@@ -7,7 +7,8 @@ use std::test::Fail;
 const SECOND: u64 = 10_000_000;
 
 const HEAD: &[u8] = b"<?xml version=\"1.0\" encoding=\"utf-8\"?>
-<SmoothStreamingMedia MajorVersion=\"2\" MinorVersion=\"2\" TimeScale=\"10000000\" Duration=\"0\" IsLive=\"TRUE\" LookAheadFragmentCount=\"2\" DVRWindowLength=\"0\">
+<SmoothStreamingMedia MajorVersion=\"2\" MinorVersion=\"2\" TimeScale=\"10000000\" Duration=\"0\" IsLive=\"TRUE\" \
+LookAheadFragmentCount=\"2\" DVRWindowLength=\"0\">
 ";
 
 const VIDEO: &[u8] =
@@ -18,7 +19,8 @@ const VIDEO: &[u8] =
 
 const AUDIO: &[u8] =
     b"QualityLevels=\"1\" Url=\"QualityLevels({bitrate})/Fragments(audio%20%C3%A9={start time})\">
-<QualityLevel Index=\"0\" Bitrate=\"64000\" CodecPrivateData=\"1210\" AudioTag=\"255\" Channels=\"2\" SamplingRate=\"44100\" BitsPerSample=\"16\" PacketSize=\"4\"/>
+<QualityLevel Index=\"0\" Bitrate=\"64000\" CodecPrivateData=\"1210\" AudioTag=\"255\" Channels=\"2\" \
+SamplingRate=\"44100\" BitsPerSample=\"16\" PacketSize=\"4\"/>
 ";
 
 // What stands before the number of times of a stream.
@@ -86,14 +88,20 @@ fn empty(alloc: Global) -> Result<Catalog, Fail> {
     Ok(Catalog::new(alloc, channel)?)
 }
 
-// Keeps both qualities of the video.
+const TRACKS: [(&[u8], u32); 3] = [
+    (b"video", 350_000),
+    (b"audio \xc3\xa9", 64_000),
+    (b"video", 700_000),
+];
+
+// Keeps all three tracks there.
 fn keep(alloc: Global, catalog: &mut Catalog, time: u64, duration: u64) -> Result<(), Fail> {
     if duration == 0 || duration > 1 << 62 || time >= 1 << 62 {
         return Err("no span".into());
     }
-    for bitrate in [350_000, 700_000] {
+    for (stream, bitrate) in TRACKS {
         let at = Address {
-            stream: Name::read(alloc, b"video")?,
+            stream: Name::read(alloc, stream)?,
             bitrate,
             time,
         };
@@ -110,11 +118,16 @@ fn keep(alloc: Global, catalog: &mut Catalog, time: u64, duration: u64) -> Resul
 fn manifests_have_a_line_for_each_run(rt: HostRuntime) -> Result<(), Fail> {
     let alloc = rt.alloc();
     let two = 2 * SECOND;
-    let table: [(&[(u64, u64)], &[u8], &[u8]); 4] = [
+    let table: [(&[(u64, u64)], &[u8], &[u8]); 5] = [
         (&[], b"0", b""),
         (&[(0, two)], b"1", b"<c t=\"0\" d=\"20000000\"/>\n"),
         (
             &[(0, two), (two, two), (2 * two, two)],
+            b"3",
+            b"<c t=\"0\" d=\"20000000\" r=\"3\"/>\n",
+        ),
+        (
+            &[(0, two), (2 * two, two), (two, two)],
             b"3",
             b"<c t=\"0\" d=\"20000000\" r=\"3\"/>\n",
         ),
@@ -139,8 +152,10 @@ fn manifests_have_a_line_for_each_run(rt: HostRuntime) -> Result<(), Fail> {
             lines,
             b"</StreamIndex>\n",
             AUDIO_NAME,
-            b"0\" ",
+            chunks,
+            b"\" ",
             AUDIO,
+            lines,
             b"</StreamIndex>\n</SmoothStreamingMedia>\n",
         ] {
             wanted.extend_from_slice(piece)?;

@@ -1,10 +1,10 @@
 -- A text of boxes, one box at a time.
-use Rattle.std.proofs.Common.{◌≡◌, ◌≤◌, ◌<◌, ℕ, zero, suc, Bool, true, false, cond, eqb, leb, ◌&&◌, List, [], ◌∷◌, ◌++◌, length, drop, Option, Some, None, refl, sym, ap, subst, ◌∙◌, append_assoc, arith}
+use Rattle.std.proofs.Common.{◌≡◌, ◌≤◌, ◌<◌, ℕ, zero, suc, Bool, true, false, cond, eqb, leb, ◌&&◌, List, [], ◌∷◌, ◌++◌, length, drop, Option, Some, None, refl, sym, ap, append_assoc, arith}
 use Rattle.std.specs.Option.{option_map}
 use Rattle.std.proofs.lemmas.Bool.{and_parts, and_from, leb-true, le-leb}
 use Rattle.std.proofs.lemmas.List.{length-drop}
 use Rattle.sm_model.specs.Numbers.{number32_at}
-use Rattle.sm_model.specs.Boxes.{Box, head_len, box_len, box_of, starts_whole, boxes_in, boxes, IsBoxes}
+use Rattle.sm_model.specs.Boxes.{Box, head_len, box_len, box_of, starts_whole, boxes_in, boxes}
 
 pub long_head : (b : List ℕ) → 8 ≤ head_len b
 unfolding head_len
@@ -80,44 +80,6 @@ goes_on front b w = rw (boxes-whole b w) (front_more front (box_of b) (boxes (dr
 pub head_below : (b : List ℕ) → starts_whole b ≡ true → head_len b ≤ box_len b
 head_below b w = (lengths b w).head
 
--- the boxes that the function gives are those of the relation
-
 pub size_of : (b : List ℕ) → (box_of b).size ≡ box_len b
 unfolding box_of
 size_of b = refl
-
-pub boxes_from : (b : List ℕ) (xs : List Box) → IsBoxes b xs → boxes b ≡ Some xs
-boxes_from b [] e = ap boxes e ∙ boxes-nil
-boxes_from b (x ∷ xs) h =
-    let n : x.size ≡ box_len b = ap (λ (y : Box). y.size) h.1 ∙ size_of b in
-    let r : boxes (drop (box_len b) b) ≡ Some xs = ap (λ (k : ℕ). boxes (drop k b)) (sym n) ∙ boxes_from (drop x.size b) xs h.2 in
-    boxes-whole b h.0 ∙ ap (option_map (λ (ys : List Box). box_of b ∷ ys)) r ∙ ap (λ (y : Box). Some (y ∷ xs)) (sym h.1)
-
-abbrev nothing : Option (List Box)
-nothing = None
-
-abbrev just : List Box → Option (List Box)
-just xs = Some xs
-
-no_none : (xs : List Box) → nothing ≡ just xs → ⊥
-no_none xs e = cc
-
-some_is : (xs ys : List Box) → just xs ≡ just ys → xs ≡ ys
-some_is xs ys e = cc
-
-to_more : (b : List ℕ) (t : Bool) (o : Option (List Box)) (xs : List Box) → starts_whole b ≡ t
-    → cond t (option_map (λ ys. box_of b ∷ ys) o) None ≡ Some xs → ((ys : List Box) → o ≡ Some ys → IsBoxes (drop (box_len b) b) ys) → IsBoxes b xs
-to_more b false o xs w e k = absurd (no_none xs e)
-to_more b true None xs w e k = absurd (no_none xs e)
-to_more b true (Some ys) xs w e k =
-    subst (IsBoxes b) (some_is (box_of b ∷ ys) xs e) (w, refl, subst (λ (m : ℕ). IsBoxes (drop m b) ys) (sym (size_of b)) (k ys refl))
-
-to : (n : ℕ) (b : List ℕ) (xs : List Box) → boxes_in n b ≡ Some xs → IsBoxes b xs
-unfolding boxes_in
-to n [] xs e = subst (IsBoxes []) (some_is [] xs e) refl
-to zero (c ∷ b) xs e = absurd (no_none xs e)
-to (suc n) (c ∷ b) xs e = to_more (c ∷ b) (starts_whole (c ∷ b)) (boxes_in n (drop (box_len (c ∷ b)) (c ∷ b))) xs refl e (to n (drop (box_len (c ∷ b)) (c ∷ b)))
-
-pub boxes_to : (b : List ℕ) (xs : List Box) → boxes b ≡ Some xs → IsBoxes b xs
-unfolding boxes
-boxes_to b xs e = to (length b) b xs e

@@ -1,5 +1,7 @@
 pub mod NameLemmas
 pub mod BoxLemmas
+pub mod BoxTexts
+pub mod BoxJoins
 pub mod OrderLemmas
 pub mod PassLemmas
 pub mod WrittenBoxes

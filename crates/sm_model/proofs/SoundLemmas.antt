@@ -19,7 +19,7 @@ use Rattle.sm_model.specs.Boxes.{Box, boxes, box_of}
 use Rattle.sm_model.specs.Fragments.{sample_bytes}
 use Rattle.sm_model.specs.Found.{Found, found, bodies}
 use Rattle.sm_model.specs.Fields.{version, rows, rows_at, row_len, row, trun_fits, tfxd_pair, defaults_of}
-use Rattle.sm_model.specs.Frag.{finish, rest_behind, lines_behind, first_cause, Traf, traf_of, moof_lines, run_of, judged_moof, run_in, moof_run, cut, sizes, rest_of, mdat_rest, last_lines, raw_of, last, frag}
+use Rattle.sm_model.specs.Frag.{finish, rest_behind, lines_behind, first_cause, Traf, traf_of, moof_lines, run_of, judged_moof, run_in, moof_run, cut, sizes, rest_of, mdat_rest, raw_of, last, frag}
 use Rattle.sm_model.specs.Steps.{and_then}
 use Rattle.sm_model.specs.Sound.{IsSoundRun, IsSoundFragment, LieInOrder}
 use Rattle.sm_model.proofs.OrderLemmas.{frag_in_two}

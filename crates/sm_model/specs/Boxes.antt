@@ -1,6 +1,9 @@
 -- Boxes (ISO/IEC 14496-12, 4.2): a size, a kind and a body, one after another.
-use Rattle.std.specs.Prelude.{◌≡◌, ℕ, zero, suc, ◌-◌, Bool, true, ◌&&◌, ◌==◌, nat_le, IsTrue, List, [], ◌∷◌, length, take, drop, Option, Some, None, if◌then◌else◌}
+use Rattle.std.specs.Prelude.{◌≡◌, ◌⊎◌, ℕ, zero, suc, ◌+◌, ◌-◌, Bool, true, ◌&&◌, ◌==◌}
+use Rattle.std.specs.Prelude.{nat_le, List, [], ◌∷◌, ◌++◌, length, take, drop, Option, Some, None, if◌then◌else◌}
 use Rattle.std.specs.Option.{option_map}
+use Rattle.std.specs.List.{flat_map, AllZip}
+use Rattle.std.specs.Int.{w32, w64, from_be_bytes}
 use Rattle.sm_model.specs.Numbers.{number32_at, number64_at}
 
 -- A box. The size counts the head; the user type of a `uuid` box is the front of its body.
@@ -29,10 +32,46 @@ box_of b = record {
   body = take (box_len b - head_len b) (drop (head_len b) b);
 }
 
--- these boxes one after another and nothing else; a text whose last box is cut is none of boxes
-abbrev pub IsBoxes : List ℕ → List Box → Type 0
-IsBoxes b [] = b ≡ []
-IsBoxes b (x ∷ xs) = IsTrue (starts_whole b) × (x ≡ box_of b) × IsBoxes (drop x.size b) xs
+-- ---- the text of a box, and texts one behind another
+
+-- these are the four bytes of a number, and these the eight
+abbrev pub Is32 : List ℕ → ℕ → Type 0
+Is32 b n = (length b ≡ 4) × (from_be_bytes w32 b ≡ n)
+
+abbrev pub Is64 : List ℕ → ℕ → Type 0
+Is64 b n = (length b ≡ 8) × (from_be_bytes w64 b ≡ n)
+
+-- a size of 32 bits, four bytes of kind, the body
+pub record IsShortText (text : List ℕ) (x : Box) : Type 0 where
+  pub field : List ℕ
+  pub says : Is32 field x.size
+  pub kind : length x.kind ≡ 4
+  pub head : x.head ≡ 8
+  pub counts : x.size ≡ 8 + length x.body
+  pub joined : text ≡ field ++ (x.kind ++ x.body)
+
+-- a 1 in place of the size, four bytes of kind, a size of 64 bits, the body
+pub record IsLongText (text : List ℕ) (x : Box) : Type 0 where
+  pub field : List ℕ
+  pub marks : Is32 field 1
+  pub wide : List ℕ
+  pub says : Is64 wide x.size
+  pub kind : length x.kind ≡ 4
+  pub head : x.head ≡ 16
+  pub counts : x.size ≡ 16 + length x.body
+  pub joined : text ≡ field ++ (x.kind ++ (wide ++ x.body))
+
+-- the text of a box
+abbrev pub IsBoxText : List ℕ → Box → Type 0
+IsBoxText text x = IsShortText text x ⊎ IsLongText text x
+
+-- the bytes are the texts of these boxes one behind another, and nothing else
+pub record IsBoxes (b : List ℕ) (xs : List Box) : Type 0 where
+  pub texts : List (List ℕ)
+  pub each : AllZip IsBoxText texts xs
+  pub joined : b ≡ flat_map (λ text. text) texts
+
+-- ---- the boxes that are computed
 
 -- the boxes of a text, if it is one of boxes; a text has no more boxes than bytes, so its length bounds the recursion
 unfoldable pub boxes_in : ℕ → List ℕ → Option (List Box)

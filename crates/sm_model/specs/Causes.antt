@@ -1,5 +1,5 @@
 -- How a cause is told.
-use Rattle.std.specs.Prelude.{ℕ, Bool, true, false, List, [], ◌++◌, codes, decimal, if◌then◌else◌}
+use Rattle.std.specs.Prelude.{ℕ, Bool, true, false, List, [], ◌++◌, codes, decimal}
 use Rattle.sm_model.specs.declared.cause.Cause.{Cause}
 use Rattle.sm_model.specs.declared.cause.Cause.TheVariants.{BadBox, BoxTooLarge, OpenEnded, NoHeader, BadLiveManifest, BadMoov, UnknownTrack, NotDeclared}
 use Rattle.sm_model.specs.declared.cause.Cause.TheVariants.{DeclClash, Protected, ManyTracks, ManyRuns, BaseOffset, NoTime, NoDuration, NoSamples}

@@ -18,3 +18,11 @@ is_number b = nat_lt 0 (length b) && (nat_le (length b) 10 && (list_all is_digit
 -- the number of 32 bits that a text is, if it is one
 unfoldable pub number_of : List ℕ → Option ℕ
 number_of b = if is_number b then Some (decimal_from 0 b) else None
+
+-- 1 to 20 digits that write a number below 2^64
+unfoldable pub is_wide_number : List ℕ → Bool
+is_wide_number b = nat_lt 0 (length b) && (nat_le (length b) 20 && (list_all is_digit b && nat_lt (decimal_from 0 b) 18446744073709551616))
+
+-- the number of 64 bits that a text is, if it is one
+unfoldable pub wide_number_of : List ℕ → Option ℕ
+wide_number_of b = if is_wide_number b then Some (decimal_from 0 b) else None

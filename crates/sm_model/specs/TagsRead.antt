@@ -13,7 +13,8 @@ use Rattle.sm_model.specs.TagMarkup.{instruction_at, comment_at, finish_at, star
 use Rattle.sm_model.specs.Tags.{Left, gives, is_last, begin}
 
 -- behind the quote q and the bytes text of a value
-abbrev pub value_by : List ℕ → Result (Bool × List ℕ × List ℕ) Stop → (List ℕ → List ℕ → Result (List ℕ × List ℕ) Stop) → Result (List ℕ × List ℕ) Stop
+abbrev pub value_by : List ℕ → Result (Bool × List ℕ × List ℕ) Stop → (List ℕ → List ℕ → Result (List ℕ × List ℕ) Stop)
+    → Result (List ℕ × List ℕ) Stop
 value_by text (Err e) go = Err e
 value_by text (Ok (false, piece, rest)) go = Ok (text ++ piece, rest)
 value_by text (Ok (true, piece, rest)) go = go (text ++ piece) rest

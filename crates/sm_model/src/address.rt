@@ -6,7 +6,7 @@ use crate::{Fragment, Name, NoMemory};
 use std::alloc::Global;
 
 /// Under which a fragment is kept and asked for: its stream, its bitrate and its start ([MS-SSTR] 2.2.3).
-#[derive(Debug, Drop)]
+#[derive(Debug, PartialEq, Eq, Hash, Drop)]
 pub struct Address {
     /// The name of the stream.
     pub stream: Name,

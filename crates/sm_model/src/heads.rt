@@ -4,6 +4,13 @@ ghost use Rattle.std.specs.Prelude.{◌≡◌, ◌==◌, length};
 use crate::Defaults;
 use std::marker::Model;
 
+/// What holds for the samples of a track without a `trex` (ISO/IEC 14496-12, 8.8.3): all zero.
+pub const NO_DEFAULTS: Defaults = Defaults {
+    duration: 0,
+    size: 0,
+    flags: 0,
+};
+
 /// The head of one track (ISO/IEC 14496-12, 8.3.2, 8.4.2, 8.5.2 and 8.8.3).
 #[derive(Clone, Copy, Debug, PartialEq, Eq)]
 pub struct TrackHead {

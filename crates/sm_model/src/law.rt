@@ -7,7 +7,7 @@ ghost use Rattle.sm_model.specs.declared.run.Run.{Run};
 ghost use Rattle.sm_model.specs.declared.run.RawFragment.{RawFragment};
 ghost use Rattle.sm_model.specs.declared.sample.Sample.{Sample};
 ghost use Rattle.sm_model.specs.declared.fragment.Fragment.{Fragment};
-ghost use Rattle.sm_model.specs.Boxes.{Box, IsBoxes, IsOneBox, boxes, box_of};
+ghost use Rattle.sm_model.specs.Boxes.{Box, IsBoxText, IsBoxes, IsOneBox, boxes, box_of};
 ghost use Rattle.sm_model.specs.Fragments.{IsWide, sample_bytes};
 ghost use Rattle.sm_model.specs.FragText as text;
 ghost use Rattle.sm_model.specs.FragText.{tfxd_type, tfrf_type, moof_len, ahead_len};
@@ -18,10 +18,12 @@ ghost use Rattle.sm_model.specs.Steps.{and_then};
 ghost use Rattle.sm_model.specs.TrackId.{track_id};
 ghost use Rattle.sm_model.specs.Written.{IsWritten, IsUserBox, IsPairsBox, run_again, raw_again};
 
-/// The boxes that are computed from a text are those that stand in it one after another, and none are computed where
-/// the text is none of boxes.
+/// The boxes that are computed from bytes are those whose texts, one behind another, are the bytes; none are computed of bytes
+/// that are no such join.
 pub fn boxes_are()
-    ensures { (b : List ℕ) (xs : List Box) → (boxes b ≡ Some xs) ↔ IsBoxes b xs }
+    ensures all { (b : List ℕ) (xs : List Box) → (boxes b ≡ Some xs) ↔ IsBoxes b xs }
+    // One text is read as the box that it is the text of, and nothing else is one whole box.
+    ensures one { (b : List ℕ) (x : Box) → IsBoxText b x ↔ (IsOneBox b × (box_of b ≡ x)) }
 {}
 
 /// The one list of causes is gone through in two steps: what the `moof` shows alone comes first, and what the `mdat` adds

@@ -1,7 +1,10 @@
-//! Writing a fragment.
-ghost use Rattle.std.specs.Prelude.{◌≡◌, ◌≤◌, ◌<◌, ◌^◌, ◌++◌, length, OnOk, IfOk};
+//! Writing a fragment. Where memory runs out, what stood in front stays.
+#![tactic(auto, using(sm_box::proofs::FrontStays::stays_same, sm_box::proofs::FrontStays::stays_behind))]
+
+ghost use Rattle.std.specs.Prelude.{◌≡◌, ◌≤◌, ◌<◌, ◌^◌, ◌++◌, length, OnOk, OnErr, IfOk};
 ghost use Rattle.sm_model.specs.Numbers.{number32};
 ghost use Rattle.sm_model.specs.Fragments.{sample_bytes, IsValid};
+ghost use Rattle.sm_box.specs.Appended.{StaysInFront};
 ghost use Rattle.sm_model.specs.FragText.{mfhd, moof, mdat, frag_text, moof_len};
 
 use sm_box::{append_head, append_u32};
@@ -10,7 +13,8 @@ use sm_traf::{append_traf, traf_len};
 use std::alloc::Global;
 
 fn append_mfhd(out: &mut Vec<u8>, seq: u32) -> Result<(), NoMemory>
-    ensures { OnOk result (out.new.items ≡ out.old.items ++ mfhd seq) }
+    ensures ok { OnOk result (out.new.items ≡ out.old.items ++ mfhd seq) }
+    ensures err { OnErr result (StaysInFront out.old.items out.new.items) }
 {
     append_head(out, 16, b"mfhd")?;
     append_u32(out, 0)?;
@@ -36,7 +40,8 @@ fn append_moof(
 ) -> Result<(), NoMemory>
     requires valid { IsValid fragment.now }
     requires few { length ahead.now ≤ 255 }
-    ensures { OnOk result (out.new.items ≡ out.old.items ++ moof seq id fragment.now ahead.now) }
+    ensures ok { OnOk result (out.new.items ≡ out.old.items ++ moof seq id fragment.now ahead.now) }
+    ensures err { OnErr result (StaysInFront out.old.items out.new.items) }
 {
     let size = moof_len(fragment.samples.as_slice(), ahead);
     append_head(out, size, b"moof")?;
@@ -59,7 +64,8 @@ fn total_len(samples: &[Sample]) -> u32
 fn append_mdat(out: &mut Vec<u8>, samples: &[Sample], total: u32) -> Result<(), NoMemory>
     requires total { total ≡ sample_bytes samples.now }
     requires short { sample_bytes samples.now ≤ 67108864 }
-    ensures { OnOk result (out.new.items ≡ out.old.items ++ mdat samples.now) }
+    ensures ok { OnOk result (out.new.items ≡ out.old.items ++ mdat samples.now) }
+    ensures err { OnErr result (StaysInFront out.old.items out.new.items) }
 {
     append_head(out, 8 + total, b"mdat")?;
     for sample in samples {

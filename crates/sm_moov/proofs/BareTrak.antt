@@ -15,7 +15,8 @@ use Rattle.sm_model.specs.Fields.{version}
 use Rattle.sm_model.specs.Moov as moov
 use Rattle.sm_model.specs.Moov.{some_body, first_child, number_behind_times, first_entry, no_defaults}
 use Rattle.sm_model.specs.MoovText.{zeros, tkhd, mdhd, sample_type, entry, stsd, stbl, minf, mdia, head}
-use Rattle.sm_model.proofs.WrittenBoxes.{IsText, made, len32, front32, past32, drop_past, one_box, boxes-end, box_is, box_text_len, one_whole}
+use Rattle.sm_model.proofs.BoxTexts.{drop_past}
+use Rattle.sm_model.proofs.WrittenBoxes.{IsText, made, len32, front32, past32, one_box, boxes-end, box_is, box_text_len, one_whole}
 
 pub zeros-len : (n : ℕ) → length (zeros n) ≡ n
 unfolding zeros

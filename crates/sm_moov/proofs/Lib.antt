@@ -7,3 +7,4 @@ pub mod MoovLemmas
 pub mod NumberedLemmas
 pub mod BareTrak
 pub mod BareMoov
+mod PlainLemmas

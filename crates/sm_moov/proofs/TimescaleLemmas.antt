@@ -77,7 +77,8 @@ settled_ticks ts hs found all e = by_test (repeats (map (λ h. h.id) hs)) e
     by_test true e = absurd cc
     by_test false e = let same : map (with_defaults ts) hs ≡ found = cc in subst (AllByRecursion HasTicks) same (map_ticks ts hs all)
 
-by_traks : (ts : List (ℕ × Defaults)) (traks : Option (List TrackHead)) (found : List TrackHead) → ((hs : List TrackHead) → traks ≡ Some hs → AllByRecursion HasTicks hs) → option_and_then (settled ts) traks ≡ Some found → AllByRecursion HasTicks found
+by_traks : (ts : List (ℕ × Defaults)) (traks : Option (List TrackHead)) (found : List TrackHead) → ((hs : List TrackHead) → traks ≡ Some hs → AllByRecursion HasTicks hs)
+    → option_and_then (settled ts) traks ≡ Some found → AllByRecursion HasTicks found
 by_traks ts None found all e = absurd cc
 by_traks ts (Some hs) found all e = settled_ticks ts hs found (all hs refl) e
 

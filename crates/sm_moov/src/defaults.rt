@@ -5,15 +5,9 @@ ghost use Rattle.std.specs.BTreeMap.{get};
 ghost use Rattle.sm_model.specs.Moov.{no_defaults, defaults_for, with_defaults};
 
 use crate::trexes::Trex;
-use sm_model::{Defaults, NoMemory, TrackHead};
+use sm_model::{Defaults, NO_DEFAULTS, NoMemory, TrackHead};
 use std::alloc::Global;
 use std::collections::BTreeMap;
-
-const NO_DEFAULTS: Defaults = Defaults {
-    duration: 0,
-    size: 0,
-    flags: 0,
-};
 
 // The defaults by track_ID. They are put in from the last on, so that the first of a track stays.
 fn by_id(alloc: Global, trexes: &[Trex]) -> Result<BTreeMap<u32, Defaults>, NoMemory>

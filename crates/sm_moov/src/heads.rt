@@ -5,10 +5,9 @@ ghost use Rattle.sm_model.specs.Boxes.{Box, boxes};
 ghost use Rattle.sm_model.specs.Moov.{traks_of};
 
 use crate::gathered::Gathered;
-use crate::kind::is_kind;
 use crate::trak::read_trak;
 use sm_box::{Child, Children};
-use sm_model::{NoMemory, TrackHead};
+use sm_model::{NoMemory, TrackHead, is_same};
 use std::alloc::Global;
 
 // One more child of a moov.
@@ -16,7 +15,7 @@ fn add_child(heads: &mut Gathered<TrackHead>, kind: &[u8; 4], body: &[u8]) -> Re
     ensures { (xs : List Box) (x : Box) → x.kind ≡ kind.now → x.body ≡ body.now
         → heads.old ≡ traks_of xs → OnOk result (heads.new ≡ traks_of (xs ++ x ∷ [])) }
 {
-    if is_kind(kind, b"trak") {
+    if is_same(kind, b"trak") {
         heads.add(read_trak(body))?;
     }
     Ok(())

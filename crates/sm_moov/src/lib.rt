@@ -6,8 +6,8 @@ mod children;
 mod defaults;
 mod gathered;
 mod heads;
-mod kind;
 pub mod law;
+pub mod plain;
 mod read;
 #[cfg(test)]
 mod tests;

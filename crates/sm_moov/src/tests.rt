@@ -1,5 +1,5 @@
 //! The lines of a malformed `moov`, each beside its neighbours, and what a good one says.
-use crate::{MoovFault, put_bare_moov, read_moov};
+use crate::{MoovFault, plain, put_bare_moov, read_moov};
 use sm_model::{Bytes, Cause, Channel, Defaults, Kind, Name, Params, Track, TrackHead};
 use std::test::Fail;
 
@@ -63,11 +63,24 @@ const fn head(
 
 // The head that is said first, or None where the moov is malformed.
 fn first_head(rt: &HostRuntime, body: &[u8]) -> Result<Option<TrackHead>, Fail> {
+    let plain = match plain::moov(rt.alloc(), body)? {
+        Some(heads) => heads.as_slice().first().copied(),
+        None => None,
+    };
     match read_moov(rt.alloc(), body) {
-        Ok(heads) => Ok(heads.as_slice().first().copied()),
-        Err(MoovFault::Refused(Cause::BadMoov)) => Ok(None),
+        Ok(heads) => same(plain, heads.as_slice().first().copied()),
+        Err(MoovFault::Refused(Cause::BadMoov)) => same(plain, None),
         Err(MoovFault::Refused(_)) => Err("another cause".into()),
         Err(MoovFault::NoMemory) => Err("no memory".into()),
+    }
+}
+
+// What the plain program says too.
+fn same(plain: Option<TrackHead>, read: Option<TrackHead>) -> Result<Option<TrackHead>, Fail> {
+    if plain == read {
+        Ok(read)
+    } else {
+        Err("the plain program says otherwise".into())
     }
 }
 

@@ -4,7 +4,7 @@ ghost use Rattle.std.specs.Option.{option_map};
 ghost use Rattle.sm_model.specs.Moov.{tkhd_id, timescale, entry_type, is_encrypted, trak};
 
 use crate::children::{first_child, first_entry, number_behind_times};
-use sm_model::{Defaults, TrackHead};
+use sm_model::{NO_DEFAULTS, TrackHead, is_same};
 
 #[tactic(auto, unfolding(sm_model::specs::Moov::tkhd_id))]
 fn track_id(trak: &[u8]) -> Option<u32>
@@ -34,7 +34,7 @@ fn entry_type(mdia: &[u8]) -> Option<&[u8]>
 fn is_encrypted(kind: &[u8]) -> bool
     ensures { result ≡ is_encrypted kind.now }
 {
-    kind == b"encv".as_slice() || kind == b"enca".as_slice()
+    is_same(kind, b"encv") || is_same(kind, b"enca")
 }
 
 /// The head of a track, with zero defaults.
@@ -50,10 +50,6 @@ pub fn read_trak(body: &[u8]) -> Option<TrackHead>
         id,
         timescale,
         protected: is_encrypted(kind),
-        defaults: Defaults {
-            duration: 0,
-            size: 0,
-            flags: 0,
-        },
+        defaults: NO_DEFAULTS,
     })
 }

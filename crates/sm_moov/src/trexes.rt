@@ -6,16 +6,16 @@ ghost use Rattle.sm_model.specs.Boxes.{Box, boxes};
 ghost use Rattle.sm_model.specs.Moov.{joined, trex, trexes_in, mvex, trexes_of};
 
 use crate::gathered::Gathered;
-use crate::kind::is_kind;
 use sm_box::{Child, Children, u32_at};
-use sm_model::{Defaults, NoMemory};
+use sm_model::{Defaults, NoMemory, is_same};
 use std::alloc::Global;
 
 /// A track_ID, and what holds for that track.
 pub type Trex = (u32, Defaults);
 
+/// What a `trex` says, where it is long enough.
 #[tactic(auto, unfolding(sm_model::specs::Moov::trex))]
-fn read_trex(body: &[u8]) -> Option<Trex>
+pub fn read_trex(body: &[u8]) -> Option<Trex>
     ensures { result ≡ trex body.now }
 {
     if body.len() < 24 {
@@ -34,7 +34,7 @@ fn add_trex(trexes: &mut Gathered<Trex>, kind: &[u8; 4], body: &[u8]) -> Result<
     ensures { (before : Option (List (ℕ × DefaultsValue))) (xs : List Box) (x : Box) → x.kind ≡ kind.now → x.body ≡ body.now
         → trexes.old ≡ joined before (trexes_in xs) → OnOk result (trexes.new ≡ joined before (trexes_in (xs ++ x ∷ []))) }
 {
-    if is_kind(kind, b"trex") {
+    if is_same(kind, b"trex") {
         trexes.add(read_trex(body))?;
     }
     Ok(())
@@ -68,7 +68,7 @@ fn add_child(trexes: &mut Gathered<Trex>, kind: &[u8; 4], body: &[u8]) -> Result
     ensures { (xs : List Box) (x : Box) → x.kind ≡ kind.now → x.body ≡ body.now
         → trexes.old ≡ trexes_of xs → OnOk result (trexes.new ≡ trexes_of (xs ++ x ∷ [])) }
 {
-    if is_kind(kind, b"mvex") {
+    if is_same(kind, b"mvex") {
         add_mvex(trexes, body)?;
     }
     Ok(())

@@ -12,3 +12,7 @@ pub mod Limits
 pub mod Valid
 mod MoofLemmas
 pub mod WrittenHeader
+pub mod RuleHeads
+pub mod RuleSteps
+pub mod RuleBodies
+pub mod Joined

@@ -17,7 +17,7 @@ use Rattle.sm_box.specs.declared.head.Head.{Head}
 use Rattle.sm_box.specs.declared.head.Head.TheVariants as heads
 use Rattle.sm_push.specs.declared.kept.Kept.{Kept}
 use Rattle.sm_push.specs.Heads.{by_head, IsOpen}
-use Rattle.sm_push.specs.Held.{most_of, box_bytes, gathered_bytes, kept_bytes}
+use Rattle.sm_push.specs.Held.{most_of, box_bytes, gathered_bytes, kept_bytes, lacking}
 use Rattle.sm_push.specs.Steps.{IsBoxIn, AreNotBoth, AreGathered}
 use Rattle.sm_push.specs.Standing.{IsPartial}
 use Rattle.sm_push.proofs.HeadLemmas.{decision_is}
@@ -125,3 +125,20 @@ gathered_short (Complete tracks) h = omega arith
 pub held_is_little : (k : Kept) → IsPartial k → kept_bytes k < 68157456
 held_is_little k p =
     omega (arith, begun_at k.state k.held (decision k.state k.held) refl p.due, gathered_short k.state.stage p.boxes.stage)
+
+lacking_at : (s : PushState) (b : List ℕ) (d : BoxDecision) → decision s b ≡ d → lacking (length b) d ≤ 67108880
+lacking_at s b Wait e = omega arith
+lacking_at s b (Refuse cause) e = omega arith
+lacking_at s b (Pass size) e = omega arith
+lacking_at s b (Take sort size) e = omega (arith, take_limited s b sort size e, most_le sort)
+
+-- what is missing of a box that is read
+pub little_is_lacking : (s : PushState) (b : List ℕ) → lacking (length b) (decision s b) ≤ 67108880
+little_is_lacking s b = lacking_at s b (decision s b) refl
+
+-- nothing is missing of a box that is not read
+pub nothing_lacks : (held : ℕ) (d : BoxDecision) → ((sort : TopBox) (size : ℕ) → d ≡ Take sort size → ⊥) → lacking held d ≡ 0
+nothing_lacks held Wait other = refl
+nothing_lacks held (Refuse cause) other = refl
+nothing_lacks held (Pass size) other = refl
+nothing_lacks held (Take sort size) other = absurd (other sort size refl)

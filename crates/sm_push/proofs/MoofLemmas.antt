@@ -3,7 +3,6 @@ use Rattle.std.proofs.Common.{◌≡◌, ℕ, List, Option, Some, None, Result, 
 use Rattle.sm_model.specs.declared.cause.Cause.{Cause}
 use Rattle.sm_model.specs.declared.cause.Cause.TheVariants.{UnknownTrack}
 use Rattle.sm_model.specs.declared.header.HeaderTrack.{HeaderTrack}
-use Rattle.sm_model.specs.declared.push.HeaderStage.{HeaderStage}
 use Rattle.sm_model.specs.declared.push.PushState.{PushState}
 use Rattle.sm_model.specs.declared.run.Defaults.{Defaults}
 use Rattle.sm_model.specs.declared.run.Run.{Run}

@@ -1,9 +1,9 @@
 -- Bytes are boxes and a rest, and a text of boxes is its boxes alone.
 use Rattle.std.proofs.Common.{◌≡◌, ℕ, zero, suc, ◌≤◌, Bool, true, false, List, [], ◌∷◌, ◌++◌, length, take, drop, map, refl, sym, ap, subst, ◌∙◌, arith}
-use Rattle.std.specs.List.{AllByRecursion}
-use Rattle.std.proofs.Math.Seq.{drop-append_seam}
+use Rattle.std.specs.Prelude.{◌↔◌}
+use Rattle.std.specs.List.{AllByRecursion, AllZip}
 use Rattle.std.proofs.lemmas.List.{append_assoc, append-nil, take-append-drop, length-take, length-drop}
-use Rattle.sm_model.specs.Boxes.{Box, IsBoxes, IsOneBox, starts_whole, box_len, box_of}
+use Rattle.sm_model.specs.Boxes.{Box, IsBoxText, IsBoxes, IsOneBox, starts_whole, box_len, box_of}
 use Rattle.sm_model.proofs.BoxLemmas.{lengths, long_box, long_text, size_of}
 use Rattle.sm_push.specs.Boxes.{bytes_of, Splits}
 use Rattle.sm_push.proofs.Fronts.{one_box}
@@ -43,40 +43,33 @@ split_all reads b = split_at reads (length b) b (omega arith) (starts_whole b) r
 
 -- ---- texts of boxes
 
-none_whole : starts_whole [] ≡ false
+pub none_whole : starts_whole [] ≡ false
 unfolding starts_whole
 none_whole = refl
 
-abbrev pub StaysWhole : Type 0
-StaysWhole = (b rest : List ℕ) → starts_whole b ≡ true → starts_whole (b ++ rest) ≡ true
+-- one text is that of the box as which it is read
+abbrev pub TextsAre : Type 0
+TextsAre = (b : List ℕ) (x : Box) → IsBoxText b x ↔ (IsOneBox b × (box_of b ≡ x))
 
-abbrev pub StaysSame : Type 0
-StaysSame = (b rest : List ℕ) → starts_whole b ≡ true → box_of (b ++ rest) ≡ box_of b
-
-joined_boxes : StaysWhole → StaysSame → (boxes : List (List ℕ)) → AllByRecursion IsOneBox boxes → IsBoxes (bytes_of boxes) (map box_of boxes)
-joined_boxes stays same [] each = refl
-joined_boxes stays same (box ∷ boxes) each =
-    let size : (box_of box).size ≡ length box = size_of box ∙ each.0.all in
-    let left : drop (box_of box).size (box ++ bytes_of boxes) ≡ bytes_of boxes = ap (λ (n : ℕ). drop n (box ++ bytes_of boxes)) size ∙ drop-append_seam box (bytes_of boxes) in (
-      stays box (bytes_of boxes) each.0.whole,
-      sym (same box (bytes_of boxes) each.0.whole),
-      subst (λ (b : List ℕ). IsBoxes b (map box_of boxes)) (sym left) (joined_boxes stays same boxes each.1),
-    )
+texts_of : TextsAre → (boxes : List (List ℕ)) → AllByRecursion IsOneBox boxes → AllZip IsBoxText boxes (map box_of boxes)
+texts_of are [] each = tt
+texts_of are (box ∷ boxes) each = ((are box (box_of box)).1 (each.0, refl), texts_of are boxes each.1)
 
 -- whole boxes without a rest are a text of boxes
-pub alone_boxes : StaysWhole → StaysSame → (b : List ℕ) (boxes : List (List ℕ)) → Splits b boxes [] → IsBoxes b (map box_of boxes)
-alone_boxes stays same b boxes s = subst (λ (c : List ℕ). IsBoxes c (map box_of boxes)) (sym (s.whole ∙ append-nil (bytes_of boxes))) (joined_boxes stays same boxes s.each)
+pub alone_boxes : TextsAre → (b : List ℕ) (boxes : List (List ℕ)) → Splits b boxes [] → IsBoxes b (map box_of boxes)
+alone_boxes are b boxes s = record { texts = boxes; each = texts_of are boxes s.each; joined = s.whole ∙ append-nil (bytes_of boxes) }
+
+ones_of : TextsAre → (texts : List (List ℕ)) (xs : List Box) → AllZip IsBoxText texts xs → AllByRecursion IsOneBox texts × (xs ≡ map box_of texts)
+ones_of are [] [] each = (tt, refl)
+ones_of are [] (x ∷ xs) each = absurd each
+ones_of are (text ∷ texts) [] each = absurd each
+ones_of are (text ∷ texts) (x ∷ xs) each =
+    let one = (are text x).0 each.0 in
+    let more = ones_of are texts xs each.1 in
+    ((one.0, more.0), ap (λ (y : Box). y ∷ xs) (sym one.1) ∙ ap (λ (ys : List Box). box_of text ∷ ys) more.1)
 
 -- and a text of boxes is whole boxes without a rest
-pub boxes_alone : ReadsWhole → StaysSame → (b : List ℕ) (xs : List Box) → IsBoxes b xs → (boxes : List (List ℕ)) × Splits b boxes [] × (xs ≡ map box_of boxes)
-boxes_alone reads same b [] e = ([], record { whole = e; each = tt; last = none_whole }, refl)
-boxes_alone reads same b (x ∷ xs) h =
-    let more = boxes_alone reads same (drop x.size b) xs h.2 in
-    let size : x.size ≡ box_len b = ap (λ (y : Box). y.size) h.1 ∙ size_of b in
-    let left : drop (box_len b) b ≡ bytes_of more.0 ++ [] = ap (λ (n : ℕ). drop n b) (sym size) ∙ more.1.whole in
-    let one = one_front reads b h.0 in
-    let front : box_of b ≡ box_of (take (box_len b) b) = ap box_of (sym (take-append-drop (box_len b) b)) ∙ same (take (box_len b) b) (drop (box_len b) b) one.whole in (
-      take (box_len b) b ∷ more.0,
-      record { whole = front_joins (box_len b) b (bytes_of more.0) [] left; each = (one, more.1.each); last = none_whole },
-      ap (λ (y : Box). y ∷ xs) (h.1 ∙ front) ∙ ap (λ (ys : List Box). box_of (take (box_len b) b) ∷ ys) more.2,
-    )
+pub boxes_alone : TextsAre → (b : List ℕ) (xs : List Box) → IsBoxes b xs → (boxes : List (List ℕ)) × Splits b boxes [] × (xs ≡ map box_of boxes)
+boxes_alone are b xs is =
+    let ones = ones_of are is.texts xs is.each in
+    (is.texts, record { whole = is.joined ∙ sym (append-nil (bytes_of is.texts)); each = ones.0; last = none_whole }, ones.1)

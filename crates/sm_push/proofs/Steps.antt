@@ -1,6 +1,6 @@
 -- The steps of a push, over what it keeps.
 use Rattle.std.proofs.Common.{◌≡◌, ℕ, zero, suc, ◌+◌, ◌-◌, ◌<◌, ◌≤◌, ltb, List, [], ◌∷◌, ◌++◌, length, take, drop, refl, sym, ap, ◌∙◌, inl, inr, arith}
-use Rattle.std.specs.Prelude.{◌⊎◌, ◌^◌, min, Bool, true, false, ◌||◌, is_some, Option, Some, None, Result, Ok, Err, OnOk, OnErr}
+use Rattle.std.specs.Prelude.{◌^◌, min, Bool, true, false, ◌||◌, is_some, Option, Some, None, Result, Ok, Err, OnOk, OnErr}
 use Rattle.std.specs.Option.{option_to_list}
 use Rattle.std.proofs.lemmas.List.{append_assoc, append-nil, take-append-drop, length-take, length-append, drop-drop, drop_all}
 use Rattle.std.proofs.lemmas.Bool.{cond_both, lt-ltb}
@@ -24,7 +24,7 @@ use Rattle.sm_model.specs.PushHeads.{decision}
 use Rattle.sm_model.specs.Boxes.{box_of}
 use Rattle.sm_model.specs.Frag.{moof_run, finish}
 use Rattle.sm_model.specs.Moov.{no_defaults}
-use Rattle.sm_model.specs.Header.{header_of as header_text_of}
+use Rattle.sm_model.specs.Header.{header_of}
 use Rattle.sm_model.specs.PushBoxes.{Step, taken, passed, manifest_text, track_in, awaited, pending, moof_taken, fragment_taken, mdat_taken, header_taken, moov_taken, manifest_taken}
 use Rattle.sm_model.specs.Body.{Outcome, ended, refused, led_by, stepped, at_box, header_in, walk, push_start, body, body_end}
 use Rattle.sm_push.specs.declared.fault.StepFault.{StepFault}
@@ -34,7 +34,7 @@ use Rattle.sm_push.specs.declared.step.NewItem.{NewItem}
 use Rattle.sm_push.specs.declared.kept.Kept.{Kept}
 use Rattle.sm_push.specs.Heads.{FitsIn, IsOpen}
 use Rattle.sm_push.specs.Steps.{given_in, Takes, HoldsBoxes}
-use Rattle.sm_push.specs.Standing.{rest_of, kept_header, header_of, HeaderStays, IsComplete, StageGrows, Grows, IsPartial, Advances, Settles, StaysInside, PieceGives, Standing, Stands, Answers}
+use Rattle.sm_push.specs.Standing.{rest_of, kept_header, push_header, HeaderStays, IsComplete, StageGrows, Grows, IsPartial, Advances, Settles, StaysInside, PieceGives, Standing, Stands, Answers}
 use Rattle.sm_push.proofs.Stable.{decision-nil, fits_more, stable}
 use Rattle.sm_push.proofs.Walking.{walk-over, passes, refuses, takes}
 
@@ -260,12 +260,12 @@ gathers : (old : HeaderStage) (m v m' v' : Option (List ℕ)) → old ≡ Gather
 gathers old m v m' v' e = rw e (inl (refl, λ c. c))
 
 moov_grows : (s : PushState) (b : List ℕ) (stage : HeaderStage) → s.stage ≡ stage → StepGrows s (moov_taken stage s b)
-moov_grows s b (Gathering (Some manifest) moov) e = header_grows s (header_text_of (manifest_text manifest) (box_of b).body) (length b)
+moov_grows s b (Gathering (Some manifest) moov) e = header_grows s (header_of (manifest_text manifest) (box_of b).body) (length b)
 moov_grows s b (Gathering None moov) e = gathers s.stage None moov None (Some b) e
 moov_grows s b (Complete tracks) e = inl (refl, λ c. c)
 
 manifest_grows : (s : PushState) (b : List ℕ) (stage : HeaderStage) → s.stage ≡ stage → StepGrows s (manifest_taken stage s b)
-manifest_grows s b (Gathering manifest (Some moov)) e = header_grows s (header_text_of (manifest_text b) (box_of moov).body) (length b)
+manifest_grows s b (Gathering manifest (Some moov)) e = header_grows s (header_of (manifest_text b) (box_of moov).body) (length b)
 manifest_grows s b (Gathering manifest None) e = gathers s.stage manifest None (Some b) None e
 manifest_grows s b (Complete tracks) e = inl (refl, λ c. c)
 
@@ -340,18 +340,18 @@ fed headerless old new b piece items stands partial gives works counted =
     )
 
 -- after a failure the header of what was kept stays
-pub fed_refused : (headerless : Bool) (old new : Standing) (mid : Kept) (b piece : List ℕ) (items : List Given) (r : Refusal) → Stands headerless old b → PieceGives old.kept mid piece items (Err (faults.Refused r)) → header_of new ≡ kept_header mid
-    → body headerless (b ++ piece) ≡ led_by ((body headerless b).items ++ items) (refused (header_of new) r)
+pub fed_refused : (headerless : Bool) (old new : Standing) (mid : Kept) (b piece : List ℕ) (items : List Given) (r : Refusal) → Stands headerless old b → PieceGives old.kept mid piece items (Err (faults.Refused r)) → push_header new ≡ kept_header mid
+    → body headerless (b ++ piece) ≡ led_by ((body headerless b).items ++ items) (refused (push_header new) r)
 fed_refused headerless old new mid b piece items r stands gives same =
     ap (body headerless) (ap (λ (xs : List ℕ). b ++ xs) (sym (append-nil piece))) ∙ stands.later (piece ++ []) ∙ ap (led_by (body headerless b).items) (gives []) ∙ behind-behind (body headerless b).items items (refused (kept_header mid) r)
     ∙ ap (λ (h : List HeaderTrack). led_by ((body headerless b).items ++ items) (refused h r)) (sym same)
 
-starved_by : (headerless : Bool) (old new : Standing) (mid : Kept) (b piece : List ℕ) → Stands headerless old b → HeaderStays old.kept mid piece → header_of new ≡ kept_header mid → Answers headerless b piece new (Err pushes.NoMemory)
+starved_by : (headerless : Bool) (old new : Standing) (mid : Kept) (b piece : List ℕ) → Stands headerless old b → HeaderStays old.kept mid piece → push_header new ≡ kept_header mid → Answers headerless b piece new (Err pushes.NoMemory)
 starved_by headerless old new mid b piece stands (inl before) same = inl (same ∙ before ∙ stands.header)
 starved_by headerless old new mid b piece stands (inr gives) same =
     inr (same ∙ sym (ap (λ (o : Outcome). o.header) (ap (body headerless) (ap (λ (xs : List ℕ). b ++ xs) (sym (append-nil piece))) ∙ stands.later (piece ++ [])) ∙ gives []))
 
-pub fed_starved : (headerless : Bool) (old new : Standing) (mid : Kept) (b piece : List ℕ) (items : List Given) → Stands headerless old b → PieceGives old.kept mid piece items (Err faults.NoMemory) → header_of new ≡ kept_header mid
+pub fed_starved : (headerless : Bool) (old new : Standing) (mid : Kept) (b piece : List ℕ) (items : List Given) → Stands headerless old b → PieceGives old.kept mid piece items (Err faults.NoMemory) → push_header new ≡ kept_header mid
     → Answers headerless b piece new (Err pushes.NoMemory)
 fed_starved headerless old new mid b piece items stands gives same = starved_by headerless old new mid b piece stands gives same
 

@@ -1,13 +1,11 @@
 -- What a push gives is valid.
-use Rattle.std.proofs.Common.{◌≡◌, ◌≤◌, ◌<◌, ◌+◌, ◌*◌, ◌-◌, ℕ, zero, suc, Bool, true, false, cond, eqb, leb, ltb, ℤ, pos, negsuc, List, [], ◌∷◌, ◌++◌, length, take, drop, Option, Some, None, Result, Ok, Err, refl, sym, ap, subst, ◌∙◌, arith}
-use Rattle.std.specs.Prelude.{◌^◌, ◌&&◌, is_some, codes}
-use Rattle.std.specs.Option.{option_map_or, option_to_list}
+use Rattle.std.proofs.Common.{◌≡◌, ◌≤◌, ◌+◌, ◌-◌, ℕ, zero, suc, Bool, true, leb, ltb, List, [], ◌∷◌, ◌++◌, length, take, drop, Option, Some, None, Result, Ok, Err, refl, sym, subst, ◌∙◌, arith}
+use Rattle.std.specs.Prelude.{◌&&◌, is_some, codes}
+use Rattle.std.specs.Option.{option_to_list}
 use Rattle.std.specs.List.{AllByRecursion}
-use Rattle.std.proofs.lemmas.Bool.{cond_both, ltb-false, leb-false, not-false, and_parts}
-use Rattle.std.proofs.lemmas.List.{length-take, length-drop, length-append}
-use Rattle.std.proofs.lemmas.List.Sums.{sum_by-cons}
+use Rattle.std.proofs.lemmas.Bool.{cond_both, ltb-false}
+use Rattle.std.proofs.lemmas.List.{length-take}
 use Rattle.sm_model.specs.declared.cause.Cause.{Cause}
-use Rattle.sm_model.specs.declared.cause.Cause.TheVariants.{BadBox}
 use Rattle.sm_model.specs.declared.header.Header.{Header}
 use Rattle.sm_model.specs.declared.push.PushState.{PushState}
 use Rattle.sm_model.specs.declared.push.PendingMoof.{PendingMoof}
@@ -30,15 +28,10 @@ use Rattle.sm_push.proofs.Fronts.{whole_is}
 use Rattle.sm_push.proofs.Stable.{SizeIs, kind_size}
 use Rattle.sm_push.proofs.Boxes.{head_take}
 use Rattle.sm_model.specs.declared.run.Defaults.{Defaults}
-use Rattle.sm_model.specs.declared.run.Row.{Row}
 use Rattle.sm_model.specs.declared.run.Run.{Run}
 use Rattle.sm_model.specs.declared.run.RawFragment.{RawFragment}
-use Rattle.sm_model.specs.declared.sample.Sample.{Sample}
 use Rattle.sm_model.specs.declared.header.HeaderTrack.{HeaderTrack}
-use Rattle.sm_model.specs.Numbers.{number32_at}
-use Rattle.sm_model.specs.Boxes.{Box, boxes, box_of, box_len, head_len}
-use Rattle.sm_model.specs.Found.{Found, found, bodies}
-use Rattle.sm_model.specs.Fields.{rows, row, trun_fits, tfxd_pair, defaults_of, version, rows_at, row_len}
+use Rattle.sm_model.specs.Boxes.{box_of, box_len, head_len}
 use Rattle.sm_model.specs.Fragments.{IsValid}
 use Rattle.sm_model.specs.Sound.{IsSoundRun, IsSoundFragment}
 use Rattle.sm_model.specs.Frag.{moof_run, finish}

@@ -4,5 +4,7 @@ pub mod Held
 pub mod Steps
 pub mod Standing
 pub mod Boxes
+pub mod Rules
+pub mod Joins
 pub mod Validity
 pub mod Written

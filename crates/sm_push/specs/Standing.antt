@@ -1,5 +1,5 @@
 -- What a push keeps, and which bytes it stands for.
-use Rattle.std.specs.Prelude.{◌≡◌, ℕ, ◌-◌, ◌<◌, ◌≤◌, ◌^◌, min, Bool, true, false, ◌⊎◌, List, [], ◌++◌, length, drop, Option, Some, None, Result, Ok, Err}
+use Rattle.std.specs.Prelude.{◌≡◌, ℕ, ◌-◌, ◌<◌, ◌≤◌, ◌^◌, min, Bool, true, false, ◌⊎◌, List, [], ◌++◌, length, drop, Option, Some, None, Result, Ok, Err, if◌then◌else◌}
 use Rattle.std.specs.Option.{option_to_list}
 use Rattle.sm_model.specs.declared.push.HeaderStage.{HeaderStage}
 use Rattle.sm_model.specs.declared.push.HeaderStage.TheVariants.{Gathering, Complete}
@@ -14,7 +14,7 @@ use Rattle.sm_push.specs.declared.step.NewItem.{NewItem}
 use Rattle.sm_push.specs.declared.kept.Kept.{Kept}
 use Rattle.sm_push.specs.Heads.{IsOpen, FitsIn}
 use Rattle.sm_push.specs.Steps.{given_in, HoldsBoxes}
-use Rattle.sm_push.specs.Held.{kept_bytes}
+use Rattle.sm_push.specs.Held.{kept_bytes, missing_of}
 use Rattle.sm_model.specs.declared.header.HeaderTrack.{HeaderTrack}
 
 -- the tracks of the header, where one was read
@@ -78,12 +78,16 @@ IsReady true k = kept_bytes k ≡ 0
 IsReady false k = IsPartial k
 
 -- the tracks of the header that was read, none where none was
-abbrev pub header_of : Standing → List HeaderTrack
-header_of p = kept_header p.kept
+abbrev pub push_header : Standing → List HeaderTrack
+push_header p = kept_header p.kept
 
 -- how many bytes of the body it holds
 abbrev pub held_bytes : Standing → ℕ
 held_bytes p = kept_bytes p.kept
+
+-- how many bytes are missing of the box that was begun, once its head is there; none of a push that has failed
+abbrev pub missing_bytes : Standing → ℕ
+missing_bytes p = if p.failed then 0 else missing_of p.kept
 
 -- A push stands for these bytes: nothing was refused in them, and whatever comes next, it gives behind their items what
 -- the bytes and the next ones give.
@@ -91,15 +95,15 @@ pub record Stands (headerless : Bool) (p : Standing) (b : List ℕ) : Type 0 whe
   pub works : p.failed ≡ false
   pub clear : (body headerless b).refusal ≡ None
   pub count : p.count ≡ min (length b) (2 ^ 64 - 1)
-  pub header : header_of p ≡ (body headerless b).header
+  pub header : push_header p ≡ (body headerless b).header
   pub later : (more : List ℕ) → body headerless (b ++ more) ≡ led_by (body headerless b).items (rest_of p.kept more)
 
 -- the answer to a piece is what the bytes with the piece give beyond what the bytes give; the header stays
 abbrev pub Answers : Bool → List ℕ → List ℕ → Standing → Result (List Given) PushFault → Type 0
 Answers headerless b piece new (Ok items) = Stands headerless new (b ++ piece) × ((body headerless (b ++ piece)).items ≡ (body headerless b).items ++ items)
-Answers headerless b piece new (Err (pushes.Refused before r)) = body headerless (b ++ piece) ≡ led_by ((body headerless b).items ++ before) (refused (header_of new) r)
+Answers headerless b piece new (Err (pushes.Refused before r)) = body headerless (b ++ piece) ≡ led_by ((body headerless b).items ++ before) (refused (push_header new) r)
 Answers headerless b piece new (Err pushes.Failed) = ⊥
-Answers headerless b piece new (Err pushes.NoMemory) = (header_of new ≡ (body headerless b).header) ⊎ (header_of new ≡ (body headerless (b ++ piece)).header)
+Answers headerless b piece new (Err pushes.NoMemory) = (push_header new ≡ (body headerless b).header) ⊎ (push_header new ≡ (body headerless (b ++ piece)).header)
 
 -- the answer to the end is the refusal of the whole body
 abbrev pub Ends : Bool → List ℕ → Result (Unit {0}) PushFault → Type 0

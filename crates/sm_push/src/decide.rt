@@ -4,7 +4,8 @@ ghost use Rattle.sm_model.specs.PushHeads.{decision, by_kind, ruling, kind_sort,
 
 use crate::same::is_same;
 use sm_box::{BoxHead, Head};
-use sm_model::{BoxDecision, Cause, HeaderStage, PushState, TopBox};
+use sm_model::Cause;
+use sm_model::push::{BoxDecision, HeaderStage, PushState, TopBox};
 
 // In bytes, of the whole box.
 const MOOF_LIMIT: u64 = 2_097_152;

@@ -1,17 +1,18 @@
 //! What a push keeps of its bytes, and its steps.
-ghost use Rattle.std.specs.Prelude.{◌≡◌, List, ℕ, [], ◌<◌, ◌≤◌, ◌++◌, length, IfOk, OnOk, OnErr, Err};
+ghost use Rattle.std.specs.Prelude.{◌≡◌, List, ℕ, [], ◌<◌, ◌≤◌, ◌++◌, min, length, IfOk, OnOk, OnErr, Err};
 ghost use Rattle.std.specs.Option.{option_to_list};
 ghost use Rattle.sm_model.specs.PushHeads.{decision};
 ghost use Rattle.sm_push.specs.Heads.{FitsIn};
 ghost use Rattle.sm_push.specs.Steps.{given_in, HoldsBoxes};
 ghost use Rattle.sm_push.specs.Standing.{IsPartial, Advances, Settles, PieceGives, StaysInside, Grows, rest_of, kept_header};
-ghost use Rattle.sm_push.specs.Held.{kept_bytes};
+ghost use Rattle.sm_push.specs.Held.{kept_bytes, lacking, missing_of};
 
 use crate::decide::decide;
 use crate::fault::{StepFault, refuse};
 use crate::held::Held;
 use crate::step::{NewItem, pass, take};
-use sm_model::{BoxDecision, HeaderStage, Items, PushState};
+use sm_model::Items;
+use sm_model::push::{BoxDecision, HeaderStage, PushState};
 use std::alloc::Global;
 
 /// What a push keeps of its bytes.
@@ -94,6 +95,7 @@ impl Kept {
         requires partial { IsPartial self.now }
         ensures some { 0 < result }
         ensures most { result ≤ most }
+        ensures least { min (lacking (length self.now.held) (decision self.now.state self.now.held)) most ≤ result }
         ensures fits { StaysInside self.now result }
     {
         match decide(&self.state, self.held.as_slice()) {
@@ -130,6 +132,7 @@ impl Kept {
     pub fn due(&self) -> u64
         requires partial { IsPartial self.now }
         ensures some { 0 < result }
+        ensures missing { missing_of self.now ≤ result }
         ensures few { (piece : List ℕ) → length piece ≤ result → length (rest_of self.now piece).items ≤ 1 }
     {
         if 0 < self.skip {

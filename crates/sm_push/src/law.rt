@@ -1,6 +1,8 @@
 //! Laws of push bodies. Each is the contract of a function that does nothing.
-ghost use Rattle.std.specs.Prelude.{◌≡◌, ◌≤◌, ◌++◌, Bool, List, [], ℕ, length, map, All, Ok};
-ghost use Rattle.sm_model.specs.Body.{body, IsFrontOf};
+ghost use Rattle.std.specs.Prelude.{◌≡◌, ◌≤◌, ◌++◌, Bool, List, [], ℕ, length, map, true, None, All, Ok};
+ghost use Rattle.sm_model.specs.Body.{body, body_end, IsFrontOf};
+ghost use Rattle.sm_model.specs.Canonical.{Canonical, IsJoin};
+ghost use Rattle.sm_push.specs.Joins.{given_by};
 ghost use Rattle.sm_model.specs.Body;
 ghost use Rattle.sm_model.specs.Boxes.{Box, IsBoxes, box_of};
 ghost use Rattle.std.specs.List.{AllByRecursion};
@@ -13,8 +15,10 @@ ghost use Rattle.sm_model.specs.Header.{header_of};
 ghost use Rattle.sm_model.specs.LiveText.{live_text};
 ghost use Rattle.sm_model.specs.MoovText.{bare_moov};
 
-use sm_box::law::{whole_is_read, whole_stays};
-use sm_model::law::read_is_sound;
+use sm_box::law::{whole_is_read, written_box_is_read};
+use sm_model::law::{
+    boxes_are, frag_is_in_two_steps, read_is_sound, sizes_are_lengths, written_fragment_is_read,
+};
 use sm_moov::law::{timescales_are_positive, written_moov_is_read};
 use sm_smil::{
     live_manifest_has_one_answer, live_manifests_are_valid, live_text_is_read_as_its_channel,
@@ -40,8 +44,20 @@ pub fn texts_of_boxes_have_no_rest()
     ensures text { (b : List ℕ) (boxes : List (List ℕ)) → Splits b boxes [] → IsBoxes b (map box_of boxes) }
     ensures boxes { (b : List ℕ) (xs : List Box) → IsBoxes b xs → (boxes : List (List ℕ)) × Splits b boxes [] × (xs ≡ map box_of boxes) }
 {
+    boxes_are();
+}
+
+/// Canonical texts one behind another are a whole headerless push: it gives their fragments in their order, each with its
+/// track_ID and as a fragment of the track that this number stands for, and nothing else; and it may end behind them.
+pub fn joined_texts_are_a_body()
+    ensures items { (b : List ℕ) (cs : List Canonical) → IsJoin b cs → (body true b).items ≡ map given_by cs }
+    ensures end { (b : List ℕ) (cs : List Canonical) → IsJoin b cs → body_end true b ≡ None }
+{
     whole_is_read();
-    whole_stays();
+    written_box_is_read();
+    sizes_are_lengths();
+    written_fragment_is_read();
+    frag_is_in_two_steps();
 }
 
 /// Bytes give no more items than there are bytes, so that their places fit wherever the number of bytes does.

@@ -3,13 +3,14 @@ ghost use Rattle.std.specs.Prelude.{◌≡◌, ◌<◌, ◌≤◌, ◌+◌, ◌+
 ghost use Rattle.sm_model.specs.Body.{body};
 ghost use Rattle.sm_model.specs.Body;
 ghost use Rattle.sm_model.specs.Header.{id_for};
-ghost use Rattle.sm_push.specs.Standing.{Stands, Answers, Ends, held_bytes, header_of};
+ghost use Rattle.sm_push.specs.Standing.{Stands, Answers, Ends, held_bytes, missing_bytes, push_header};
 
 use crate::fault::{PushFault, StepFault};
 use crate::held::Held;
 use crate::kept::Kept;
 use crate::track::id_for;
-use sm_model::{Cause, HeaderStage, Items, Name, PushState, Refusal};
+use sm_model::push::{HeaderStage, PushState};
+use sm_model::{Cause, Items, Name, Refusal};
 use std::alloc::Global;
 use std::marker::Model;
 
@@ -126,6 +127,7 @@ impl Push {
     /// memory.
     pub fn due(&self) -> u64
         ensures some { 0 < result }
+        ensures missing { missing_bytes self.now ≤ result }
         ensures few { (headerless : Bool) (b piece : List ℕ) → Stands headerless self.now b → length piece ≤ result
             → length (body headerless (b ++ piece)).items ≤ length (body headerless b).items + 1 }
     {
@@ -143,7 +145,7 @@ impl Push {
         ensures fails { OnErr result (IsTrue self.new.failed) }
         ensures ok { OnOk result (self.new ≡ self.old) }
         ensures unchanged { IsErrOf result PushFault.Failed → self.new ≡ self.old }
-        ensures header { header_of self.new ≡ header_of self.old }
+        ensures header { push_header self.new ≡ push_header self.old }
     {
         if self.failed {
             return Err(PushFault::Failed);
@@ -165,7 +167,7 @@ impl Push {
     /// The track_ID that the header gives to the track of this name and bitrate. None where no header was read, or it has
     /// no such track. A push that has failed keeps its header. It takes no memory.
     pub fn track_id(&self, stream: &Name, bitrate: u32) -> Option<u32>
-        ensures { result ≡ id_for stream.now bitrate (header_of self.now) }
+        ensures { result ≡ id_for stream.now bitrate (push_header self.now) }
     {
         match &self.kept.state.stage {
             HeaderStage::Complete(tracks) => id_for(stream, bitrate, tracks.as_slice()),

@@ -15,10 +15,8 @@ use crate::fault::{StepFault, refuse};
 use crate::header::{HeaderFault, read_header};
 use crate::track::{NO_DEFAULTS, defaults_of, track_in};
 use sm_model::law::{causes_are_without_defaults, read_is_sound, track_id_is_of_run};
-use sm_model::{
-    Bytes, Cause, Defaults, Fragment, HeaderStage, HeaderTrack, Item, PendingMoof, PushState,
-    RawFragment, Run, TopBox,
-};
+use sm_model::push::{HeaderStage, PendingMoof, PushState, TopBox};
+use sm_model::{Bytes, Cause, Defaults, Fragment, HeaderTrack, Item, RawFragment, Run};
 use sm_moof::{MoofFault, body_of, finish, read_moof, track_of};
 use std::alloc::Global;
 use std::mem;

@@ -5,7 +5,8 @@ ghost use Rattle.sm_model.specs.PushBoxes.{track_in};
 ghost use Rattle.sm_push.specs.Steps.{defaults_in};
 
 use crate::same::is_same;
-use sm_model::{Defaults, HeaderStage, HeaderTrack, Name, NoMemory};
+use sm_model::push::HeaderStage;
+use sm_model::{Defaults, HeaderTrack, Name, NoMemory};
 use std::alloc::Global;
 
 pub(crate) const NO_DEFAULTS: Defaults = Defaults {

@@ -105,7 +105,9 @@ none_least [] e = refl
 none_least (x ∷ xs) e = absurd (never x xs e)
 
 -- a param that fits, or one behind it
-picked : (p : SmilParam) (ps : List SmilParam) (name : ParamName) (v : List ℕ) (here fits : Bool) → eqb (index_of p.name) (index_of name) ≡ here → is_fit p.name p.value ≡ fits → cond fits (misfits ps) (p.at ∷ misfits ps) ≡ [] → (misfits ps ≡ [] → value_of name ps ≡ Some v → is_fit name v ≡ true) → cond here (Some p.value) (value_of name ps) ≡ Some v → is_fit name v ≡ true
+picked : (p : SmilParam) (ps : List SmilParam) (name : ParamName) (v : List ℕ) (here fits : Bool) → eqb (index_of p.name) (index_of name) ≡ here
+    → is_fit p.name p.value ≡ fits → cond fits (misfits ps) (p.at ∷ misfits ps) ≡ [] → (misfits ps ≡ [] → value_of name ps ≡ Some v → is_fit name v ≡ true)
+    → cond here (Some p.value) (value_of name ps) ≡ Some v → is_fit name v ≡ true
 picked p ps name v here false is fit none rest found = cc
 picked p ps name v true true is fit none rest found =
     let same = same_name p.name name is in
@@ -131,8 +133,12 @@ tracks_fit form earlier (t ∷ ts) none =
     let own = neither (inner_faults t) _ parts.0 in
     (inner_fit t own.0, tracks_fit form (earlier ++ t ∷ []) ts parts.1)
 
+-- tracks without a fault
+pub whole_fit : (form : Form) (ts : List RawTrack) (others : List ℕ) → tracks_faults form [] ts ++ others ≡ [] → All (λ t. AreFit t.params) ts
+whole_fit form ts others none =
+    All-from_recursion (λ (t : RawTrack). AreFit t.params) ts (tracks_fit form [] ts (neither (tracks_faults form [] ts) others none).0)
+
 -- a text without a fault
 pub all_fit : (form : Form) (size : ℕ) (bad : Option ℕ) (w : Walk) → least_from None (faults_of form size bad w) ≡ None → All (λ t. AreFit t.params) w.done
 all_fit form size bad w none =
-    let places = none_least (faults_of form size bad w) none in
-    All-from_recursion (λ (t : RawTrack). AreFit t.params) w.done (tracks_fit form [] w.done (neither (tracks_faults form [] w.done) _ places).0)
+    whole_fit form w.done _ (none_least (faults_of form size bad w) none)

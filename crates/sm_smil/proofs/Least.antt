@@ -10,7 +10,8 @@ least_from_append f [] ys = refl
 least_from_append f (x ∷ xs) ys = least_from_append (sooner f x) xs ys
 
 -- one track more
-pub note_more : (form : Form) (f : Option ℕ) (ts : List RawTrack) (i : ℕ) (t : RawTrack) → i < length ts → t ≡ get_or ts i t → least_from (least_from f (inner_faults t ++ end_faults form (take i ts) t)) (tracks_faults form (take (i + 1) ts) (drop (i + 1) ts)) ≡ least_from f (tracks_faults form (take i ts) (drop i ts))
+pub note_more : (form : Form) (f : Option ℕ) (ts : List RawTrack) (i : ℕ) (t : RawTrack) → i < length ts → t ≡ get_or ts i t
+    → least_from (least_from f (inner_faults t ++ end_faults form (take i ts) t)) (tracks_faults form (take (i + 1) ts) (drop (i + 1) ts)) ≡ least_from f (tracks_faults form (take i ts) (drop i ts))
 note_more form f ts i t within is =
     let rest = drop-cons ts i t within in
     let front = take_more ts i t within in

@@ -13,3 +13,4 @@ pub mod WrittenValues
 pub mod WrittenTracks
 pub mod WrittenChannel
 pub mod OneReading
+mod PlainLemmas

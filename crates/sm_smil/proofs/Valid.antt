@@ -104,7 +104,9 @@ are_clean form earlier (t ∷ ts) none =
     (clean form t own.0 (ends_clean form earlier t own.1).0, are_clean form (earlier ++ t ∷ []) ts parts.1)
 
 -- what holds of clean tracks that stand apart holds of what is made of them
-pub pairs_of : {X : Type 0} (form : Form) (f : RawTrack → X) (S : X → X → Type 0) → ((a b : RawTrack) → IsClean form a → IsClean form b → StandApart form a b → S (f a) (f b)) → (ts : List RawTrack) → AllByRecursion (IsClean form) ts → PairsByRecursion (StandApart form) ts → AllPairs S (map f ts)
+pub pairs_of : {X : Type 0} (form : Form) (f : RawTrack → X) (S : X → X → Type 0)
+    → ((a b : RawTrack) → IsClean form a → IsClean form b → StandApart form a b → S (f a) (f b)) → (ts : List RawTrack) → AllByRecursion (IsClean form) ts
+    → PairsByRecursion (StandApart form) ts → AllPairs S (map f ts)
 pairs_of form f S each [] clean apart = λ i j d lt within. absurd (omega arith)
 pairs_of form f S each (t ∷ ts) clean apart =
     AllPairs-cons S (f t) (map f ts) (All-from_recursion (S (f t)) (map f ts) (along ts clean.1 apart.0)) (pairs_of form f S each ts clean.1 apart.1)

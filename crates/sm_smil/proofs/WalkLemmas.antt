@@ -40,7 +40,8 @@ begins_fits w name empty t fits at = tested (leb 64 (length w.done)) refl empty
     outside : (u : RawTrack) → w.current ≡ Some u → ⊥
     outside u e = omega (arith, (fits.inside u e).0, at)
 
-    tested : (full : Bool) → leb 64 (length w.done) ≡ full → (empty : Bool) → Fits (record (cond full (record w { over = first_place w.over t.at }) (cond empty (record w { done = w.done ++ t ∷ [] }) (record w { current = Some t }))) { path = enters empty name w.path })
+    tested : (full : Bool) → leb 64 (length w.done) ≡ full → (empty : Bool)
+        → Fits (record (cond full (record w { over = first_place w.over t.at }) (cond empty (record w { done = w.done ++ t ∷ [] }) (record w { current = Some t }))) { path = enters empty name w.path })
     tested true is empty = record { few = fits.few; inside = λ u e. absurd (outside u e) }
     tested false is true =
         let room : length w.done < 64 = leb-false 64 (length w.done) is in

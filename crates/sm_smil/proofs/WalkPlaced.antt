@@ -147,7 +147,8 @@ entered_len true name path = omega arith
 entered_len false name path = omega (arith, length-append path (name ∷ []))
 
 -- a track begins, which no other is open around
-track_case : (form : Form) (tags : List Tag) (name : List ℕ) (attributes : List Attribute) (empty : Bool) (at : ℕ) → Reaches form tags → (room : ℕ) (path : List (List ℕ)) (other : Option ℕ) (done : List RawTrack) (over : Option ℕ) (k : Kind)
+track_case : (form : Form) (tags : List Tag) (name : List ℕ) (attributes : List Attribute) (empty : Bool) (at : ℕ) → Reaches form tags
+    → (room : ℕ) (path : List (List ℕ)) (other : Option ℕ) (done : List RawTrack) (over : Option ℕ) (k : Kind)
     → room + length done ≡ 64 → length path ≡ 3 → Begun form tags name attributes empty at room path other done None over (Some k)
 track_case form tags name attributes empty at ih zero path other done over k count three =
     let full : leb 64 (length done) ≡ true = le-leb 64 (length done) (omega (arith, count)) in
@@ -199,13 +200,15 @@ free_case form tags name attributes empty at ih room path other done over count 
     tested false b false = ih room (enters empty name path) other done None over count tt
 
 -- another element, inside a track
-inside_case : (form : Form) (tags : List Tag) (name : List ℕ) (attributes : List Attribute) (empty : Bool) (at : ℕ) → Reaches form tags → (room : ℕ) (path : List (List ℕ)) (other : Option ℕ) (done : List RawTrack) (t : RawTrack) (over : Option ℕ)
+inside_case : (form : Form) (tags : List Tag) (name : List ℕ) (attributes : List Attribute) (empty : Bool) (at : ℕ) → Reaches form tags
+    → (room : ℕ) (path : List (List ℕ)) (other : Option ℕ) (done : List RawTrack) (t : RawTrack) (over : Option ℕ)
     → room + length done ≡ 64 → (4 ≤ length path) × (0 < room) → Begun form tags name attributes empty at room path other done (Some t) over None
 inside_case form tags name attributes empty at ih room path other done t over count is =
     let inner : eqb (length path) 0 ≡ false = ne_eqb (length path) 0 (λ e. omega (arith, e, is.0)) in
     rw inner (tested (eqb (length path) 4 && is_same name (codes "param")))
   where
-    tested : (d : Bool) → Walked room done other over (holding form (cond d (with_element form attributes at t) t) (placed (enters empty name path) tags) ∷ tracks_in form (placed (enters empty name path) tags)) (other_places (placed (enters empty name path) tags))
+    tested : (d : Bool)
+        → Walked room done other over (holding form (cond d (with_element form attributes at t) t) (placed (enters empty name path) tags) ∷ tracks_in form (placed (enters empty name path) tags)) (other_places (placed (enters empty name path) tags))
         (walk_tags form (record (cond d (record { path = path; other = other; done = done; current = Some (with_element form attributes at t); over = over }) (record { path = path; other = other; done = done; current = Some t; over = over })) { path = enters empty name path }) tags)
     tested true = ih room (enters empty name path) other done (Some (with_element form attributes at t)) over count (omega (arith, is.0, entered_len empty name path), is.1)
     tested false = ih room (enters empty name path) other done (Some t) over count (omega (arith, is.0, entered_len empty name path), is.1)

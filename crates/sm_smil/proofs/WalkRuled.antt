@@ -16,10 +16,10 @@ use Rattle.sm_smil.specs.Ruled.{all_tracks, whole_tracks, cut_tracks, faults, Is
 
 -- ---- the least of some places
 
-stands_first : (x : ℕ) (xs : List ℕ) → Contains (x ∷ xs) x
+pub stands_first : (x : ℕ) (xs : List ℕ) → Contains (x ∷ xs) x
 stands_first x xs = (0, omega arith, refl)
 
-stands_later : (x y : ℕ) (xs : List ℕ) → Contains xs y → Contains (x ∷ xs) y
+pub stands_later : (x y : ℕ) (xs : List ℕ) → Contains xs y → Contains (x ∷ xs) y
 stands_later x y xs (k, within, is) = (suc k, omega (arith, within), is)
 
 stands_nowhere : (y : ℕ) → Contains [] y → ⊥
@@ -32,7 +32,7 @@ record LeastOf (m n : ℕ) (xs : List ℕ) : Type 0 where
   others : AllByRecursion (λ p. n ≤ p) xs
   there : (n ≡ m) ⊎ Contains xs n
 
-min_either : (m x : ℕ) → (min m x ≡ m) ⊎ (min m x ≡ x)
+pub min_either : (m x : ℕ) → (min m x ≡ m) ⊎ (min m x ≡ x)
 min_either m x = grind arith
 
 least_some : (m : ℕ) (xs : List ℕ) → (n : ℕ) × LeastOf m n xs
@@ -122,7 +122,8 @@ ruled track form size tags =
         let w = least_there x xs in
         subst (λ o. IsRuled track form size tags (tracks_or_fault track o (walk_tags form nothing_met tags).done)) (sym w.1) (subst (λ (l : List ℕ). IsLeast w.0 l) (sym e) w.2)
 
-pub ruled_so : {X : Type 0} (track : RawTrack → X) (form : Form) (size : ℕ) (tags : List Tag) (r : Result (List X) ℕ) → IsRuled track form size tags r → r ≡ tracks_or_fault track (fault_of form size tags) (walk_tags form nothing_met tags).done
+pub ruled_so : {X : Type 0} (track : RawTrack → X) (form : Form) (size : ℕ) (tags : List Tag) (r : Result (List X) ℕ) → IsRuled track form size tags r
+    → r ≡ tracks_or_fault track (fault_of form size tags) (walk_tags form nothing_met tags).done
 ruled_so track form size tags (Ok xs) h =
     let none : fault_of form size tags ≡ None = fault_is form size tags ∙ ap (least_from None) h.0 in
     let same : map track (walk_tags form nothing_met tags).done ≡ xs = ap (map track) (done_is form tags) ∙ sym h.1 in

@@ -238,7 +238,8 @@ text_end : (form : Form) (size : ℕ) (Good : Walk → Type 0) (end : ℕ) (w : 
 text_end form size Good end w good =
     (End ∷ [], ends _ ((lead.Ended, markup.Skipped, 0, []), bare lead_end (λ e. cc e), refl) refl, refl, good)
 
-foot_read : (form : Form) (size : ℕ) (Good : Walk → Type 0) (end : ℕ) (done : List RawTrack) → Good (record { path = []; other = None; done = done; current = None; over = None }) → Leads form Good (left_at size end foot_lines in_switch) (walk_out done)
+foot_read : (form : Form) (size : ℕ) (Good : Walk → Type 0) (end : ℕ) (done : List RawTrack)
+    → Good (record { path = []; other = None; done = done; current = None; over = None }) → Leads form Good (left_at size end foot_lines in_switch) (walk_out done)
 foot_read form size Good end done good =
     let in_body = codes "smil" ∷ codes "body" ∷ [] in
     let in_smil = codes "smil" ∷ [] in

@@ -38,7 +38,8 @@ value_of_push : (name : ParamName) (ps : List SmilParam) (p : SmilParam) → val
 value_of_push name [] p = refl
 value_of_push name (q ∷ ps) p = tested (eqb (index_of q.name) (index_of name)) (value_of_push name ps p)
   where
-    tested : (b : Bool) → value_of name (ps ++ p ∷ []) ≡ value_or (value_of name ps) (cond (eqb (index_of p.name) (index_of name)) (Some p.value) None) → cond b (Some q.value) (value_of name (ps ++ p ∷ [])) ≡ value_or (cond b (Some q.value) (value_of name ps)) (cond (eqb (index_of p.name) (index_of name)) (Some p.value) None)
+    tested : (b : Bool) → value_of name (ps ++ p ∷ []) ≡ value_or (value_of name ps) (cond (eqb (index_of p.name) (index_of name)) (Some p.value) None)
+        → cond b (Some q.value) (value_of name (ps ++ p ∷ [])) ≡ value_or (cond b (Some q.value) (value_of name ps)) (cond (eqb (index_of p.name) (index_of name)) (Some p.value) None)
     tested true rest = refl
     tested false rest = rest
 
@@ -85,7 +86,9 @@ abbrev IsSaid : Form → ℕ → Track → RawTrack → ParamName → List ℕ �
 IsSaid form id t raw name value n =
     value_or (value_of n raw.params) (cond (eqb (index_of name) (index_of n)) (Some value) None) ≡ cond (ltb (index_of n) (index_of name + 1)) (expected form id t n) None
 
-said_more : (form : Form) (id : ℕ) (t : Track) (raw : RawTrack) (name : ParamName) (value : List ℕ) → expected form id t name ≡ Some value → Stage form id t (index_of name) raw → (n : ParamName) → ((index_of n < index_of name) ⊎ (index_of name ≤ index_of n)) → ((index_of n ≡ index_of name) ⊎ (index_of n ≡ index_of name → ⊥)) → IsSaid form id t raw name value n
+said_more : (form : Form) (id : ℕ) (t : Track) (raw : RawTrack) (name : ParamName) (value : List ℕ) → expected form id t name ≡ Some value
+    → Stage form id t (index_of name) raw → (n : ParamName) → ((index_of n < index_of name) ⊎ (index_of name ≤ index_of n))
+    → ((index_of n ≡ index_of name) ⊎ (index_of n ≡ index_of name → ⊥)) → IsSaid form id t raw name value n
 said_more form id t raw name value is stage n (inl lt) other =
     let after : ltb (index_of n) (index_of name + 1) ≡ true = lt-ltb (index_of n) (index_of name + 1) (omega arith) in
     let apart : eqb (index_of name) (index_of n) ≡ false = ne_eqb (index_of name) (index_of n) (λ e. omega arith) in
@@ -101,7 +104,9 @@ said_more form id t raw name value is stage n (inr le) (inr apart) =
     let none : value_of n raw.params ≡ None = from_there form id t raw name n stage le in
     rw (none, other, after) refl
 
-add_stage : (form : Form) (id : ℕ) (t : Track) (raw : RawTrack) (name : ParamName) (value : List ℕ) (at : ℕ) → expected form id t name ≡ Some value → is_fit name value ≡ true → Stage form id t (index_of name) raw → Stage form id t (index_of name + 1) (with_param raw (record { name = name; value = value; at = at }))
+add_stage : (form : Form) (id : ℕ) (t : Track) (raw : RawTrack) (name : ParamName) (value : List ℕ) (at : ℕ) → expected form id t name ≡ Some value
+    → is_fit name value ≡ true → Stage form id t (index_of name) raw
+    → Stage form id t (index_of name + 1) (with_param raw (record { name = name; value = value; at = at }))
 add_stage form id t raw name value at is fit stage =
     let p : SmilParam = record { name = name; value = value; at = at } in
     let first : with_param raw p ≡ record raw { params = raw.params ++ p ∷ [] } = with_param_first raw p (absent form id t raw name stage) in
@@ -116,7 +121,9 @@ add_stage form id t raw name value at is fit stage =
 abbrev IsStill : Form → ℕ → Track → RawTrack → ParamName → ParamName → Type 0
 IsStill form id t raw name n = value_of n raw.params ≡ cond (ltb (index_of n) (index_of name + 1)) (expected form id t n) None
 
-said_still : (form : Form) (id : ℕ) (t : Track) (raw : RawTrack) (name : ParamName) → expected form id t name ≡ None → Stage form id t (index_of name) raw → (n : ParamName) → ((index_of n < index_of name) ⊎ (index_of name ≤ index_of n)) → ((index_of n ≡ index_of name) ⊎ (index_of n ≡ index_of name → ⊥)) → IsStill form id t raw name n
+said_still : (form : Form) (id : ℕ) (t : Track) (raw : RawTrack) (name : ParamName) → expected form id t name ≡ None → Stage form id t (index_of name) raw
+    → (n : ParamName) → ((index_of n < index_of name) ⊎ (index_of name ≤ index_of n)) → ((index_of n ≡ index_of name) ⊎ (index_of n ≡ index_of name → ⊥))
+    → IsStill form id t raw name n
 said_still form id t raw name is stage n (inl lt) other =
     let after : ltb (index_of n) (index_of name + 1) ≡ true = lt-ltb (index_of n) (index_of name + 1) (omega arith) in
     rw after (below form id t raw name n stage lt)
@@ -148,7 +155,10 @@ abbrev GoesOn : Form → ℕ → (Walk → Type 0) → ℕ → List ℕ → ℕ 
 GoesOn form size Good end x id t done k =
     (raw : RawTrack) → Stage form id t k raw → Leads form Good (left_at size end x (in_track t.kind)) (walk_in t.kind done raw)
 
-param_stage : (form : Form) (size : ℕ) (Good : Walk → Type 0) (end : ℕ) (x : List ℕ) (id : ℕ) (t : Track) (done : List RawTrack) (raw : RawTrack) (name : ParamName) (text value : List ℕ) → Begins x → list_all is_plain text ≡ true → param_name text ≡ Some name → is_read form raw name ≡ true → expected form id t name ≡ Some value → list_all is_plain value ≡ true → is_fit name value ≡ true → Stage form id t (index_of name) raw → GoesOn form size Good end x id t done (index_of name + 1) → Leads form Good (left_at size end (param_line text value ++ x) (in_track t.kind)) (walk_in t.kind done raw)
+param_stage : (form : Form) (size : ℕ) (Good : Walk → Type 0) (end : ℕ) (x : List ℕ) (id : ℕ) (t : Track) (done : List RawTrack) (raw : RawTrack) (name : ParamName) (text value : List ℕ)
+    → Begins x → list_all is_plain text ≡ true → param_name text ≡ Some name → is_read form raw name ≡ true → expected form id t name ≡ Some value
+    → list_all is_plain value ≡ true → is_fit name value ≡ true → Stage form id t (index_of name) raw → GoesOn form size Good end x id t done (index_of name + 1)
+    → Leads form Good (left_at size end (param_line text value ++ x) (in_track t.kind)) (walk_in t.kind done raw)
 param_stage form size Good end x id t done raw name text value begins plain_name named reads is plain fit stage go =
     param_read form size Good end x t.kind text value (walk_in t.kind done raw) begins plain_name plain (λ at.
     let P : Walk → Type 0 = λ w. Leads form Good (left_at size end x (in_track t.kind)) w in
@@ -156,7 +166,10 @@ param_stage form size Good end x id t done raw name text value begins plain_name
     let met : step form (walk_in t.kind done raw) (Start (codes "param") (param_attributes text value) true at) ≡ walk_in t.kind done next = rw (named, reads) refl in
     subst P (sym met) (go next (add_stage form id t raw name value at is fit stage)))
 
-option_stage : (form : Form) (size : ℕ) (Good : Walk → Type 0) (end : ℕ) (x : List ℕ) (id : ℕ) (t : Track) (done : List RawTrack) (raw : RawTrack) (name : ParamName) (text : List ℕ) (o : Option ℕ) → Begins x → list_all is_plain text ≡ true → param_name text ≡ Some name → is_read form raw name ≡ true → expected form id t name ≡ option_map decimal o → IsNarrowOption o → ((n : ℕ) → n < 2 ^ 32 → is_fit name (decimal n) ≡ true) → Stage form id t (index_of name) raw → GoesOn form size Good end x id t done (index_of name + 1) → Leads form Good (left_at size end (option_line text o ++ x) (in_track t.kind)) (walk_in t.kind done raw)
+option_stage : (form : Form) (size : ℕ) (Good : Walk → Type 0) (end : ℕ) (x : List ℕ) (id : ℕ) (t : Track) (done : List RawTrack) (raw : RawTrack) (name : ParamName) (text : List ℕ) (o : Option ℕ)
+    → Begins x → list_all is_plain text ≡ true → param_name text ≡ Some name → is_read form raw name ≡ true → expected form id t name ≡ option_map decimal o
+    → IsNarrowOption o → ((n : ℕ) → n < 2 ^ 32 → is_fit name (decimal n) ≡ true) → Stage form id t (index_of name) raw
+    → GoesOn form size Good end x id t done (index_of name + 1) → Leads form Good (left_at size end (option_line text o ++ x) (in_track t.kind)) (walk_in t.kind done raw)
 option_stage form size Good end x id t done raw name text None begins plain_name named reads is narrow fit stage go =
     go raw (skip_stage form id t raw name is stage)
 option_stage form size Good end x id t done raw name text (Some n) begins plain_name named reads is narrow fit stage go =
@@ -170,7 +183,8 @@ number_fits : (n : ℕ) → n < 2 ^ 32 → is_fit MaxWidth (decimal n) ≡ true
 unfolding is_fit
 number_fits n lt = decimal_number n lt
 
-numbers_text : (p : Params) (x : List ℕ) → number_lines p ++ x ≡ option_line (codes "MaxWidth") p.width ++ (option_line (codes "MaxHeight") p.height ++ (option_line (codes "AudioTag") p.tag ++ (option_line (codes "Channels") p.channels ++ (option_line (codes "SamplingRate") p.rate ++ (option_line (codes "BitsPerSample") p.bits ++ (option_line (codes "PacketSize") p.packet ++ x))))))
+numbers_text : (p : Params) (x : List ℕ)
+    → number_lines p ++ x ≡ option_line (codes "MaxWidth") p.width ++ (option_line (codes "MaxHeight") p.height ++ (option_line (codes "AudioTag") p.tag ++ (option_line (codes "Channels") p.channels ++ (option_line (codes "SamplingRate") p.rate ++ (option_line (codes "BitsPerSample") p.bits ++ (option_line (codes "PacketSize") p.packet ++ x))))))
 unfolding number_lines
 numbers_text p x = simp append_assoc
 
@@ -241,7 +255,9 @@ scale_stage Pushed size Good end x id t done raw begins fits stage go =
     let met : step Pushed (walk_in t.kind done raw) (Start (codes "param") (param_attributes (codes "TimeScale") (decimal t.timescale)) true at) ≡ walk_in t.kind done raw = rw is_time_scale refl in
     subst P (sym met) (go raw (skip_stage Pushed id t raw TimeScale refl stage)))
 
-numbers_stage : (form : Form) (size : ℕ) (Good : Walk → Type 0) (end : ℕ) (x : List ℕ) (id : ℕ) (t : Track) (done : List RawTrack) (raw : RawTrack) → Begins x → IsNarrowTrack t → Stage form id t 6 raw → GoesOn form size Good end x id t done 13 → Leads form Good (left_at size end (number_lines t.numbers ++ x) (in_track t.kind)) (walk_in t.kind done raw)
+numbers_stage : (form : Form) (size : ℕ) (Good : Walk → Type 0) (end : ℕ) (x : List ℕ) (id : ℕ) (t : Track) (done : List RawTrack) (raw : RawTrack) → Begins x
+    → IsNarrowTrack t → Stage form id t 6 raw → GoesOn form size Good end x id t done 13
+    → Leads form Good (left_at size end (number_lines t.numbers ++ x) (in_track t.kind)) (walk_in t.kind done raw)
 unfolding is_fit
 numbers_stage form size Good end x id t done raw begins narrow stage go =
     let n = narrow.numbers in
@@ -261,7 +277,8 @@ numbers_stage form size Good end x id t done raw begins narrow stage go =
     option_stage form size Good end _ id t done r5 BitsPerSample (codes "BitsPerSample") t.numbers.bits b1 refl is_bits refl refl n.bits decimal_number s5 (λ r6 s6.
     option_stage form size Good end x id t done r6 PacketSize (codes "PacketSize") t.numbers.packet begins refl is_packet refl refl n.packet decimal_number s6 go)))))))
 
-track_text : (id : ℕ) (t : Track) (x : List ℕ) → track_lines id t ++ x ≡ opening_line t.kind t.bitrate ++ (number_line (codes "trackID") id ++ (param_line (codes "trackName") t.name ++ (number_line (codes "TimeScale") t.timescale ++ (param_line (codes "FourCC") t.fourcc ++ (param_line (codes "CodecPrivateData") (encode_upper t.private) ++ (number_lines t.numbers ++ (closing_line t.kind ++ x)))))))
+track_text : (id : ℕ) (t : Track) (x : List ℕ)
+    → track_lines id t ++ x ≡ opening_line t.kind t.bitrate ++ (number_line (codes "trackID") id ++ (param_line (codes "trackName") t.name ++ (number_line (codes "TimeScale") t.timescale ++ (param_line (codes "FourCC") t.fourcc ++ (param_line (codes "CodecPrivateData") (encode_upper t.private) ++ (number_lines t.numbers ++ (closing_line t.kind ++ x)))))))
 unfolding track_lines
 track_text id t x = simp append_assoc
 
@@ -297,7 +314,9 @@ first_stage form id t at = record { kind = refl; bitrate = refl; again = refl; f
     unsaid PacketSize = refl
 
 -- a written track is read, with some places
-pub track_read : (form : Form) (size : ℕ) (Good : Walk → Type 0) (end : ℕ) (x : List ℕ) (id : ℕ) (t : Track) (done : List RawTrack) → Begins x → IsWritable id t → length done < 64 → ((raw : RawTrack) → Stage form id t 13 raw → Leads form Good (left_at size end x in_switch) (walk_out (done ++ raw ∷ []))) → Leads form Good (left_at size end (track_lines id t ++ x) in_switch) (walk_out done)
+pub track_read : (form : Form) (size : ℕ) (Good : Walk → Type 0) (end : ℕ) (x : List ℕ) (id : ℕ) (t : Track) (done : List RawTrack) → Begins x → IsWritable id t
+    → length done < 64 → ((raw : RawTrack) → Stage form id t 13 raw → Leads form Good (left_at size end x in_switch) (walk_out (done ++ raw ∷ [])))
+    → Leads form Good (left_at size end (track_lines id t ++ x) in_switch) (walk_out done)
 unfolding is_fit
 track_read form size Good end x id t done begins fits room go =
     let narrow = fits.narrow in
@@ -306,13 +325,16 @@ track_read form size Good end x id t done begins fits room go =
     let c3 = param_begins (codes "CodecPrivateData") (encode_upper t.private) (number_lines t.numbers ++ (closing_line t.kind ++ x)) in
     let c4 = param_begins (codes "FourCC") t.fourcc (param_line (codes "CodecPrivateData") (encode_upper t.private) ++ (number_lines t.numbers ++ (closing_line t.kind ++ x))) in
     let c5 = param_begins (codes "TimeScale") (decimal t.timescale) (param_line (codes "FourCC") t.fourcc ++ (param_line (codes "CodecPrivateData") (encode_upper t.private) ++ (number_lines t.numbers ++ (closing_line t.kind ++ x)))) in
-    let c6 = param_begins (codes "trackName") t.name (number_line (codes "TimeScale") t.timescale ++ (param_line (codes "FourCC") t.fourcc ++ (param_line (codes "CodecPrivateData") (encode_upper t.private) ++ (number_lines t.numbers ++ (closing_line t.kind ++ x))))) in
-    let c7 = param_begins (codes "trackID") (decimal id) (param_line (codes "trackName") t.name ++ (number_line (codes "TimeScale") t.timescale ++ (param_line (codes "FourCC") t.fourcc ++ (param_line (codes "CodecPrivateData") (encode_upper t.private) ++ (number_lines t.numbers ++ (closing_line t.kind ++ x)))))) in
+    let c6 =
+    param_begins (codes "trackName") t.name (number_line (codes "TimeScale") t.timescale ++ (param_line (codes "FourCC") t.fourcc ++ (param_line (codes "CodecPrivateData") (encode_upper t.private) ++ (number_lines t.numbers ++ (closing_line t.kind ++ x))))) in
+    let c7 =
+    param_begins (codes "trackID") (decimal id) (param_line (codes "trackName") t.name ++ (number_line (codes "TimeScale") t.timescale ++ (param_line (codes "FourCC") t.fourcc ++ (param_line (codes "CodecPrivateData") (encode_upper t.private) ++ (number_lines t.numbers ++ (closing_line t.kind ++ x)))))) in
     let few : leb 64 (length done) ≡ false = lt-leb 64 (length done) room in
     let P : List ℕ → Type 0 = λ l. Leads form Good (left_at size end l in_switch) (walk_out done) in
     subst P (sym (track_text id t x))
     (opening_read form size Good end _ t.kind t.bitrate (walk_out done) c7 (decimal_plain t.bitrate narrow.bitrate) (λ at.
-    let Q : Walk → Type 0 = λ w. Leads form Good (left_at size end (number_line (codes "trackID") id ++ (param_line (codes "trackName") t.name ++ (number_line (codes "TimeScale") t.timescale ++ (param_line (codes "FourCC") t.fourcc ++ (param_line (codes "CodecPrivateData") (encode_upper t.private) ++ (number_lines t.numbers ++ (closing_line t.kind ++ x))))))) (in_track t.kind)) w in
+    let Q : Walk → Type 0 =
+    λ w. Leads form Good (left_at size end (number_line (codes "trackID") id ++ (param_line (codes "trackName") t.name ++ (number_line (codes "TimeScale") t.timescale ++ (param_line (codes "FourCC") t.fourcc ++ (param_line (codes "CodecPrivateData") (encode_upper t.private) ++ (number_lines t.numbers ++ (closing_line t.kind ++ x))))))) (in_track t.kind)) w in
     let met : step form (walk_out done) (Start (element_name t.kind) (track_attributes t.bitrate) false at) ≡ walk_in t.kind done (opened_track t at) = rw (opened_kind t.kind, few) refl in
     subst Q (sym met)
     (param_stage form size Good end _ id t done (opened_track t at) TrackId (codes "trackID") (decimal id) c6 refl is_id refl refl (decimal_plain id fits.small) (decimal_number id fits.small) (first_stage form id t at) (λ r2 s2.

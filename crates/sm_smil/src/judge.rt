@@ -10,7 +10,8 @@ ghost use Rattle.sm_model.specs.LiveFaults.{collides_with, end_faults, tracks_fa
 
 use crate::names::value_of;
 use crate::walk::Walk;
-use sm_model::{Bytes, Form, Kind, Name, ParamName, RawTrack, SmilParam, is_fourcc, number_of};
+use sm_model::raw_track::{Form, ParamName, RawTrack, SmilParam};
+use sm_model::{Bytes, Kind, Name, is_fourcc, number_of};
 
 fn is_hex_digit(c: u8) -> bool
     ensures { result ≡ is_hex_digit c }
@@ -49,9 +50,9 @@ fn is_timescale(value: &[u8]) -> bool
     }
 }
 
-// Whether a value is one that its name can have.
+/// Whether a value is one that its name can have.
 #[tactic(auto, unfolding(sm_model::specs::LiveTracks::is_fit))]
-fn is_fit(name: ParamName, value: &[u8]) -> bool
+pub fn is_fit(name: ParamName, value: &[u8]) -> bool
     ensures { result ≡ is_fit name value.now }
 {
     match name {
@@ -91,7 +92,8 @@ fn note_misfits(fault: &mut Option<u64>, params: &[SmilParam])
     }
 }
 
-fn is_misread(text: Option<&[u8]>) -> bool
+/// Whether a text stands there that is no number.
+pub fn is_misread(text: Option<&[u8]>) -> bool
     ensures { result ≡ is_invalid (option_map (λ x. x.now) text.entry) }
 {
     match text {
@@ -100,7 +102,8 @@ fn is_misread(text: Option<&[u8]>) -> bool
     }
 }
 
-fn option_bytes(text: &Option<Bytes>) -> Option<&[u8]>
+/// The bytes, lent, where there are some.
+pub fn option_bytes(text: &Option<Bytes>) -> Option<&[u8]>
     ensures { option_map (λ x. x.now) result ≡ text.now }
 {
     match text {
@@ -251,7 +254,8 @@ fn collide(form: Form, a: &RawTrack, b: &RawTrack) -> bool
     clash(a, b) || share_id(form, a, b)
 }
 
-fn collides_with(form: Form, earlier: &[RawTrack], track: &RawTrack) -> bool
+/// Whether a track shares with an earlier one what no two may share.
+pub fn collides_with(form: Form, earlier: &[RawTrack], track: &RawTrack) -> bool
     ensures { result ≡ collides_with form earlier.now track.now }
 {
     for other in earlier {
@@ -271,8 +275,9 @@ fn lacks_id(form: Form, track: &RawTrack) -> bool
     }
 }
 
+/// Whether a track lacks its bitrate, or a track_ID that it needs.
 #[tactic(auto, unfolding(sm_model::specs::LiveFaults::lacks_part))]
-fn lacks_part(form: Form, track: &RawTrack) -> bool
+pub fn lacks_part(form: Form, track: &RawTrack) -> bool
     ensures { result ≡ lacks_part form track.now }
 {
     bitrate_text(track).is_none() || lacks_id(form, track)

@@ -5,6 +5,7 @@ mod fault;
 mod judge;
 mod law;
 mod names;
+pub mod plain;
 mod put;
 mod read;
 mod track;

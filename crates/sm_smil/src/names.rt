@@ -3,7 +3,8 @@ ghost use Rattle.std.specs.Prelude.{◌≡◌, option_map};
 ghost use Rattle.sm_model.specs.LiveTracks.{index_of, value_of};
 ghost use Rattle.sm_model.specs.LiveWalk.{text_param, number_param, video_param, audio_param, param_name, kind_in, attribute_of};
 
-use sm_model::{Attribute, Kind, ParamName, SmilParam};
+use sm_model::raw_track::{ParamName, SmilParam};
+use sm_model::{Attribute, Kind};
 
 #[tactic(auto, unfolding(sm_model::specs::LiveWalk::text_param))]
 fn text_param(name: &[u8]) -> Option<ParamName>

@@ -8,7 +8,8 @@ use crate::fault::SmilFault;
 use crate::judge::fault_of;
 use crate::track::{ladder_tracks, smil_tracks};
 use crate::walk::Walk;
-use sm_model::{Channel, Form, NoMemory, Smil, Tag};
+use sm_model::raw_track::Form;
+use sm_model::{Channel, NoMemory, Smil, Tag};
 use sm_tag::Tags;
 use std::alloc::Global;
 

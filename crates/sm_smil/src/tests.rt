@@ -3,8 +3,8 @@ mod ladders;
 mod limits;
 mod manifests;
 
-use crate::{SmilFault, read_ladder, read_live_manifest};
-use sm_model::{Kind, Track};
+use crate::{SmilFault, plain, read_ladder, read_live_manifest};
+use sm_model::{Channel, Kind, Smil, Track};
 use std::test::Fail;
 
 fn push(out: &mut String, rt: &HostRuntime, mark: &str, number: Option<u32>) -> Result<(), Fail> {
@@ -41,9 +41,9 @@ fn push_track(out: &mut String, rt: &HostRuntime, track: &Track) -> Result<(), F
     push(out, rt, "p", track.numbers.packet)
 }
 
-fn pushed(rt: &HostRuntime, text: &[u8]) -> Result<String, Fail> {
+fn shown_smil(rt: &HostRuntime, read: Result<Smil, SmilFault>) -> Result<String, Fail> {
     let mut out = String::new(rt.alloc());
-    match read_live_manifest(rt.alloc(), text) {
+    match read {
         Ok(smil) => {
             for one in smil.as_slice() {
                 push_track(&mut out, rt, &one.track)?;
@@ -57,9 +57,9 @@ fn pushed(rt: &HostRuntime, text: &[u8]) -> Result<String, Fail> {
     Ok(out)
 }
 
-fn ladder(rt: &HostRuntime, text: &[u8]) -> Result<String, Fail> {
+fn shown_channel(rt: &HostRuntime, read: Result<Channel, SmilFault>) -> Result<String, Fail> {
     let mut out = String::new(rt.alloc());
-    match read_ladder(rt.alloc(), text) {
+    match read {
         Ok(channel) => {
             for track in channel.as_slice() {
                 push_track(&mut out, rt, track)?;
@@ -70,4 +70,27 @@ fn ladder(rt: &HostRuntime, text: &[u8]) -> Result<String, Fail> {
         Err(SmilFault::NoMemory) => out.push_str("no memory")?,
     }
     Ok(out)
+}
+
+// What both say.
+fn same(plain: String, read: String) -> Result<String, Fail> {
+    if plain.as_str() == read.as_str() {
+        Ok(read)
+    } else {
+        Err("the plain program says otherwise".into())
+    }
+}
+
+// What a text says as a live manifest, by its reader and by the plain program.
+fn pushed(rt: &HostRuntime, text: &[u8]) -> Result<String, Fail> {
+    let read = shown_smil(rt, read_live_manifest(rt.alloc(), text))?;
+    let plain = shown_smil(rt, plain::read_live_manifest(rt.alloc(), text))?;
+    same(plain, read)
+}
+
+// What a text says as a ladder, by both.
+fn ladder(rt: &HostRuntime, text: &[u8]) -> Result<String, Fail> {
+    let read = shown_channel(rt, read_ladder(rt.alloc(), text))?;
+    let plain = shown_channel(rt, plain::read_ladder(rt.alloc(), text))?;
+    same(plain, read)
 }

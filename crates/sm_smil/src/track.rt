@@ -7,7 +7,8 @@ ghost use Rattle.sm_smil.specs.Answers.{AreFit};
 use crate::judge::{bitrate_of, name_of, number_at, timescale_of};
 use crate::names::value_of;
 use hex::FromHexError;
-use sm_model::{Bytes, Name, NameFault, NoMemory, ParamName, Params, RawTrack, SmilTrack, Track};
+use sm_model::raw_track::{ParamName, RawTrack};
+use sm_model::{Bytes, Name, NameFault, NoMemory, Params, SmilTrack, Track};
 use std::alloc::Global;
 
 fn read_name(alloc: Global, name: &[u8]) -> Result<Name, NoMemory>

@@ -3,10 +3,8 @@ ghost use Rattle.std.specs.Prelude.{◌≡◌, ◌-◌, [], length, take, codes,
 ghost use Rattle.sm_model.specs.LiveWalk.{is_read, with_param, with_named, with_element, is_switch, track_kind, first_place, attribute_of};
 
 use crate::names::{attribute_of, kind_in, param_name, value_of};
-use sm_model::{
-    Attribute, Attributes, Bytes, Form, Kind, NoMemory, ParamName, RawTrack, SmilParam, SmilParams,
-    Tag,
-};
+use sm_model::raw_track::{Form, ParamName, RawTrack, SmilParam, SmilParams};
+use sm_model::{Attribute, Attributes, Bytes, Kind, NoMemory, Tag};
 use std::alloc::Global;
 use std::marker::Model;
 
@@ -81,7 +79,8 @@ fn add_named(
     add_param(track, SmilParam { name, value, at })
 }
 
-fn add_element(
+/// Adds a `param` element to a track, where the track reads it.
+pub fn add_element(
     alloc: Global,
     form: Form,
     attributes: &[Attribute],
@@ -112,7 +111,8 @@ fn is_switch(path: &[Bytes]) -> bool
     }
 }
 
-fn track_kind(path: &[Bytes], name: &[u8]) -> Option<Kind>
+/// The kind of track that an element of this name is behind these open elements, if it is one.
+pub fn track_kind(path: &[Bytes], name: &[u8]) -> Option<Kind>
     ensures { result ≡ track_kind path.now name.now }
 {
     if is_switch(path) { kind_in(name) } else { None }
@@ -127,7 +127,8 @@ fn copied(alloc: Global, text: Option<&[u8]>) -> Result<Option<Bytes>, NoMemory>
     }
 }
 
-fn raw_track(
+/// A track as its start tag says it.
+pub fn raw_track(
     alloc: Global,
     kind: Kind,
     attributes: &[Attribute],

@@ -227,7 +227,8 @@ closing_then false rest = refl
 pub start_read : (bytes name rest : List ℕ) (attributes : List Attribute) (empty : Bool) → ((text : List ℕ) × IsStart text name attributes empty × (60 ∷ bytes ≡ text ++ rest)) → Markups bytes (Ok (Start name attributes empty, rest))
 start_read bytes name rest attributes empty (text, is, whole) =
     let tail = is.inner ++ (is.space ++ closing empty rest) in
-    let made : text ++ rest ≡ 60 ∷ name ++ tail = ap (λ (l : List ℕ). l ++ rest) is.text_is ∙ (regroup name is.inner is.space (closing empty []) rest ∙ ap (λ (l : List ℕ). 60 ∷ name ++ (is.inner ++ (is.space ++ l))) (closing_then empty rest)) in
+    let made : text ++ rest ≡ 60 ∷ name ++ tail =
+    ap (λ (l : List ℕ). l ++ rest) is.text_is ∙ (regroup name is.inner is.space (closing empty []) rest ∙ ap (λ (l : List ℕ). 60 ∷ name ++ (is.inner ++ (is.space ++ l))) (closing_then empty rest)) in
     let both : 60 ∷ bytes ≡ 60 ∷ name ++ tail = whole ∙ made in
     let same : bytes ≡ name ++ tail = cc in
     let ends = name_ends is.attributes_are (is.space ++ closing empty rest) (space_then_end is.space empty rest is.space_is) in

@@ -197,17 +197,20 @@ unfolding piece_at
 piece_made q [] = tt
 piece_made q (c ∷ cs) = at_quote (eqb_tells c q)
   where
-    at_ampersand : c ≢ q → c ≢ 60 → ((eqb c 38 ≡ true) × (c ≡ 38)) ⊎ ((eqb c 38 ≡ false) × (c ≢ 38)) → PieceMade q (c ∷ cs) (cond {A = Result (Bool × List ℕ × List ℕ) Stop} (eqb c 38) (reference_at cs >>= λ x. Ok (true, encode_utf8 x.0, x.1)) (Ok (true, c ∷ [], cs)))
+    at_ampersand : c ≢ q → c ≢ 60 → ((eqb c 38 ≡ true) × (c ≡ 38)) ⊎ ((eqb c 38 ≡ false) × (c ≢ 38))
+        → PieceMade q (c ∷ cs) (cond {A = Result (Bool × List ℕ × List ℕ) Stop} (eqb c 38) (reference_at cs >>= λ x. Ok (true, encode_utf8 x.0, x.1)) (Ok (true, c ∷ [], cs)))
     at_ampersand nq na (inl (e, is)) =
         let P : ℕ → Type 0 = λ k. PieceMade q (k ∷ cs) (reference_at cs >>= λ x. Ok (true, encode_utf8 x.0, x.1)) in
         rw e (subst P (sym is) (reference_piece q cs (reference_at cs) refl))
     at_ampersand nq na (inr (e, nm)) = rw e (c ∷ [], λ inner value v. grammar.byte nq na nm v, refl)
 
-    at_angle : c ≢ q → ((eqb c 60 ≡ true) × (c ≡ 60)) ⊎ ((eqb c 60 ≡ false) × (c ≢ 60)) → PieceMade q (c ∷ cs) (cond {A = Result (Bool × List ℕ × List ℕ) Stop} (eqb c 60) (Err wrong) (cond {A = Result (Bool × List ℕ × List ℕ) Stop} (eqb c 38) (reference_at cs >>= λ x. Ok (true, encode_utf8 x.0, x.1)) (Ok (true, c ∷ [], cs))))
+    at_angle : c ≢ q → ((eqb c 60 ≡ true) × (c ≡ 60)) ⊎ ((eqb c 60 ≡ false) × (c ≢ 60))
+        → PieceMade q (c ∷ cs) (cond {A = Result (Bool × List ℕ × List ℕ) Stop} (eqb c 60) (Err wrong) (cond {A = Result (Bool × List ℕ × List ℕ) Stop} (eqb c 38) (reference_at cs >>= λ x. Ok (true, encode_utf8 x.0, x.1)) (Ok (true, c ∷ [], cs))))
     at_angle nq (inl (e, is)) = rw e tt
     at_angle nq (inr (e, na)) = rw e (at_ampersand nq na (eqb_tells c 38))
 
-    at_quote : ((eqb c q ≡ true) × (c ≡ q)) ⊎ ((eqb c q ≡ false) × (c ≢ q)) → PieceMade q (c ∷ cs) (cond {A = Result (Bool × List ℕ × List ℕ) Stop} (eqb c q) (Ok (false, [], cs)) (cond {A = Result (Bool × List ℕ × List ℕ) Stop} (eqb c 60) (Err wrong) (cond {A = Result (Bool × List ℕ × List ℕ) Stop} (eqb c 38) (reference_at cs >>= λ x. Ok (true, encode_utf8 x.0, x.1)) (Ok (true, c ∷ [], cs)))))
+    at_quote : ((eqb c q ≡ true) × (c ≡ q)) ⊎ ((eqb c q ≡ false) × (c ≢ q))
+        → PieceMade q (c ∷ cs) (cond {A = Result (Bool × List ℕ × List ℕ) Stop} (eqb c q) (Ok (false, [], cs)) (cond {A = Result (Bool × List ℕ × List ℕ) Stop} (eqb c 60) (Err wrong) (cond {A = Result (Bool × List ℕ × List ℕ) Stop} (eqb c 38) (reference_at cs >>= λ x. Ok (true, encode_utf8 x.0, x.1)) (Ok (true, c ∷ [], cs)))))
     at_quote (inl (e, is)) = rw e (refl, ap (λ (k : ℕ). k ∷ cs) is)
     at_quote (inr (e, nq)) = rw e (at_angle nq (eqb_tells c 60))
 
@@ -310,7 +313,9 @@ mark_end_made b rest empty e =
     ended_by [] spaced f = cc
     ended_by (c ∷ cs) spaced f = tested (eqb c 62) (eqb c 47) refl refl f
       where
-        tested : (s t : Bool) → eqb c 62 ≡ s → eqb c 47 ≡ t → cond {A = Result (Option Bool × List ℕ) Stop} s (Ok (Some false, cs)) (cond {A = Result (Option Bool × List ℕ) Stop} t (slash_end (byte_at 62 cs)) (cond {A = Result (Option Bool × List ℕ) Stop} spaced (Ok (None, c ∷ cs)) (Err wrong))) ≡ Ok (Some empty, rest) → c ∷ cs ≡ closing empty rest
+        tested : (s t : Bool) → eqb c 62 ≡ s → eqb c 47 ≡ t
+            → cond {A = Result (Option Bool × List ℕ) Stop} s (Ok (Some false, cs)) (cond {A = Result (Option Bool × List ℕ) Stop} t (slash_end (byte_at 62 cs)) (cond {A = Result (Option Bool × List ℕ) Stop} spaced (Ok (None, c ∷ cs)) (Err wrong))) ≡ Ok (Some empty, rest)
+            → c ∷ cs ≡ closing empty rest
         tested true t g h k =
             let is = eqb-true c 62 g in
             let same = pairs _ refl k in
@@ -344,7 +349,9 @@ mark_name_made b rest e =
     name_by [] spaced f = cc
     name_by (c ∷ cs) spaced f = tested (eqb c 62) (eqb c 47) spaced f
       where
-        tested : (s t u : Bool) → cond {A = Result (Option Bool × List ℕ) Stop} s (Ok (Some false, cs)) (cond {A = Result (Option Bool × List ℕ) Stop} t (slash_end (byte_at 62 cs)) (cond {A = Result (Option Bool × List ℕ) Stop} u (Ok (None, c ∷ cs)) (Err wrong))) ≡ Ok (None, rest) → (u ≡ true) × (c ∷ cs ≡ rest)
+        tested : (s t u : Bool)
+            → cond {A = Result (Option Bool × List ℕ) Stop} s (Ok (Some false, cs)) (cond {A = Result (Option Bool × List ℕ) Stop} t (slash_end (byte_at 62 cs)) (cond {A = Result (Option Bool × List ℕ) Stop} u (Ok (None, c ∷ cs)) (Err wrong))) ≡ Ok (None, rest)
+            → (u ≡ true) × (c ∷ cs ≡ rest)
         tested true t u k = let some = (pairs _ refl k).0 in cc
         tested false true u k = absurd (slash (byte_at 62 cs) k)
         tested false false true k = (refl, (pairs _ refl k).1)

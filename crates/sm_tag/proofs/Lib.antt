@@ -10,3 +10,4 @@ pub mod GrammarSound
 pub mod GrammarRead
 pub mod Standing
 pub mod Wrong
+mod PlainLemmas

@@ -22,7 +22,9 @@ abbrev pub Knows : List (Bor (List ℕ)) → List Attribute → Type 0
 Knows keys seen = (q : List ℕ) → in_set q keys ≡ has_name q seen
 
 -- the query compares equal to a key, or to one behind it
-later : (o : Ordering) (q : List ℕ) (x key : Bor (List ℕ)) (xs more : List (Bor (List ℕ))) → slice_cmp nat_cmp key.now x.now ≡ o → in_set q more ≡ (in_set q xs || is_eq (slice_cmp nat_cmp q key.now)) → in_set q (match_ordering o (key ∷ x ∷ xs) (x ∷ xs) (x ∷ more)) ≡ (in_set q (x ∷ xs) || is_eq (slice_cmp nat_cmp q key.now))
+later : (o : Ordering) (q : List ℕ) (x key : Bor (List ℕ)) (xs more : List (Bor (List ℕ))) → slice_cmp nat_cmp key.now x.now ≡ o
+    → in_set q more ≡ (in_set q xs || is_eq (slice_cmp nat_cmp q key.now))
+    → in_set q (match_ordering o (key ∷ x ∷ xs) (x ∷ xs) (x ∷ more)) ≡ (in_set q (x ∷ xs) || is_eq (slice_cmp nat_cmp q key.now))
 later Less q x key xs more is h = first (is_eq (slice_cmp nat_cmp q key.now)) (in_set q (x ∷ xs))
   where
     first : (a b : Bool) → (a || b) ≡ (b || a)
@@ -66,7 +68,8 @@ has_name_push q (s ∷ seen) a = rw (has_name_push q seen a) (behind (pointwise 
     behind true b c = refl
     behind false b c = refl
 
-pub knows_more : (keys more : List (Bor (List ℕ))) (seen : List Attribute) (a : Attribute) (key : Bor (List ℕ)) → Knows keys seen → more ≡ insert_key (λ x y. slice_cmp nat_cmp x.now y.now) keys key → a.name ≡ key.now → Knows more (seen ++ a ∷ [])
+pub knows_more : (keys more : List (Bor (List ℕ))) (seen : List Attribute) (a : Attribute) (key : Bor (List ℕ)) → Knows keys seen
+    → more ≡ insert_key (λ x y. slice_cmp nat_cmp x.now y.now) keys key → a.name ≡ key.now → Knows more (seen ++ a ∷ [])
 knows_more keys more seen a key before is name q =
     rw (is, has_name_push q seen a, name) (set_push q keys key ∙ rw (before q, is_eq-slice_cmp q key.now) refl)
 

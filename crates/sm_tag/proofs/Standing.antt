@@ -140,7 +140,8 @@ place_of text front b x y zeros end left is long parts size =
     regroup f x y z = simp append_assoc
 
 -- behind a piece
-left_behind : (text front b x y more zeros : List ℕ) (end : ℕ) → text ≡ front ++ (b ++ zeros) → end ≡ length front + length b → b ≡ x ++ (y ++ more) → (text ≡ (front ++ (x ++ y)) ++ (more ++ zeros)) × (end ≡ length (front ++ (x ++ y)) + length more)
+left_behind : (text front b x y more zeros : List ℕ) (end : ℕ) → text ≡ front ++ (b ++ zeros) → end ≡ length front + length b → b ≡ x ++ (y ++ more)
+    → (text ≡ (front ++ (x ++ y)) ++ (more ++ zeros)) × (end ≡ length (front ++ (x ++ y)) + length more)
 left_behind text front b x y more zeros end is long parts = (
   is ∙ (ap (λ (l : List ℕ). front ++ (l ++ zeros)) parts ∙ regroup front x y more zeros),
   omega (arith, long, ap length parts, length-append x (y ++ more), length-append y more, length-append x y, length-append front (x ++ y)),
@@ -165,7 +166,8 @@ either_stands : (text : List ℕ) (b : Bool) (x y : Tag × Left) → StepStands 
 either_stands text true x y h k = h
 either_stands text false x y h k = k
 
-mark_stands : (text : List ℕ) (s : Left) (m : Markup) (left : ℕ) (front rest more : List ℕ) → Remains text s → s.rest ≡ front ++ 60 ∷ rest → left ≡ length (60 ∷ rest) → Markups rest (Ok (m, more)) → StepStands text (whole.marks s m (s.end - left) more)
+mark_stands : (text : List ℕ) (s : Left) (m : Markup) (left : ℕ) (front rest more : List ℕ) → Remains text s → s.rest ≡ front ++ 60 ∷ rest → left ≡ length (60 ∷ rest)
+    → Markups rest (Ok (m, more)) → StepStands text (whole.marks s m (s.end - left) more)
 mark_stands text s Skipped left front rest more r is size m = fails_there text s left front rest r is size
 mark_stands text s (Finish name) left front rest more r is size m =
     let made : MarkupMade rest (Ok (Finish name, more)) = markups_made rest (Ok (Finish name, more)) m in

@@ -121,7 +121,7 @@ either : (b : Bool) (P Q R S : Type 0) (E : Type 0) → MatchBool b P Q → Matc
 either true P Q R S E h k left right = left h k
 either false P Q R S E h k left right = right h k
 
-Markups-unique : (bytes : List ℕ) (r s : Result (Markup × List ℕ) Stop) → Markups bytes r → Markups bytes s → r ≡ s
+pub Markups-unique : (bytes : List ℕ) (r s : Result (Markup × List ℕ) Stop) → Markups bytes r → Markups bytes s → r ≡ s
 Markups-unique [] r s h k = h ∙ sym k
 Markups-unique (c ∷ cs) r s h k =
     either (eqb c 63) _ _ _ _ _ h k (λ a b. a ∙ sym b) (λ h1 k1.
@@ -135,7 +135,8 @@ leads p e f =
     (ap (λ (q : Lead × ℕ × List ℕ). q.0) same, ap (λ (q : Lead × ℕ × List ℕ). q.1) same, ap (λ (q : Lead × ℕ × List ℕ). q.2) same)
 
 -- two readings of what begins at the next `<`
-same_markup : (inside : Bool) (bytes : List ℕ) {rest more : List ℕ} {left right : ℕ} (r s : Result (Markup × List ℕ) Stop) → lead_at inside bytes ≡ (lead.Tag, left, rest) → Markups rest r → lead_at inside bytes ≡ (lead.Tag, right, more) → Markups more s → r ≡ s
+same_markup : (inside : Bool) (bytes : List ℕ) {rest more : List ℕ} {left right : ℕ} (r s : Result (Markup × List ℕ) Stop) → lead_at inside bytes ≡ (lead.Tag, left, rest)
+    → Markups rest r → lead_at inside bytes ≡ (lead.Tag, right, more) → Markups more s → r ≡ s
 same_markup inside bytes {rest = rest} r s e m f n =
     let same = (leads (lead_at inside bytes) f e).2 in
     Markups-unique rest r s m (rw same at n)

@@ -25,14 +25,18 @@ next_feed size end cs names open_names =
     ((lead.Run, markup.Skipped, length (10 ∷ 60 ∷ cs), 60 ∷ cs), subst P (sym open_names.0) (bare (lead_feed cs) (λ e. cc e)), refl)
 
 -- a start tag
-pub next_start : (size end : ℕ) (cs more : List ℕ) (names : List (List ℕ)) (name : List ℕ) (attributes : List Attribute) (empty : Bool) → IsOpen names → Markups cs (Ok (markup.Start name attributes empty, more)) → Next (left_at size end (60 ∷ cs) names) (Start name attributes empty (end - length (60 ∷ cs))) (left_at size end more (cond empty names (names ++ name ∷ [])))
+pub next_start : (size end : ℕ) (cs more : List ℕ) (names : List (List ℕ)) (name : List ℕ) (attributes : List Attribute) (empty : Bool) → IsOpen names
+    → Markups cs (Ok (markup.Start name attributes empty, more))
+    → Next (left_at size end (60 ∷ cs) names) (Start name attributes empty (end - length (60 ∷ cs))) (left_at size end more (cond empty names (names ++ name ∷ [])))
 next_start size end cs more names name attributes empty open_names read =
     let f : Lead × Markup × ℕ × List ℕ = (lead.Tag, markup.Start name attributes empty, length (60 ∷ cs), more) in
     let P : Bool → Type 0 = λ b. Founds (not b) (60 ∷ cs) f in
     (f, subst P (sym open_names.0) (marked (lead_tag cs) read (λ e. cc e)), rw (open_names.0, open_names.1) refl)
 
 -- an end tag
-pub next_finish : (size end : ℕ) (cs more : List ℕ) (names : List (List ℕ)) (name : List ℕ) → IsOpen names → closes name names ≡ true → Markups cs (Ok (markup.Finish name, more)) → Next (left_at size end (60 ∷ cs) names) (Finish name (end - length (60 ∷ cs))) (left_at size end more (take (length names - 1) names))
+pub next_finish : (size end : ℕ) (cs more : List ℕ) (names : List (List ℕ)) (name : List ℕ) → IsOpen names → closes name names ≡ true
+    → Markups cs (Ok (markup.Finish name, more))
+    → Next (left_at size end (60 ∷ cs) names) (Finish name (end - length (60 ∷ cs))) (left_at size end more (take (length names - 1) names))
 next_finish size end cs more names name open_names last read =
     let f : Lead × Markup × ℕ × List ℕ = (lead.Tag, markup.Finish name, length (60 ∷ cs), more) in
     let P : Bool → Type 0 = λ b. Founds (not b) (60 ∷ cs) f in

@@ -215,7 +215,8 @@ number_wrong b more e = by_part (wrong_part (byte_at 35 b) (λ r. number_end (pr
         let w = class_more is_digit r more c cs f in
         rw (w.0, w.1) (end_wrong (prefix is_digit r) more c cs g)
 
-    by_part : ((byte_at 35 b ≡ Err wrong) ⊎ ((r : List ℕ) × (byte_at 35 b ≡ Ok r) × (number_end (prefix is_digit r) (remaining is_digit r) ≡ Err wrong))) → (byte_at 35 (b ++ more) >>= λ r. number_end (prefix is_digit r) (remaining is_digit r)) ≡ Err wrong
+    by_part : ((byte_at 35 b ≡ Err wrong) ⊎ ((r : List ℕ) × (byte_at 35 b ≡ Ok r) × (number_end (prefix is_digit r) (remaining is_digit r) ≡ Err wrong)))
+        → (byte_at 35 (b ++ more) >>= λ r. number_end (prefix is_digit r) (remaining is_digit r)) ≡ Err wrong
     by_part (inl f) = let g = byte_wrong 35 b more f in rw g refl
     by_part (inr w) = let g = byte_more 35 b more w.0 w.1 in rw g (by_left w.0 (remaining is_digit w.0) refl w.2)
 
@@ -257,7 +258,8 @@ piece_wrong q (c ∷ cs) more e = tested (eqb c q) (eqb c 60) (eqb c 38) e
         let h = reference_wrong cs more (f ∙ ap (λ (t : Stop). Err t) same) in
         rw h refl
 
-    tested : (s t u : Bool) → cond {A = Result (Bool × List ℕ × List ℕ) Stop} s (Ok (false, [], cs)) (cond {A = Result (Bool × List ℕ × List ℕ) Stop} t (Err wrong) (cond {A = Result (Bool × List ℕ × List ℕ) Stop} u (reference_at cs >>= going) (Ok (true, c ∷ [], cs)))) ≡ Err wrong
+    tested : (s t u : Bool)
+        → cond {A = Result (Bool × List ℕ × List ℕ) Stop} s (Ok (false, [], cs)) (cond {A = Result (Bool × List ℕ × List ℕ) Stop} t (Err wrong) (cond {A = Result (Bool × List ℕ × List ℕ) Stop} u (reference_at cs >>= going) (Ok (true, c ∷ [], cs)))) ≡ Err wrong
         → cond {A = Result (Bool × List ℕ × List ℕ) Stop} s (Ok (false, [], cs ++ more)) (cond {A = Result (Bool × List ℕ × List ℕ) Stop} t (Err wrong) (cond {A = Result (Bool × List ℕ × List ℕ) Stop} u (reference_at (cs ++ more) >>= going) (Ok (true, c ∷ [], cs ++ more)))) ≡ Err wrong
     tested true t u f = cc
     tested false true u f = refl
@@ -276,7 +278,8 @@ piece_more q (c ∷ cs) more piece rest e = tested (eqb c q) (eqb c 60) (eqb c 3
         let h = reference_more cs more left x f in
         rw (h, same.1, same.2) refl
 
-    tested : (s t u : Bool) → cond {A = Result (Bool × List ℕ × List ℕ) Stop} s (Ok (false, [], cs)) (cond {A = Result (Bool × List ℕ × List ℕ) Stop} t (Err wrong) (cond {A = Result (Bool × List ℕ × List ℕ) Stop} u (reference_at cs >>= going) (Ok (true, c ∷ [], cs)))) ≡ Ok (true, piece, rest)
+    tested : (s t u : Bool)
+        → cond {A = Result (Bool × List ℕ × List ℕ) Stop} s (Ok (false, [], cs)) (cond {A = Result (Bool × List ℕ × List ℕ) Stop} t (Err wrong) (cond {A = Result (Bool × List ℕ × List ℕ) Stop} u (reference_at cs >>= going) (Ok (true, c ∷ [], cs)))) ≡ Ok (true, piece, rest)
         → cond {A = Result (Bool × List ℕ × List ℕ) Stop} s (Ok (false, [], cs ++ more)) (cond {A = Result (Bool × List ℕ × List ℕ) Stop} t (Err wrong) (cond {A = Result (Bool × List ℕ × List ℕ) Stop} u (reference_at (cs ++ more) >>= going) (Ok (true, c ∷ [], cs ++ more)))) ≡ Ok (true, piece, rest ++ more)
     tested true t u f = let none = (triples _ refl f).0 in cc
     tested false true u f = cc
@@ -343,7 +346,9 @@ opening_wrong : (b more : List ℕ) → opening_at b ≡ Err wrong → opening_a
 unfolding opening_at
 opening_wrong b more e = by_name (wrong_part (name_at b) _ e)
   where
-    by_quote : (n : List ℕ × List ℕ) (eq : List ℕ) → ((quote_at (remaining is_space eq) ≡ Err wrong) ⊎ ((q : ℕ × List ℕ) × (quote_at (remaining is_space eq) ≡ Ok q) × (quoted n.0 q ≡ Err wrong))) → (quote_at (remaining is_space (eq ++ more)) >>= quoted n.0) ≡ Err wrong
+    by_quote : (n : List ℕ × List ℕ) (eq : List ℕ)
+        → ((quote_at (remaining is_space eq) ≡ Err wrong) ⊎ ((q : ℕ × List ℕ) × (quote_at (remaining is_space eq) ≡ Ok q) × (quoted n.0 q ≡ Err wrong)))
+        → (quote_at (remaining is_space (eq ++ more)) >>= quoted n.0) ≡ Err wrong
     by_quote n eq (inl f) = let g = space_wrong quote_at eq more quote_some quote_wrong f in rw g refl
     by_quote n eq (inr w) = let h = w.2 in cc
 
@@ -402,7 +407,8 @@ behind_wrong spaced (c ∷ cs) more e = tested (eqb c 62) (eqb c 47) spaced e
         let h = byte_wrong 62 cs more (f ∙ ap (λ (t : Stop). Err t) same) in
         rw h refl
 
-    tested : (s t u : Bool) → cond {A = Result (Option Bool × List ℕ) Stop} s (Ok (Some false, cs)) (cond {A = Result (Option Bool × List ℕ) Stop} t (byte_at 62 cs >>= slashed) (cond {A = Result (Option Bool × List ℕ) Stop} u (Ok (None, c ∷ cs)) (Err wrong))) ≡ Err wrong
+    tested : (s t u : Bool)
+        → cond {A = Result (Option Bool × List ℕ) Stop} s (Ok (Some false, cs)) (cond {A = Result (Option Bool × List ℕ) Stop} t (byte_at 62 cs >>= slashed) (cond {A = Result (Option Bool × List ℕ) Stop} u (Ok (None, c ∷ cs)) (Err wrong))) ≡ Err wrong
         → cond {A = Result (Option Bool × List ℕ) Stop} s (Ok (Some false, cs ++ more)) (cond {A = Result (Option Bool × List ℕ) Stop} t (byte_at 62 (cs ++ more) >>= slashed) (cond {A = Result (Option Bool × List ℕ) Stop} u (Ok (None, c ∷ cs ++ more)) (Err wrong))) ≡ Err wrong
     tested true t u f = cc
     tested false true u f = slash (byte_at 62 cs) refl f
@@ -417,7 +423,8 @@ behind_more spaced (c ∷ cs) more rest e = tested (eqb c 62) (eqb c 47) spaced 
     slash (Ok x) g = let none = (pairs _ refl g).0 in cc
     slash (Err s) g = cc
 
-    tested : (s t u : Bool) → cond {A = Result (Option Bool × List ℕ) Stop} s (Ok (Some false, cs)) (cond {A = Result (Option Bool × List ℕ) Stop} t (byte_at 62 cs >>= slashed) (cond {A = Result (Option Bool × List ℕ) Stop} u (Ok (None, c ∷ cs)) (Err wrong))) ≡ Ok (None, rest)
+    tested : (s t u : Bool)
+        → cond {A = Result (Option Bool × List ℕ) Stop} s (Ok (Some false, cs)) (cond {A = Result (Option Bool × List ℕ) Stop} t (byte_at 62 cs >>= slashed) (cond {A = Result (Option Bool × List ℕ) Stop} u (Ok (None, c ∷ cs)) (Err wrong))) ≡ Ok (None, rest)
         → cond {A = Result (Option Bool × List ℕ) Stop} s (Ok (Some false, cs ++ more)) (cond {A = Result (Option Bool × List ℕ) Stop} t (byte_at 62 (cs ++ more) >>= slashed) (cond {A = Result (Option Bool × List ℕ) Stop} u (Ok (None, c ∷ cs ++ more)) (Err wrong))) ≡ Ok (None, rest ++ more)
     tested true t u f = let none = (pairs _ refl f).0 in cc
     tested false true u f = absurd (slash (byte_at 62 cs) f)

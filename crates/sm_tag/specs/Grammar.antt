@@ -1,10 +1,12 @@
 -- Of which bytes a tag is made, and what it says.
-use Rattle.std.specs.Prelude.{◌≡◌, ◌≢◌, ◌<◌, ◌⊎◌, ℕ, Bool, true, false, List, [], ◌∷◌, ◌++◌, length, drop, codes, encode_utf8, nat_eq}
+use Rattle.std.specs.Prelude.{◌≡◌, ◌≢◌, ◌<◌, ◌⊎◌, ℕ, Bool, true, false, List, [], ◌∷◌, ◌++◌, length, drop, codes, encode_utf8, nat_eq, Option, Some, None}
 use Rattle.std.specs.List.{list_all, starts_with}
 use Rattle.sm_model.specs.declared.tag.Attribute.{Attribute}
 use Rattle.sm_model.specs.Digits.{is_digit, decimal_from}
 use Rattle.sm_model.specs.declared.tag.Tag.{Tag}
 use Rattle.sm_model.specs.declared.tag.Tag.TheVariants as tags
+use Rattle.sm_model.specs.declared.markup.Markup.{Markup}
+use Rattle.sm_model.specs.declared.markup.Markup.TheVariants as markup
 use Rattle.sm_model.specs.TagBytes.{is_space, is_text}
 use Rattle.sm_model.specs.TagParts.{is_scalar, has_name}
 use Rattle.sm_model.specs.TagText.{IsTagName, closing}
@@ -79,6 +81,17 @@ pub data UpTo (word : List ℕ) : List ℕ → Type 0 where
 pub data IsSkipped : List ℕ → Type 0 where
   comment : {text : List ℕ} → UpTo (codes "-->") text → IsSkipped (codes "<!--" ++ text)
   instruction : {text : List ℕ} → UpTo (codes "?>") text → IsSkipped (codes "<?" ++ text)
+
+-- what a whole piece of text is, as one of these three
+abbrev pub IsMade : List ℕ → Markup → Type 0
+IsMade piece (markup.Start name attributes alone) = IsStart piece name attributes alone
+IsMade piece (markup.Finish name) = IsFinish piece name
+IsMade piece markup.Skipped = IsSkipped piece
+
+-- what it is, or that it is none
+abbrev pub IsPiece : List ℕ → Option Markup → Type 0
+IsPiece piece (Some m) = IsMade piece m
+IsPiece piece None = (m : Markup) → IsMade piece m → ⊥
 
 -- text between tags: some bytes, of which none is `<`
 pub record IsRun (text : List ℕ) : Type 0 where

@@ -22,7 +22,7 @@ fn opening_of(bytes: &[u8]) -> Result<(&[u8], u8, &[u8]), Halt>
 }
 
 // The name and the value of an attribute, and what is behind it.
-fn attribute_of(alloc: Global, bytes: &[u8]) -> Result<(&[u8], Bytes, &[u8]), Halt>
+pub fn attribute_of(alloc: Global, bytes: &[u8]) -> Result<(&[u8], Bytes, &[u8]), Halt>
     ensures read { GivesBy (λ x. (record { name = x.0.now; value = x.1 }, x.2.now)) result (AttributeAt bytes.now) }
     ensures shorter { IfOk result (λ x. length x.2.now < length bytes.now) }
 {
@@ -33,7 +33,7 @@ fn attribute_of(alloc: Global, bytes: &[u8]) -> Result<(&[u8], Bytes, &[u8]), Ha
 
 // Where the tag ends: whether its element is empty, and what is behind it. Else where an attribute is to stand.
 #[tactic(auto, unfolding(sm_model::specs::TagParts::mark_at))]
-fn mark_of(bytes: &[u8]) -> Result<(Option<bool>, &[u8]), Halt>
+pub fn mark_of(bytes: &[u8]) -> Result<(Option<bool>, &[u8]), Halt>
     ensures read { Gives (λ x. (x.0, x.1.now)) result (mark_at bytes.now) }
     ensures shorter { IfOk result (λ x. length x.1.now ≤ length bytes.now) }
 {

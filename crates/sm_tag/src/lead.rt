@@ -7,7 +7,8 @@ ghost use Rattle.sm_tag.specs.Advances.{MovesOn};
 use crate::halt::Halt;
 use crate::markup::markup_of;
 use crate::scan::{Class, skip_spaces, split};
-use sm_model::{Lead, Markup, NoMemory};
+use sm_model::NoMemory;
+use sm_model::markup::{Lead, Markup};
 use std::alloc::Global;
 
 // What comes next up to a `<`, how many bytes are left from its place on, and what is behind it.

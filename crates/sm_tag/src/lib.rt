@@ -6,6 +6,7 @@ mod halt;
 mod law;
 mod lead;
 mod markup;
+pub mod plain;
 mod reference;
 mod scan;
 mod tags;

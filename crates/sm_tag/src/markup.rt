@@ -6,11 +6,12 @@ ghost use Rattle.sm_tag.specs.Reads.{Gives, GivesBy};
 use crate::attribute::attributes_of;
 use crate::halt::Halt;
 use crate::scan::{byte_of, name_of, past_of, skip_spaces, word_of};
-use sm_model::{Attributes, Bytes, Markup};
+use sm_model::markup::Markup;
+use sm_model::{Attributes, Bytes};
 use std::alloc::Global;
 
 #[tactic(auto, unfolding(sm_model::specs::TagMarkup::finish_at))]
-fn finish_of(alloc: Global, bytes: &[u8]) -> Result<(Markup, &[u8]), Halt>
+pub fn finish_of(alloc: Global, bytes: &[u8]) -> Result<(Markup, &[u8]), Halt>
     ensures read { Gives (λ x. (x.0, x.1.now)) result (finish_at bytes.now) }
     ensures shorter { IfOk result (λ x. length x.1.now ≤ length bytes.now) }
 {
@@ -20,7 +21,7 @@ fn finish_of(alloc: Global, bytes: &[u8]) -> Result<(Markup, &[u8]), Halt>
 }
 
 #[tactic(auto, unfolding(sm_model::specs::TagMarkup::comment_at))]
-fn comment_of(bytes: &[u8]) -> Result<(Markup, &[u8]), Halt>
+pub fn comment_of(bytes: &[u8]) -> Result<(Markup, &[u8]), Halt>
     ensures read { Gives (λ x. (x.0, x.1.now)) result (comment_at bytes.now) }
     ensures shorter { IfOk result (λ x. length x.1.now ≤ length bytes.now) }
 {
@@ -29,7 +30,7 @@ fn comment_of(bytes: &[u8]) -> Result<(Markup, &[u8]), Halt>
 }
 
 #[tactic(auto, unfolding(sm_model::specs::TagMarkup::instruction_at))]
-fn instruction_of(bytes: &[u8]) -> Result<(Markup, &[u8]), Halt>
+pub fn instruction_of(bytes: &[u8]) -> Result<(Markup, &[u8]), Halt>
     ensures read { Gives (λ x. (x.0, x.1.now)) result (instruction_at bytes.now) }
     ensures shorter { IfOk result (λ x. length x.1.now ≤ length bytes.now) }
 {

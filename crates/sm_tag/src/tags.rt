@@ -4,7 +4,8 @@ ghost use Rattle.sm_model.specs.Tags.{closes, without_zeros, without_mark};
 ghost use Rattle.sm_tag.specs.Advances.{MovesOn, Advances};
 
 use crate::lead::found_of;
-use sm_model::{Attributes, Bytes, Lead, Markup, NoMemory, Tag};
+use sm_model::markup::{Lead, Markup};
+use sm_model::{Attributes, Bytes, NoMemory, Tag};
 use std::alloc::Global;
 use std::marker::Model;
 

@@ -1,4 +1,5 @@
-use crate::{Tag, Tags};
+use crate::{Attributes, Tag, Tags, plain};
+use sm_model::markup::Markup;
 use std::test::Fail;
 
 // What a text is read as: `+a[b=c]@0` for a start tag, with a `/` where its element is empty, `-a@5` for an end tag, `.@3` for
@@ -15,12 +16,7 @@ fn shown(rt: &HostRuntime, text: &[u8]) -> Result<String, Fail> {
                 empty,
                 at,
             } => {
-                push(&mut out, "+", name.as_slice())?;
-                for attribute in attributes.as_slice() {
-                    push(&mut out, "[", attribute.name.as_slice())?;
-                    push(&mut out, "=", attribute.value.as_slice())?;
-                    out.push_str("]")?;
-                }
+                push_start(&mut out, name.as_slice(), &attributes)?;
                 let end = if empty { "/" } else { "" };
                 out.push_str(&format!(in rt.alloc(); "{end}@{at} ")?)?;
             }
@@ -45,6 +41,16 @@ fn shown(rt: &HostRuntime, text: &[u8]) -> Result<String, Fail> {
 fn push(out: &mut String, mark: &str, bytes: &[u8]) -> Result<(), Fail> {
     out.push_str(mark)?;
     out.push_str(str::from_utf8(bytes)?)?;
+    Ok(())
+}
+
+fn push_start(out: &mut String, name: &[u8], attributes: &Attributes) -> Result<(), Fail> {
+    push(out, "+", name)?;
+    for attribute in attributes.as_slice() {
+        push(out, "[", attribute.name.as_slice())?;
+        push(out, "=", attribute.value.as_slice())?;
+        out.push_str("]")?;
+    }
     Ok(())
 }
 
@@ -137,6 +143,75 @@ fn faults_have_their_place(rt: HostRuntime) -> Result<(), Fail> {
     ];
     for (text, want) in rows {
         let got = shown(&rt, text)?;
+        assert_eq!(rt; got.as_str(), want);
+    }
+    Ok(())
+}
+
+// What a whole piece of text is: shown as a tag is, and `?` for what is passed over.
+fn piece(rt: &HostRuntime, text: &[u8]) -> Result<String, Fail> {
+    let mut out = String::new(rt.alloc());
+    match plain::piece_of(rt.alloc(), text)? {
+        None => out.push_str("none")?,
+        Some(Markup::Skipped) => out.push_str("?")?,
+        Some(Markup::Finish(name)) => push(&mut out, "-", name.as_slice())?,
+        Some(Markup::Start(name, attributes, empty)) => {
+            push_start(&mut out, name.as_slice(), &attributes)?;
+            out.push_str(if empty { "/" } else { "" })?;
+        }
+    }
+    Ok(out)
+}
+
+#[test]
+fn pieces_are_of_the_grammar(rt: HostRuntime) -> Result<(), Fail> {
+    let rows: [(&[u8], &str); 40] = [
+        (b"<a>", "+a"),
+        (b"<a/>", "+a/"),
+        (b"<_b-.:9 \t\r\n/>", "+_b-.:9/"),
+        (b"<a b='c'>", "+a[b=c]"),
+        (b"<a b\n=\t\"'\" c=''/>", "+a[b='][c=]/"),
+        (b"<a b='\"> /'>", "+a[b=\"> /]"),
+        (b"<a b='&lt;&gt;&amp;&quot;&apos;&#65;'>", "+a[b=<>&\"'A]"),
+        (b"<a b='&#233;'>", "+a[b=é]"),
+        (b"<a b='c' bb='c'>", "+a[b=c][bb=c]"),
+        (b"</a>", "-a"),
+        (b"</a \n>", "-a"),
+        (b"<!---->", "?"),
+        (b"<!-- < - -- > -->", "?"),
+        (b"<??>", "?"),
+        (b"<?a ? > ?>", "?"),
+        // too short
+        (b"", "none"),
+        (b"<", "none"),
+        (b"<a", "none"),
+        (b"<a b='c'", "none"),
+        (b"</a", "none"),
+        (b"<!--->", "none"),
+        (b"<?", "none"),
+        // too long
+        (b"<a>b", "none"),
+        (b"<a><b>", "none"),
+        (b"</a> ", "none"),
+        (b"<!-- --> -->", "none"),
+        (b"<??>?>", "none"),
+        // others
+        (b"a>", "none"),
+        (b" <a>", "none"),
+        (b"< a>", "none"),
+        (b"<9>", "none"),
+        (b"<a / >", "none"),
+        (b"<a/b='c'>", "none"),
+        (b"<a b='c'b='d'>", "none"),
+        (b"<a b='c' b='d'>", "none"),
+        (b"<a b='<'>", "none"),
+        (b"<a b='&lt'>", "none"),
+        (b"<a b='&#55296;'>", "none"),
+        (b"</ a>", "none"),
+        (b"</a b='c'>", "none"),
+    ];
+    for (text, want) in rows {
+        let got = piece(&rt, text)?;
         assert_eq!(rt; got.as_str(), want);
     }
     Ok(())

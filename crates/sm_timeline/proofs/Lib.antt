@@ -1,3 +1,4 @@
 pub mod Sorted
 pub mod Apart
 pub mod Counts
+pub mod Cells

@@ -2,28 +2,28 @@
 ghost use Rattle.std.specs.Prelude.{◌≡◌, ◌≤◌, ◌+◌, ◌-◌, ℕ, [], length, IfOk, OnOk, OnErr, Some, None, slice_get, is_some, cond};
 ghost use Rattle.sm_log.specs.Times.{entry_at, with_entry, AreSorted};
 
+use crate::row::Row;
 use crate::search::find;
 use sm_model::NoMemory;
 use std::alloc::Global;
 use std::marker::Model;
 
-/// Numbers by the time at which they stand: a vector in order of time, searched by halves. Contracts see its entries in that
+/// Numbers by the time at which they stand: a list in order of time, searched by halves. Contracts see its entries in that
 /// order, and for how many more there is room.
 #[derive(Debug, Drop)]
 pub struct ByTime {
-    items: Vec<(u64, u64)>,
+    items: Row<(u64, u64)>,
 }
 
 impl Model for ByTime {
-    ghost use Rattle.std.specs.Prelude.{◌-◌, vec_len, vec_capacity};
     ghost use Rattle.sm_log.specs.Times.{AreSorted};
     ghost use Rattle.sm_timeline.specs.Lines.{Entries};
 
     ghost Value = { Entries };
 
-    ghost view = { λ b. record { entries = b.items.items; room = vec_capacity b.items - vec_len b.items } };
+    ghost view = { λ b. record { entries = b.items.list; room = b.items.room } };
 
-    ghost invariant = { λ b. AreSorted b.items.items };
+    ghost invariant = { λ b. AreSorted b.items.list };
 }
 
 impl ByTime {
@@ -32,7 +32,7 @@ impl ByTime {
         ensures { result.entries ≡ [] }
     {
         ByTime {
-            items: Vec::new(alloc),
+            items: Row::new(alloc),
         }
     }
 
@@ -40,8 +40,9 @@ impl ByTime {
     pub fn get(&self, time: u64) -> Option<u64>
         ensures { result ≡ entry_at time self.now.entries }
     {
-        match find(&self.items, time) {
-            Ok(place) => Some(self.items[place].1),
+        let items = self.items.as_slice();
+        match find(items, time) {
+            Ok(place) => Some(items[place].1),
             Err(_) => None,
         }
     }
@@ -52,8 +53,7 @@ impl ByTime {
         ensures ok { OnOk result (2 ≤ self.new.room) }
         ensures room { self.old.room ≤ self.new.room }
     {
-        self.items.reserve(2)?;
-        Ok(())
+        self.items.reserve()
     }
 
     /// Puts a number at a time where none stands; one that stands there stays. Takes no memory.
@@ -62,11 +62,9 @@ impl ByTime {
         ensures entries { self.new.entries ≡ with_entry time value self.old.entries }
         ensures room { self.new.room ≡ cond (is_some (entry_at time self.old.entries)) self.old.room (self.old.room - 1) }
     {
-        match find(&self.items, time) {
+        match find(self.items.as_slice(), time) {
             Ok(_) => {}
-            Err(place) => {
-                let _ = self.items.insert(place, (time, value));
-            }
+            Err(place) => self.items.insert(place, (time, value)),
         }
     }
 
@@ -75,14 +73,14 @@ impl ByTime {
         ensures entries { result.now ≡ self.now.entries }
         ensures sorted { AreSorted self.now.entries }
     {
-        &self.items
+        self.items.as_slice()
     }
 
     /// How many entries there are.
     pub fn len(&self) -> usize
         ensures { result ≡ length self.now.entries }
     {
-        self.items.len()
+        self.items.as_slice().len()
     }
 
     /// Equal entries.
@@ -90,7 +88,7 @@ impl ByTime {
         ensures { IfOk result (λ copy. copy.entries ≡ self.now.entries) }
     {
         Ok(ByTime {
-            items: Vec::from_slice(alloc, &self.items)?,
+            items: self.items.copy(alloc)?,
         })
     }
 }

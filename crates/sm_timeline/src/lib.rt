@@ -2,6 +2,7 @@
 #![tactic(auto)]
 
 mod by_time;
+mod row;
 mod search;
 mod timeline;
 

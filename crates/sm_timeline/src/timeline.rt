@@ -7,6 +7,7 @@ ghost use Rattle.sm_timeline.specs.Places.{place_in};
 ghost use Rattle.sm_log.specs.Times.{ends};
 ghost use Rattle.sm_timeline.specs.Lines.{more, count_at, counted};
 
+use crate::row::Row;
 use crate::search::find;
 use sm_log::Decision;
 use sm_model::NoMemory;
@@ -79,24 +80,19 @@ fn decide(times: &[(u64, u64)], time: u64, duration: u64) -> Decision
 /// The times of one stream in order, searched by halves, with counts. Contracts see them as `Line` says.
 #[derive(Debug, Drop)]
 pub struct Timeline {
-    times: Vec<(u64, u64)>,
-    counts: Vec<u32>,
+    times: Row<(u64, u64)>,
+    counts: Row<u32>,
 }
 
 impl Model for Timeline {
-    ghost use Rattle.std.specs.Prelude.{◌-◌, min, vec_len, vec_capacity};
+    ghost use Rattle.std.specs.Prelude.{min};
     ghost use Rattle.sm_timeline.specs.Lines.{Line, IsLine};
 
     ghost Value = { Line };
 
-    ghost view = { λ t. record {
-      times = t.times.items;
-      counts = t.counts.items;
-      spare = min (vec_capacity t.times - vec_len t.times)
-          (vec_capacity t.counts - vec_len t.counts);
-    } };
+    ghost view = { λ t. record { times = t.times.list; counts = t.counts.list; spare = min t.times.room t.counts.room } };
 
-    ghost invariant = { λ t. IsLine t.times.items t.counts.items };
+    ghost invariant = { λ t. IsLine t.times.list t.counts.list };
 }
 
 impl Timeline {
@@ -106,8 +102,8 @@ impl Timeline {
         ensures counts { result.counts ≡ [] }
     {
         Timeline {
-            times: Vec::new(alloc),
-            counts: Vec::new(alloc),
+            times: Row::new(alloc),
+            counts: Row::new(alloc),
         }
     }
 
@@ -115,7 +111,7 @@ impl Timeline {
     pub fn decide(&self, time: u64, duration: u64) -> Decision
         ensures { result ≡ decision self.now.times time duration }
     {
-        decide(&self.times, time, duration)
+        decide(self.times.as_slice(), time, duration)
     }
 
     /// The duration of the time that starts there.
@@ -123,8 +119,9 @@ impl Timeline {
         ensures duration { result ≡ entry_at time self.now.times }
         ensures span { IfSome result (λ duration. IsSpan (time, duration)) }
     {
-        match find(&self.times, time) {
-            Ok(place) => Some(self.times[place].1),
+        let times = self.times.as_slice();
+        match find(times, time) {
+            Ok(place) => Some(times[place].1),
             Err(_) => None,
         }
     }
@@ -133,8 +130,8 @@ impl Timeline {
     pub fn count(&self, time: u64) -> u32
         ensures { result ≡ count_at time self.now.times self.now.counts }
     {
-        match find(&self.times, time) {
-            Ok(place) => self.counts[place],
+        match find(self.times.as_slice(), time) {
+            Ok(place) => self.counts.as_slice()[place],
             Err(_) => 0,
         }
     }
@@ -146,9 +143,8 @@ impl Timeline {
         ensures ok { OnOk result (2 ≤ self.new.spare) }
         ensures spare { self.old.spare ≤ self.new.spare }
     {
-        self.times.reserve(2)?;
-        self.counts.reserve(2)?;
-        Ok(())
+        self.times.reserve()?;
+        self.counts.reserve()
     }
 
     /// Adds a fragment that starts there, at a new time or at one that is there. Takes no memory.
@@ -162,11 +158,14 @@ impl Timeline {
             (if time == start then more (count_at time self.old.times self.old.counts) else count_at start self.old.times self.old.counts) }
         ensures spare { self.new.spare ≡ cond (is_some (entry_at time self.old.times)) self.old.spare (self.old.spare - 1) }
     {
-        match find(&self.times, time) {
-            Ok(place) => self.counts[place] = self.counts[place].saturating_add(1),
+        match find(self.times.as_slice(), time) {
+            Ok(place) => {
+                let count = self.counts.as_slice()[place];
+                self.counts.set(place, count.saturating_add(1));
+            }
             Err(place) => {
-                let _ = self.times.insert(place, (time, duration));
-                let _ = self.counts.insert(place, 1);
+                self.times.insert(place, (time, duration));
+                self.counts.insert(place, 1);
             }
         }
     }
@@ -176,7 +175,7 @@ impl Timeline {
         ensures times { result.now ≡ self.now.times }
         ensures apart { AreTimes self.now.times }
     {
-        &self.times
+        self.times.as_slice()
     }
 
     /// Equal times with equal counts.
@@ -184,8 +183,8 @@ impl Timeline {
         ensures { IfOk result (λ copy. (copy.times ≡ self.now.times) × (copy.counts ≡ self.now.counts)) }
     {
         Ok(Timeline {
-            times: Vec::from_slice(alloc, &self.times)?,
-            counts: Vec::from_slice(alloc, &self.counts)?,
+            times: self.times.copy(alloc)?,
+            counts: self.counts.copy(alloc)?,
         })
     }
 }

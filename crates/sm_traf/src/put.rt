@@ -1,9 +1,12 @@
-//! Writing a `traf` and the boxes in it.
-ghost use Rattle.std.specs.Prelude.{◌≡◌, ◌≤◌, ◌<◌, ◌^◌, ◌+◌, ◌*◌, ◌++◌, length, OnOk, IfOk};
+//! Writing a `traf` and the boxes in it. Where memory runs out, what stood in front stays.
+#![tactic(auto, using(sm_box::proofs::FrontStays::stays_same, sm_box::proofs::FrontStays::stays_behind))]
+
+ghost use Rattle.std.specs.Prelude.{◌≡◌, ◌≤◌, ◌<◌, ◌^◌, ◌+◌, ◌*◌, ◌++◌, length, codes, OnOk, OnErr, IfOk};
 ghost use Rattle.std.specs.List.{flat_map};
 ghost use Rattle.sm_model.specs.Numbers.{number32};
 ghost use Rattle.sm_model.specs.Fragments.{sample_bytes, IsValid};
-ghost use Rattle.sm_model.specs.FragText.{row_text, pair, tfhd, trun, tfxd_box, tfrf, tfrf_box, traf_box, ahead_len};
+ghost use Rattle.sm_box.specs.Appended.{StaysInFront};
+ghost use Rattle.sm_model.specs.FragText.{box, row_text, pair, tfhd, trun, tfxd_box, tfrf, tfrf_box, traf_box, ahead_len};
 
 use crate::parts::{TFRF, TFXD};
 use sm_box::{append_head, append_u32, append_u64};
@@ -11,14 +14,16 @@ use sm_model::{Bytes, Fragment, NoMemory, Sample};
 use std::alloc::Global;
 
 fn append_pair(out: &mut Vec<u8>, time: u64, duration: u64) -> Result<(), NoMemory>
-    ensures { OnOk result (out.new.items ≡ out.old.items ++ pair (time, duration)) }
+    ensures ok { OnOk result (out.new.items ≡ out.old.items ++ pair (time, duration)) }
+    ensures err { OnErr result (StaysInFront out.old.items out.new.items) }
 {
     append_u64(out, time)?;
     append_u64(out, duration)
 }
 
 fn append_pairs(out: &mut Vec<u8>, pairs: &[(u64, u64)]) -> Result<(), NoMemory>
-    ensures { OnOk result (out.new.items ≡ out.old.items ++ flat_map pair pairs.now) }
+    ensures ok { OnOk result (out.new.items ≡ out.old.items ++ flat_map pair pairs.now) }
+    ensures err { OnErr result (StaysInFront out.old.items out.new.items) }
 {
     for (time, duration) in pairs {
         append_pair(out, *time, *duration)?;
@@ -27,7 +32,8 @@ fn append_pairs(out: &mut Vec<u8>, pairs: &[(u64, u64)]) -> Result<(), NoMemory>
 }
 
 fn append_tfhd(out: &mut Vec<u8>, id: u32) -> Result<(), NoMemory>
-    ensures { OnOk result (out.new.items ≡ out.old.items ++ tfhd id) }
+    ensures ok { OnOk result (out.new.items ≡ out.old.items ++ tfhd id) }
+    ensures err { OnErr result (StaysInFront out.old.items out.new.items) }
 {
     append_head(out, 16, b"tfhd")?;
     append_u32(out, 0)?;
@@ -36,7 +42,8 @@ fn append_tfhd(out: &mut Vec<u8>, id: u32) -> Result<(), NoMemory>
 
 fn append_row(out: &mut Vec<u8>, sample: &Sample) -> Result<(), NoMemory>
     requires { length sample.now.bytes ≤ 67108864 }
-    ensures { OnOk result (out.new.items ≡ out.old.items ++ row_text sample.now) }
+    ensures ok { OnOk result (out.new.items ≡ out.old.items ++ row_text sample.now) }
+    ensures err { OnErr result (StaysInFront out.old.items out.new.items) }
 {
     append_u32(out, sample.duration)?;
     append_u32(out, sample.bytes.len() as u32)?;
@@ -46,7 +53,8 @@ fn append_row(out: &mut Vec<u8>, sample: &Sample) -> Result<(), NoMemory>
 
 fn append_rows(out: &mut Vec<u8>, samples: &[Sample]) -> Result<(), NoMemory>
     requires { sample_bytes samples.now ≤ 67108864 }
-    ensures { OnOk result (out.new.items ≡ out.old.items ++ flat_map row_text samples.now) }
+    ensures ok { OnOk result (out.new.items ≡ out.old.items ++ flat_map row_text samples.now) }
+    ensures err { OnErr result (StaysInFront out.old.items out.new.items) }
 {
     for sample in samples {
         append_row(out, sample)?;
@@ -62,7 +70,8 @@ fn append_trun(
 ) -> Result<(), NoMemory>
     requires few { length samples.now ≤ 65536 }
     requires short { sample_bytes samples.now ≤ 67108864 }
-    ensures { OnOk result (out.new.items ≡ out.old.items ++ trun start signed samples.now) }
+    ensures ok { OnOk result (out.new.items ≡ out.old.items ++ trun start signed samples.now) }
+    ensures err { OnErr result (StaysInFront out.old.items out.new.items) }
 {
     let count = samples.len() as u32;
     append_head(out, 20 + 16 * count, b"trun")?;
@@ -72,29 +81,38 @@ fn append_trun(
     append_rows(out, samples)
 }
 
-fn append_tfxd(out: &mut Vec<u8>, time: u64, duration: u64) -> Result<(), NoMemory>
-    ensures { OnOk result (out.new.items ≡ out.old.items ++ tfxd_box time duration) }
+// The front of a box of a user type, down to version 1 and no flags.
+fn append_user_head(out: &mut Vec<u8>, size: u32, user: &[u8; 16]) -> Result<(), NoMemory>
+    ensures ok { OnOk result (out.new.items ≡ out.old.items ++ box size (codes "uuid") (user.now ++ number32 0x01000000)) }
+    ensures err { OnErr result (StaysInFront out.old.items out.new.items) }
 {
-    append_head(out, 44, b"uuid")?;
-    out.extend_from_slice(&TFXD)?;
-    append_u32(out, 0x01000000)?;
+    append_head(out, size, b"uuid")?;
+    out.extend_from_slice(user)?;
+    append_u32(out, 0x01000000)
+}
+
+fn append_tfxd(out: &mut Vec<u8>, time: u64, duration: u64) -> Result<(), NoMemory>
+    ensures ok { OnOk result (out.new.items ≡ out.old.items ++ tfxd_box time duration) }
+    ensures err { OnErr result (StaysInFront out.old.items out.new.items) }
+{
+    append_user_head(out, 44, &TFXD)?;
     append_pair(out, time, duration)
 }
 
 fn append_tfrf_box(out: &mut Vec<u8>, ahead: &[(u64, u64)]) -> Result<(), NoMemory>
     requires { length ahead.now ≤ 255 }
-    ensures { OnOk result (out.new.items ≡ out.old.items ++ tfrf_box ahead.now) }
+    ensures ok { OnOk result (out.new.items ≡ out.old.items ++ tfrf_box ahead.now) }
+    ensures err { OnErr result (StaysInFront out.old.items out.new.items) }
 {
-    append_head(out, 29 + 16 * ahead.len() as u32, b"uuid")?;
-    out.extend_from_slice(&TFRF)?;
-    append_u32(out, 0x01000000)?;
+    append_user_head(out, 29 + 16 * ahead.len() as u32, &TFRF)?;
     out.push(ahead.len() as u8)?;
     append_pairs(out, ahead)
 }
 
 fn append_tfrf(out: &mut Vec<u8>, ahead: &[(u64, u64)]) -> Result<(), NoMemory>
     requires { length ahead.now ≤ 255 }
-    ensures { OnOk result (out.new.items ≡ out.old.items ++ tfrf ahead.now) }
+    ensures ok { OnOk result (out.new.items ≡ out.old.items ++ tfrf ahead.now) }
+    ensures err { OnErr result (StaysInFront out.old.items out.new.items) }
 {
     match ahead {
         [] => Ok(()),
@@ -124,7 +142,7 @@ pub fn traf_len(samples: &[Sample], ahead: &[(u64, u64)]) -> u32
     88 + 16 * samples.len() as u32 + tfrf_len(ahead)
 }
 
-/// Appends the `traf` that `put_traf` gives.
+/// Appends the `traf` that `put_traf` gives. Without memory for all of it a part may stand behind what was there.
 pub fn append_traf(
     out: &mut Vec<u8>,
     id: u32,
@@ -134,7 +152,8 @@ pub fn append_traf(
 ) -> Result<(), NoMemory>
     requires valid { IsValid fragment.now }
     requires few { length ahead.now ≤ 255 }
-    ensures { OnOk result (out.new.items ≡ out.old.items ++ traf_box id data_offset fragment.now ahead.now) }
+    ensures ok { OnOk result (out.new.items ≡ out.old.items ++ traf_box id data_offset fragment.now ahead.now) }
+    ensures err { OnErr result (StaysInFront out.old.items out.new.items) }
 {
     let samples = fragment.samples.as_slice();
     append_head(out, traf_len(samples, ahead), b"traf")?;

@@ -86,7 +86,8 @@ fn a_header_is_read(rt: HostRuntime) -> Result<(), Fail> {
     assert_eq!(rt; HEADER.len(), 1585);
     assert_eq!(rt;
         pushed(&rt, HEADER)?.as_str(),
-        "video video 350000 0 H264 000000016742 w640 h360 #1; video video 700000 0 H264 000000016742 w1280 h720 #2; audio audio 64000 0 AACL 1210 t255 c2 r44100 b16 p4 #3; "
+        "video video 350000 0 H264 000000016742 w640 h360 #1; video video 700000 0 H264 000000016742 w1280 h720 #2; \
+        audio audio 64000 0 AACL 1210 t255 c2 r44100 b16 p4 #3; "
     );
     Ok(())
 }
@@ -95,7 +96,8 @@ fn a_header_is_read(rt: HostRuntime) -> Result<(), Fail> {
 fn a_channel_is_read_and_written_again(rt: HostRuntime) -> Result<(), Fail> {
     assert_eq!(rt;
         ladder(&rt, WRITTEN)?.as_str(),
-        "video video 350000 10000000 H264 000000016742 w640 h360; video video 700000 10000000 H264 000000016742 w1280 h720; audio audio 64000 10000000 AACL 1210 t255 c2 r44100 b16 p4; "
+        "video video 350000 10000000 H264 000000016742 w640 h360; video video 700000 10000000 H264 000000016742 w1280 h720; \
+        audio audio 64000 10000000 AACL 1210 t255 c2 r44100 b16 p4; "
     );
     match read_ladder(rt.alloc(), WRITTEN) {
         Ok(channel) => {
@@ -186,7 +188,9 @@ fn real_headers_are_read(rt: HostRuntime) -> Result<(), Fail> {
             </switch>\n\
             </body>\n\
             </smil>\n",
-            "video video 200000 0 H264 000000016742C00DDA05067E7C0440000003004000000CA3C50AA80000000168CE3C80 w320 h180 #1; video video 400000 0 H264 000000016742C01EDA0280BFE5C044000003000400000300CA3C58BA800000000168CE3C80 w640 h360 #2; audio audio 64000 0 AACL 118856E500 t255 c1 r48000 b16 p4 #3; ",
+            "video video 200000 0 H264 000000016742C00DDA05067E7C0440000003004000000CA3C50AA80000000168CE3C80 w320 h180 #1; \
+            video video 400000 0 H264 000000016742C01EDA0280BFE5C044000003000400000300CA3C58BA800000000168CE3C80 w640 h360 #2; \
+            audio audio 64000 0 AACL 118856E500 t255 c1 r48000 b16 p4 #3; ",
         ),
         (
             b"\
@@ -225,7 +229,8 @@ fn real_headers_are_read(rt: HostRuntime) -> Result<(), Fail> {
             </switch>\n\
             </body>\n\
             </smil>\n",
-            "video video 200000 0 H264 000000016764000CACD941419F9F011000000300100000030320F14299600000000168EFBCB0 w320 h180 #1; audio audio 64000 0 AACL 118856E500 t255 c1 r48000 b16 p4 #2; ",
+            "video video 200000 0 H264 000000016764000CACD941419F9F011000000300100000030320F14299600000000168EFBCB0 w320 h180 #1; \
+            audio audio 64000 0 AACL 118856E500 t255 c1 r48000 b16 p4 #2; ",
         ),
     ];
     for (text, want) in rows {

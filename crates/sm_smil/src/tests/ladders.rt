@@ -1,6 +1,5 @@
 //! Ladders, good and bad.
 use super::ladder;
-use crate::{SmilFault, read_ladder};
 use std::test::Fail;
 
 #[test]
@@ -25,7 +24,8 @@ fn ladders_need_no_ids(rt: HostRuntime) -> Result<(), Fail> {
         ),
         // the default said
         (
-            b"<smil><body><switch><video systemBitrate='1'><param name='TimeScale' value='10000000'/></video><video systemBitrate='2'/></switch></body></smil>",
+            b"<smil><body><switch><video systemBitrate='1'><param name='TimeScale' value='10000000'/></video><video systemBitrate='2'/></switch>\
+            </body></smil>",
             "video video 1 10000000; video video 2 10000000; ",
         ),
     ];
@@ -45,7 +45,8 @@ fn bad_ladders_have_the_place(rt: HostRuntime) -> Result<(), Fail> {
         ),
         // a trackID that stands twice
         (
-            b"<smil><body><switch><video systemBitrate='1'><param name='trackID' value='1'/><param name='trackID' value='1'/></video></switch></body></smil>",
+            b"<smil><body><switch><video systemBitrate='1'><param name='trackID' value='1'/><param name='trackID' value='1'/></video></switch></body>\
+            </smil>",
             78,
         ),
         // timescales that are none
@@ -59,12 +60,14 @@ fn bad_ladders_have_the_place(rt: HostRuntime) -> Result<(), Fail> {
         ),
         // a timescale that stands twice
         (
-            b"<smil><body><switch><video systemBitrate='1'><param name='TimeScale' value='1'/><param name='TimeScale' value='1'/></video></switch></body></smil>",
+            b"<smil><body><switch><video systemBitrate='1'><param name='TimeScale' value='1'/><param name='TimeScale' value='1'/></video></switch>\
+            </body></smil>",
             80,
         ),
         // one name with two timescales
         (
-            b"<smil><body><switch><video systemBitrate='1'><param name='TimeScale' value='1'/></video><video systemBitrate='2'/></switch></body></smil>",
+            b"<smil><body><switch><video systemBitrate='1'><param name='TimeScale' value='1'/></video><video systemBitrate='2'/></switch></body>\
+            </smil>",
             88,
         ),
         // a misread timescale is its own fault
@@ -75,11 +78,13 @@ fn bad_ladders_have_the_place(rt: HostRuntime) -> Result<(), Fail> {
         ),
         // also one that is a number
         (
-            b"<smil><body><switch><video systemBitrate=\"1\"/><video systemBitrate=\"2\"><param name=\"TimeScale\" value=\"0\"/></video></switch></body></smil>",
+            b"<smil><body><switch><video systemBitrate=\"1\"/><video systemBitrate=\"2\"><param name=\"TimeScale\" value=\"0\"/></video></switch>\
+            </body></smil>",
             71,
         ),
         (
-            b"<smil><body><switch><video systemBitrate='1'/><video systemBitrate='2'><param name='TimeScale' value='00'/></video></switch></body></smil>",
+            b"<smil><body><switch><video systemBitrate='1'/><video systemBitrate='2'><param name='TimeScale' value='00'/></video></switch></body>\
+            </smil>",
             71,
         ),
         // no bitrate
@@ -91,10 +96,8 @@ fn bad_ladders_have_the_place(rt: HostRuntime) -> Result<(), Fail> {
         ),
     ];
     for (text, want) in rows {
-        match read_ladder(rt.alloc(), text) {
-            Err(SmilFault::Bad { at }) => assert_eq!(rt; at, want),
-            _ => assert!(rt; false, "read: {want}"),
-        }
+        let want = format!(in rt.alloc(); "bad@{want}")?;
+        assert_eq!(rt; ladder(&rt, text)?.as_str(), want.as_str());
     }
     Ok(())
 }

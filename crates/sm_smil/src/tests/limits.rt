@@ -1,5 +1,5 @@
 //! Limits, and the time that long texts take.
-use super::ladder;
+use super::shown_channel;
 use crate::{SmilFault, read_ladder};
 use std::test::Fail;
 
@@ -51,6 +51,7 @@ fn long_texts_are_read_in_time(rt: HostRuntime) -> Result<(), Fail> {
         text.extend_from_slice(b"<param name='FourCC' value='a'/>")?;
     }
     text.extend_from_slice(b"</video></switch></body></smil>")?;
-    assert_eq!(rt; ladder(&rt, &text)?.as_str(), "bad@77");
+    let read = shown_channel(&rt, read_ladder(rt.alloc(), &text))?;
+    assert_eq!(rt; read.as_str(), "bad@77");
     Ok(())
 }

@@ -1,6 +1,5 @@
 //! Live manifests, good and bad.
 use super::pushed;
-use crate::{SmilFault, read_live_manifest};
 use std::test::Fail;
 
 #[test]
@@ -15,7 +14,8 @@ fn good_live_manifests_are_read(rt: HostRuntime) -> Result<(), Fail> {
         ),
         // the bitrate as a param
         (
-            b"<smil><body><switch><video><param name='systemBitrate' value='0000000007'/><param name='trackID' value='1'/></video></switch></body></smil>",
+            b"<smil><body><switch><video><param name='systemBitrate' value='0000000007'/><param name='trackID' value='1'/></video></switch></body>\
+            </smil>",
             "video video 7 0 #1; ",
         ),
         // beside the attribute it is passed over
@@ -126,11 +126,13 @@ fn bad_live_manifests_have_the_place(rt: HostRuntime) -> Result<(), Fail> {
             45,
         ),
         (
-            b"<smil><body><switch><video systemBitrate='1'><param name='trackID' value='1'/><param name='MaxWidth' value='1.5'/></video></switch></body></smil>",
+            b"<smil><body><switch><video systemBitrate='1'><param name='trackID' value='1'/><param name='MaxWidth' value='1.5'/></video></switch>\
+            </body></smil>",
             78,
         ),
         (
-            b"<smil><body><switch><video systemBitrate='1'><param name='trackID' value='1'/><param name='PacketSize' value='-1'/></video></switch></body></smil>",
+            b"<smil><body><switch><video systemBitrate='1'><param name='trackID' value='1'/><param name='PacketSize' value='-1'/></video></switch>\
+            </body></smil>",
             78,
         ),
         (
@@ -139,20 +141,24 @@ fn bad_live_manifests_have_the_place(rt: HostRuntime) -> Result<(), Fail> {
         ),
         // names that are none
         (
-            b"<smil><body><switch><video systemBitrate='1'><param name='trackID' value='1'/><param name='trackName' value='a/b'/></video></switch></body></smil>",
+            b"<smil><body><switch><video systemBitrate='1'><param name='trackID' value='1'/><param name='trackName' value='a/b'/></video></switch>\
+            </body></smil>",
             78,
         ),
         (
-            b"<smil><body><switch><video systemBitrate='1'><param name='trackID' value='1'/><param name='trackName' value=''/></video></switch></body></smil>",
+            b"<smil><body><switch><video systemBitrate='1'><param name='trackID' value='1'/><param name='trackName' value=''/></video></switch>\
+            </body></smil>",
             78,
         ),
         // FourCCs that are none
         (
-            b"<smil><body><switch><video systemBitrate='1'><param name='trackID' value='1'/><param name='FourCC' value='H2645'/></video></switch></body></smil>",
+            b"<smil><body><switch><video systemBitrate='1'><param name='trackID' value='1'/><param name='FourCC' value='H2645'/></video></switch>\
+            </body></smil>",
             78,
         ),
         (
-            b"<smil><body><switch><video systemBitrate='1'><param name='trackID' value='1'/><param name='FourCC' value='H.26'/></video></switch></body></smil>",
+            b"<smil><body><switch><video systemBitrate='1'><param name='trackID' value='1'/><param name='FourCC' value='H.26'/></video></switch>\
+            </body></smil>",
             78,
         ),
         // private data that is none
@@ -168,7 +174,8 @@ fn bad_live_manifests_have_the_place(rt: HostRuntime) -> Result<(), Fail> {
         ),
         // params that stand twice
         (
-            b"<smil><body><switch><video systemBitrate='1'><param name='trackID' value='1'/><param name='trackID' value='1'/></video></switch></body></smil>",
+            b"<smil><body><switch><video systemBitrate='1'><param name='trackID' value='1'/><param name='trackID' value='1'/></video></switch></body>\
+            </smil>",
             78,
         ),
         (
@@ -233,15 +240,14 @@ fn bad_live_manifests_have_the_place(rt: HostRuntime) -> Result<(), Fail> {
         ),
         // a track with a misread trackID does not lack it
         (
-            b"<smil><body><switch><video systemBitrate='1'><param name='trackID' value='x'/><param name='trackID' value='1'/></video></switch></body></smil>",
+            b"<smil><body><switch><video systemBitrate='1'><param name='trackID' value='x'/><param name='trackID' value='1'/></video></switch></body>\
+            </smil>",
             45,
         ),
     ];
     for (text, want) in rows {
-        match read_live_manifest(rt.alloc(), text) {
-            Err(SmilFault::Bad { at }) => assert_eq!(rt; at, want),
-            _ => assert!(rt; false, "read: {want}"),
-        }
+        let want = format!(in rt.alloc(); "bad@{want}")?;
+        assert_eq!(rt; pushed(&rt, text)?.as_str(), want.as_str());
     }
     Ok(())
 }

@@ -1,4 +1,4 @@
-use Rattle.std.proofs.Common.{◌≡◌, ℕ, rules, refl, subst, sym, ap, ◌∙◌, arith, inl, inr, slice_index_or, length}
+use Rattle.std.proofs.Common.{◌≡◌, ℕ, rules, refl, subst, sym, arith, inl, inr, slice_index_or, length}
 use Rattle.std.proofs.lemmas.List.{get_or_read_under}
 use Rattle.std.proofs.lemmas.Bool.{cases_lt}
 use Rattle.sm_model.specs.declared.track.Track.{Track}

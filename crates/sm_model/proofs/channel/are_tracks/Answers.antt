@@ -1,7 +1,6 @@
-use Rattle.std.proofs.Common.{◌≡◌, ℕ, rules, refl, subst, sym, ap, ◌∙◌, arith, inl, inr, slice_index_or, length}
+use Rattle.std.proofs.Common.{◌≡◌, ℕ, rules, refl, subst, sym, arith, inl, inr, slice_index_or, length}
 use Rattle.std.proofs.lemmas.List.{get_or_read_under}
 use Rattle.std.proofs.lemmas.Bool.{cases_lt}
-use Rattle.sm_model.specs.declared.track.Track.{Track}
 use Rattle.sm_model.specs.Channels.{IsTrack}
 use Rattle.sm_model.proofs.channel.are_tracks.Goals as goal
 

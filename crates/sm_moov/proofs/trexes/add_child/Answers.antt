@@ -8,11 +8,11 @@ use Rattle.sm_moov.proofs.trexes.add_child.Goals as goal
 pub returns-in_ok-add_mvex : goal.returns-in_ok-add_mvex
 returns-in_ok-add_mvex c = λ xs x kind body old.
     let is : pointwise nat_eq x.kind (codes "mvex") ≡ true
-    = ap (λ (n : List ℕ). pointwise nat_eq n (codes "mvex")) kind ∙ sym c.is_kind.ensures ∙ c.if-is_kind.true in
+    = ap (λ (n : List ℕ). pointwise nat_eq n (codes "mvex")) kind ∙ sym c.is_same.ensures ∙ c.if-is_same.true in
     gathered-kind mvex (codes "mvex") _ _ (mvex c.args.body.now) xs x is old (ap mvex (sym body)) c.in_ok-add_mvex.ensures
 
-pub returns-else-is_kind : goal.returns-else-is_kind
-returns-else-is_kind c = λ xs x kind body old.
+pub returns-else-is_same : goal.returns-else-is_same
+returns-else-is_same c = λ xs x kind body old.
     let is : pointwise nat_eq x.kind (codes "mvex") ≡ false
-    = ap (λ (n : List ℕ). pointwise nat_eq n (codes "mvex")) kind ∙ sym c.is_kind.ensures ∙ c.if-is_kind.false in
+    = ap (λ (n : List ℕ). pointwise nat_eq n (codes "mvex")) kind ∙ sym c.is_same.ensures ∙ c.if-is_same.false in
     gathered-other mvex (codes "mvex") _ xs x is old

@@ -3,6 +3,8 @@ use Rattle.sm_model.specs.declared.push.BoxDecision.TheVariants.{Take}
 use Rattle.sm_model.specs.PushHeads.{decision}
 use Rattle.sm_push.specs.Heads.{IsOpen}
 use Rattle.sm_push.specs.Standing.{StaysInside}
+use Rattle.sm_push.specs.Held.{lacking}
+use Rattle.sm_push.proofs.Limits.{nothing_lacks}
 use Rattle.sm_push.proofs.Steps.{wanted_one, wanted_rest}
 use Rattle.sm_push.proofs.kept.Kept.wanted.Goals as goal
 use Rattle.sm_push.proofs.kept.Kept.wanted.Goals.{in-Take, in_default}
@@ -15,4 +17,15 @@ returns-clause-fits c = elim c.match-decide.branch [
       subst (λ (n : ℕ). StaysInside c.args.self.now n) (sym w.result-is) (wanted_rest c.args.self.now w.in-Take.field-0 w.in-Take.size w.min.result e (omega (arith, due)))
   | in_default w ↦
       subst (λ (n : ℕ). StaysInside c.args.self.now n) (sym w.result-is) (wanted_one c.args.self.now c.requires.partial (λ sort size e. w.in_default.not-Take sort size (c.decide.ensures ∙ ap (decision c.args.self.now.state) c.as_slice.ensures ∙ e)))
+]
+
+pub returns-clause-least : goal.returns-clause-least
+returns-clause-least c = elim c.match-decide.branch [
+  | in-Take w ↦
+      let e : decision c.args.self.now.state c.args.self.now.held ≡ Take w.in-Take.field-0 w.in-Take.size = cc in
+      rw e (omega arith)
+  | in_default w ↦
+      let none : lacking (length c.args.self.now.held) (decision c.args.self.now.state c.args.self.now.held) ≡ 0 =
+      nothing_lacks _ _ (λ sort size e. w.in_default.not-Take sort size (c.decide.ensures ∙ ap (decision c.args.self.now.state) c.as_slice.ensures ∙ e)) in
+      omega arith
 ]

@@ -1,4 +1,4 @@
-use Rattle.std.proofs.Common.{true, refl, sym, subst}
+use Rattle.std.proofs.Common.{true, sym, subst}
 use Rattle.sm_push.specs.Standing.{Standing, Stands}
 use Rattle.sm_push.proofs.Limits.{held_is_little}
 use Rattle.sm_push.proofs.Steps.{fed, fed_refused, fed_starved}

@@ -1,0 +1,17 @@
+pub mod Words
+pub mod Lists
+pub mod Logs
+pub mod Doubts
+pub mod Indexes
+pub mod Settling
+pub mod Appending
+pub mod Reservings
+pub mod Keepings
+pub mod Places
+pub mod Readying
+pub mod Declarings
+pub mod Fetching
+pub mod Stores
+pub mod Admitting
+pub mod Walking
+pub mod Looking

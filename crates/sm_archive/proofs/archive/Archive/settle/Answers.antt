@@ -1,0 +1,80 @@
+use Rattle.std.proofs.Common.{None, sym}
+use Rattle.sm_site.proofs.Moments.{weakened}
+use Rattle.sm_archive.proofs.Doubts.{image_of}
+use Rattle.sm_archive.proofs.Settling.{stored, gone, no_doubt, failed, channel_stays, channel_same, channel_taken, space_stays, space_same, space_taken}
+use Rattle.sm_archive.proofs.archive.Archive.settle.Goals as goal
+
+pub returns-in-None-clause-channel : goal.returns-in-None-clause-channel
+returns-in-None-clause-channel g c = channel_stays c.args.self.now c.args.self.now.log c.args.self.now.used c.take.new.self c.take.ensures.after
+
+pub returns-in-None-clause-space : goal.returns-in-None-clause-space
+returns-in-None-clause-space g c = space_stays c.args.self.now c.args.self.now.log c.args.self.now.used c.take.new.self c.take.ensures.after
+
+pub returns-in-None-clause-settled : goal.returns-in-None-clause-settled
+returns-in-None-clause-settled g c = no_doubt c.args.self.now c.take.new.self (g.D.Disk.may_leave c.args.disk.now) (sym c.in-None.ensures.value) c.take.ensures.after
+
+pub returns-in-Stored-clause-settled : goal.returns-in-Stored-clause-settled
+returns-in-Stored-clause-settled g c =
+    let e = c.settle.ensures.stored c.in-Stored.place c.in-Stored.is in
+    stored c.args.self.now c.in-Some.doubt c.settle.new.log c.saturating_add-self.result c.take_in.new.index c.in-Stored.place (g.D.Disk.may_leave c.args.disk.now) (g.D.Disk.may_leave c.settle.new.disk)
+    (sym c.in-Some.ensures.value) e.0 e.1 c.saturating_add-self.ensures c.take_in.ensures c.take.new.self c.take.ensures.after
+
+pub returns-in-Stored-clause-any_moment : goal.returns-in-Stored-clause-any_moment
+returns-in-Stored-clause-any_moment g c = λ log doubt s.
+    weakened g.D.Disk.view g.D.Disk.left_at _ _ _ _ c.settle.ensures.any_moment (λ t d left. image_of c.args.self.now log doubt (g.D.Disk.may_leave c.args.disk.now) s d left)
+
+pub returns-in-Stored-clause-channel : goal.returns-in-Stored-clause-channel
+returns-in-Stored-clause-channel g c =
+    channel_taken c.args.self.now c.in-Some.doubt c.settle.new.log c.saturating_add-self.result c.in-Stored.place c.take_in.new.index c.take.new.self (sym c.in-Some.ensures.value) c.take_in.ensures c.take.ensures.after
+
+pub returns-in-Stored-clause-space : goal.returns-in-Stored-clause-space
+returns-in-Stored-clause-space g c =
+    space_taken c.args.self.now c.in-Some.doubt c.settle.new.log c.saturating_add-self.result c.in-Stored.place c.take_in.new.index c.take.new.self (sym c.in-Some.ensures.value) c.take_in.ensures c.take.ensures.after
+
+pub returns-in-Gone-clause-settled : goal.returns-in-Gone-clause-settled
+returns-in-Gone-clause-settled g c =
+    let e = c.settle.ensures.gone c.in-Gone.is in
+    gone c.args.self.now c.in-Some.doubt c.settle.new.log (g.D.Disk.may_leave c.args.disk.now) (g.D.Disk.may_leave c.settle.new.disk) (sym c.in-Some.ensures.value) e c.take.new.self c.take.ensures.after
+
+pub returns-in-Gone-clause-any_moment : goal.returns-in-Gone-clause-any_moment
+returns-in-Gone-clause-any_moment g c = λ log doubt s.
+    weakened g.D.Disk.view g.D.Disk.left_at _ _ _ _ c.settle.ensures.any_moment (λ t d left. image_of c.args.self.now log doubt (g.D.Disk.may_leave c.args.disk.now) s d left)
+
+pub returns-in-Gone-clause-channel : goal.returns-in-Gone-clause-channel
+returns-in-Gone-clause-channel g c = channel_stays c.args.self.now c.settle.new.log c.args.self.now.used c.take.new.self c.take.ensures.after
+
+pub returns-in-Gone-clause-space : goal.returns-in-Gone-clause-space
+returns-in-Gone-clause-space g c = space_stays c.args.self.now c.settle.new.log c.args.self.now.used c.take.new.self c.take.ensures.after
+
+pub returns-in-DiskFault-clause-any_moment : goal.returns-in-DiskFault-clause-any_moment
+returns-in-DiskFault-clause-any_moment g c = λ log doubt s.
+    weakened g.D.Disk.view g.D.Disk.left_at _ _ _ _ c.settle.ensures.any_moment (λ t d left. image_of c.args.self.now log doubt (g.D.Disk.may_leave c.args.disk.now) s d left)
+
+pub returns-in-DiskFault-clause-failed : goal.returns-in-DiskFault-clause-failed
+returns-in-DiskFault-clause-failed g c =
+    let e = c.settle.ensures.failed c.in-DiskFault.is in
+    failed c.args.self.now c.in-Some.doubt c.settle.new.log (g.D.Disk.may_leave c.args.disk.now) (g.D.Disk.may_leave c.settle.new.disk) (sym c.in-Some.ensures.value) e.0 c.settle.ensures.no_more
+
+pub returns-in-DiskFault-clause-channel : goal.returns-in-DiskFault-clause-channel
+returns-in-DiskFault-clause-channel g c = channel_same c.args.self.now c.settle.new.log c.args.self.now.used c.in-Some.doubt (sym c.in-Some.ensures.value)
+
+pub returns-in-DiskFault-clause-space : goal.returns-in-DiskFault-clause-space
+returns-in-DiskFault-clause-space g c = space_same c.args.self.now c.settle.new.log c.args.self.now.used c.in-Some.doubt (sym c.in-Some.ensures.value)
+
+pub returns-in-Stored-clause-stands : goal.returns-in-Stored-clause-stands
+returns-in-Stored-clause-stands g c =
+    let h = c.requires.stands in
+    let m = returns-in-Stored-clause-settled g c h.0 h.1 h.2 in
+    (m.0, None, m.2)
+
+pub returns-in-Gone-clause-stands : goal.returns-in-Gone-clause-stands
+returns-in-Gone-clause-stands g c =
+    let h = c.requires.stands in
+    let m = returns-in-Gone-clause-settled g c h.0 h.1 h.2 in
+    (m.0, None, m.2)
+
+pub returns-in-DiskFault-clause-stands : goal.returns-in-DiskFault-clause-stands
+returns-in-DiskFault-clause-stands g c =
+    let h = c.requires.stands in
+    let m = returns-in-DiskFault-clause-failed g c h.0 h.1 h.2 in
+    (h.0, h.1, m.1)

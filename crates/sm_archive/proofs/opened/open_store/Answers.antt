@@ -1,0 +1,77 @@
+use Rattle.std.proofs.Common.{rules, arith, ◌≡◌, ◌∙◌, ℕ, Bool, true, List, Option, None, Some, IsSome, IfSome, Result, Ok, Err, refl, sym, ap, subst}
+use Rattle.std.specs.Prelude.{IfOk}
+use Rattle.sm_model.specs.declared.entry.Entry.{Entry}
+use Rattle.sm_site.specs.Image.{Image}
+use Rattle.sm_site.proofs.Moments.{weakened, and_then}
+use Rattle.sm_seglog.specs.Segments.{count_of}
+use Rattle.sm_archive.specs.Bodies as seg
+use Rattle.sm_archive.specs.declared.archive.Archive.{Archive}
+use Rattle.sm_archive.specs.Store.{Spell, IsStore}
+use Rattle.sm_archive.specs.Stands.{Stands}
+use Rattle.sm_archive.specs.Opening.{FailsAt, IsRead}
+use Rattle.sm_archive.proofs.Walking.{stands_read, spelled_read, opened_has, opened_store, opened_no_entry, opened_no_log, opened_stands, some_one, same_told, left_told}
+use Rattle.sm_archive.proofs.opened.open_store.Goals as goal
+
+pub returns-in-Ok-walk-clause-opened : goal.returns-in-Ok-walk-clause-opened
+returns-in-Ok-walk-clause-opened g c =
+    let d0 = c.args.disk.now in
+    let d1 = c.open_log.new.disk in
+    let d2 = c.walk.new.disk in
+    let told : (x : Image) → g.D.Disk.may_leave d1 x → IsSome (g.D.Disk.view d1).contents = λ x left. g.met.D.Disk.told d1 (g.D.Disk.view d1).moment x (g.met.D.Disk.now_at d1 x left) in
+    let stands : (bodies : List (List ℕ)) × seg.Stands c.in-Ok.log bodies None (g.D.Disk.may_leave d1) =
+    opened_stands (g.D.Disk.view d0).contents c.in-Ok.log (g.D.Disk.may_leave d1) c.in-Ok.ensures.opened c.in-Ok.ensures.sure (λ x left. sym c.open_log.ensures.told ∙ told x left) in
+    let r = c.in-Ok-walk.ensures.read in (
+      r.log,
+      stands_read _ c.in-Ok.log (g.D.Disk.may_leave d1) c.in-Ok-walk.index c.in-Ok-walk.used (count_of c.in-Ok.log) r c.args.limits (g.D.Disk.may_leave d2) c.requires.bytes c.requires.entries refl stands
+          (λ x left. let was = c.walk.ensures.no_more x left in (told x was, was)),
+    )
+
+pub returns-in-Ok-walk-clause-has : goal.returns-in-Ok-walk-clause-has
+returns-in-Ok-walk-clause-has g c =
+    let d0 = c.args.disk.now in
+    let d1 = c.open_log.new.disk in
+    let d2 = c.walk.new.disk in
+    let r = c.in-Ok-walk.ensures.read in
+    let a : Archive = record { log = c.in-Ok.log; limits = c.args.limits; used = c.in-Ok-walk.used; index = c.in-Ok-walk.index; doubt = None } in
+    let walked : IsSome (g.D.Disk.view d0).contents → (bodies : List (List ℕ)) → seg.Stands c.in-Ok.log bodies None (g.D.Disk.may_leave d1) → (log : List Entry) × Spell bodies log × Stands a log None (g.D.Disk.may_leave d2) =
+    λ some bodies s.
+    let some1 = c.open_log.ensures.told ∙ some in (
+      r.log,
+      spelled_read _ c.in-Ok.log (g.D.Disk.may_leave d1) c.in-Ok-walk.index c.in-Ok-walk.used (count_of c.in-Ok.log) r refl some1 bodies s,
+      stands_read _ c.in-Ok.log (g.D.Disk.may_leave d1) c.in-Ok-walk.index c.in-Ok-walk.used (count_of c.in-Ok.log) r c.args.limits (g.D.Disk.may_leave d2) c.requires.bytes c.requires.entries refl (bodies, s) (λ x left. (some1, c.walk.ensures.no_more x left)),
+    ) in
+    opened_has (g.D.Disk.view d0).contents a (g.D.Disk.may_leave d2) c.in-Ok.log (g.D.Disk.may_leave d1) c.in-Ok.ensures.opened
+    (some_one (g.D.Disk.view d0).contents c.in-Ok.log (g.D.Disk.may_leave d1) c.stores_have_one_reading.ensures.one_list c.stores_have_one_reading.ensures.one_cut c.in-Ok.ensures.sure c.in-Ok.ensures.opened) walked
+
+pub returns-in-Ok-walk-clause-store : goal.returns-in-Ok-walk-clause-store
+returns-in-Ok-walk-clause-store g c =
+    let d0 = c.args.disk.now in
+    let d1 = c.open_log.new.disk in
+    let d2 = c.walk.new.disk in
+    let r = c.in-Ok-walk.ensures.read in
+    let a : Archive = record { log = c.in-Ok.log; limits = c.args.limits; used = c.in-Ok-walk.used; index = c.in-Ok-walk.index; doubt = None } in
+    let walked : IsSome (g.D.Disk.view d0).contents → (bodies : List (List ℕ)) → seg.Stands c.in-Ok.log bodies None (g.D.Disk.may_leave d1) → (log : List Entry) × Spell bodies log × Stands a log None (g.D.Disk.may_leave d2) =
+    λ some bodies s.
+    let some1 = c.open_log.ensures.told ∙ some in (
+      r.log,
+      spelled_read _ c.in-Ok.log (g.D.Disk.may_leave d1) c.in-Ok-walk.index c.in-Ok-walk.used (count_of c.in-Ok.log) r refl some1 bodies s,
+      stands_read _ c.in-Ok.log (g.D.Disk.may_leave d1) c.in-Ok-walk.index c.in-Ok-walk.used (count_of c.in-Ok.log) r c.args.limits (g.D.Disk.may_leave d2) c.requires.bytes c.requires.entries refl (bodies, s) (λ x left. (some1, c.walk.ensures.no_more x left)),
+    ) in
+    opened_store (g.D.Disk.view d0).contents a (g.D.Disk.may_leave d2) c.in-Ok.log (g.D.Disk.may_leave d1) c.bodies_have_one_log.ensures
+    (some_one (g.D.Disk.view d0).contents c.in-Ok.log (g.D.Disk.may_leave d1) c.stores_have_one_reading.ensures.one_list c.stores_have_one_reading.ensures.one_cut c.in-Ok.ensures.sure c.in-Ok.ensures.opened) walked
+
+pub returns-in-Err-NotAStore-clause-refused : goal.returns-in-Err-NotAStore-clause-refused
+returns-in-Err-NotAStore-clause-refused g c = λ at is. opened_no_log (g.D.Disk.view c.args.disk.now).contents at (search rules)
+
+pub returns-in-Err-clause-refused : goal.returns-in-Err-clause-refused
+returns-in-Err-clause-refused g c = λ at is.
+    let d0 = c.args.disk.now in
+    let d1 = c.open_log.new.disk in
+    opened_no_entry (g.D.Disk.view d0).contents at c.in-Ok.log (g.D.Disk.may_leave d1) c.in-Ok.ensures.opened
+    (some_one (g.D.Disk.view d0).contents c.in-Ok.log (g.D.Disk.may_leave d1) c.stores_have_one_reading.ensures.one_list c.stores_have_one_reading.ensures.one_cut c.in-Ok.ensures.sure c.in-Ok.ensures.opened)
+    (λ some bodies s. c.in-Err.ensures.refused at (search rules) bodies s (c.open_log.ensures.told ∙ some))
+
+pub returns-in-Err-clause-any_moment : goal.returns-in-Err-clause-any_moment
+returns-in-Err-clause-any_moment g c = λ bodies each.
+    and_then g.D.Disk.view g.D.Disk.left_at _ _ _ _ (c.open_log.ensures.images bodies each).moments
+    (weakened g.D.Disk.view g.D.Disk.left_at _ _ _ _ c.walk.ensures.any_moment (λ t x left. (c.open_log.ensures.images bodies each).now x left))

@@ -1,0 +1,16 @@
+use Rattle.std.proofs.Common.{◌≡◌, ◌≤◌, ℕ, IsSome}
+use Rattle.sm_site.specs.Image.{Image}
+use Rattle.sm_site.specs.Meanings.{SameLink}
+use Rattle.sm_site.specs.Clauses.{Throughout}
+use Rattle.sm_archive.specs.Opening.{IsRead}
+use Rattle.sm_archive.proofs.opened.walk.Given as goal
+
+abbrev pub invariant-loop-place : goal.invariant-loop-place
+invariant-loop-place g l = record {
+  is_read : IsRead (IsSome (g.D.Disk.view l.fn.disk).contents) l.fn.log (g.D.Disk.may_leave l.fn.disk) l.index l.used l.place;
+  contents : (g.D.Disk.view l.disk).contents ≡ (g.D.Disk.view l.fn.disk).contents;
+  crash : (c : Image) → g.D.Disk.may_leave l.disk c → g.D.Disk.may_leave l.fn.disk c;
+  moments : Throughout g.D.Disk.view g.D.Disk.left_at l.fn.disk l.disk (λ t c. g.D.Disk.may_leave l.fn.disk c);
+  faults : (g.D.Disk.view l.fn.disk).disk_faults ≤ (g.D.Disk.view l.disk).disk_faults;
+  link : SameLink (g.D.Disk.view l.fn.disk) (g.D.Disk.view l.disk);
+}

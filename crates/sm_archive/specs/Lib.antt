@@ -1,0 +1,13 @@
+pub mod Steps
+pub mod Bodies
+pub mod Index
+pub mod Store
+pub mod Stands
+pub mod Keeping
+pub mod Taking
+pub mod Reserving
+pub mod Appending
+pub mod Keeper
+pub mod Declaring
+pub mod Opening
+pub mod Looking

@@ -1,0 +1,11 @@
+-- What a call may make of a log and of an entry in doubt.
+use Rattle.std.specs.Prelude.{◌≡◌, ◌⊎◌, List, [], ◌∷◌, ◌++◌, Option, Some}
+use Rattle.sm_model.specs.declared.entry.Entry.{Entry}
+
+-- the log before, perhaps followed by the doubt: what settling leaves
+abbrev pub Settles : List Entry → Option Entry → List Entry → Type 0
+Settles log doubt after = (after ≡ log) ⊎ ((d : Entry) × (doubt ≡ Some d) × (after ≡ log ++ d ∷ []))
+
+-- the log before, perhaps followed by the doubt, by the entry being written, or by both in this order
+abbrev pub Grows : List Entry → Option Entry → Entry → List Entry → Type 0
+Grows log doubt e after = Settles log doubt after ⊎ ((mid : List Entry) × Settles log doubt mid × (after ≡ mid ++ e ∷ []))

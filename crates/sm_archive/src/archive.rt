@@ -1,0 +1,136 @@
+//! The archive, and what it does with a doubt.
+ghost use Rattle.std.specs.Prelude.{◌≡◌, ◌⊎◌, ℕ, ◌+◌, ◌≤◌, List, [], ◌∷◌, ◌++◌, length, Option, None, Some, OnOk, OnErr, IsErr, IsSome};
+ghost use Rattle.sm_model.specs.declared.track.Track.{Track};
+ghost use Rattle.sm_model.specs.declared.entry.Entry.{Entry};
+ghost use Rattle.sm_archive.specs.Steps.{Settles};
+ghost use Rattle.sm_site.specs.Meanings.{SameLink};
+ghost use Rattle.sm_site.specs.Clauses.{Rose, Throughout};
+ghost use Rattle.sm_archive.specs.Store.{IsStore};
+ghost use Rattle.sm_archive.specs.Stands.{Stands};
+ghost use Rattle.sm_archive.specs.Keeping.{HasChannel, SpaceIn};
+ghost use Rattle.sm_archive.specs.Taking.{CanTake, Taken};
+ghost use Rattle.sm_archive.specs.Appending.{CanAppend, IsUnused};
+ghost use Rattle.sm_archive.specs.Bodies.{room_of};
+
+use crate::answers::DiskFault;
+use crate::bodies;
+use crate::index::Index;
+use crate::limits::Limits;
+use sm_gatelog::{Appended, Settled};
+use sm_model::{Address, Bytes};
+use sm_record::Meta;
+use sm_seglog::SegLog;
+use sm_site::Disk;
+
+/// What is kept of an entry in doubt, so that it can be taken in without memory.
+#[derive(Debug, Drop)]
+pub(crate) enum Pending {
+    Declare(Index),
+    Keep(Address, Meta),
+}
+
+/// An entry that a crash may leave or not.
+#[derive(Debug, Drop)]
+pub(crate) struct Doubt {
+    pub(crate) entry: Pending,
+    /// What its record uses.
+    pub(crate) bytes: u64,
+}
+
+/// A log of entries on a disk.
+#[derive(Drop)]
+pub struct Archive {
+    pub(crate) log: SegLog,
+    pub(crate) limits: Limits,
+    /// In bytes of records; it stands still at its type's end.
+    pub(crate) used: u64,
+    pub(crate) index: Option<Index>,
+    pub(crate) doubt: Option<Doubt>,
+}
+
+// Takes in what was in doubt, without memory.
+pub(crate) fn take_in(index: &mut Option<Index>, entry: Pending, place: u64)
+    requires { CanTake index.old entry }
+    ensures { Taken index.old entry place index.new }
+{
+    match entry {
+        Pending::Declare(own) => *index = Some(own),
+        Pending::Keep(address, meta) => match index {
+            Some(index) => index.add(&address, meta, place),
+            None => unreachable!(),
+        },
+    }
+}
+
+impl Archive {
+    /// Finds out whether the entry in doubt is in the log. Without a doubt it makes no disk call.
+    pub fn settle<D: Disk>(&mut self, disk: &mut D) -> Result<(), DiskFault>
+        requires stands { (log : List Entry) × (doubt : Option Entry) × Stands self.old log doubt (D.may_leave disk.old) }
+        // It stands for some log again, whichever it stood for.
+        ensures stands { (log : List Entry) × (doubt : Option Entry) × Stands self.new log doubt (D.may_leave disk.new) }
+        ensures settled { OnOk result ((log : List Entry) (doubt : Option Entry) → Stands self.old log doubt (D.may_leave disk.old) → (after : List Entry)
+            × Settles log doubt after × Stands self.new after None (D.may_leave disk.new)) }
+        ensures failed { OnErr result ((log : List Entry) (doubt : Option Entry) → Stands self.old log doubt (D.may_leave disk.old) → (IsSome doubt)
+            × Stands self.new log doubt (D.may_leave disk.new)) }
+        ensures any_moment { (log : List Entry) (doubt : Option Entry) → Stands self.old log doubt (D.may_leave disk.old)
+            → Throughout D.view D.left_at disk.old disk.new (λ t c. (after : List Entry) × IsStore after c × Settles log doubt after) }
+        ensures contents { (D.view disk.new).contents ≡ (D.view disk.old).contents }
+        ensures fault { IsErr result → Rose (D.view disk.old).disk_faults (D.view disk.new).disk_faults }
+        ensures channel { (channel : List Track) → HasChannel self.new channel → HasChannel self.old channel }
+        ensures space { (n : ℕ) (stream : List ℕ) → SpaceIn self.old (n + 1) stream → SpaceIn self.new n stream }
+        ensures reserved { (self.old.log.last.spare ≤ self.new.log.last.spare + 1) × ((room_of self.old.log) ≤ (room_of self.new.log)) }
+        ensures no_fewer { (D.view disk.old).disk_faults ≤ (D.view disk.new).disk_faults }
+        ensures link { SameLink (D.view disk.old) (D.view disk.new) }
+    {
+        match self.doubt.take() {
+            None => Ok(()),
+            Some(doubt) => match bodies::settle(&mut self.log, disk) {
+                Settled::Stored { place } => {
+                    self.used = self.used.saturating_add(doubt.bytes);
+                    take_in(&mut self.index, doubt.entry, place);
+                    Ok(())
+                }
+                Settled::Gone => Ok(()),
+                Settled::DiskFault => {
+                    self.doubt = Some(doubt);
+                    Err(DiskFault)
+                }
+            },
+        }
+    }
+
+    // Appends an entry that may stand behind the log and meets no limit, without memory. Where the disk fails there is no
+    // place, and the entry may be in doubt.
+    pub(crate) fn append<D: Disk>(
+        &mut self,
+        disk: &mut D,
+        entry: Pending,
+        body: Bytes,
+    ) -> Option<u64>
+        requires can { (log : List Entry) × (e : Entry) × Stands self.old log None (D.may_leave disk.old) × CanAppend self.old entry body log e }
+        ensures stored { (place : ℕ) → result ≡ Some place → (log : List Entry) (e : Entry) → Stands self.old log None (D.may_leave disk.old)
+            → CanAppend self.old entry body log e → (place ≡ length log) × Stands self.new (log ++ e ∷ []) None (D.may_leave disk.new) }
+        ensures failed { result ≡ None → (log : List Entry) (e : Entry) → Stands self.old log None (D.may_leave disk.old) → CanAppend self.old entry body log e
+            → IsUnused self.old self.new × (Stands self.new log None (D.may_leave disk.new) ⊎ Stands self.new log (Some e) (D.may_leave disk.new)) }
+        ensures any_moment { (log : List Entry) (e : Entry) → Stands self.old log None (D.may_leave disk.old) → CanAppend self.old entry body log e
+            → IsSome (D.view disk.old).contents → Throughout D.view D.left_at disk.old disk.new (λ t c. (after : List Entry) × IsStore after c × ((after ≡ log)
+            ⊎ (after ≡ log ++ e ∷ []))) }
+        ensures fault { result ≡ None → Rose (D.view disk.old).disk_faults (D.view disk.new).disk_faults }
+        ensures no_fewer { (D.view disk.old).disk_faults ≤ (D.view disk.new).disk_faults }
+        ensures link { SameLink (D.view disk.old) (D.view disk.new) }
+    {
+        let bytes = 5 + body.len();
+        match bodies::append(&mut self.log, disk, body.as_slice()) {
+            Appended::Stored { place } => {
+                self.used += bytes;
+                take_in(&mut self.index, entry, place);
+                Some(place)
+            }
+            Appended::Clean => None,
+            Appended::Doubt => {
+                self.doubt = Some(Doubt { entry, bytes });
+                None
+            }
+        }
+    }
+}

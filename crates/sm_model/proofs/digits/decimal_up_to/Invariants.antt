@@ -1,6 +1,0 @@
-use Rattle.std.proofs.Common.{◌≡◌, take, min}
-use Rattle.sm_model.specs.Digits.{decimal_from}
-use Rattle.sm_model.proofs.digits.decimal_up_to.Given as goal
-
-abbrev pub invariant-loop-digit : goal.invariant-loop-digit
-invariant-loop-digit l = l.number ≡ min (decimal_from 0 (take l.digit-index l.digits)) l.most

@@ -1,0 +1,11 @@
+//! What the bytes that a connection sends give: requests, and the headers and fragments of its pushes.
+#![tactic(auto)]
+
+mod item;
+pub mod law;
+mod plain;
+#[cfg(test)]
+mod tests;
+
+pub use item::WireItem;
+pub use plain::read_plainly;
