@@ -48,21 +48,23 @@ IsValidAct (Frag f) = IsValid f
 IsValidAct (End kept known) = Unit {0}
 IsValidAct (Refuse r) = Unit {0}
 
--- One act was one step. At each moment of it a crash leaves the log before it, perhaps with the doubt, perhaps with the entry that is being
--- written; from its last disk call on, what stands behind the step.
+-- One act was one step, on a disk that tells its contents. At each moment of it a crash leaves the log before it, perhaps with the doubt, perhaps
+-- with the entry that is being written; from its last disk call on, what stands behind the step.
 pub record ActGives {D : Type 0} (view : D → View) (may_leave : D → Image → Type 0) (left_at : D → ℕ → Image → Type 0)
     (old new : D) (m : Machine) (origin : Origin) (act : Act) (reply : Reply) : Type 0 where
   pub after : Machine
   pub calls : List DiskCall
-  pub step : IsSome (view old).contents → Step (Rose (view old).disk_faults (view new).disk_faults) m act after reply
+  pub step : Step (Rose (view old).disk_faults (view new).disk_faults) m act after reply
+  pub has_told : IsSome (view new).contents
   pub stands : StandsFor (IsSome (view new).contents) after origin (may_leave new)
   pub limits : after.archive.limits ≡ m.archive.limits
   pub noted : Both (view old).calls (view new).calls (λ before now. now ≡ before ++ calls)
   -- with no disk call nothing changes
-  pub still : IsSome (view old).contents → calls ≡ [] → SameLog m after
+  pub still : calls ≡ [] → SameLog m after
   pub later : (view old).moment ≤ (view new).moment
-  pub began : (view old).moment ≤ last_moment (view old).moment calls
-  pub ended : last_moment (view old).moment calls ≤ (view new).moment
+  -- the act ends with its last disk call
+  pub ended : (view new).moment ≡ last_moment (view old).moment calls
   pub keeps : (t : ℕ) (image : Image) → t ≤ (view old).moment → left_at new t image ↔ left_at old t image
   pub inside : (t : ℕ) (image : Image) → (view old).moment < t → left_at new t image → FitsInside m (entry_of act) image
-  pub since : (t : ℕ) (image : Image) → last_moment (view old).moment calls ≤ t → left_at new t image → Fits after image
+  pub now : (image : Image) → may_leave new image → Fits after image
+  pub since : (t : ℕ) (image : Image) → (view new).moment ≤ t → left_at new t image → Fits after image

@@ -85,7 +85,7 @@ IsWithin a log (Keep f) = keeping.IsWithin a log f
 
 -- none was, where the entry is behind the log now
 abbrev pub IsWithinNow : Archive → List Entry → Entry → Type 0
-IsWithinNow a log (Declare header) = declaring.IsWithinNow a header
+IsWithinNow a log (Declare header) = declaring.IsWithinNow a
 IsWithinNow a log (Keep f) = keeping.IsWithinNow a log f
 
 -- ---- steps

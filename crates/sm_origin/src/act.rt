@@ -1,5 +1,5 @@
 //! One act is one step.
-ghost use Rattle.std.specs.Prelude.{◌≡◌, ◌≤◌, Some, IsSome};
+ghost use Rattle.std.specs.Prelude.{◌≡◌, ◌≤◌, Some, IsSome, is_some};
 ghost use Rattle.sm_model.specs.declared.address.Address.{Address};
 ghost use Rattle.sm_model.specs.declared.act.Act.TheVariants.{Fragment as Ask};
 ghost use Rattle.sm_cache.specs.declared.cache.Kept.{Kept};
@@ -24,12 +24,15 @@ impl Origin {
     pub fn act<S: Site>(&mut self, alloc: Global, site: &mut S, act: &Act) -> Reply
         requires valid { IsValidAct act.now }
         requires stands { (m : Machine) × StandsFor (IsSome (S.Disk.view site.old).contents) m self.old (S.Disk.may_leave site.old) }
-        ensures step { (m : Machine) → StandsFor (IsSome (S.Disk.view site.old).contents) m self.old (S.Disk.may_leave site.old)
+        // It stands for some machine again, whichever it stood for.
+        ensures stands { (m : Machine) × StandsFor (IsSome (S.Disk.view site.new).contents) m self.new (S.Disk.may_leave site.new) }
+        ensures step { IsSome (S.Disk.view site.old).contents → (m : Machine) → StandsFor (IsSome (S.Disk.view site.old).contents) m self.old (S.Disk.may_leave site.old)
             → ActGives S.Disk.view S.Disk.may_leave S.Disk.left_at site.old site.new m self.new act.now result }
         // A fragment in the cache is given without a read of the disk.
         ensures unread { (a : Address) (kept : Kept) → act.now ≡ Ask a → held_at a self.old.cache ≡ Some kept
             → (S.Disk.view site.new).reads ≡ (S.Disk.view site.old).reads }
         ensures remembers { Remembers act.now result self.old.cache self.new.cache }
+        ensures told { is_some (S.Disk.view site.new).contents ≡ is_some (S.Disk.view site.old).contents }
         ensures no_fewer { (S.Disk.view site.old).disk_faults ≤ (S.Disk.view site.new).disk_faults }
         ensures link { SameLink (S.Disk.view site.old) (S.Disk.view site.new) }
     {

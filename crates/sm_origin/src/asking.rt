@@ -1,5 +1,5 @@
 //! A fragment that is asked for.
-ghost use Rattle.std.specs.Prelude.{◌≡◌, ◌≤◌, ◌<◌, ◌^◌, Some, None, IsSome, IfOk, OnOk, OnErr};
+ghost use Rattle.std.specs.Prelude.{◌≡◌, ◌≤◌, ◌<◌, ◌^◌, Some, None, IsSome, is_some, IfOk, OnOk, OnErr};
 ghost use Rattle.sm_model.specs.Fragments.{IsValid};
 ghost use Rattle.sm_log.specs.Logs.{channel_of};
 ghost use Rattle.sm_model.specs.declared.act.Act.TheVariants.{Fragment as Ask};
@@ -73,9 +73,12 @@ impl Origin {
     fn fetch<D: Disk>(&mut self, alloc: Global, disk: &mut D, address: &Address) -> Reply
         requires absent { held_at address.now self.old.cache ≡ None }
         requires stands { (m : Machine) × StandsFor (IsSome (D.view disk.old).contents) m self.old (D.may_leave disk.old) }
-        ensures step { (m : Machine) → StandsFor (IsSome (D.view disk.old).contents) m self.old (D.may_leave disk.old)
+        // It stands for some machine again, whichever it stood for.
+        ensures stands { (m : Machine) × StandsFor (IsSome (D.view disk.new).contents) m self.new (D.may_leave disk.new) }
+        ensures step { IsSome (D.view disk.old).contents → (m : Machine) → StandsFor (IsSome (D.view disk.old).contents) m self.old (D.may_leave disk.old)
             → ActGives D.view D.may_leave D.left_at disk.old disk.new m self.new (Ask address.now) result }
         ensures remembers { Remembers (Ask address.now) result self.old.cache self.new.cache }
+        ensures told { is_some (D.view disk.new).contents ≡ is_some (D.view disk.old).contents }
         ensures no_fewer { (D.view disk.old).disk_faults ≤ (D.view disk.new).disk_faults }
         ensures link { SameLink (D.view disk.old) (D.view disk.new) }
     {
@@ -98,10 +101,13 @@ impl Origin {
         address: &Address,
     ) -> Reply
         requires stands { (m : Machine) × StandsFor (IsSome (D.view disk.old).contents) m self.old (D.may_leave disk.old) }
-        ensures step { (m : Machine) → StandsFor (IsSome (D.view disk.old).contents) m self.old (D.may_leave disk.old)
+        // It stands for some machine again, whichever it stood for.
+        ensures stands { (m : Machine) × StandsFor (IsSome (D.view disk.new).contents) m self.new (D.may_leave disk.new) }
+        ensures step { IsSome (D.view disk.old).contents → (m : Machine) → StandsFor (IsSome (D.view disk.old).contents) m self.old (D.may_leave disk.old)
             → ActGives D.view D.may_leave D.left_at disk.old disk.new m self.new (Ask address.now) result }
         ensures unread { (kept : Kept) → held_at address.now self.old.cache ≡ Some kept → (D.view disk.new).reads ≡ (D.view disk.old).reads }
         ensures remembers { Remembers (Ask address.now) result self.old.cache self.new.cache }
+        ensures told { is_some (D.view disk.new).contents ≡ is_some (D.view disk.old).contents }
         ensures no_fewer { (D.view disk.old).disk_faults ≤ (D.view disk.new).disk_faults }
         ensures link { SameLink (D.view disk.old) (D.view disk.new) }
     {
