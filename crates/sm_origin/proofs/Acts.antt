@@ -1,5 +1,5 @@
 -- One act of an origin, put together of what it did to the archive, to the disk and to the cache.
-use Rattle.std.proofs.Common.{arith, ◌≡◌, ◌×◌, ◌⊎◌, ◌↔◌, inl, inr, ⊎_elim, ℕ, zero, suc, ◌<◌, ◌≤◌, ◌+◌, Bool, true, false, List, [], ◌∷◌, ◌++◌, length, length-append, Option, None, Some, IsSome, is_some, option_map, Result, Ok, Err, IfOk, Contains, slice_get, refl, ap, sym, subst, ◌∙◌}
+use Rattle.std.proofs.Common.{arith, ◌≡◌, ◌⊎◌, ◌↔◌, inl, inr, ⊎_elim, ℕ, zero, suc, ◌<◌, ◌≤◌, ◌+◌, Bool, true, false, List, [], ◌∷◌, ◌++◌, length, length-append, Option, None, Some, IsSome, is_some, option_map, Result, Ok, Err, IfOk, Contains, slice_get, refl, ap, sym, subst, ◌∙◌}
 use Rattle.std.proofs.lemmas.List.{append-nil}
 use Rattle.sm_model.specs.declared.track.Track.{Track}
 use Rattle.sm_model.specs.declared.address.Address.{Address}
@@ -39,7 +39,7 @@ never xs ys made call calls none same more =
     absurd (omega (arith, ap length (sym more ∙ same) , ap length none, length-append xs made, length-append xs (call ∷ calls)))
 
 calls_of : (a b : Option (List DiskCall)) (t u : ℕ) → IsSome a → Both a b (λ before now. (made : List DiskCall) × (now ≡ before ++ made) × (u ≡ last_moment t made)) → Calls a b t u
-calls_of None b t u some both = absurd some
+calls_of None b t u some both = absurd (cc)
 calls_of (Some xs) None t u some both = absurd both
 calls_of (Some xs) (Some ys) t u some (made, same, moment) =
     record { made = made; noted = same; moment = moment; idle = λ none acted. never xs ys made acted.0 acted.1 none same acted.2 }
@@ -47,17 +47,17 @@ calls_of (Some xs) (Some ys) t u some (made, same, moment) =
 is_one : {A B : Type 0} (a : Option A) (b : Option B) → is_some a ≡ is_some b → IsSome b → IsSome a
 is_one None None e some = some
 is_one None (Some y) e some = absurd cc
-is_one (Some x) b e some = tt
+is_one (Some x) b e some = refl
 
 both_some : {A : Type 0} (a b : Option A) (R : A → A → Type 0) → Both a b R → IsSome a → IsSome b
-both_some None b R both some = absurd some
+both_some None b R both some = absurd (cc)
 both_some (Some x) None R both some = absurd both
-both_some (Some x) (Some y) R both some = tt
+both_some (Some x) (Some y) R both some = refl
 
 some_both : {A : Type 0} (a b : Option A) (R : A → A → Type 0) → Both a b R → IsSome b → IsSome a
 some_both None None R both some = some
 some_both None (Some y) R both some = absurd both
-some_both (Some x) b R both some = tt
+some_both (Some x) b R both some = refl
 
 -- whether a disk tells its contents stays
 pub still_told : (v w : View) → is_some v.calls ≡ is_some v.contents → is_some w.calls ≡ is_some w.contents → Recorded v w → IsSome v.contents → IsSome w.contents

@@ -1,5 +1,5 @@
 -- What an archive answers to an act that adds an entry, as a step.
-use Rattle.std.proofs.Common.{◌≡◌, ◌×◌, ◌⊎◌, inl, inr, ⊎_elim, ℕ, Bool, true, false, List, [], ◌∷◌, ◌++◌, Option, None, Some, IsSome, is_some, option_map, slice_get, refl, ap, sym, subst, ◌∙◌}
+use Rattle.std.proofs.Common.{◌≡◌, ◌⊎◌, inl, inr, ⊎_elim, ℕ, Bool, true, false, List, [], ◌∷◌, ◌++◌, Option, None, Some, IsSome, is_some, option_map, slice_get, refl, ap, sym, subst, ◌∙◌}
 use Rattle.std.proofs.lemmas.List.{append-nil}
 use Rattle.std.proofs.Common.{append_assoc}
 use Rattle.sm_model.specs.declared.track.Track.{Track}
@@ -56,7 +56,7 @@ record Cleared (acted : Type 0) (m mid : Machine) : Type 0 where
   pub grows : mid.log ≡ m.log ++ more
 
 some_of : (o : Option Entry) → IsSome o → (d : Entry) × (o ≡ Some d)
-some_of None some = absurd some
+some_of None some = absurd (cc)
 some_of (Some d) some = (d, refl)
 
 cleared : (acted : Type 0) (m : Machine) (a : Archive) (mid : List Entry) → Clears acted m.log m.doubt mid → Cleared acted m (machine a mid None)
@@ -78,11 +78,11 @@ cleared acted m a mid (inr settled) = settles settled.1
       more = [];
       grows = same ∙ sym (append-nil m.log);
     }
-    settles (inr there) = record {
-      clear = inr (record { entry = there.0; was = there.1; log = inr there.2; doubt = refl });
+    settles (inr more) = record {
+      clear = inr (record { entry = more.0; was = more.1; log = inr more.2; doubt = refl });
       still = λ no. absurd (no settled.2);
-      more = there.0 ∷ [];
-      grows = there.2;
+      more = more.0 ∷ [];
+      grows = more.2;
     }
 
 -- ---- telling
@@ -205,11 +205,7 @@ fragment_step failed acted outcomes m a f (keeping.Refused why) reply fails (mid
 fragment_step failed acted outcomes m a f keeping.Full reply fails (mid, clears, new, meets, stands) told =
     as_full failed acted outcomes m a (Frag f) (Keep f) reply refl mid clears counted.Kept (ap (by_verdict f) new) meets stands told
 fragment_step failed acted outcomes m a f keeping.DiskFault reply fails (inl (some, stands)) told =
-    as_unsettled failed acted outcomes m a (Frag f) reply stands (Keep f) refl (is_there m.doubt some) (fails refl) told
-  where
-    is_there : (o : Option Entry) → is_some o ≡ true → IsSome o
-    is_there None e = absurd cc
-    is_there (Some d) e = tt
+    as_unsettled failed acted outcomes m a (Frag f) reply stands (Keep f) refl some (fails refl) told
 fragment_step failed acted outcomes m a f keeping.DiskFault reply fails (inr (mid, clears, new, within, stands)) told =
     as_unwritten failed acted outcomes m a (Frag f) (Keep f) reply refl mid clears counted.Kept (ap (by_verdict f) new) within (fails refl) stands told
 fragment_step failed acted outcomes m a f keeping.NoMemory reply fails stands told = as_wants failed acted outcomes m a (Frag f) reply stands told
@@ -264,19 +260,19 @@ module _ (failed acted : Type 0) (outcomes : Image → Type 0) (m : Machine) (a 
 pub header_step : (failed acted : Type 0) (outcomes : Image → Type 0) (m : Machine) (a : Archive) (header : List Track) (answer : Declared) (reply : Reply)
     → (answer ≡ declared.DiskFault → failed) → DeclareStep acted outcomes a m.log m.doubt header answer → ToldHeader answer reply
     → Stepped failed acted outcomes m a (Header header) reply
-header_step failed acted outcomes m a header declared.Fixed reply fails (mid, clears, none, within, did, stands) told =
+header_step failed acted outcomes m a header declared.Fixed reply fails (mid, clears, (none, within, did, stands)) told =
     fixed failed acted outcomes m a header reply mid clears none within did stands told
-header_step failed acted outcomes m a header declared.Agreed reply fails (mid, clears, known, channel, agrees, stands) told =
+header_step failed acted outcomes m a header declared.Agreed reply fails (mid, clears, (known, channel, agrees, stands)) told =
     as_there failed acted outcomes m a (Header header) (Declare header) reply refl mid clears counted.Neither
     (judged_as mid header known checked.Agreed None channel agrees refl) stands told
-header_step failed acted outcomes m a header (declared.Refused why) reply fails (mid, clears, known, channel, refusal, stands) told =
+header_step failed acted outcomes m a header (declared.Refused why) reply fails (mid, clears, (known, channel, refusal, stands)) told =
     as_refused failed acted outcomes m a (Header header) (Declare header) reply refl mid clears why
     (judged_as mid header known (check known header) (Some why) channel refl refusal) (by_difference header (check known header) why refusal) stands told
-header_step failed acted outcomes m a header declared.Full reply fails (mid, clears, none, meets, stands) told =
+header_step failed acted outcomes m a header declared.Full reply fails (mid, clears, (none, meets, stands)) told =
     full_for failed acted outcomes m a header reply mid clears none meets stands told
 header_step failed acted outcomes m a header declared.DiskFault reply fails (inl (some, stands)) told =
     as_unsettled failed acted outcomes m a (Header header) reply stands (Declare header) refl some (fails refl) told
-header_step failed acted outcomes m a header declared.DiskFault reply fails (inr (mid, clears, none, within, stands)) told =
+header_step failed acted outcomes m a header declared.DiskFault reply fails (inr (mid, clears, (none, within, stands))) told =
     unwritten_for failed acted outcomes m a header reply mid clears none within (fails refl) stands told
 header_step failed acted outcomes m a header declared.NoMemory reply fails stands told = as_wants failed acted outcomes m a (Header header) reply stands told
 

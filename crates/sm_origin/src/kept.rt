@@ -1,5 +1,7 @@
 //! A kept fragment, given.
-ghost use Rattle.std.specs.Prelude.{◌≡◌, ◌≤◌, ◌<◌, ◌^◌, length, IfOk};
+ghost use Rattle.std.specs.Prelude.{◌≡◌, ◌≤◌, ◌<◌, ◌^◌, ◌&&◌, ◌==◌, ℕ, length, Some, IfOk};
+ghost use Rattle.std.specs.List.{position};
+ghost use Rattle.sm_model.specs.LiveTracks.{is_same};
 ghost use Rattle.sm_model.specs.Fragments.{IsValid};
 ghost use Rattle.sm_model.specs.FragText.{frag_text};
 ghost use Rattle.sm_log.specs.Adds.{ahead};
@@ -13,17 +15,22 @@ use sm_model::{Address, Bytes, Fragment, NoMemory, Track};
 use sm_moof::put_fragment;
 use std::alloc::Global;
 
+// The place of the track of that stream and bitrate.
+fn track_place(channel: &[Track], stream: &[u8], bitrate: u32) -> Option<usize>
+    ensures place { result ≡ position (λ t. is_same t.name stream.now && t.bitrate == bitrate) channel.now }
+    ensures short { (k : ℕ) → result ≡ Some k → k < length channel.now }
+{
+    channel
+        .iter()
+        .position(|track| track.name.as_bytes() == stream && track.bitrate == bitrate)
+}
+
 // The track_ID under which a stream and bitrate is served: the place of its track in the channel, from 1.
 fn id_in(channel: &[Track], address: &Address) -> u32
     requires { length channel.now ≤ 64 }
     ensures { result ≡ id_in channel.now address.now }
 {
-    let stream = address.stream.as_bytes();
-    let bitrate = address.bitrate;
-    match channel
-        .iter()
-        .position(|track| track.name.as_bytes() == stream && track.bitrate == bitrate)
-    {
+    match track_place(channel, address.stream.as_bytes(), address.bitrate) {
         None => 0,
         Some(place) => place as u32 + 1,
     }
