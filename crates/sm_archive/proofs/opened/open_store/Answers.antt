@@ -95,3 +95,8 @@ returns-in-Err-clause-untouched g c = λ at is.
       λ x left. looks.crash x (c.walk.ensures.no_more x left),
       and_then g.D.Disk.view g.D.Disk.left_at _ _ _ _ looks.moments (weakened g.D.Disk.view g.D.Disk.left_at _ _ _ _ c.walk.ensures.any_moment (λ t x left. looks.crash x left)),
     )
+
+pub returns-in-Ok-walk-clause-any_moment : goal.returns-in-Ok-walk-clause-any_moment
+returns-in-Ok-walk-clause-any_moment g c = λ bodies each.
+    and_then g.D.Disk.view g.D.Disk.left_at _ _ _ _ (c.open_log.ensures.images bodies each).moments
+    (weakened g.D.Disk.view g.D.Disk.left_at _ _ _ _ c.walk.ensures.any_moment (λ t x left. (c.open_log.ensures.images bodies each).now x left))

@@ -56,3 +56,23 @@ returns-in-Err-Damaged-clause-refused g c = λ at is bodies s some.
       sym (place_is {A = Option Index × ℕ} c.gate.result at is) ∙ c.gate.ensures (record { gate = 0; length = 0 }),
       fails_at _ c.args.log.now (g.D.Disk.may_leave c.args.disk.now) c.loop-place.index c.loop-place.used c.loop-place.place i.is_read c.in-Ok.body bodies some s there misfit,
     )
+
+pub returns-in-Err-DiskFault-clause-any_moment : goal.returns-in-Err-DiskFault-clause-any_moment
+returns-in-Err-DiskFault-clause-any_moment g c =
+    let i = c.loop-place.invariant in
+    and_then g.D.Disk.view g.D.Disk.left_at _ _ _ _ i.moments (weakened g.D.Disk.view g.D.Disk.left_at _ _ _ _ c.read.ensures.any_moment (λ t x left. i.crash x left))
+
+pub returns-in-Err-NoMemory-clause-any_moment : goal.returns-in-Err-NoMemory-clause-any_moment
+returns-in-Err-NoMemory-clause-any_moment g c =
+    let i = c.loop-place.invariant in
+    and_then g.D.Disk.view g.D.Disk.left_at _ _ _ _ i.moments (weakened g.D.Disk.view g.D.Disk.left_at _ _ _ _ c.read.ensures.any_moment (λ t x left. i.crash x left))
+
+pub returns-in-Err-Damaged-clause-any_moment : goal.returns-in-Err-Damaged-clause-any_moment
+returns-in-Err-Damaged-clause-any_moment g c =
+    let i = c.loop-place.invariant in
+    and_then g.D.Disk.view g.D.Disk.left_at _ _ _ _ i.moments (weakened g.D.Disk.view g.D.Disk.left_at _ _ _ _ c.read.ensures.any_moment (λ t x left. i.crash x left))
+
+pub returns-in-Err-NoMemory-admit-clause-any_moment : goal.returns-in-Err-NoMemory-admit-clause-any_moment
+returns-in-Err-NoMemory-admit-clause-any_moment g c =
+    let i = c.loop-place.invariant in
+    and_then g.D.Disk.view g.D.Disk.left_at _ _ _ _ i.moments (weakened g.D.Disk.view g.D.Disk.left_at _ _ _ _ c.read.ensures.any_moment (λ t x left. i.crash x left))
