@@ -8,7 +8,7 @@ use Rattle.sm_archive.specs.Steps.{Clears}
 use Rattle.sm_record.specs.Bodies.{IsSealedBody, body_len}
 use Rattle.sm_site.specs.Image.{Image}
 use Rattle.sm_seglog.specs.Segments.{Segments}
-use Rattle.sm_archive.specs.Bodies.{Fits}
+use Rattle.sm_archive.specs.Bodies.{EndsWithin, Fits}
 use Rattle.sm_log.specs.Headers.{check}
 use Rattle.sm_model.specs.declared.cause.Cause.{Cause}
 use Rattle.sm_model.specs.declared.cause.Cause.TheVariants as cause
@@ -45,6 +45,7 @@ pub record IsWithin (a : Archive) (channel : List Track) : Type 0 where
 pub record IsWithinNow (a : Archive) : Type 0 where
   pub bytes : a.used ≤ a.limits.store_bytes
   pub entries : 1 ≤ a.limits.entries
+  pub files : EndsWithin a.log
 
 abbrev pub MeetsLimit : Archive → List Track → Type 0
 MeetsLimit a channel =

@@ -14,7 +14,7 @@ use Rattle.sm_archive.specs.Steps.{Clears}
 use Rattle.sm_record.specs.Bodies.{IsBody, body_len}
 use Rattle.sm_record.specs.Metas.{IsMetaOf}
 use Rattle.sm_site.specs.Image.{Image}
-use Rattle.sm_archive.specs.Bodies.{Fits}
+use Rattle.sm_archive.specs.Bodies.{EndsWithin, Fits}
 use Rattle.sm_archive.specs.declared.index.Index.{Index}
 use Rattle.sm_archive.specs.declared.archive.Pending.TheVariants as pending
 use Rattle.sm_archive.specs.declared.archive.Archive.{Archive}
@@ -40,11 +40,12 @@ pub record IsWithin (a : Archive) (log : List Entry) (f : Fragment) : Type 0 whe
   pub times : (has_time log f ≡ true) ⊎ (length (times_of f.stream (adds_of log)) < a.limits.times)
   pub files : Fits a.log (body_len (Keep f))
 
--- None was met by a fragment that the archive has now behind this log. It has a file as it stands, for no store has more than 1,024.
+-- none was met by a fragment that the archive has now, behind this log
 pub record IsWithinNow (a : Archive) (log : List Entry) (f : Fragment) : Type 0 where
   pub bytes : a.used ≤ a.limits.store_bytes
   pub entries : length log + 1 ≤ a.limits.entries
   pub times : (has_time log f ≡ true) ⊎ (length (times_of f.stream (adds_of log)) < a.limits.times)
+  pub files : EndsWithin a.log
 
 -- one of the limits is met
 abbrev pub MeetsLimit : Archive → List Entry → Fragment → Type 0

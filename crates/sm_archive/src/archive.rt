@@ -10,7 +10,7 @@ ghost use Rattle.sm_archive.specs.Stands.{Stands};
 ghost use Rattle.sm_archive.specs.Keeping.{HasChannel, SpaceIn};
 ghost use Rattle.sm_archive.specs.Taking.{CanTake, Taken};
 ghost use Rattle.sm_archive.specs.Appending.{CanAppend, IsUnused};
-ghost use Rattle.sm_archive.specs.Bodies.{room_of};
+ghost use Rattle.sm_archive.specs.Bodies.{EndsWithin, room_of};
 
 use crate::answers::DiskFault;
 use crate::bodies;
@@ -112,8 +112,9 @@ impl Archive {
         requires can { (log : List Entry) × (e : Entry) × Stands self.old log None (D.may_leave disk.old) × CanAppend self.old entry body log e }
         ensures stored { (place : ℕ) → result ≡ Some place → (log : List Entry) (e : Entry) → Stands self.old log None (D.may_leave disk.old)
             → CanAppend self.old entry body log e → (place ≡ length log) × Stands self.new (log ++ e ∷ []) None (D.may_leave disk.new) }
-        ensures used { IsSome result → self.new.used ≡ self.old.used + (5 + length body) }
-        ensures acts { IsSome result → Acted (D.view disk.old) (D.view disk.new) }
+        ensures used { (place : ℕ) → result ≡ Some place → self.new.used ≡ self.old.used + (5 + length body) }
+        ensures ends { (place : ℕ) → result ≡ Some place → EndsWithin self.new.log }
+        ensures acts { (place : ℕ) → result ≡ Some place → Acted (D.view disk.old) (D.view disk.new) }
         ensures failed { result ≡ None → (log : List Entry) (e : Entry) → Stands self.old log None (D.may_leave disk.old) → CanAppend self.old entry body log e
             → IsUnused self.old self.new × (Stands self.new log None (D.may_leave disk.new)
             ⊎ (Acted (D.view disk.old) (D.view disk.new) × Stands self.new log (Some e) (D.may_leave disk.new))) }

@@ -9,7 +9,7 @@ ghost use Rattle.sm_gatelog.specs.declared.answer.Settled.TheVariants as settled
 ghost use Rattle.sm_gatelog.specs.declared.answer.ReadFault.TheVariants as read_fault;
 ghost use Rattle.sm_seglog.specs.Stores.{StorePerhaps};
 ghost use Rattle.sm_seglog.specs.Segments.{OnlyReserved, count_of};
-ghost use Rattle.sm_archive.specs.Bodies.{Fits, IsFault, Stands, Stays, room_of};
+ghost use Rattle.sm_archive.specs.Bodies.{EndsWithin, Fits, IsFault, Stands, Stays, room_of};
 
 use sm_gatelog::{Appended, ReadFault, Settled};
 use sm_model::{Bytes, NoMemory};
@@ -37,6 +37,7 @@ pub(crate) fn append<D: Disk>(log: &mut SegLog, disk: &mut D, body: &[u8]) -> Ap
     requires stands { (bodies : List (List ℕ)) × Stands log.old bodies None (D.may_leave disk.old) }
     ensures stored { (place : ℕ) → result ≡ appended.Stored place → (place ≡ count_of log.old)
         × ((bodies : List (List ℕ)) → Stands log.old bodies None (D.may_leave disk.old) → Stands log.new (bodies ++ body.now ∷ []) None (D.may_leave disk.new)) }
+    ensures ends { (place : ℕ) → result ≡ appended.Stored place → EndsWithin log.new }
     ensures clean { result ≡ appended.Clean → Stays log.old log.new
         × ((bodies : List (List ℕ)) → Stands log.old bodies None (D.may_leave disk.old) → Stands log.new bodies None (D.may_leave disk.new)) }
     ensures doubt { result ≡ appended.Doubt → Stays log.old log.new

@@ -3,8 +3,7 @@ ghost use Rattle.std.specs.Prelude.{◌≡◌, ◌++◌, ℕ, ◌≤◌, ◌<◌
 ghost use Rattle.sm_model.specs.declared.entry.Entry.{Entry};
 ghost use Rattle.sm_site.specs.Image.{Image};
 ghost use Rattle.sm_site.specs.Meanings.{SameLink};
-ghost use Rattle.sm_site.specs.Clauses.{Recorded, Rose, Throughout};
-ghost use Rattle.sm_gatelog.specs.Moments.{Looks};
+ghost use Rattle.sm_site.specs.Clauses.{NoMore, Recorded, Rose, Throughout};
 ghost use Rattle.sm_archive.specs.Bodies as seg;
 ghost use Rattle.sm_seglog.specs.Stores.{HasStore};
 ghost use Rattle.sm_archive.specs.declared.opened.OpenFault.TheVariants as open_fault;
@@ -92,8 +91,9 @@ pub fn open_store<D: Disk>(
     ensures has { IfOk result (λ a. IfSome (D.view disk.old).contents (λ c. (log : List Entry) × IsStore log c)) }
     ensures store { IfOk result (λ a. IfSome (D.view disk.old).contents (λ c. (log : List Entry) → IsStore log c → Stands a log None (D.may_leave disk.new))) }
     ensures refused { (at : ℕ) → IsErrOf result (open_fault.NotAStore at) → IfSome (D.view disk.old).contents (NotAStore at) }
-    // What is refused isn't written: at no moment a crash leaves more than before.
-    ensures untouched { (at : ℕ) → IsErrOf result (open_fault.NotAStore at) → Looks D.view D.may_leave D.left_at disk.old disk.new }
+    // A store that is refused isn't written: the contents stay, and at no moment a crash leaves what it couldn't leave before.
+    ensures untouched { (at : ℕ) → IsErrOf result (open_fault.NotAStore at) → ((D.view disk.new).contents ≡ (D.view disk.old).contents)
+        × NoMore (D.may_leave disk.old) (D.may_leave disk.new) × Throughout D.view D.left_at disk.old disk.new (λ t c. D.may_leave disk.old c) }
     ensures limits { IfOk result (λ a. a.limits ≡ limits) }
     // Where every image is a store of the same bodies, it stays one at each moment.
     ensures stays { (bodies : List (List ℕ)) → ((c : Image) → D.may_leave disk.old c → HasStore bodies c) → (c : Image) → D.may_leave disk.new c
