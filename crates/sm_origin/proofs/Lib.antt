@@ -2,3 +2,5 @@ pub mod Ahead
 pub mod Places
 pub mod Steps
 pub mod Acts
+pub mod Telling
+pub mod Fronts
