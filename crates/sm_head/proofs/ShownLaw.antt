@@ -128,6 +128,11 @@ abbrev close_end : Bool → List ℕ → List ℕ
 close_end true body = 13 ∷ 10 ∷ 67 ∷ codes "onnection: close" ++ (13 ∷ 10 ∷ 13 ∷ 10 ∷ body)
 close_end false body = 13 ∷ 10 ∷ 13 ∷ 10 ∷ body
 
+status_line_none : (status : ℕ) → IsStatusCode status → has_no_cr (status_text status) ≡ true
+status_line_none status is =
+    both_none (codes "HTTP/1.1 ") (decimal status ++ (codes " " ++ phrase status)) refl
+    (both_none (decimal status) (codes " " ++ phrase status) (decimal_none status) (both_none (codes " ") (phrase status) refl (phrase_none status is)))
+
 laid : (status : ℕ) (kind : Content) (body : List ℕ) (close : Bool) → reply_text status kind body close ≡ status_text status ++ (13 ∷ 10 ∷ 67 ∷ field_lines kind (length body) (close_end close body))
 laid status kind body true =
     regroup (codes "HTTP/1.1 ") (decimal status) (codes " ") (phrase status) crlf (codes "Content-Type: ") (kind_text kind) (codes "Content-Length: ") (decimal (length body)) (codes "Connection: close") body
@@ -152,11 +157,14 @@ reply_fronts status kind body close is =
     let P : List ℕ → Type 0 = λ l. Fronts l body in
     let rest = close_end close body in
     let length_none = both_none (codes "Content-Length: ") (decimal (length body)) refl (decimal_none (length body)) in
-    let third : Fronts (67 ∷ codes "ontent-Length: " ++ (decimal (length body) ++ rest)) body = subst P (append_assoc (codes "Content-Length: ") (decimal (length body)) rest) (bytes_pass (codes "Content-Length: " ++ decimal (length body)) rest body length_none (end_fronts close body)) in
+    let third : Fronts (67 ∷ codes "ontent-Length: " ++ (decimal (length body) ++ rest)) body =
+    subst P (append_assoc (codes "Content-Length: ") (decimal (length body)) rest) (bytes_pass (codes "Content-Length: " ++ decimal (length body)) rest body length_none (end_fronts close body)) in
     let type_none = both_none (codes "Content-Type: ") (kind_text kind) refl (kind_none kind) in
     let behind_type = 13 ∷ 10 ∷ 67 ∷ codes "ontent-Length: " ++ (decimal (length body) ++ rest) in
-    let second : Fronts (67 ∷ field_lines kind (length body) rest) body = subst P (append_assoc (codes "Content-Type: ") (kind_text kind) behind_type) (bytes_pass (codes "Content-Type: " ++ kind_text kind) behind_type body type_none (line_end 67 (codes "ontent-Length: " ++ (decimal (length body) ++ rest)) body refl third)) in
-    let status_none = both_none (codes "HTTP/1.1 ") (decimal status ++ (codes " " ++ phrase status)) refl (both_none (decimal status) (codes " " ++ phrase status) (decimal_none status) (both_none (codes " ") (phrase status) refl (phrase_none status is))) in
+    let second : Fronts (67 ∷ field_lines kind (length body) rest) body =
+    subst P (append_assoc (codes "Content-Type: ") (kind_text kind) behind_type)
+    (bytes_pass (codes "Content-Type: " ++ kind_text kind) behind_type body type_none (line_end 67 (codes "ontent-Length: " ++ (decimal (length body) ++ rest)) body refl third)) in
+    let status_none = status_line_none status is in
     subst P (sym (laid status kind body close)) (bytes_pass (status_text status) (13 ∷ 10 ∷ 67 ∷ field_lines kind (length body) rest) body status_none (line_end 67 (field_lines kind (length body) rest) body refl second))
 
 taken : (part more : List ℕ) → take (length part) (part ++ more) ≡ part
@@ -223,7 +231,7 @@ line_laid status = regroup (codes "HTTP/1.1 ") (decimal status) (codes " ") (phr
 -- a head without a body
 head_fronts : (status : ℕ) → IsStatusCode status → Fronts (status_text status ++ (13 ∷ 10 ∷ 13 ∷ 10 ∷ [])) []
 head_fronts status is =
-    let status_none = both_none (codes "HTTP/1.1 ") (decimal status ++ (codes " " ++ phrase status)) refl (both_none (decimal status) (codes " " ++ phrase status) (decimal_none status) (both_none (codes " ") (phrase status) refl (phrase_none status is))) in
+    let status_none = status_line_none status is in
     bytes_pass (status_text status) (13 ∷ 10 ∷ 13 ∷ 10 ∷ []) [] status_none (last_end [])
 
 no_front : (a b : List ℕ) → a ++ b ≡ [] → a ≡ []

@@ -26,7 +26,8 @@ use Rattle.sm_log.proofs.AllLogs.{listed_sound, kept_place}
 -- ---- what is listed is kept
 
 -- each track of the stream is kept at that time, so the declared one is
-declared_kept : (channel : List Track) (adds : List Add) (a : Address) → is_some (track_at a.stream a.bitrate channel) ≡ true → list_all (is_kept adds a.stream a.time) (tracks_of a.stream channel) ≡ true → is_some (place_of a adds) ≡ true
+declared_kept : (channel : List Track) (adds : List Add) (a : Address) → is_some (track_at a.stream a.bitrate channel) ≡ true → list_all (is_kept adds a.stream a.time) (tracks_of a.stream channel) ≡ true
+    → is_some (place_of a adds) ≡ true
 declared_kept [] adds a declared all = absurd cc
 declared_kept (t ∷ ts) adds a declared all = by_test (is_same t.name a.stream) (eqb t.bitrate a.bitrate) refl declared all (λ d k. declared_kept ts adds a d k)
   where

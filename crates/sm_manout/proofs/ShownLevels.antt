@@ -19,7 +19,8 @@ pub level_text : (i : ℕ) (t : Track) (x : List ℕ) → level_line i t ++ x �
 unfolding level_line attribute
 level_text i t x = simp append_assoc
 
-level_pieces : (i b : ℕ) (more : List ℕ) → i < 2 ^ 64 → b < 2 ^ 64 → ended_by 34 [] (codes " Index=\"" ++ (decimal i ++ (34 ∷ codes " Bitrate=\"" ++ (decimal b ++ (34 ∷ more))))) ≡ codes " Index=" ∷ decimal i ∷ codes " Bitrate=" ∷ decimal b ∷ ended_by 34 [] more
+level_pieces : (i b : ℕ) (more : List ℕ) → i < 2 ^ 64 → b < 2 ^ 64
+    → ended_by 34 [] (codes " Index=\"" ++ (decimal i ++ (34 ∷ codes " Bitrate=\"" ++ (decimal b ++ (34 ∷ more))))) ≡ codes " Index=" ∷ decimal i ∷ codes " Bitrate=" ∷ decimal b ∷ ended_by 34 [] more
 level_pieces i b more li lb =
     ap (λ (l : List (List ℕ)). codes " Index=" ∷ l) (ended_piece 34 [] (decimal i) (codes " Bitrate=\"" ++ (decimal b ++ (34 ∷ more))) (decimal_none 34 i refl li)
     ∙ ap (λ (l : List (List ℕ)). decimal i ∷ codes " Bitrate=" ∷ l) (ended_piece 34 [] (decimal b) more (decimal_none 34 b refl lb)))

@@ -37,7 +37,8 @@ unfolding count_pieces
 end_pieces true r lt = refl
 end_pieces false r lt = ap (λ (l : List (List ℕ)). codes " r=" ∷ l) (ended_piece 34 [] (decimal r) (codes "/>") (decimal_none 34 r refl lt))
 
-run_pieces : (b : Bool) (s d r : ℕ) → s < 2 ^ 64 → d < 2 ^ 64 → r < 2 ^ 64 → ended_by 34 [] (codes " t=\"" ++ (decimal s ++ (34 ∷ codes " d=\"" ++ (decimal d ++ (34 ∷ count_end b r))))) ≡ codes " t=" ∷ decimal s ∷ codes " d=" ∷ decimal d ∷ count_pieces b r
+run_pieces : (b : Bool) (s d r : ℕ) → s < 2 ^ 64 → d < 2 ^ 64 → r < 2 ^ 64
+    → ended_by 34 [] (codes " t=\"" ++ (decimal s ++ (34 ∷ codes " d=\"" ++ (decimal d ++ (34 ∷ count_end b r))))) ≡ codes " t=" ∷ decimal s ∷ codes " d=" ∷ decimal d ∷ count_pieces b r
 run_pieces b s d r ls ld lr =
     ap (λ (l : List (List ℕ)). codes " t=" ∷ l) (ended_piece 34 [] (decimal s) (codes " d=\"" ++ (decimal d ++ (34 ∷ count_end b r))) (decimal_none 34 s refl ls)
     ∙ ap (λ (l : List (List ℕ)). decimal s ∷ codes " d=" ∷ l) (ended_piece 34 [] (decimal d) (count_end b r) (decimal_none 34 d refl ld) ∙ ap (λ (l : List (List ℕ)). decimal d ∷ l) (end_pieces b r lr)))

@@ -28,7 +28,8 @@ kind_none kind.Video = refl
 kind_none kind.Audio = refl
 kind_none kind.Text = refl
 
-opening_pieces : (k name more : List ℕ) → has_no 34 k ≡ true → has_no 34 name ≡ true → ended_by 34 [] (codes " Type=\"" ++ (k ++ (34 ∷ codes " Name=\"" ++ (name ++ (34 ∷ more))))) ≡ codes " Type=" ∷ k ∷ codes " Name=" ∷ name ∷ ended_by 34 [] more
+opening_pieces : (k name more : List ℕ) → has_no 34 k ≡ true → has_no 34 name ≡ true
+    → ended_by 34 [] (codes " Type=\"" ++ (k ++ (34 ∷ codes " Name=\"" ++ (name ++ (34 ∷ more))))) ≡ codes " Type=" ∷ k ∷ codes " Name=" ∷ name ∷ ended_by 34 [] more
 opening_pieces k name more nk nn =
     ap (λ (l : List (List ℕ)). codes " Type=" ∷ l) (ended_piece 34 [] k (codes " Name=\"" ++ (name ++ (34 ∷ more))) nk
     ∙ ap (λ (l : List (List ℕ)). k ∷ codes " Name=" ∷ l) (ended_piece 34 [] name more nn))
@@ -45,14 +46,16 @@ unfolding line_starts
 opening_lists_none k name more = refl
 
 -- a line of a quality, read
-pub level_read : (P : Address → Type 0) (o : Open) (i : ℕ) (t : Track) (x : List ℕ) → i < 2 ^ 64 → t.bitrate < 2 ^ 32 → has_no 10 (level_front i t.bitrate (level_more t)) ≡ true → Good P (record { stream = o.stream; bitrates = o.bitrates ++ t.bitrate ∷ [] }) x → Good P o (level_line i t ++ x)
+pub level_read : (P : Address → Type 0) (o : Open) (i : ℕ) (t : Track) (x : List ℕ) → i < 2 ^ 64 → t.bitrate < 2 ^ 32 → has_no 10 (level_front i t.bitrate (level_more t)) ≡ true
+    → Good P (record { stream = o.stream; bitrates = o.bitrates ++ t.bitrate ∷ [] }) x → Good P o (level_line i t ++ x)
 unfolding line_starts
 level_read P o i t x li lb none go =
     let T : List ℕ → Type 0 = λ l. Good P o l in
     let G : Open → Type 0 = λ o'. Good P o' x in
     subst T (sym (level_text i t x)) (line_good P o (level_front i t.bitrate (level_more t)) x none tt (subst G (sym (level_says o i t.bitrate (level_more t) li lb)) go))
 
-pub opening_read : (P : Address → Type 0) (o : Open) (t : Track) (chunks levels : ℕ) (x : List ℕ) → is_name t.name ≡ true → has_no 10 (opening_front (kind_name t.kind) t.name (opening_more t chunks levels)) ≡ true → Good P (record { stream = t.name; bitrates = [] }) x → Good P o (stream_opening t chunks levels ++ x)
+pub opening_read : (P : Address → Type 0) (o : Open) (t : Track) (chunks levels : ℕ) (x : List ℕ) → is_name t.name ≡ true → has_no 10 (opening_front (kind_name t.kind) t.name (opening_more t chunks levels)) ≡ true
+    → Good P (record { stream = t.name; bitrates = [] }) x → Good P o (stream_opening t chunks levels ++ x)
 unfolding line_starts
 opening_read P o t chunks levels x is none go =
     let T : List ℕ → Type 0 = λ l. Good P o l in

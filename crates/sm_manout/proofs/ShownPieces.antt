@@ -33,7 +33,8 @@ pub ended_front : (m : ℕ) (piece p more : List ℕ) → (rest : List (List ℕ
 ended_front m piece [] more = (ended_by m piece more, refl)
 ended_front m piece (c ∷ cs) more = by_test (eqb c m) (ended_front m [] cs more) (ended_front m (piece ++ c ∷ []) cs more)
   where
-    by_test : (b : Bool) → ((rest : List (List ℕ)) × (ended_by m [] (cs ++ more) ≡ ended_by m [] cs ++ rest)) → ((rest : List (List ℕ)) × (ended_by m (piece ++ c ∷ []) (cs ++ more) ≡ ended_by m (piece ++ c ∷ []) cs ++ rest)) → (rest : List (List ℕ)) × (cond b (piece ∷ ended_by m [] (cs ++ more)) (ended_by m (piece ++ c ∷ []) (cs ++ more)) ≡ cond b (piece ∷ ended_by m [] cs) (ended_by m (piece ++ c ∷ []) cs) ++ rest)
+    by_test : (b : Bool) → ((rest : List (List ℕ)) × (ended_by m [] (cs ++ more) ≡ ended_by m [] cs ++ rest)) → ((rest : List (List ℕ)) × (ended_by m (piece ++ c ∷ []) (cs ++ more) ≡ ended_by m (piece ++ c ∷ []) cs ++ rest))
+        → (rest : List (List ℕ)) × (cond b (piece ∷ ended_by m [] (cs ++ more)) (ended_by m (piece ++ c ∷ []) (cs ++ more)) ≡ cond b (piece ∷ ended_by m [] cs) (ended_by m (piece ++ c ∷ []) cs) ++ rest)
     by_test true h k = (h.0, ap (λ (l : List (List ℕ)). piece ∷ l) h.1)
     by_test false h k = k
 

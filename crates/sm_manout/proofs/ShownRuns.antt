@@ -22,7 +22,8 @@ after_run : (o : Open) (b : Bool) (s d r : ℕ) → after_line o (run_front b s 
 unfolding after_line
 after_run o b s d r = refl
 
-pub run_read : (P : Address → Type 0) (o : Open) (r : TimeRun) (x : List ℕ) → r.start < 2 ^ 64 → r.duration < 2 ^ 64 → r.count < 2 ^ 64 → AllByRecursion P (flat_map (at_bitrates o) (run_starts r.count r.start r.duration)) → Good P o x → Good P o (run_line r ++ x)
+pub run_read : (P : Address → Type 0) (o : Open) (r : TimeRun) (x : List ℕ) → r.start < 2 ^ 64 → r.duration < 2 ^ 64 → r.count < 2 ^ 64 → AllByRecursion P (flat_map (at_bitrates o) (run_starts r.count r.start r.duration)) → Good P o x
+    → Good P o (run_line r ++ x)
 run_read P o r x ls ld lr here go =
     let b = eqb r.count 1 in
     let front = run_front b r.start r.duration r.count in
@@ -82,10 +83,12 @@ runs_read P Q o x start count last (y ∷ ys) each run fits times go =
     r : TimeRun
     r = record { start = start; duration = last.1; count = count }
 
-    by_test : (b : Bool) → follows last y ≡ b → (IsRun Q start (suc count) y → Good P o (run_lines (runs_from start (suc count) y ys) ++ x)) → Good P o (run_lines (runs_from y.0 1 y ys) ++ x) → Good P o (run_lines (cond b (runs_from start (count + 1) y ys) (r ∷ runs_from y.0 1 y ys)) ++ x)
+    by_test : (b : Bool) → follows last y ≡ b → (IsRun Q start (suc count) y → Good P o (run_lines (runs_from start (suc count) y ys) ++ x)) → Good P o (run_lines (runs_from y.0 1 y ys) ++ x)
+        → Good P o (run_lines (cond b (runs_from start (count + 1) y ys) (r ∷ runs_from y.0 1 y ys)) ++ x)
     by_test true is more other =
         let parts = and_parts (eqb y.1 last.1) (eqb y.0 (last.0 + last.1)) is in
         rw add-one (more (run_more Q start count last y run times.0 (eqb-true y.1 last.1 parts.0) (eqb-true y.0 (last.0 + last.1) parts.1)))
     by_test false is more other =
         let T : List ℕ → Type 0 = λ l. Good P o l in
-        subst T (sym (append_assoc (run_line r) (run_lines (runs_from y.0 1 y ys)) x)) (run_read P o r (run_lines (runs_from y.0 1 y ys) ++ x) run.start_fits run.last_fits (omega (arith, fits)) (each (run_starts count start last.1) run.seen) other)
+        subst T (sym (append_assoc (run_line r) (run_lines (runs_from y.0 1 y ys)) x))
+        (run_read P o r (run_lines (runs_from y.0 1 y ys) ++ x) run.start_fits run.last_fits (omega (arith, fits)) (each (run_starts count start last.1) run.seen) other)

@@ -18,7 +18,8 @@ pub foot_read : (P : Address → Type 0) (o : Open) (x : List ℕ) → Good P o 
 unfolding after_line line_starts
 foot_read P o x go = go
 
-pub all_runs : (P : Address → Type 0) (Q : ℕ → Type 0) (o : Open) (x : List ℕ) (ts : List (ℕ × ℕ)) → ((ss : List ℕ) → AllByRecursion Q ss → AllByRecursion P (flat_map (at_bitrates o) ss)) → length ts < 2 ^ 64 → AllByRecursion (IsTime Q) ts → Good P o x → Good P o (run_lines (runs ts) ++ x)
+pub all_runs : (P : Address → Type 0) (Q : ℕ → Type 0) (o : Open) (x : List ℕ) (ts : List (ℕ × ℕ)) → ((ss : List ℕ) → AllByRecursion Q ss → AllByRecursion P (flat_map (at_bitrates o) ss)) → length ts < 2 ^ 64
+    → AllByRecursion (IsTime Q) ts → Good P o x → Good P o (run_lines (runs ts) ++ x)
 all_runs P Q o x [] each fits times go = go
 all_runs P Q o x (y ∷ ys) each fits times go = runs_read P Q o x y.0 1 y ys each (run_first Q y times.0) (omega (arith, fits)) times.1 go
 
@@ -37,4 +38,5 @@ stream_read P R Q channel ts t o x is none same few lines each fits times go =
     let split : (opening ++ (levels ++ (cs ++ codes "</StreamIndex>\n"))) ++ x ≡ opening ++ (levels ++ (cs ++ (codes "</StreamIndex>\n" ++ x))) = simp append_assoc in
     subst T (sym split) (opening_read P o t (length ts) (length (tracks_of t.name channel)) (levels ++ (cs ++ (codes "</StreamIndex>\n" ++ x))) is none
     (levels_read P R t.name [] 0 channel (cs ++ (codes "</StreamIndex>\n" ++ x)) same (omega (arith, few)) lines tt (λ rates all.
-    all_runs P Q (record { stream = t.name; bitrates = rates }) (codes "</StreamIndex>\n" ++ x) ts (λ ss. each rates ss all) fits times (foot_read P (record { stream = t.name; bitrates = rates }) x (go (record { stream = t.name; bitrates = rates }))))))
+    all_runs P Q (record { stream = t.name; bitrates = rates }) (codes "</StreamIndex>\n" ++ x) ts (λ ss. each rates ss all) fits times
+    (foot_read P (record { stream = t.name; bitrates = rates }) x (go (record { stream = t.name; bitrates = rates }))))))

@@ -9,7 +9,8 @@ use Rattle.sm_manout.specs.Shown.{Open, at_bitrates}
 use Rattle.sm_manout.proofs.ShownPieces.{all_join}
 
 -- each start with each bitrate
-rates_good : (P : Address → Type 0) (stream : List ℕ) (start : ℕ) (bs : List ℕ) → AllByRecursion (λ (b : ℕ). P (record { stream = stream; bitrate = b; time = start })) bs → AllByRecursion P (map (λ (b : ℕ). record { stream = stream; bitrate = b; time = start }) bs)
+rates_good : (P : Address → Type 0) (stream : List ℕ) (start : ℕ) (bs : List ℕ) → AllByRecursion (λ (b : ℕ). P (record { stream = stream; bitrate = b; time = start })) bs
+    → AllByRecursion P (map (λ (b : ℕ). record { stream = stream; bitrate = b; time = start }) bs)
 rates_good P stream start [] all = tt
 rates_good P stream start (b ∷ bs) all = (all.0, rates_good P stream start bs all.1)
 
@@ -17,10 +18,12 @@ all_of : (R S : ℕ → Type 0) (bs : List ℕ) → ((b : ℕ) → R b → S b) 
 all_of R S [] f all = tt
 all_of R S (b ∷ bs) f all = (f b all.0, all_of R S bs f all.1)
 
-pub starts_good : (P : Address → Type 0) (R Q : ℕ → Type 0) (o : Open) → ((b start : ℕ) → R b → Q start → P (record { stream = o.stream; bitrate = b; time = start })) → AllByRecursion R o.bitrates → (ss : List ℕ) → AllByRecursion Q ss → AllByRecursion P (flat_map (at_bitrates o) ss)
+pub starts_good : (P : Address → Type 0) (R Q : ℕ → Type 0) (o : Open) → ((b start : ℕ) → R b → Q start → P (record { stream = o.stream; bitrate = b; time = start })) → AllByRecursion R o.bitrates → (ss : List ℕ) → AllByRecursion Q ss
+    → AllByRecursion P (flat_map (at_bitrates o) ss)
 starts_good P R Q o both rates [] all = tt
 starts_good P R Q o both rates (s ∷ ss) all =
-    all_join P (at_bitrates o s) (flat_map (at_bitrates o) ss) (rates_good P o.stream s o.bitrates (all_of R (λ (b : ℕ). P (record { stream = o.stream; bitrate = b; time = s })) o.bitrates (λ b r. both b s r all.0) rates)) (starts_good P R Q o both rates ss all.1)
+    all_join P (at_bitrates o s) (flat_map (at_bitrates o) ss)
+    (rates_good P o.stream s o.bitrates (all_of R (λ (b : ℕ). P (record { stream = o.stream; bitrate = b; time = s })) o.bitrates (λ b r. both b s r all.0) rates)) (starts_good P R Q o both rates ss all.1)
 
 -- each time of a list stands in it
 abbrev pub IsThere : List (ℕ × ℕ) → ℕ × ℕ → Type 0

@@ -190,7 +190,8 @@ fn whole_lines_list_addresses(rt: HostRuntime) -> Result<(), Fail> {
         ),
         (&two[..two.len() - 1], &[]),
         (
-            b"<StreamIndex Type=\"audio\" Url=\"u\">\n<QualityLevel Bitrate=\"64000\" Index=\"0\"/>\n<c t=\"0\" d=\"3\"/>\n<c t=\"18446744073709551615\" d=\"1\" r=\"2\"/>\n",
+            b"<StreamIndex Type=\"audio\" Url=\"u\">\n<QualityLevel Bitrate=\"64000\" Index=\"0\"/>\n\
+            <c t=\"0\" d=\"3\"/>\n<c t=\"18446744073709551615\" d=\"1\" r=\"2\"/>\n",
             &[
                 (b"audio", 64_000, 0),
                 (b"audio", 64_000, 18_446_744_073_709_551_615),
@@ -203,7 +204,8 @@ fn whole_lines_list_addresses(rt: HostRuntime) -> Result<(), Fail> {
             &[(b"b", 2, 0)],
         ),
         (
-            b"<StreamIndex Name=\"a\">\n<QualityLevel Bitrate=\"4294967296\"/>\n<QualityLevel Bitrate=\"7\"/>\n<c d=\"3\"/>\n<c t=\"x\" d=\"3\"/>\n<c t=\"1\" d=\"3\"/>\n",
+            b"<StreamIndex Name=\"a\">\n<QualityLevel Bitrate=\"4294967296\"/>\n<QualityLevel Bitrate=\"7\"/>\n\
+            <c d=\"3\"/>\n<c t=\"x\" d=\"3\"/>\n<c t=\"1\" d=\"3\"/>\n",
             &[(b"a", 7, 1)],
         ),
     ];

@@ -23,7 +23,8 @@ named n after part more time run whole again text shown =
     let same : shown.run ≡ run = ok_same shown.run run (moof_run no_defaults n) (sym (ap (moof_run no_defaults) e) ∙ shown.read) again in
     (shown.index, shown.duration, sym (ap (λ (r : Run). slice_get r.ahead shown.index) same) ∙ shown.pair)
 
-pub served : (n d part more : List ℕ) (samples : List Sample) (duration : ℕ) (raw : RawFragment) → IsOneBox n → IsOneBox d → frag no_defaults n d ≡ Ok raw → part ++ more ≡ n ++ d → ServesIn part samples duration → (raw.samples ≡ samples) × (raw.duration ≡ duration)
+pub served : (n d part more : List ℕ) (samples : List Sample) (duration : ℕ) (raw : RawFragment) → IsOneBox n → IsOneBox d → frag no_defaults n d ≡ Ok raw → part ++ more ≡ n ++ d → ServesIn part samples duration
+    → (raw.samples ≡ samples) × (raw.duration ≡ duration)
 served n d part more samples duration raw whole mdat_whole again text shown =
     let front = moof_in_front part more shown.moof (shown.mdat ++ shown.rest) n d text shown.part_is shown.moof_whole whole in
     let back = same_box shown.mdat d (shown.rest ++ more) [] shown.mdat_whole mdat_whole (sym (append_assoc shown.mdat shown.rest more) ∙ front.1 ∙ sym (search rules)) in

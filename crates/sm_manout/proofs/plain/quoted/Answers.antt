@@ -9,7 +9,8 @@ two_more lead ps i x lt is off =
     let low : i < length ps = omega arith in
     let second = drop_more ps (i + 1) x lt in
     let place : i + 1 + 1 ≡ i + 2 = omega arith in
-    let both : drop i ps ≡ x ∷ get_or ps (i + 1) x ∷ drop (i + 2) ps = drop_more ps i x low ∙ ap (λ (y : List ℕ). y ∷ drop (i + 1) ps) (sym is) ∙ ap (λ (l : List (List ℕ)). x ∷ l) (second ∙ ap (λ (n : ℕ). get_or ps (i + 1) x ∷ drop n ps) place) in
+    let both : drop i ps ≡ x ∷ get_or ps (i + 1) x ∷ drop (i + 2) ps =
+    drop_more ps i x low ∙ ap (λ (y : List ℕ). y ∷ drop (i + 1) ps) (sym is) ∙ ap (λ (l : List (List ℕ)). x ∷ l) (second ∙ ap (λ (n : ℕ). get_or ps (i + 1) x ∷ drop n ps) place) in
     ap (quoted lead) both ∙ ap (λ (b : Bool). cond b (Some (get_or ps (i + 1) x)) (quoted lead (drop (i + 2) ps))) off
 
 short : (lead : List ℕ) (ps : List (List ℕ)) → length ps ≤ 1 → quoted lead ps ≡ None
@@ -19,7 +20,8 @@ short lead (p ∷ q ∷ ps) few = absurd (omega arith)
 
 pub loop-i-preserved : goal.loop-i-preserved
 loop-i-preserved c =
-    (omega arith, sym (two_more c.args.lead.now c.args.pieces.now c.loop-i.i c.index-pieces-i.result c.loop-i-test.true c.index-pieces-i.is (sym (ap (λ (p : List ℕ). is_same p c.args.lead.now) c.as_slice.ensures) ∙ sym c.eq.ensures ∙ c.if-eq.false)) ∙ c.loop-i.invariant.1)
+    let off = sym (ap (λ (p : List ℕ). is_same p c.args.lead.now) c.as_slice.ensures) ∙ sym c.eq.ensures ∙ c.if-eq.false in
+    (omega arith, sym (two_more c.args.lead.now c.args.pieces.now c.loop-i.i c.index-pieces-i.result c.loop-i-test.true c.index-pieces-i.is off) ∙ c.loop-i.invariant.1)
 
 pub returns : goal.returns
 returns c =
