@@ -1,0 +1,11 @@
+pub mod Transcripts
+pub mod Going
+pub mod Sending
+pub mod Reaching
+pub mod Lists
+pub mod Giving
+pub mod Piece
+pub mod Lives
+pub mod Taking
+pub mod Events
+pub mod Growing

@@ -113,16 +113,19 @@ pub record Stepped : Type 0 where
   pub faults_after : ℕ
   pub ends : ℕ
 
--- One step of the machine, from a point on. It ends with its last disk call, or else with what came before it. Of a disk that doesn't tell
--- its contents nothing is said of logs.
-pub record IsStep (told : Bool) (p : Point) (act : Act) (x : Stepped) : Type 0 where
-  pub act_is : x.act ≡ act
-  pub before_is : x.before ≡ p.machine
-  pub step : IsTrue told → Step (Rose x.faults x.faults_after) x.before x.act x.after x.reply
-  pub still : IsTrue told → x.calls ≡ [] → SameLog x.before x.after
+-- A step of the machine, from a point on. It ends with its last disk call, or else with what came before it.
+pub record OnMachine (p : Point) (x : Stepped) : Type 0 where
+  pub step : Step (Rose x.faults x.faults_after) x.before x.act x.after x.reply
+  pub still : x.calls ≡ [] → SameLog x.before x.after
   pub limits : x.after.archive.limits ≡ x.before.archive.limits
   pub began : p.ended ≤ x.began
   pub ends_is : x.ends ≡ last_moment p.ended x.calls
+
+-- One step, from a point on. Of a disk that doesn't tell its contents nothing is said of logs and moments.
+pub record IsStep (told : Bool) (p : Point) (act : Act) (x : Stepped) : Type 0 where
+  pub act_is : x.act ≡ act
+  pub before_is : x.before ≡ p.machine
+  pub machine : IsTrue told → OnMachine p x
 
 abbrev pub phase_after : ℕ → Option (List ℕ) → Bool → List WireItem → Phase
 phase_after n None close items = if close then shutting n else acting n items
@@ -184,11 +187,11 @@ pub data Moves (told : Bool) (items : List Item) (p : Point) (es : List Item) (x
   -- nothing is left
   done : (n : ℕ) → p.phase ≡ acting n [] → es ≡ [] → xs ≡ [] → q ≡ in_phase p idle → Moves told items p es xs q
   -- the bytes are sent, after the step has ended
-  sent : (m n : ℕ) (bytes : List ℕ) (close : Bool) (more : List WireItem) → p.phase ≡ sending n bytes close more → p.ended < m
+  sent : (m n : ℕ) (bytes : List ℕ) (close : Bool) (more : List WireItem) → p.phase ≡ sending n bytes close more → (IsTrue told → p.ended < m)
       → es ≡ at m (Sent n bytes false) → xs ≡ []
       → q ≡ in_phase p (if close then shutting n else acting n more) → Moves told items p es xs q
   -- a part of them is sent, and then the send fails
-  failed : (m n k : ℕ) (bytes : List ℕ) (close : Bool) (more : List WireItem) → p.phase ≡ sending n bytes close more → p.ended < m
+  failed : (m n k : ℕ) (bytes : List ℕ) (close : Bool) (more : List WireItem) → p.phase ≡ sending n bytes close more → (IsTrue told → p.ended < m)
       → es ≡ at m (Sent n (take k bytes) true) → xs ≡ []
       → q ≡ behind_failure p (shutting n) → Moves told items p es xs q
   -- the send fails, and leaves no entry

@@ -38,8 +38,8 @@ is_told v = is_some v.contents
 pub record Keeps {D : Type 0} (view : D → View) (leave : D → Image → Type 0) (left_at : D → ℕ → Image → Type 0) (h : History) (d : D) : Type 0 where
   pub run : Run (is_told (view d)) h.first h.begin h.items h.steps h.point
   pub told : (view d).transcript ≡ Some (h.base ++ h.items)
-  pub clock : h.point.ended ≤ (view d).moment
-  pub current : (t : ℕ) → h.point.ended ≤ t → machine_at h.first h.steps t ≡ h.point.machine
+  pub clock : IsTrue (is_told (view d)) → h.point.ended ≤ (view d).moment
+  pub current : IsTrue (is_told (view d)) → (t : ℕ) → h.point.ended ≤ t → machine_at h.first h.steps t ≡ h.point.machine
   pub now : (image : Image) → leave d image → Fits h.point.machine image
   pub images : (t : ℕ) (image : Image) → h.begin ≤ t → left_at d t image → FitsAt h.first h.steps t image
   -- the record of disk calls, where it is told, is that of the steps, behind what was there before

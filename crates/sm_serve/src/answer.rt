@@ -12,7 +12,7 @@ ghost use Rattle.sm_serve.specs.Standing.{History, StandsOn, Keeps, Reaches, cou
 use crate::tell::tell;
 use sm_head::NO_MEMORY;
 use sm_model::Act;
-use sm_origin::law::{an_image_fits, fewer_images_stand};
+use sm_origin::law::fewer_images_stand;
 use sm_origin::{Counted, Origin, Reply};
 use sm_site::Site;
 use std::alloc::Global;
@@ -81,7 +81,6 @@ pub(crate) fn answer<S: Site>(
     ensures told { is_some (S.Disk.view site.new).transcript ≡ is_some (S.Disk.view site.old).transcript }
 {
     fewer_images_stand::<S>();
-    an_image_fits::<S>();
     let reply = origin.act(alloc, site, act);
     let close = reply.close | close;
     if send_reply(site, number, &reply, close) {
