@@ -8,7 +8,11 @@ use Rattle.std.proofs.lemmas.Bool.Decides.{eqb_tells}
 use Rattle.sm_site.specs.Image.{Image}
 use Rattle.sm_site.specs.Meanings.{View, Deal, Item, DiskCall, IsLive, open_after, open_from}
 use Rattle.sm_site.specs.Meanings.Deal.{Began, Came, Left, Over, Sent, Shut}
-use Rattle.sm_site.specs.Clauses.{Both, Elapses, SameOutcomes, Adds}
+use Rattle.sm_site.specs.Clauses.{Both, NoMore, Elapses, SameOutcomes, Adds}
+use Rattle.sm_model.specs.declared.act.Act.TheVariants.{Header}
+use Rattle.sm_model.specs.declared.track.Track.{Track}
+use Rattle.sm_archive.specs.declared.answers.Declared.{Declared}
+use Rattle.sm_origin.specs.Answers.{reply_to_header}
 use Rattle.sm_site.specs.Event.{deal_of, IsBelow, IsNext}
 use Rattle.sm_site.specs.declared.event.Event.{Event}
 use Rattle.sm_site.specs.declared.event.Event.TheVariants.{Opened, Piece, Closed, Ended}
@@ -22,33 +26,33 @@ use Rattle.sm_serve.specs.Connections.{without, is_among, live_after, live_from,
 use Rattle.std.proofs.lemmas.List.{append-nil}
 use Rattle.sm_origin.specs.declared.origin.Origin.{Origin}
 use Rattle.sm_serve.specs.Standing.{StandsOn}
-use Rattle.sm_serve.specs.Run.{Point, Moves, at, start, begins}
-use Rattle.sm_serve.specs.Standing.{History, Keeps, Pending, moved, calls_of}
-use Rattle.sm_serve.specs.Serving.{numbers_of, AreResting, IsAtRest, Serves, Known, Since, Turns, Served, EndsAs, MayHandle, IsNew}
+use Rattle.sm_serve.specs.Run.{Point, idle, Moves, declared, at, start, begins}
+use Rattle.sm_serve.specs.Standing.{History, is_told, Keeps, Pending, moved, calls_of}
+use Rattle.sm_serve.specs.Serving.{numbers_of, AreResting, IsAtRest, Serves, Known, Since, Turns, Served, EndsAs, MayHandle, IsNew, Begins, DeclaresIn}
 use Rattle.sm_serve.proofs.Transcripts.{told_adds, open_push, stays_live}
-use Rattle.sm_serve.proofs.Going.{link_move}
-use Rattle.sm_serve.proofs.Sending.{LinkCall, calls_here}
-use Rattle.sm_serve.proofs.Lives.{among_push, among_less, among_itself}
+use Rattle.sm_serve.proofs.Going.{Acted, stepped, run_as, link_move}
+use Rattle.sm_serve.proofs.Sending.{LinkCall, calls_here, contents_here, told_here}
+use Rattle.sm_serve.proofs.Lives.{among_push, among_less, among_itself, rest_all}
 
 -- ---- a connection is live where it is open in the transcript
 
 still_open : (n k : ℕ) (ns : List ℕ) (was : Bool) → (is_among n ns ≡ true → was ≡ true) → is_among n (without k ns) ≡ true → (if k == n then false else was) ≡ true
 still_open n k ns was so among = elim (eqb_tells k n) [
-    | inl same ↦ absurd (let gone = subst (λ (j : ℕ). is_among n (without j ns) ≡ false) (sym same.1) (among_itself n ns) in cc)
-    | inr other ↦ ap (λ (b : Bool). if b then false else was) other.0 ∙ elim (cases_Bool (is_among n ns)) [
-        | inl there ↦ so there
-        | inr none ↦ absurd (let gone = among_less n k ns none in cc)
-      ]
+  | inl same ↦ absurd (let gone = subst (λ (j : ℕ). is_among n (without j ns) ≡ false) (sym same.1) (among_itself n ns) in cc)
+  | inr other ↦ ap (λ (b : Bool). if b then false else was) other.0 ∙ elim (cases_Bool (is_among n ns)) [
+    | inl there ↦ so there
+    | inr none ↦ absurd (let gone = among_less n k ns none in cc)
   ]
+]
 
 open_after_live : (n : ℕ) (ns : List ℕ) (was : Bool) (deal : Deal) → (is_among n ns ≡ true → was ≡ true) → is_among n (live_after ns deal) ≡ true → open_after was n deal ≡ true
 open_after_live n ns was (Began k) so among = elim (eqb_tells k n) [
-    | inl same ↦ ap (λ (b : Bool). if b then true else was) same.0
-    | inr other ↦ ap (λ (b : Bool). if b then true else was) other.0 ∙ elim (cases_Bool (is_among n ns)) [
-        | inl there ↦ so there
-        | inr none ↦ absurd (let gone = among_push n k (without k ns) (among_less n k ns none) (λ e. other.1 (sym e)) in cc)
-      ]
+  | inl same ↦ ap (λ (b : Bool). if b then true else was) same.0
+  | inr other ↦ ap (λ (b : Bool). if b then true else was) other.0 ∙ elim (cases_Bool (is_among n ns)) [
+    | inl there ↦ so there
+    | inr none ↦ absurd (let gone = among_push n k (without k ns) (among_less n k ns none) (λ e. other.1 (sym e)) in cc)
   ]
+]
 open_after_live n ns was (Came k bytes) so among = so among
 open_after_live n ns was (Left k) so among = still_open n k ns was so among
 open_after_live n ns was Over so among = so among
@@ -109,9 +113,10 @@ told_by None some = absurd (cc)
 told_by (Some items) some = (items, refl)
 
 module _ {D : Type 0} (view W : D → View) (leave leave' : D → Image → Type 0) (left_at left' : D → ℕ → Image → Type 0)
-    (one_view : (s : D) → view s ≡ W s) (one_disk : (s : D) (c : Image) → leave s c ↔ leave' s c) (one_past : (s : D) (t : ℕ) (c : Image) → left_at s t c ↔ left' s t c) where
+    (one_view : (s : D) → view s ≡ W s) (one_disk : (s : D) (c : Image) → leave s c ↔ leave' s c) (one_past : (s : D) (t : ℕ) (c : Image) → left_at s t c ↔ left' s t c)
+    (told : (s : D) (t : ℕ) (image : Image) → left_at s t image → IsSome (view s).contents) where
   -- the run goes on from an event
-  pub pend : (h : History) (d e : D) (deal : Deal) → Keeps view leave left_at h d → LinkCall view W leave leave' left_at left' one_view one_disk one_past d e → Adds deal (W d) (W e) → (W e).send_faults ≡ (W d).send_faults
+  pub pend : (h : History) (d e : D) (deal : Deal) → Keeps view leave left_at h d → LinkCall view W leave leave' left_at left' one_view one_disk one_past told d e → Adds deal (W d) (W e) → (W e).send_faults ≡ (W d).send_faults
       → (m : ℕ) × Pending view leave left_at h m deal e
   pend h d e deal keeps call adds faults =
       let here = seen_here view W leave leave' left_at left' one_view one_disk one_past (Adds deal) d e adds in
@@ -121,38 +126,52 @@ module _ {D : Type 0} (view W : D → View) (leave leave' : D → Image → Type
       let sends : (view e).send_faults ≡ (view d).send_faults = ap (λ (v : View). v.send_faults) (one_view e) ∙ faults ∙ ap (λ (v : View). v.send_faults) (sym (one_view d)) in
       let above : (view d).moment < t.0 = t.1 in
       let within : t.0 ≤ (view e).moment = t.2 in
-      let clock = keeps.clock in
-      (t.0, λ q move machine ended failed.
-        link_move view leave left_at h d e (at t.0 deal) q keeps move machine (omega (arith, ended)) t.3 time same (calls_here view W leave leave' left_at left' one_view one_disk one_past d e call) (omega (arith, ended))
-        (λ below. subst (λ (k : ℕ). k ≤ (view e).send_faults) (sym failed) (subst (λ (k : ℕ). h.point.failed ≤ k) (sym sends) (keeps.blamed (subst (λ (k : ℕ). k < 2 ^ 64 - 1) sends below)))))
+      let before : IsTrue (is_told (view e)) → h.point.ended ≤ (view d).moment =
+      λ has. keeps.clock (told_here view W leave leave' left_at left' one_view one_disk one_past told d e call has) in (
+        t.0,
+        λ q move machine ended failed.
+            link_move view leave left_at told h d e (at t.0 deal) q keeps move machine (λ has. (let b = before has in omega (arith, ended, b, above))) t.3 time same
+            (calls_here view W leave leave' left_at left' one_view one_disk one_past told d e call) (contents_here view W leave leave' left_at left' one_view one_disk one_past told d e call)
+            (λ has. omega (arith, ended, within))
+            (λ below. subst (λ (k : ℕ). k ≤ (view e).send_faults) (sym failed) (subst (λ (k : ℕ). h.point.failed ≤ k) (sym sends) (keeps.blamed (subst (λ (k : ℕ). k < 2 ^ 64 - 1) sends below)))),
+      )
 
   -- a call that takes no event
-  pub still_serves : (h : History) (state : State) (d e : D) → Serves view leave left_at h state d → LinkCall view W leave leave' left_at left' one_view one_disk one_past d e → (W e).transcript ≡ (W d).transcript → (W e).send_faults ≡ (W d).send_faults
-      → Turns view leave left_at h 0 state e
-  still_serves h state d e serves call still faults =
+  pub still_serves : (fewer : (m : Machine) (o : Origin) (old new : D) → StandsOn view leave m o old → (view new).contents ≡ (view old).contents → NoMore (leave old) (leave new) → StandsOn view leave m o new)
+      → (h : History) (state : State) (d e : D) → Serves view leave left_at h state d → LinkCall view W leave leave' left_at left' one_view one_disk one_past told d e
+      → (W e).transcript ≡ (W d).transcript → (W e).send_faults ≡ (W d).send_faults → Turns view leave left_at h 0 state e
+  still_serves fewer h state d e serves call still faults =
       let keeps = serves.keeps in
       let time = elapses_here view W leave leave' left_at left' one_view one_disk one_past d e call.time in
       let same = same_here view W leave leave' left_at left' one_view one_disk one_past d e call.same in
+      let contents = contents_here view W leave leave' left_at left' one_view one_disk one_past told d e call in
       let sends : (view e).send_faults ≡ (view d).send_faults = ap (λ (v : View). v.send_faults) (one_view e) ∙ faults ∙ ap (λ (v : View). v.send_faults) (sym (one_view d)) in
+      let before : IsTrue (is_told (view e)) → IsTrue (is_told (view d)) = told_here view W leave leave' left_at left' one_view one_disk one_past told d e call in
       record {
         later = h;
         serves = record {
           keeps = record {
-            run = keeps.run;
+            run = run_as (is_told (view d)) (is_told (view e)) h.first h.begin h.items h.steps h.point (ap (λ (o : Option Image). is_some o) contents) keeps.run;
             told = ap (λ (v : View). v.transcript) (one_view e) ∙ still ∙ ap (λ (v : View). v.transcript) (sym (one_view d)) ∙ keeps.told;
-            clock = (let c = keeps.clock in let l = time.later in omega arith);
-            current = keeps.current;
+            clock = λ has. (let c = keeps.clock (before has) in let l = time.later in omega (arith, c, l));
+            current = λ has. keeps.current (before has);
             now = λ image left. keeps.now image ((same image).0 left);
             images = λ t image from left. elim (cases_lt (view d).moment t) [
-                | inl after ↦
-                    let was : leave d image = ⊎_elim (λ o. o) (λ n. (same image).0 n) (time.within t image after left) in
-                    inl (subst (λ (m : Machine). Fits m image) (sym (keeps.current t (let c = keeps.clock in omega arith))) (keeps.now image was))
-                | inr before ↦ keeps.images t image from ((time.keeps t image before).0 left)
-              ];
-            recorded = subst (λ (o : Option (List DiskCall)). IfSome o (λ cs. (before : List DiskCall) × (cs ≡ before ++ calls_of h.steps))) (sym (calls_here view W leave leave' left_at left' one_view one_disk one_past d e call)) keeps.recorded;
+              | inl after ↦
+                  let has : IsTrue (is_told (view d)) = before (told e t image left) in
+                  let was : leave d image = ⊎_elim (λ o. o) (λ n. (same image).0 n) (time.within t image after left) in
+                  inl (subst (λ (m : Machine). Fits m image) (sym (keeps.current has t (let c = keeps.clock has in omega (arith, c, after)))) (keeps.now image was))
+              | inr before ↦ keeps.images t image from ((time.keeps t image before).0 left)
+            ];
+            recorded = subst (λ (o : Option (List DiskCall)). IfSome o (λ cs. (before : List DiskCall) × (cs ≡ before ++ calls_of h.steps))) (sym (calls_here view W leave leave' left_at left' one_view one_disk one_past told d e call)) keeps.recorded;
             blamed = λ below. subst (λ (k : ℕ). h.point.failed ≤ k) (sym sends) (keeps.blamed (subst (λ (k : ℕ). k < 2 ^ 64 - 1) sends below));
           };
-          rest = record { stands = λ image left. serves.rest.stands image ((same image).0 left); phase_is = serves.rest.phase_is; numbers = serves.rest.numbers; resting = serves.rest.resting };
+          rest = record {
+            stands = fewer h.point.machine state.origin d e serves.rest.stands contents (λ image left. (same image).0 left);
+            phase_is = serves.rest.phase_is;
+            numbers = serves.rest.numbers;
+            resting = serves.rest.resting;
+          };
         };
         since = record { first = refl; begin = refl; base = refl };
         taken = omega arith;
@@ -196,7 +215,7 @@ module _ {D : Type 0} (view : D → View) (leave : D → Image → Type 0) (left
   pub turns_here : (h : History) (state : State) (d : D) → Serves view leave left_at h state d → Turns view leave left_at h 0 state d
   turns_here h state d serves = record { later = h; serves = serves; since = record { first = refl; begin = refl; base = refl }; taken = omega arith }
 
-  pub has_served : (h : History) (n turns : ℕ) (result : Outcome) (state : State) (d : D) → (all : Turns view leave left_at h n state d) → EndsAs turns result (events_in h.items) (events_in all.later.items) → Served view leave left_at h result turns state d
+  pub has_served : (h : History) (n turns : ℕ) (result : Outcome) (state : State) (d : D) → (all : Turns view leave left_at h n state d) → EndsAs turns result (view d).transcript (events_in h.items) (events_in all.later.items) → Served view leave left_at h result turns state d
   has_served h n turns result state d all ends =
       let k = all.serves.keeps in
       record { later = all.later; since = all.since; ended = ends; run = k.run; awaits = all.serves.rest.phase_is; told = k.told; stands = all.serves.rest.stands; recorded = k.recorded; blamed = k.blamed; crash = k.images }
@@ -210,25 +229,59 @@ unfolding live
 nothing_live ls none = ap numbers_of none
 
 module _ {D : Type 0} (view : D → View) (leave : D → Image → Type 0) (left_at : D → ℕ → Image → Type 0)
-    (no_later : (d : D) (t : ℕ) (c : Image) → left_at d t c → t ≤ (view d).moment) (at_now : (d : D) (c : Image) → left_at d (view d).moment c → leave d c) where
-  pub begun : (m : Machine) (base : List Item) (origin : Origin) (state : State) (d : D) → StandsOn view leave m origin d → (view d).transcript ≡ Some base → state.origin ≡ origin → state.lives.items ≡ []
-      → (h : History) × (h.first ≡ m) × (h.begin ≡ (view d).moment) × (h.base ≡ base) × (h.items ≡ []) × (h.steps ≡ []) × Serves view leave left_at h state d
-  begun m base origin state d stands told same none =
+    (no_later : (d : D) (t : ℕ) (c : Image) → left_at d t c → t ≤ (view d).moment) (at_now : (d : D) (c : Image) → left_at d (view d).moment c → leave d c)
+    (fits : (m : Machine) (o : Origin) (d : D) (image : Image) → StandsOn view leave m o d → leave d image → Fits m image) where
+  pub begun : (state : State) (d : D) → state.lives.items ≡ [] → Begins view leave left_at state d
+  begun state d none m base stands told =
       let begin = (view d).moment in
-      let h : History = record { first = m; begin = begin; base = base; items = []; steps = []; point = start m begin } in
-      (h, refl, refl, refl, refl, refl, record {
-        keeps = record {
-          run = begins;
-          told = told ∙ ap (λ (l : List Item). Some l) (sym (append-nil base));
-          clock = omega arith;
-          current = λ t le. refl;
-          now = stands;
-          images = λ t image from left.
-              let early = no_later d t image left in
-              let now : t ≡ (view d).moment = omega arith in
-              inl (stands image (at_now d image (subst (λ (k : ℕ). left_at d k image) now left)));
-          recorded = recorded_first (view d).calls;
-          blamed = λ below. omega arith;
+      let h : History = record { first = m; begin = begin; base = base; items = []; steps = []; point = start m begin } in (
+        h,
+        refl,
+        refl,
+        refl,
+        refl,
+        refl,
+        record {
+          keeps = record {
+            run = begins;
+            told = told ∙ ap (λ (l : List Item). Some l) (sym (append-nil base));
+            clock = λ has. omega arith;
+            current = λ has t le. refl;
+            now = λ image left. fits m state.origin d image stands left;
+            images = λ t image from left.
+                let early = no_later d t image left in
+                let now : t ≡ (view d).moment = omega (arith, early, from) in
+                inl (fits m state.origin d image stands (at_now d image (subst (λ (k : ℕ). left_at d k image) now left)));
+            recorded = recorded_first (view d).calls;
+            blamed = λ below. omega arith;
+          };
+          rest = record { stands = stands; phase_is = refl; numbers = nothing_live state.lives.items none; resting = subst (λ (ls : List Live). AreResting h ls) (sym none) tt };
+        },
+      )
+
+-- a ladder is one step
+pub declares : {D : Type 0} (view : D → View) (leave : D → Image → Type 0) (left_at : D → ℕ → Image → Type 0) (h : History) (channel : List Track) (result : Declared) (old new : State) (d e : D)
+    → Serves view leave left_at h old d → new.lives ≡ old.lives → Acted view leave left_at h e None (Header channel) (reply_to_header result) new.origin
+    → DeclaresIn view leave left_at h channel result new e
+declares view leave left_at h channel result old new d e serves lives a =
+    let q : Point = record { machine = a.x.after; counts = h.point.counts; phase = idle; ended = a.x.ends; failed = h.point.failed } in
+    let k = stepped view leave left_at h a.x q in
+    record {
+      later = k;
+      serves = record {
+        keeps = a.keeps q (declared channel a.x serves.rest.phase_is a.conn_is a.is_step refl refl refl) refl refl refl;
+        rest = record {
+          stands = a.stands;
+          phase_is = refl;
+          numbers = ap (λ (ls : _). numbers_of ls.items) lives ∙ serves.rest.numbers;
+          resting = subst (λ (ls : List Live). AreResting k ls) (sym (ap (λ (ls : _). ls.items) lives)) (rest_all h k (λ l rest. record { rests = rest.rests; counts = rest.counts }) old.lives.items serves.rest.resting);
         };
-        rest = record { stands = stands; phase_is = refl; numbers = nothing_live state.lives.items none; resting = subst (λ (ls : List Live). AreResting h ls) (sym none) tt };
-      })
+      };
+      since = record { first = refl; begin = refl; base = refl };
+      same = refl;
+      step = a.x;
+      steps = refl;
+      conn = a.conn_is;
+      act = a.is_step.act_is;
+      reply = a.reply_is;
+    }

@@ -7,10 +7,13 @@ use Rattle.sm_model.specs.declared.cause.Refusal.{Refusal}
 use Rattle.sm_model.specs.declared.item.Item.{Item}
 use Rattle.sm_model.specs.Items.{Given, item_of}
 use Rattle.sm_model.specs.Items as given
+use Rattle.sm_model.specs.declared.header.HeaderTrack.{HeaderTrack}
+use Rattle.std.specs.List.{AllByRecursion}
+use Rattle.sm_serve.specs.Pushes.{AreValid}
 use Rattle.sm_model.specs.Body.{body, body_end, led_by, refused}
 use Rattle.sm_push.specs.declared.fault.PushFault.{PushFault}
 use Rattle.sm_push.specs.declared.fault.PushFault.TheVariants as pushes
-use Rattle.sm_push.specs.Standing.{Standing, Stands}
+use Rattle.sm_push.specs.Standing.{Standing, Stands, push_header}
 use Rattle.sm_model.specs.declared.target.Target.{Target}
 use Rattle.sm_conn.specs.Parts.{PartItem, got, continued, ended}
 use Rattle.sm_wire.specs.declared.item.WireItem.{WireItem}
@@ -18,7 +21,7 @@ use Rattle.sm_wire.specs.declared.item.WireItem.TheVariants.{Get, Continue, End}
 use Rattle.sm_wire.specs.Wire.{wire, Left, shown}
 use Rattle.sm_wire.proofs.WireLaw.{left_unique, got_left, got_close, continue_left, ended_left, ended_close}
 use Rattle.sm_origin.specs.declared.origin.Origin.{Origin}
-use Rattle.sm_serve.specs.Items.{shown_item}
+use Rattle.sm_serve.specs.Items.{shown_item, ItemIsValid}
 use Rattle.sm_serve.specs.Run.{Counts, Phase, idle, acting}
 use Rattle.sm_serve.specs.Standing.{History, Keeps, Reaches}
 use Rattle.sm_serve.specs.Resting.{PlaceIs}
@@ -30,9 +33,19 @@ pub fed_place : (b piece : List ℕ) (push : Option Standing) (items : List Give
 fed_place b piece None items fed = absurd fed
 fed_place b piece (Some p) items fed = fed
 
-pub fed_refused : (b piece : List ℕ) (push : Option Standing) (before : List Given) (r : Refusal) → FedPush b piece push (Err (pushes.Refused before r)) → body false (b ++ piece) ≡ led_by ((body false b).items ++ before) (refused r)
+pub fed_refused : (b piece : List ℕ) (push : Option Standing) (before : List Given) (r : Refusal) → FedPush b piece push (Err (pushes.Refused before r))
+    → (header : List HeaderTrack) × (body false (b ++ piece) ≡ led_by ((body false b).items ++ before) (refused header r))
 fed_refused b piece None before r fed = absurd fed
-fed_refused b piece (Some p) before r fed = fed
+fed_refused b piece (Some p) before r fed = (push_header p, fed)
+
+-- what is given is valid, without its track_IDs too
+pub valid_items : (gs : List Given) → AreValid gs → AllByRecursion ItemIsValid (map item_of gs)
+valid_items [] valid = tt
+valid_items (given.Header channel ∷ gs) valid = (valid.0, valid_items gs valid.1)
+valid_items (given.Frag id f ∷ gs) valid = (valid.0, valid_items gs valid.1)
+
+pub valid_vec : (items : List Item) (gs : List Given) → items ≡ map item_of gs → AreValid gs → AllByRecursion ItemIsValid items
+valid_vec items gs is valid = subst (λ (xs : List Item). AllByRecursion ItemIsValid xs) (sym is) (valid_items gs valid)
 
 same_shown : (g : Given) → shown_item (item_of g) ≡ shown g
 same_shown (given.Header channel) = refl
@@ -112,7 +125,12 @@ module _ {D : Type 0} (view : D → View) (leave : D → Image → Type 0) (left
       → Keeps view leave left_at h d → StandsOn view leave h.point.machine origin d → PlaceIs push place → Left place more items → h.point.phase ≡ acting n items → h.point.counts n ≡ counts
       → StaysOpen view leave left_at h n push counts place [] more origin d
   open_here h n d push counts place more items origin keeps stands is left phase same = record {
-    after = place; after_is = is; given = []; on = λ qs ws l. l; left = items; left_is = left;
+    after = place;
+    after_is = is;
+    given = [];
+    on = λ qs ws l. l;
+    left = items;
+    left_is = left;
     reaches = reaches_here view leave left_at h n d (acting n items) counts origin keeps stands phase same;
   }
 
@@ -125,11 +143,14 @@ module _ {D : Type 0} (view : D → View) (leave : D → Image → Type 0) (left
       let was = one.reaches in
       let two = so was.later was.keeps was.stands was.phase_is (was.counts_are refl) in
       record {
-        after = two.after; after_is = two.after_is; given = one.given ++ two.given;
+        after = two.after;
+        after_is = two.after_is;
+        given = one.given ++ two.given;
         on = λ rs ws l.
             subst (λ (xs : List PartItem). Left before xs ((one.given ++ two.given) ++ ws)) (sym (append_assoc ps qs rs))
             (subst (λ (us : List WireItem). Left before (ps ++ (qs ++ rs)) us) (sym (append_assoc one.given two.given ws)) (one.on (qs ++ rs) (two.given ++ ws) (two.on rs ws l)));
-        left = two.left; left_is = two.left_is;
+        left = two.left;
+        left_is = two.left_is;
         reaches = reach_then view leave left_at h was.later n true (acting n two.left) counts' counts' origin' e was.follows two.reaches (λ t. refl);
       }
   then_gives h n false push push' counts counts' before ps qs more origin origin' d e one so =

@@ -1,7 +1,7 @@
 -- How a run goes on, on a site.
-use Rattle.std.proofs.Common.{◌≡◌, ◌≢◌, ◌⊎◌, inl, inr, ⊎_elim, ◌↔◌, ℕ, ◌+◌, ◌-◌, ◌<◌, ◌≤◌, ◌^◌, Bool, true, false, nat_le, if◌then◌else◌, List, [], ◌∷◌, ◌++◌, Option, Some, None, IfSome, IsSome, is_some, refl, sym, ◌∙◌, ap, subst, arith, append_assoc}
+use Rattle.std.proofs.Common.{◌≡◌, ◌≢◌, ◌⊎◌, inl, inr, ⊎_elim, ◌↔◌, ℕ, ◌+◌, ◌-◌, ◌<◌, ◌≤◌, ◌^◌, Bool, true, false, nat_le, if◌then◌else◌, List, [], ◌∷◌, ◌++◌, Option, Some, None, IfSome, IsSome, is_some, IsTrue, refl, sym, ◌∙◌, ap, subst, arith, append_assoc}
 use Rattle.std.proofs.lemmas.List.{append-nil}
-use Rattle.std.proofs.lemmas.Bool.{cases_lt}
+use Rattle.std.proofs.lemmas.Bool.{cases_lt, cases_Bool}
 use Rattle.std.proofs.lemmas.Bool.Decides.{nat_tests}
 use Rattle.sm_site.specs.Image.{Image}
 use Rattle.sm_site.specs.Meanings.{View, Item, DiskCall, SameLink}
@@ -10,15 +10,14 @@ use Rattle.sm_model.specs.declared.act.Act.{Act}
 use Rattle.sm_model.specs.declared.entry.Entry.{Entry}
 use Rattle.sm_origin.specs.declared.reply.Reply.{Reply}
 use Rattle.sm_origin.specs.Machine.{Machine, SameLog, entry_of}
-use Rattle.sm_wire.specs.declared.item.WireItem.{WireItem}
 use Rattle.sm_origin.specs.declared.origin.Origin.{Origin}
 use Rattle.sm_archive.specs.Store.{IsStore}
 use Rattle.sm_origin.specs.Stores.{IsPartOf, Fits, FitsInside}
 use Rattle.sm_origin.specs.Acting.{ActGives}
 use Rattle.sm_site.specs.Clauses.{last_moment}
-use Rattle.sm_serve.specs.Run.{Counts, Phase, Point, Stepped, IsStep, Moves, acts_on, Run, goes_on, act_of, behind_step, acting}
+use Rattle.sm_serve.specs.Run.{Point, Stepped, OnMachine, IsStep, Moves, Run, goes_on}
 use Rattle.sm_serve.specs.Moments.{machine_at, IsInside, IsOneOf, FitsAt}
-use Rattle.sm_serve.specs.Standing.{History, is_told, Keeps, moved, calls_of}
+use Rattle.sm_serve.specs.Standing.{History, StandsOn, is_told, Keeps, moved, calls_of}
 
 -- ---- the machine at a moment
 
@@ -94,12 +93,10 @@ record_grows (Some cs) (Some ds) steps x (before, is) told =
 pub run_as : (a b : Bool) (first : Machine) (begin : ℕ) (items : List Item) (steps : List Stepped) (p : Point) → b ≡ a → Run a first begin items steps p → Run b first begin items steps p
 run_as a b first begin items steps p same run = subst (λ (told : Bool). Run told first begin items steps p) (sym same) run
 
--- the contents are told where the record of calls is
-told_as : (a b : Option (List DiskCall)) (R : List DiskCall → List DiskCall → Type 0) → Both a b R → is_some b ≡ is_some a
-told_as None None R both = refl
-told_as (Some x) (Some y) R both = refl
-told_as (Some x) None R both = absurd both
-told_as None (Some y) R both = absurd both
+-- a record that isn't told is no record
+none_recorded : (o : Option (List DiskCall)) (steps : List Stepped) → is_some o ≡ false → IfSome o (λ cs. (before : List DiskCall) × (cs ≡ before ++ calls_of steps))
+none_recorded None steps none = tt
+none_recorded (Some cs) steps none = absurd (cc)
 
 module _ {D : Type 0} (view : D → View) (leave : D → Image → Type 0) (left_at : D → ℕ → Image → Type 0) where
   -- ---- no call
@@ -113,130 +110,209 @@ module _ {D : Type 0} (view : D → View) (leave : D → Image → Type 0) (left
   silent_move h d q keeps move machine ended failed = record {
     run = goes_on h.items [] h.items h.steps [] h.steps h.point q keeps.run move (sym (append-nil h.items)) (sym (append-nil h.steps));
     told = keeps.told;
-    clock = subst (λ (e : ℕ). e ≤ (view d).moment) (sym ended) keeps.clock;
-    current = λ t le. keeps.current t (subst (λ (e : ℕ). e ≤ t) ended le) ∙ sym machine;
+    clock = λ has. subst (λ (e : ℕ). e ≤ (view d).moment) (sym ended) (keeps.clock has);
+    current = λ has t le. keeps.current has t (subst (λ (e : ℕ). e ≤ t) ended le) ∙ sym machine;
     now = λ image left. subst (λ (m : Machine). Fits m image) (sym machine) (keeps.now image left);
     images = keeps.images;
     recorded = keeps.recorded;
     blamed = λ below. subst (λ (n : ℕ). n ≤ (view d).send_faults) (sym failed) (keeps.blamed below);
   }
 
-  -- ---- a call of the link
-
-  pub link_move : (h : History) (d e : D) (es : List Item) (q : Point) → Keeps view leave left_at h d → Moves (is_told (view e)) h.items h.point es [] q → q.machine ≡ h.point.machine → h.point.ended ≤ q.ended
-      → (view e).transcript ≡ Some ((h.base ++ h.items) ++ es) → Elapses (view d) (view e) (left_at d) (left_at e) (leave d) (leave e) → SameOutcomes (leave d) (leave e) → (view e).calls ≡ (view d).calls → (view e).contents ≡ (view d).contents
-      → q.ended ≤ (view e).moment → ((view e).send_faults < 2 ^ 64 - 1 → q.failed ≤ (view e).send_faults) → Keeps view leave left_at (moved h es q) e
-  link_move h d e es q keeps move machine later told time same calls contents clock blamed = record {
-    run = goes_on h.items es (h.items ++ es) h.steps [] h.steps h.point q
-        (run_as (is_told (view d)) (is_told (view e)) h.first h.begin h.items h.steps h.point (ap (λ (o : Option Image). is_some o) contents) keeps.run) move refl (sym (append-nil h.steps));
-    told = told ∙ ap (λ (items : List Item). Some items) (append_assoc h.base h.items es);
-    clock = clock;
-    current = λ t le. keeps.current t (omega (arith, le, later)) ∙ sym machine;
-    now = λ image left. subst (λ (m : Machine). Fits m image) (sym machine) (keeps.now image ((same image).0 left));
-    images = λ t image from left. elim (cases_lt (view d).moment t) [
-        | inl after ↦
-            let was : leave d image = ⊎_elim (λ o. o) (λ n. (same image).0 n) (time.within t image after left) in
-            inl (subst (λ (m : Machine). Fits m image) (sym (keeps.current t (let c = keeps.clock in omega arith))) (keeps.now image was))
-        | inr before ↦ keeps.images t image from ((time.keeps t image before).0 left)
-      ];
-    recorded = subst (λ (o : Option (List DiskCall)). IfSome o (λ cs. (before : List DiskCall) × (cs ≡ before ++ calls_of h.steps))) (sym calls) keeps.recorded;
-    blamed = blamed;
-  }
-
-  -- ---- a step
-
   abbrev pub stepped : History → Stepped → Point → History
   stepped h x q = record h { steps = h.steps ++ x ∷ []; point = q }
 
-  module _ (calls_told : (s : D) → is_some (view s).calls ≡ is_some (view s).contents) (now_at : (s : D) (image : Image) → leave s image → left_at s (view s).moment image)
-      (told : (s : D) (t : ℕ) (image : Image) → left_at s t image → IsSome (view s).contents)
-      (h : History) (d e : D) (origin : Origin) (act : Act) (reply : Reply) (conn : Option ℕ) (keeps : Keeps view leave left_at h d)
-      (acts : ActGives view leave left_at d e h.point.machine origin act reply) (link : SameLink (view d) (view e)) where
-    abbrev pub the_step : Stepped
-    the_step = record {
-      conn = conn; act = act; before = h.point.machine; after = acts.after; reply = reply; began = (view d).moment; calls = acts.calls;
-      faults = (view d).disk_faults; faults_after = (view e).disk_faults; ends = last_moment h.point.ended acts.calls;
-    }
+  -- An act was acted on by one step: behind any move that makes it, the run goes on.
+  pub record Acted (h : History) (e : D) (conn : Option ℕ) (act : Act) (reply : Reply) (origin : Origin) : Type 0 where
+    pub x : Stepped
+    pub conn_is : x.conn ≡ conn
+    pub reply_is : x.reply ≡ reply
+    pub is_step : IsStep (is_told (view e)) h.point act x
+    pub keeps : (q : Point) → Moves (is_told (view e)) h.items h.point [] (x ∷ []) q → q.machine ≡ x.after → q.ended ≡ x.ends → q.failed ≡ h.point.failed
+        → Keeps view leave left_at (stepped h x q) e
+    pub stands : StandsOn view leave x.after origin e
 
-    same_told : is_told (view e) ≡ is_told (view d)
-    same_told = sym (calls_told e) ∙ told_as (view d).calls (view e).calls _ acts.noted ∙ calls_told d
+  module _ (told : (s : D) (t : ℕ) (image : Image) → left_at s t image → IsSome (view s).contents) where
+    -- ---- a call of the link
 
-    pub is_step : IsStep (is_told (view e)) h.point act the_step
-    is_step = record {
-      act_is = refl; before_is = refl;
-      step = λ t. acts.step (sym same_told ∙ t);
-      still = λ t none. acts.still (sym same_told ∙ t) none;
-      limits = acts.limits; began = keeps.clock; ends_is = refl;
-    }
+    pub link_move : (h : History) (d e : D) (es : List Item) (q : Point) → Keeps view leave left_at h d → Moves (is_told (view e)) h.items h.point es [] q → q.machine ≡ h.point.machine
+        → (IsTrue (is_told (view e)) → h.point.ended ≤ q.ended) → (view e).transcript ≡ Some ((h.base ++ h.items) ++ es)
+        → Elapses (view d) (view e) (left_at d) (left_at e) (leave d) (leave e) → SameOutcomes (leave d) (leave e) → (view e).calls ≡ (view d).calls → (view e).contents ≡ (view d).contents
+        → (IsTrue (is_told (view e)) → q.ended ≤ (view e).moment) → ((view e).send_faults < 2 ^ 64 - 1 → q.failed ≤ (view e).send_faults) → Keeps view leave left_at (moved h es q) e
+    link_move h d e es q keeps move machine later told_is time same calls contents clock blamed =
+        let as_told : is_told (view e) ≡ is_told (view d) = ap (λ (o : Option Image). is_some o) contents in
+        record {
+          run = goes_on h.items es (h.items ++ es) h.steps [] h.steps h.point q
+              (run_as (is_told (view d)) (is_told (view e)) h.first h.begin h.items h.steps h.point as_told keeps.run) move refl (sym (append-nil h.steps));
+          told = told_is ∙ ap (λ (items : List Item). Some items) (append_assoc h.base h.items es);
+          clock = clock;
+          current = λ has t le. keeps.current (sym as_told ∙ has) t (let l = later has in omega (arith, le, l)) ∙ sym machine;
+          now = λ image left. subst (λ (m : Machine). Fits m image) (sym machine) (keeps.now image ((same image).0 left));
+          images = λ t image from left. elim (cases_lt (view d).moment t) [
+            | inl after ↦
+                let has : IsTrue (is_told (view d)) = sym as_told ∙ told e t image left in
+                let was : leave d image = ⊎_elim (λ o. o) (λ n. (same image).0 n) (time.within t image after left) in
+                inl (subst (λ (m : Machine). Fits m image) (sym (keeps.current has t (let c = keeps.clock has in omega arith))) (keeps.now image was))
+            | inr before ↦ keeps.images t image from ((time.keeps t image before).0 left)
+          ];
+          recorded = subst (λ (o : Option (List DiskCall)). IfSome o (λ cs. (before : List DiskCall) × (cs ≡ before ++ calls_of h.steps))) (sym calls) keeps.recorded;
+          blamed = blamed;
+        }
 
-    ends_when : (acts.calls ≡ []) ⊎ ((acts.calls ≢ []) × (the_step.ends ≡ last_moment (view d).moment acts.calls))
-    ends_when = ⊎_elim (λ none. inl none) (λ some. inr (some, last_of_call h.point.ended (view d).moment acts.calls some)) (no_call acts.calls)
+    -- ---- a step
 
-    ends_within : the_step.ends ≤ (view e).moment
-    ends_within = elim ends_when [
-        | inl none ↦ let k = last_of_none h.point.ended acts.calls none in let c = keeps.clock in let l = acts.later in omega arith
-        | inr some ↦ let k = some.1 in let l = acts.ended in omega arith
+    -- of a disk that tells its contents
+    module _ (h : History) (d e : D) (origin : Origin) (act : Act) (reply : Reply) (conn : Option ℕ) (keeps : Keeps view leave left_at h d)
+        (has : IsTrue (is_told (view d))) (as_told : is_told (view e) ≡ is_told (view d))
+        (acts : ActGives view leave left_at d e h.point.machine origin act reply) (link : SameLink (view d) (view e)) where
+      abbrev the_step : Stepped
+      the_step = record {
+        conn = conn;
+        act = act;
+        before = h.point.machine;
+        after = acts.after;
+        reply = reply;
+        began = (view d).moment;
+        calls = acts.calls;
+        faults = (view d).disk_faults;
+        faults_after = (view e).disk_faults;
+        ends = last_moment h.point.ended acts.calls;
+      }
+
+      on_machine : OnMachine h.point the_step
+      on_machine = record { step = acts.step; still = acts.still; limits = acts.limits; began = keeps.clock has; ends_is = refl }
+
+      ends_when : ((acts.calls ≡ []) × (the_step.ends ≡ h.point.ended) × ((view e).moment ≡ (view d).moment)) ⊎ ((view e).moment ≡ the_step.ends)
+      ends_when = ⊎_elim
+          (λ none. inl (none, last_of_none h.point.ended acts.calls none, acts.ended ∙ last_of_none (view d).moment acts.calls none))
+          (λ some. inr (acts.ended ∙ last_of_call (view d).moment h.point.ended acts.calls some)) (no_call acts.calls)
+
+      ends_within : the_step.ends ≤ (view e).moment
+      ends_within = elim ends_when [
+        | inl (none, was, same) ↦ let c = keeps.clock has in omega (arith, was, same, c)
+        | inr now ↦ omega (arith, now)
       ]
 
-    ends_later : h.point.ended ≤ the_step.ends
-    ends_later = elim ends_when [
-        | inl none ↦ let k = last_of_none h.point.ended acts.calls none in omega arith
-        | inr some ↦ let k = some.1 in let b = acts.began in let c = keeps.clock in omega arith
+      ends_later : h.point.ended ≤ the_step.ends
+      ends_later = elim ends_when [
+        | inl (none, was, same) ↦ omega (arith, was)
+        | inr now ↦ let c = keeps.clock has in let l = acts.later in omega (arith, now, c, l)
       ]
 
-    after_at : (t : ℕ) → the_step.ends ≤ t → machine_at h.first (h.steps ++ the_step ∷ []) t ≡ acts.after
-    after_at t le = machine_push h.first h.steps the_step t ∙ ended_by acts.after _ the_step.ends t le
+      after_at : (t : ℕ) → the_step.ends ≤ t → machine_at h.first (h.steps ++ the_step ∷ []) t ≡ acts.after
+      after_at t le = machine_push h.first h.steps the_step t ∙ ended_by acts.after _ the_step.ends t le
 
-    before_at : (t : ℕ) → t < the_step.ends → machine_at h.first (h.steps ++ the_step ∷ []) t ≡ machine_at h.first h.steps t
-    before_at t lt = machine_push h.first h.steps the_step t ∙ not_ended acts.after _ the_step.ends t lt
+      before_at : (t : ℕ) → t < the_step.ends → machine_at h.first (h.steps ++ the_step ∷ []) t ≡ machine_at h.first h.steps t
+      before_at t lt = machine_push h.first h.steps the_step t ∙ not_ended acts.after _ the_step.ends t lt
 
-    -- a step without a call changes nothing
-    still_at : IsSome (view d).contents → acts.calls ≡ [] → (t : ℕ) → SameLog (machine_at h.first h.steps t) (machine_at h.first (h.steps ++ the_step ∷ []) t)
-    still_at some none t = elim (cases_lt t the_step.ends) [
+      -- a step without a call changes nothing
+      still_at : acts.calls ≡ [] → (t : ℕ) → SameLog (machine_at h.first h.steps t) (machine_at h.first (h.steps ++ the_step ∷ []) t)
+      still_at none t = elim (cases_lt t the_step.ends) [
         | inl lt ↦ same_by (machine_at h.first h.steps t) (machine_at h.first (h.steps ++ the_step ∷ []) t) (before_at t lt)
         | inr le ↦
             same_then (machine_at h.first h.steps t) h.point.machine (machine_at h.first (h.steps ++ the_step ∷ []) t)
-            (same_by (machine_at h.first h.steps t) h.point.machine (sym (keeps.current t (let k = ends_later in omega arith))))
-            (same_then h.point.machine acts.after (machine_at h.first (h.steps ++ the_step ∷ []) t) (acts.still some none)
+            (same_by (machine_at h.first h.steps t) h.point.machine (sym (keeps.current has t (let k = ends_later in omega (arith, k, le)))))
+            (same_then h.point.machine acts.after (machine_at h.first (h.steps ++ the_step ∷ []) t) (acts.still none)
             (same_by acts.after (machine_at h.first (h.steps ++ the_step ∷ []) t) (after_at t le)))
       ]
 
-    image_fits : (t : ℕ) (image : Image) → h.begin ≤ t → left_at e t image → FitsAt h.first (h.steps ++ the_step ∷ []) t image
-    image_fits t image from left = elim ends_when [
-        | inl none ↦
-            let some : IsSome (view d).contents = sym same_told ∙ told e t image left in
-            elim (cases_lt (view d).moment t) [
-            | inl after ↦
-                let fits = acts.since t image (let k = last_of_none (view d).moment acts.calls none in omega arith) left in
-                inl (subst (λ (m : Machine). Fits m image) (sym (after_at t (let k = last_of_none h.point.ended acts.calls none in let c = keeps.clock in omega arith))) fits)
-            | inr before ↦ fits_more h.first h.steps the_step t image (still_at some none t) (keeps.images t image from ((acts.keeps t image before).0 left))
-          ]
-        | inr some ↦ elim (cases_lt t the_step.ends) [
-            | inl lt ↦ elim (cases_lt (view d).moment t) [
+      -- from the end of the act on
+      since_fits : (t : ℕ) (image : Image) → (view e).moment ≤ t → left_at e t image → FitsAt h.first (h.steps ++ the_step ∷ []) t image
+      since_fits t image le left =
+          let k = ends_within in
+          inl (subst (λ (m : Machine). Fits m image) (sym (after_at t (omega (arith, k, le)))) (acts.since t image le left))
+
+      was_fits : (t : ℕ) (image : Image) → h.begin ≤ t → t ≤ (view d).moment → left_at e t image → SameLog (machine_at h.first h.steps t) (machine_at h.first (h.steps ++ the_step ∷ []) t)
+          → FitsAt h.first (h.steps ++ the_step ∷ []) t image
+      was_fits t image from before left same = fits_more h.first h.steps the_step t image same (keeps.images t image from ((acts.keeps t image before).0 left))
+
+      image_fits : (t : ℕ) (image : Image) → h.begin ≤ t → left_at e t image → FitsAt h.first (h.steps ++ the_step ∷ []) t image
+      image_fits t image from left = elim (cases_lt t (view e).moment) [
+        | inr le ↦ since_fits t image le left
+        | inl lt ↦ elim ends_when [
+          | inl (none, was, same) ↦ was_fits t image from (omega (arith, lt, same)) left (still_at none t)
+          | inr now ↦
+              let early : t < the_step.ends = omega (arith, now, lt) in
+              elim (cases_lt (view d).moment t) [
                 | inl after ↦
-                    let here = before_at t lt ∙ keeps.current t (let c = keeps.clock in omega arith) in
-                    inr (the_step, (h.steps, [], refl), (after, lt), subst (λ (m : Machine). FitsInside m (entry_of act) image) (sym here) (acts.inside t image after left))
-                | inr before ↦
-                    fits_more h.first h.steps the_step t image (same_by (machine_at h.first h.steps t) (machine_at h.first (h.steps ++ the_step ∷ []) t) (before_at t lt))
-                    (keeps.images t image from ((acts.keeps t image before).0 left))
+                    let here = before_at t early ∙ keeps.current has t (let c = keeps.clock has in omega (arith, c, after)) in
+                    inr (the_step, (h.steps, [], refl), (after, early), subst (λ (m : Machine). FitsInside m (entry_of act) image) (sym here) (acts.inside t image after left))
+                | inr before ↦ was_fits t image from before left (same_by (machine_at h.first h.steps t) (machine_at h.first (h.steps ++ the_step ∷ []) t) (before_at t early))
               ]
-            | inr le ↦ inl (subst (λ (m : Machine). Fits m image) (sym (after_at t le)) (acts.since t image (subst (λ (k : ℕ). k ≤ t) some.1 le) left))
-          ]
+        ]
       ]
 
-    -- the act is acted on, by one step
-    pub step_move : (q : Point) → Moves (is_told (view e)) h.items h.point [] (the_step ∷ []) q → q.machine ≡ acts.after → q.ended ≡ the_step.ends → q.failed ≡ h.point.failed
-        → Keeps view leave left_at (stepped h the_step q) e
-    step_move q move machine ended failed = record {
-      run = goes_on h.items [] h.items h.steps (the_step ∷ []) (h.steps ++ the_step ∷ []) h.point q
-          (run_as (is_told (view d)) (is_told (view e)) h.first h.begin h.items h.steps h.point same_told keeps.run) move (sym (append-nil h.items)) refl;
-      told = link.transcript ∙ keeps.told;
-      clock = subst (λ (k : ℕ). k ≤ (view e).moment) (sym ended) ends_within;
-      current = λ t le. after_at t (subst (λ (k : ℕ). k ≤ t) ended le) ∙ sym machine;
-      now = λ image left. subst (λ (m : Machine). Fits m image) (sym machine) (acts.since (view e).moment image acts.ended (now_at e image left));
-      images = image_fits;
-      recorded = record_grows (view d).calls (view e).calls h.steps the_step keeps.recorded acts.noted;
-      blamed = λ below.
-          let same = link.send_faults in
-          subst (λ (n : ℕ). n ≤ (view e).send_faults) (sym failed) (subst (λ (n : ℕ). h.point.failed ≤ n) (sym same) (keeps.blamed (subst (λ (n : ℕ). n < 2 ^ 64 - 1) same below)));
-    }
+      acted_told : Acted h e conn act reply origin
+      acted_told = record {
+        x = the_step;
+        conn_is = refl;
+        reply_is = refl;
+        is_step = record { act_is = refl; before_is = refl; machine = λ t. on_machine };
+        keeps = λ q move machine ended failed. record {
+          run = goes_on h.items [] h.items h.steps (the_step ∷ []) (h.steps ++ the_step ∷ []) h.point q
+              (run_as (is_told (view d)) (is_told (view e)) h.first h.begin h.items h.steps h.point as_told keeps.run) move (sym (append-nil h.items)) refl;
+          told = link.transcript ∙ keeps.told;
+          clock = λ t. subst (λ (k : ℕ). k ≤ (view e).moment) (sym ended) ends_within;
+          current = λ h' t le. after_at t (subst (λ (k : ℕ). k ≤ t) ended le) ∙ sym machine;
+          now = λ image left. subst (λ (m : Machine). Fits m image) (sym machine) (acts.now image left);
+          images = image_fits;
+          recorded = record_grows (view d).calls (view e).calls h.steps the_step keeps.recorded acts.noted;
+          blamed = λ below.
+              let same = link.send_faults in
+              subst (λ (n : ℕ). n ≤ (view e).send_faults) (sym failed) (subst (λ (n : ℕ). h.point.failed ≤ n) (sym same) (keeps.blamed (subst (λ (n : ℕ). n < 2 ^ 64 - 1) same below)));
+        };
+        stands = acts.stands;
+      }
+
+    -- of a disk that doesn't
+    module _ (h : History) (d e : D) (origin : Origin) (act : Act) (reply : Reply) (conn : Option ℕ) (keeps : Keeps view leave left_at h d)
+        (none : is_told (view d) ≡ false) (as_told : is_told (view e) ≡ is_told (view d))
+        (now_at : (s : D) (image : Image) → leave s image → left_at s (view s).moment image) (calls_told : (s : D) → is_some (view s).calls ≡ is_some (view s).contents)
+        (after : Machine) (stands : StandsOn view leave after origin e) (link : SameLink (view d) (view e)) where
+      not_told : IsTrue (is_told (view e)) → ⊥
+      not_told has = let both : true ≡ false = sym has ∙ as_told ∙ none in cc
+
+      abbrev blind_step : Stepped
+      blind_step = record {
+        conn = conn;
+        act = act;
+        before = h.point.machine;
+        after = after;
+        reply = reply;
+        began = (view d).moment;
+        calls = [];
+        faults = (view d).disk_faults;
+        faults_after = (view e).disk_faults;
+        ends = (view e).moment;
+      }
+
+      acted_untold : Acted h e conn act reply origin
+      acted_untold = record {
+        x = blind_step;
+        conn_is = refl;
+        reply_is = refl;
+        is_step = record { act_is = refl; before_is = refl; machine = λ has. absurd (not_told has) };
+        keeps = λ q move machine ended failed. record {
+          run = goes_on h.items [] h.items h.steps (blind_step ∷ []) (h.steps ++ blind_step ∷ []) h.point q
+              (run_as (is_told (view d)) (is_told (view e)) h.first h.begin h.items h.steps h.point as_told keeps.run) move (sym (append-nil h.items)) refl;
+          told = link.transcript ∙ keeps.told;
+          clock = λ has. absurd (not_told has);
+          current = λ has t le. absurd (not_told has);
+          now = λ image left. absurd (not_told (told e (view e).moment image (now_at e image left)));
+          images = λ t image from left. absurd (not_told (told e t image left));
+          recorded = none_recorded (view e).calls (h.steps ++ blind_step ∷ []) (calls_told e ∙ as_told ∙ none);
+          blamed = λ below.
+              let same = link.send_faults in
+              subst (λ (n : ℕ). n ≤ (view e).send_faults) (sym failed) (subst (λ (n : ℕ). h.point.failed ≤ n) (sym same) (keeps.blamed (subst (λ (n : ℕ). n < 2 ^ 64 - 1) same below)));
+        };
+        stands = stands;
+      }
+
+    -- of any disk
+    pub acted : (h : History) (d e : D) (origin : Origin) (act : Act) (reply : Reply) (conn : Option ℕ) → Keeps view leave left_at h d → is_told (view e) ≡ is_told (view d)
+        → ((s : D) (image : Image) → leave s image → left_at s (view s).moment image) → ((s : D) → is_some (view s).calls ≡ is_some (view s).contents)
+        → (IsSome (view d).contents → ActGives view leave left_at d e h.point.machine origin act reply) → (m : Machine) × StandsOn view leave m origin e → SameLink (view d) (view e)
+        → Acted h e conn act reply origin
+    acted h d e origin act reply conn keeps as_told now_at calls_told gives stands link = elim (cases_Bool (is_told (view d))) [
+      | inl has ↦ acted_told h d e origin act reply conn keeps has as_told (gives has) link
+      | inr none ↦ acted_untold h d e origin act reply conn keeps none as_told now_at calls_told stands.0 stands.1 link
+    ]

@@ -68,7 +68,7 @@ module _ (adds : (m n : Machine) (act : Act) (r : Reply) → Step m act n r → 
           subst (λ (n : Machine). Extends (machine_at first steps t) n) (sym to)
           (⊎_elim
           (λ (early : t < x.ends). subst (λ (m : Machine). Extends m x.after) (sym (at ∙ not_reached x.after (machine_at first ss t) x.ends t early))
-            (both (machine_at first ss t) p.machine x.after before (subst (λ (m : Machine). Extends m x.after) from (adds x.before x.after x.act x.reply step))))
+          (both (machine_at first ss t) p.machine x.after before (subst (λ (m : Machine). Extends m x.after) from (adds x.before x.after x.act x.reply step))))
           (λ (late : x.ends ≤ t). subst (λ (m : Machine). Extends m x.after) (sym (at ∙ reached_by x.after (machine_at first ss t) x.ends t late)) (itself x.after))
           (cases_lt t x.ends))
 
@@ -88,11 +88,11 @@ module _ (adds : (m n : Machine) (act : Act) (r : Reply) → Step m act n r → 
           ⊎_elim
           (λ (early : u < x.ends). subst (λ (m : Machine). Extends m (machine_at first steps u)) (sym (open_ t (omega (arith, early, le)))) (subst (λ (n : Machine). Extends (machine_at first ss t) n) (sym (open_ u early)) before))
           (λ (late : x.ends ≤ u). subst (λ (n : Machine). Extends (machine_at first steps t) n) (sym (ends u late))
-            (⊎_elim
-            (λ (inside : t < x.ends). subst (λ (m : Machine). Extends m x.after) (sym (open_ t inside))
-              (both (machine_at first ss t) p.machine x.after (below first begin was ss p run t) (subst (λ (m : Machine). Extends m x.after) from (adds x.before x.after x.act x.reply step))))
-            (λ (behind : x.ends ≤ t). subst (λ (m : Machine). Extends m x.after) (sym (ends t behind)) (itself x.after))
-            (cases_lt t x.ends)))
+          (⊎_elim
+          (λ (inside : t < x.ends). subst (λ (m : Machine). Extends m x.after) (sym (open_ t inside))
+          (both (machine_at first ss t) p.machine x.after (below first begin was ss p run t) (subst (λ (m : Machine). Extends m x.after) from (adds x.before x.after x.act x.reply step))))
+          (λ (behind : x.ends ≤ t). subst (λ (m : Machine). Extends m x.after) (sym (ends t behind)) (itself x.after))
+          (cases_lt t x.ends)))
           (cases_lt u x.ends)
 
   pub from_first : (first : Machine) (begin : ℕ) (items : List Item) (steps : List Stepped) (p : Point) → Run first begin items steps p → (t : ℕ) → Extends first (machine_at first steps t)
@@ -109,5 +109,5 @@ module _ (adds : (m n : Machine) (act : Act) (r : Reply) → Step m act n r → 
           ⊎_elim
           (λ (early : t < x.ends). subst (λ (n : Machine). Extends first n) (sym (at ∙ not_reached x.after (machine_at first ss t) x.ends t early)) before)
           (λ (late : x.ends ≤ t). subst (λ (n : Machine). Extends first n) (sym (at ∙ reached_by x.after (machine_at first ss t) x.ends t late))
-            (both first (machine_at first ss t) x.after before (both (machine_at first ss t) p.machine x.after (below first begin was ss p run t) (subst (λ (m : Machine). Extends m x.after) from (adds x.before x.after x.act x.reply step)))))
+          (both first (machine_at first ss t) x.after before (both (machine_at first ss t) p.machine x.after (below first begin was ss p run t) (subst (λ (m : Machine). Extends m x.after) from (adds x.before x.after x.act x.reply step)))))
           (cases_lt t x.ends)

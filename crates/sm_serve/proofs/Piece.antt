@@ -72,14 +72,17 @@ module _ {D : Type 0} (view : D → View) (leave : D → Image → Type 0) (left
       → PartGives view leave left_at (moved h (at m (Came n piece)) (at_event h.point (acting n items) m)) n r new.push (counts_of new) rests.place ps [] origin d
       → PieceGives view leave left_at h m piece n r new origin d
   piece_gives h m n piece old new false ps items origin d rests gave gives = record {
-    from = at_event h.point (acting n items) m; from_counts = refl; reaches = gives; rests = λ t. absurd (cc);
+    from = at_event h.point (acting n items) m;
+    from_counts = refl;
+    reaches = gives;
+    rests = λ t. absurd (cc);
   }
   piece_gives h m n piece old new true ps items origin d rests gave gives =
       let none : gives.left ≡ [] = none_left new.push gives.after gives.left gives.after_is gives.left_is in
       let all : wire None (rests.parts ++ ps) ≡ wire None rests.parts ++ gives.given =
-          ap (λ (qs : List PartItem). wire None (rests.parts ++ qs)) (sym (append-nil ps))
-          ∙ rests.later (ps ++ []) (gives.given ++ gives.left) (gives.on [] gives.left gives.left_is)
-          ∙ ap (λ (ws : List WireItem). wire None rests.parts ++ (gives.given ++ ws)) none ∙ ap (λ (ws : List WireItem). wire None rests.parts ++ ws) (append-nil gives.given) in
+      ap (λ (qs : List PartItem). wire None (rests.parts ++ qs)) (sym (append-nil ps))
+      ∙ rests.later (ps ++ []) (gives.given ++ gives.left) (gives.on [] gives.left gives.left_is)
+      ∙ ap (λ (ws : List WireItem). wire None rests.parts ++ (gives.given ++ ws)) none ∙ ap (λ (ws : List WireItem). wire None rests.parts ++ ws) (append-nil gives.given) in
       record {
         from = at_event h.point (acting n items) m;
         from_counts = refl;

@@ -1,14 +1,13 @@
 -- What a run reaches.
-use Rattle.std.proofs.Common.{◌≡◌, ◌↔◌, ℕ, ◌<◌, ◌≤◌, Bool, true, false, if◌then◌else◌, List, [], ◌∷◌, ◌++◌, Option, Some, None, is_some, IsSome, IsTrue, refl, sym, ◌∙◌, ap, subst}
+use Rattle.std.proofs.Common.{◌≡◌, ◌↔◌, ℕ, ◌<◌, ◌≤◌, Bool, true, false, ◌||◌, if◌then◌else◌, List, [], ◌∷◌, ◌++◌, Option, Some, None, is_some, IsSome, IsTrue, refl, sym, ◌∙◌, ap, subst}
 use Rattle.sm_site.specs.Image.{Image}
-use Rattle.sm_site.specs.Meanings.{View, SameLink}
+use Rattle.sm_site.specs.Meanings.{View}
 use Rattle.sm_model.specs.declared.act.Act.{Act}
 use Rattle.sm_origin.specs.declared.reply.Reply.{Reply}
 use Rattle.sm_origin.specs.Machine.{Machine}
 use Rattle.sm_wire.specs.declared.item.WireItem.{WireItem}
 use Rattle.sm_wire.specs.declared.item.WireItem.TheVariants.{Continue}
 use Rattle.sm_origin.specs.declared.origin.Origin.{Origin}
-use Rattle.sm_origin.specs.Acting.{ActGives}
 use Rattle.sm_serve.specs.Standing.{StandsOn}
 use Rattle.sm_serve.specs.Run.{Counts, Point, Phase, Stepped, idle, acting, sending, in_phase, wants, continues, Moves, acts_on, act_of, closes, counts_after, set_counts, phase_after, sent_of, behind_step, IsStep}
 use Rattle.std.proofs.lemmas.Bool.{eq-eqb, ne_eqb}
@@ -16,7 +15,7 @@ use Rattle.sm_serve.specs.Connections.{received, live, events_in}
 use Rattle.sm_serve.specs.Standing.{History, Keeps, Follows, Reaches}
 use Rattle.sm_serve.proofs.Sending.{follows_then}
 use Rattle.sm_head.specs.declared.reply.TheConstants.{NO_MEMORY, CONTINUE}
-use Rattle.sm_serve.proofs.Going.{step_move, is_step, the_step, stepped, silent_move, paused}
+use Rattle.sm_serve.proofs.Going.{Acted, stepped, silent_move, paused}
 
 -- what was reached behind calls of the link
 pub reached : {D : Type 0} (view : D → View) (leave : D → Image → Type 0) (left_at : D → ℕ → Image → Type 0) (h later : History) (n : ℕ) (is_open : Bool) (e : D) (q : Point) (origin : Origin)
@@ -33,7 +32,9 @@ reached view leave left_at h later n is_open e q origin keeps follows is machine
 
 pub follows_itself : (n : ℕ) (h k : History) → k.first ≡ h.first → k.begin ≡ h.begin → k.base ≡ h.base → k.items ≡ h.items → ((j : ℕ) → (j ≡ n → ⊥) → k.point.counts j ≡ h.point.counts j) → Follows n true h k
 follows_itself n h k first begin base items counts = record {
-  first = first; begin = begin; base = base;
+  first = first;
+  begin = begin;
+  base = base;
   received = λ j. ap (received j) items;
   events = ap events_in items;
   live = ap live items;
@@ -60,34 +61,34 @@ module _ {D : Type 0} (view : D → View) (leave : D → Image → Type 0) (left
   these_counts n new counts = ap (λ (b : Bool). if b then new else counts n) (eq-eqb n n refl)
 
   -- one act, one step
-  module _ (calls_told : (s : D) → is_some (view s).calls ≡ is_some (view s).contents) (now_at : (s : D) (image : Image) → leave s image → left_at s (view s).moment image)
-      (told : (s : D) (t : ℕ) (image : Image) → left_at s t image → IsSome (view s).contents)
-      (h : History) (d e : D) (after : Origin) (act : Act) (reply : Reply) (n : ℕ) (item : WireItem) (more : List WireItem) (keeps : Keeps view leave left_at h d)
-      (acts : ActGives view leave left_at d e h.point.machine after act reply) (link : SameLink (view d) (view e))
-      (phase : h.point.phase ≡ acting n (item ∷ more)) (does : act_of (h.point.counts n) item ≡ Some act) where
-    abbrev pub step_of : Stepped
-    step_of = the_step view leave left_at calls_told now_at told h d e after act reply (Some n) keeps acts link
-
+  module _ (h : History) (e : D) (origin : Origin) (act : Act) (reply : Reply) (n : ℕ) (item : WireItem) (more : List WireItem)
+      (acted : Acted view leave left_at h e (Some n) act reply origin) (phase : h.point.phase ≡ acting n (item ∷ more)) (does : act_of (h.point.counts n) item ≡ Some act) where
     abbrev pub point_of : Point
-    point_of = behind_step h.point n item more step_of
+    point_of = behind_step h.point n item more acted.x
 
     abbrev pub behind : History
-    behind = stepped view leave left_at h step_of point_of
+    behind = stepped view leave left_at h acted.x point_of
 
     pub behind_keeps : Keeps view leave left_at behind e
-    behind_keeps = step_move view leave left_at calls_told now_at told h d e after act reply (Some n) keeps acts link point_of
-        (acts_on n item more act step_of phase does refl (is_step view leave left_at calls_told now_at told h d e after act reply (Some n) keeps acts link) refl refl refl) refl refl refl
+    behind_keeps = acted.keeps point_of (acts_on n item more act acted.x phase does acted.conn_is acted.is_step refl refl refl) refl refl refl
 
     pub behind_follows : Follows n true h behind
     behind_follows = follows_itself n h behind refl refl refl refl (λ j other. other_counts n j _ h.point.counts other)
 
     pub behind_counts : behind.point.counts n ≡ counts_after item reply.counted (h.point.counts n)
-    behind_counts = these_counts n _ h.point.counts
+    behind_counts = these_counts n _ h.point.counts ∙ ap (λ (r : Reply). counts_after item r.counted (h.point.counts n)) acted.reply_is
+
+    pub behind_phase : (close : Bool) → closes item ≡ close → behind.point.phase ≡ phase_after n (sent_of reply) (reply.close || close) more
+    behind_phase close is = ap (λ (r : Reply). phase_after n (sent_of r) (r.close || closes item) more) acted.reply_is ∙ ap (λ (b : Bool). phase_after n (sent_of reply) (reply.close || b) more) is
 
   -- the counts of a closed connection don't matter
   pub closed_counts : (h : History) (n : ℕ) (phase : Phase) (counts all : Counts) (origin : Origin) (e : D) → Reaches view leave left_at h n false phase counts origin e → Reaches view leave left_at h n false phase all origin e
   closed_counts h n phase counts all origin e reaches = record {
-    later = reaches.later; keeps = reaches.keeps; stands = reaches.stands; follows = reaches.follows; phase_is = reaches.phase_is;
+    later = reaches.later;
+    keeps = reaches.keeps;
+    stands = reaches.stands;
+    follows = reaches.follows;
+    phase_is = reaches.phase_is;
     counts_are = λ t. absurd (cc);
   }
 
@@ -117,7 +118,12 @@ module _ {D : Type 0} (view : D → View) (leave : D → Image → Type 0) (left
   pub reaches_here : (h : History) (n : ℕ) (d : D) (phase : Phase) (counts : Counts) (origin : Origin) → Keeps view leave left_at h d → StandsOn view leave h.point.machine origin d → h.point.phase ≡ phase → h.point.counts n ≡ counts
       → Reaches view leave left_at h n true phase counts origin d
   reaches_here h n d phase counts origin keeps stands at is = record {
-    later = h; keeps = keeps; stands = stands; follows = follows_itself n h h refl refl refl refl (λ j other. refl); phase_is = at; counts_are = λ t. is;
+    later = h;
+    keeps = keeps;
+    stands = stands;
+    follows = follows_itself n h h refl refl refl refl (λ j other. refl);
+    phase_is = at;
+    counts_are = λ t. is;
   }
 
   -- the head 100 is due

@@ -1,5 +1,5 @@
 -- Sends and closes of a run.
-use Rattle.std.proofs.Common.{◌≡◌, ◌≢◌, ◌⊎◌, ⊎_elim, inl, inr, ◌↔◌, ℕ, ◌+◌, ◌-◌, ◌<◌, ◌≤◌, ◌^◌, Bool, true, false, if◌then◌else◌, List, [], ◌∷◌, ◌++◌, take, length, Option, Some, None, IfSome, IsTrue, refl, sym, ◌∙◌, ap, subst, arith}
+use Rattle.std.proofs.Common.{◌≡◌, ◌≢◌, ◌⊎◌, ⊎_elim, inl, inr, ◌↔◌, ℕ, ◌+◌, ◌-◌, ◌<◌, ◌≤◌, ◌^◌, Bool, true, false, if◌then◌else◌, List, [], ◌∷◌, ◌++◌, take, length, Option, Some, None, is_some, IfSome, IsSome, IsTrue, refl, sym, ◌∙◌, ap, subst, arith}
 use Rattle.std.proofs.lemmas.List.{append-nil}
 use Rattle.sm_site.specs.Image.{Image}
 use Rattle.sm_site.specs.Meanings.{View, Item, Deal, SameDisk}
@@ -25,7 +25,8 @@ follows_then n is_open h k l one two = record {
 }
 
 module _ {D : Type 0} (view W : D → View) (leave leave' : D → Image → Type 0) (left_at left' : D → ℕ → Image → Type 0)
-    (one_view : (s : D) → view s ≡ W s) (one_disk : (s : D) (c : Image) → leave s c ↔ leave' s c) (one_past : (s : D) (t : ℕ) (c : Image) → left_at s t c ↔ left' s t c) where
+    (one_view : (s : D) → view s ≡ W s) (one_disk : (s : D) (c : Image) → leave s c ↔ leave' s c) (one_past : (s : D) (t : ℕ) (c : Image) → left_at s t c ↔ left' s t c)
+    (told : (s : D) (t : ℕ) (image : Image) → left_at s t image → IsSome (view s).contents) where
   -- a history behind calls of the link, at a point
   pub record After (h : History) (n : ℕ) (is_open : Bool) (e : D) (q : Point) : Type 0 where
     pub later : History
@@ -45,9 +46,13 @@ module _ {D : Type 0} (view W : D → View) (leave leave' : D → Image → Type
   pub contents_here : (d e : D) → LinkCall d e → (view e).contents ≡ (view d).contents
   contents_here d e call = ap (λ (v : View). v.contents) (one_view e) ∙ call.disk.contents ∙ ap (λ (v : View). v.contents) (sym (one_view d))
 
-  added : (h : History) (d e : D) (deal : Deal) (q : ℕ → Point) → Keeps view leave left_at h d → LinkCall d e → Adds deal (W d) (W e) → ((m : ℕ) → h.point.ended < m → Moves (is_told (view e)) h.items h.point (at m deal) [] (q m))
-      → ((m : ℕ) → (q m).machine ≡ h.point.machine) → ((m : ℕ) → (h.point.ended ≤ m) → ((q m).ended ≡ h.point.ended) ⊎ ((q m).ended ≡ m)) → ((m : ℕ) → (view e).send_faults < 2 ^ 64 - 1 → (q m).failed ≤ (view e).send_faults)
-      → (m : ℕ) × (h.point.ended < m) × Keeps view leave left_at (moved h (at m deal) (q m)) e
+  pub told_here : (d e : D) → LinkCall d e → IsTrue (is_told (view e)) → IsTrue (is_told (view d))
+  told_here d e call has = sym (ap (λ (o : Option Image). is_some o) (contents_here d e call)) ∙ has
+
+  added : (h : History) (d e : D) (deal : Deal) (q : Point) → Keeps view leave left_at h d → LinkCall d e → Adds deal (W d) (W e)
+      → ((m : ℕ) → (IsTrue (is_told (view e)) → h.point.ended < m) → Moves (is_told (view e)) h.items h.point (at m deal) [] q)
+      → q.machine ≡ h.point.machine → q.ended ≡ h.point.ended → ((view e).send_faults < 2 ^ 64 - 1 → q.failed ≤ (view e).send_faults)
+      → (m : ℕ) × Keeps view leave left_at (moved h (at m deal) q) e
   added h d e deal q keeps call adds move machine ended blamed =
       let here = seen_here view W leave leave' left_at left' one_view one_disk one_past (Adds deal) d e adds in
       let t = told_adds (view d) (view e) (h.base ++ h.items) deal keeps.told here in
@@ -56,17 +61,17 @@ module _ {D : Type 0} (view W : D → View) (leave leave' : D → Image → Type
       let m = t.0 in
       let above : (view d).moment < m = t.1 in
       let within : m ≤ (view e).moment = t.2 in
-      let clock = keeps.clock in
-      let behind : h.point.ended < m = omega arith in
-      (m, behind, link_move view leave left_at h d e (at m deal) (q m) keeps (move m behind) (machine m)
-        (⊎_elim (λ same. omega (arith, same)) (λ now. omega (arith, now)) (ended m (omega arith)))
-        t.3 time same (calls_here d e call) (contents_here d e call)
-        (⊎_elim (λ same. omega (arith, same)) (λ now. omega (arith, now)) (ended m (omega arith)))
-        (blamed m))
+      let behind : IsTrue (is_told (view e)) → h.point.ended < m = λ has. (let c = keeps.clock (told_here d e call has) in omega (arith, c, above)) in (
+        m,
+        link_move view leave left_at told h d e (at m deal) q keeps (move m behind) machine (λ has. omega (arith, ended))
+            t.3 time same (calls_here d e call) (contents_here d e call) (λ has. (let b = behind has in omega (arith, ended, b, within))) blamed,
+      )
 
   follows_sent : (h : History) (m n : ℕ) (bytes : List ℕ) (fails : Bool) (q : Point) → q.counts ≡ h.point.counts → Follows n true h (moved h (at m (Sent n bytes fails)) q)
   follows_sent h m n bytes fails q counts = record {
-    first = refl; begin = refl; base = refl;
+    first = refl;
+    begin = refl;
+    base = refl;
     received = λ j. received_push j h.items (record { moment = m; deal = Sent n bytes fails });
     events = events_push h.items (record { moment = m; deal = Sent n bytes fails });
     live = live_push h.items (record { moment = m; deal = Sent n bytes fails });
@@ -78,14 +83,14 @@ module _ {D : Type 0} (view W : D → View) (leave leave' : D → Image → Type
   sent_after h d e n bytes close more keeps call phase adds faults =
       let q = in_phase h.point (if close then shutting n else acting n more) in
       let same : (view e).send_faults ≡ (view d).send_faults = ap (λ (v : View). v.send_faults) (one_view e) ∙ faults ∙ ap (λ (v : View). v.send_faults) (sym (one_view d)) in
-      let a = added h d e (Sent n bytes false) (λ m. q) keeps call adds (λ m behind. sent m n bytes close more phase behind refl refl refl) (λ m. refl) (λ m le. inl refl)
-            (λ m below. subst (λ (k : ℕ). h.point.failed ≤ k) (sym same) (keeps.blamed (subst (λ (k : ℕ). k < 2 ^ 64 - 1) same below))) in
-      record { later = moved h (at a.0 (Sent n bytes false)) q; keeps = a.2; follows = follows_sent h a.0 n bytes false q refl; point_is = refl }
+      let a = added h d e (Sent n bytes false) q keeps call adds (λ m behind. sent m n bytes close more phase behind refl refl refl) refl refl
+      (λ below. subst (λ (k : ℕ). h.point.failed ≤ k) (sym same) (keeps.blamed (subst (λ (k : ℕ). k < 2 ^ 64 - 1) same below))) in
+      record { later = moved h (at a.0 (Sent n bytes false)) q; keeps = a.1; follows = follows_sent h a.0 n bytes false q refl; point_is = refl }
 
   blame : (d e : D) (h : History) → Keeps view leave left_at h d → Rose (W d).send_faults (W e).send_faults → (view e).send_faults < 2 ^ 64 - 1 → h.point.failed + 1 ≤ (view e).send_faults
   blame d e h keeps rose below =
       let rises : (view d).send_faults < (view e).send_faults = seen_here view W leave leave' left_at left' one_view one_disk one_past (λ v w. v.send_faults < w.send_faults) d e
-            (rose.rose (λ last. absurd (let at : (view e).send_faults ≡ 2 ^ 64 - 1 = ap (λ (v : View). v.send_faults) (one_view e) ∙ last in omega (arith, at, below)))) in
+      (rose.rose (λ last. absurd (let at : (view e).send_faults ≡ 2 ^ 64 - 1 = ap (λ (v : View). v.send_faults) (one_view e) ∙ last in omega (arith, at, below)))) in
       let was = keeps.blamed (omega (arith, rises, below)) in
       omega (arith, was, rises)
 
@@ -93,9 +98,9 @@ module _ {D : Type 0} (view W : D → View) (leave leave' : D → Image → Type
       → Adds (Sent n (take k bytes) true) (W d) (W e) → Rose (W d).send_faults (W e).send_faults → After h n true e (behind_failure h.point (shutting n))
   failed_after h d e n k bytes close more keeps call phase adds rose =
       let q = behind_failure h.point (shutting n) in
-      let a = added h d e (Sent n (take k bytes) true) (λ m. q) keeps call adds (λ m behind. failed m n k bytes close more phase behind refl refl refl) (λ m. refl) (λ m le. inl refl)
-            (λ m below. blame d e h keeps rose below) in
-      record { later = moved h (at a.0 (Sent n (take k bytes) true)) q; keeps = a.2; follows = follows_sent h a.0 n (take k bytes) true q refl; point_is = refl }
+      let a = added h d e (Sent n (take k bytes) true) q keeps call adds (λ m behind. failed m n k bytes close more phase behind refl refl refl) refl refl
+      (λ below. blame d e h keeps rose below) in
+      record { later = moved h (at a.0 (Sent n (take k bytes) true)) q; keeps = a.1; follows = follows_sent h a.0 n (take k bytes) true q refl; point_is = refl }
 
   pub unsent_after : (h : History) (d e : D) (n : ℕ) (bytes : List ℕ) (close : Bool) (more : List WireItem) → Keeps view leave left_at h d → LinkCall d e → h.point.phase ≡ sending n bytes close more
       → (W e).transcript ≡ (W d).transcript → Rose (W d).send_faults (W e).send_faults → After h n true e (behind_failure h.point (shutting n))
@@ -103,10 +108,12 @@ module _ {D : Type 0} (view W : D → View) (leave leave' : D → Image → Type
       let q = behind_failure h.point (shutting n) in
       let time = elapses_here view W leave leave' left_at left' one_view one_disk one_past d e call.time in
       let same = same_here view W leave leave' left_at left' one_view one_disk one_past d e call.same in
-      let told : (view e).transcript ≡ Some ((h.base ++ h.items) ++ []) = ap (λ (v : View). v.transcript) (one_view e) ∙ still ∙ ap (λ (v : View). v.transcript) (sym (one_view d)) ∙ keeps.told ∙ ap (λ (l : List Item). Some l) (sym (append-nil (h.base ++ h.items))) in
-      let on = link_move view leave left_at h d e [] q keeps (unsent n bytes close more phase refl refl refl) refl (omega arith) told time same (calls_here d e call) (contents_here d e call) (let c = keeps.clock in let l = time.later in omega (arith, c, l)) (λ below. blame d e h keeps rose below) in
+      let told_is : (view e).transcript ≡ Some ((h.base ++ h.items) ++ []) = ap (λ (v : View). v.transcript) (one_view e) ∙ still ∙ ap (λ (v : View). v.transcript) (sym (one_view d)) ∙ keeps.told ∙ ap (λ (l : List Item). Some l) (sym (append-nil (h.base ++ h.items))) in
+      let on = link_move view leave left_at told h d e [] q keeps (unsent n bytes close more phase refl refl refl) refl (λ has. omega arith) told_is time same (calls_here d e call) (contents_here d e call)
+      (λ has. (let c = keeps.clock (told_here d e call has) in let l = time.later in omega (arith, c, l))) (λ below. blame d e h keeps rose below) in
       record {
-        later = moved h [] q; keeps = on;
+        later = moved h [] q;
+        keeps = on;
         follows = record { first = refl; begin = refl; base = refl; received = λ j. ap (received j) (append-nil h.items); events = ap events_in (append-nil h.items); live = ap live (append-nil h.items); counts = λ j other. refl };
         point_is = refl;
       }
@@ -116,12 +123,15 @@ module _ {D : Type 0} (view W : D → View) (leave leave' : D → Image → Type
   shut_after h d e n keeps call phase adds faults =
       let q = in_phase h.point idle in
       let same : (view e).send_faults ≡ (view d).send_faults = ap (λ (v : View). v.send_faults) (one_view e) ∙ faults ∙ ap (λ (v : View). v.send_faults) (sym (one_view d)) in
-      let a = added h d e (Shut n) (λ m. q) keeps call adds (λ m behind. shut m n phase refl refl refl) (λ m. refl) (λ m le. inl refl)
-            (λ m below. subst (λ (k : ℕ). h.point.failed ≤ k) (sym same) (keeps.blamed (subst (λ (k : ℕ). k < 2 ^ 64 - 1) same below))) in
+      let a = added h d e (Shut n) q keeps call adds (λ m behind. shut m n phase refl refl refl) refl refl
+      (λ below. subst (λ (k : ℕ). h.point.failed ≤ k) (sym same) (keeps.blamed (subst (λ (k : ℕ). k < 2 ^ 64 - 1) same below))) in
       record {
-        later = moved h (at a.0 (Shut n)) q; keeps = a.2;
+        later = moved h (at a.0 (Shut n)) q;
+        keeps = a.1;
         follows = record {
-          first = refl; begin = refl; base = refl;
+          first = refl;
+          begin = refl;
+          base = refl;
           received = λ j. received_push j h.items (record { moment = a.0; deal = Shut n });
           events = events_push h.items (record { moment = a.0; deal = Shut n });
           live = live_push h.items (record { moment = a.0; deal = Shut n });

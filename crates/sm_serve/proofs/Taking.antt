@@ -61,8 +61,8 @@ module _ {D : Type 0} (view : D → View) (leave : D → Image → Type 0) (left
             phase_is = r.phase_is;
             numbers = ap numbers_of lives ∙ set_numbers old i new within (number ∙ sym is) ∙ numbers ∙ sym same_live;
             resting = subst (λ (ls : List Live). AreResting k ls) (sym lives)
-              (rest_set h k n (others_after h k m n piece gives.from true gives.from_counts r.follows) old i new (distinct_numbers h old numbers) within is
-              (now_resting h k m n piece gives.from new r.follows number (gives.rests refl) (r.counts_are refl)) rest);
+                (rest_set h k n (others_after h k m n piece gives.from true gives.from_counts r.follows) old i new (distinct_numbers h old numbers) within is
+                (now_resting h k m n piece gives.from new r.follows number (gives.rests refl) (r.counts_are refl)) rest);
           };
         };
         since = record { first = r.follows.first; begin = r.follows.begin; base = r.follows.base };
@@ -84,7 +84,7 @@ module _ {D : Type 0} (view : D → View) (leave : D → Image → Type 0) (left
             phase_is = r.phase_is;
             numbers = ap numbers_of lives ∙ remove_numbers old i n (distinct_numbers h old numbers) within is ∙ ap (without n) numbers ∙ sym less_live;
             resting = subst (λ (ls : List Live). AreResting k ls) (sym lives)
-              (rest_remove h k n (others_after h k m n piece gives.from false gives.from_counts r.follows) old i (distinct_numbers h old numbers) within is rest);
+                (rest_remove h k n (others_after h k m n piece gives.from false gives.from_counts r.follows) old i (distinct_numbers h old numbers) within is rest);
           };
         };
         since = record { first = r.follows.first; begin = r.follows.begin; base = r.follows.base };
@@ -143,7 +143,7 @@ module _ {D : Type 0} (view : D → View) (leave : D → Image → Type 0) (left
             phase_is = r.phase_is;
             numbers = numbers ∙ sym same_live;
             resting = rest_others h k n (λ l other was. same_rest h k l (r.follows.received l.number ∙ began_others l.number n m h other) (r.follows.counts l.number other ∙ others l.number other) was)
-              state.lives.items (subst (λ (ns : List ℕ). is_among n ns ≡ false) (sym numbers) none) rest;
+                state.lives.items (subst (λ (ns : List ℕ). is_among n ns ≡ false) (sym numbers) none) rest;
           };
         };
         since = record { first = r.follows.first; begin = r.follows.begin; base = r.follows.base };
@@ -158,7 +158,7 @@ module _ {D : Type 0} (view : D → View) (leave : D → Image → Type 0) (left
       let k = r.later in
       let more_live : live k.items ≡ live h.items ++ n ∷ [] = r.follows.live ∙ began_live n m h none in
       let resting_old = rest_others h k n (λ l other was. same_rest h k l (r.follows.received l.number ∙ began_others l.number n m h other) (r.follows.counts l.number other ∙ others l.number other) was)
-              old (subst (λ (ns : List ℕ). is_among n ns ≡ false) (sym numbers) none) rest in
+      old (subst (λ (ns : List ℕ). is_among n ns ≡ false) (sym numbers) none) rest in
       let bytes : received new.number k.items ≡ [] = ap (λ (j : ℕ). received j k.items) born.number_is ∙ r.follows.received n ∙ began_itself n m h in
       let now : IsResting k new = record {
         rests = subst (λ (b : List ℕ). Rests new b) (sym bytes) born.rests;

@@ -1,5 +1,5 @@
 //! The body of a push that is open.
-ghost use Rattle.std.specs.Prelude.{is_some, ◌≡◌, ◌<◌, ◌≤◌, ◌+◌, [], ◌∷◌, ◌++◌, false, true, List, ℕ, Option, Some, None, Err, IfSome, IsTrue, if◌then◌else◌, map, length};
+ghost use Rattle.std.specs.Prelude.{is_some, ◌≡◌, ◌<◌, ◌≤◌, ◌+◌, [], ◌∷◌, ◌++◌, false, true, List, ℕ, Option, Some, None, IfSome, IsTrue, if◌then◌else◌, map, length};
 ghost use Rattle.sm_site.specs.Meanings.{IsLive};
 ghost use Rattle.sm_conn.specs.Parts.{PartItem, byte, ended};
 ghost use Rattle.sm_wire.specs.declared.item.WireItem.{WireItem};
@@ -7,7 +7,6 @@ ghost use Rattle.sm_wire.specs.declared.item.WireItem.TheVariants.{End};
 ghost use Rattle.sm_wire.specs.Wire.{Left};
 ghost use Rattle.sm_origin.specs.declared.origin.Origin.{Origin};
 ghost use Rattle.sm_origin.specs.Machine.{Machine};
-ghost use Rattle.sm_push.specs.declared.fault.PushFault.TheVariants.{Failed};
 ghost use Rattle.sm_serve.specs.Pushes.{GivesValid};
 ghost use Rattle.sm_serve.specs.Run.{idle, acting};
 ghost use Rattle.sm_serve.specs.Standing.{History, StandsOn, Keeps, Reaches};
@@ -26,13 +25,14 @@ use std::alloc::Global;
 
 /// Feeds the push that is open.
 fn feed(push: &mut Option<OpenPush>, bytes: &[u8]) -> Result<Items, PushFault>
+    requires open { is_some push.old ≡ true }
     ensures fed { (b : List ℕ) → PlaceIs push.old (Some b) → FedPush b bytes.now push.new result }
     ensures valid { GivesValid result }
-    ensures none { push.old ≡ None → result ≡ Err Failed }
+    ensures open { is_some push.new ≡ true }
 {
     match push {
         Some(push) => push.feed(bytes),
-        None => Err(PushFault::Failed),
+        None => unreachable!(),
     }
 }
 
@@ -67,13 +67,15 @@ fn take_chunk<S: Site>(
     bytes: &[u8],
 ) -> bool
     requires stands { (m : Machine) × StandsOn S.Disk.view S.Disk.may_leave m origin.old site.old }
+    requires open { is_some live.old.push ≡ true }
     requires live { IfSome (S.Disk.view site.old).transcript (IsLive live.old.number) }
-    ensures goes_on { (h : History) (place : Option (List ℕ)) (more : List PartItem) (items : List WireItem) → Keeps S.Disk.view S.Disk.may_leave S.Disk.left_at h site.old
-        → StandsOn S.Disk.view S.Disk.may_leave h.point.machine origin.old site.old → PlaceIs live.old.push place → Left place (map (λ x. byte x) bytes.now ++ more) items
+    ensures goes_on { (h : History) (b : List ℕ) (more : List PartItem) (items : List WireItem) → Keeps S.Disk.view S.Disk.may_leave S.Disk.left_at h site.old
+        → StandsOn S.Disk.view S.Disk.may_leave h.point.machine origin.old site.old → PlaceIs live.old.push (Some b) → Left (Some b) (map (λ x. byte x) bytes.now ++ more) items
         → h.point.phase ≡ acting live.old.number items → h.point.counts live.old.number ≡ counts_of live.old
-        → PartGives S.Disk.view S.Disk.may_leave S.Disk.left_at h live.old.number result live.new.push (counts_of live.new) place (map (λ x. byte x) bytes.now) more origin.new site.new }
+        → PartGives S.Disk.view S.Disk.may_leave S.Disk.left_at h live.old.number result live.new.push (counts_of live.new) (Some b) (map (λ x. byte x) bytes.now) more origin.new site.new }
     ensures stands { (m : Machine) × StandsOn S.Disk.view S.Disk.may_leave m origin.new site.new }
     ensures open { IsTrue result → IfSome (S.Disk.view site.new).transcript (IsLive live.old.number) }
+    ensures push { IsTrue result → is_some live.new.push ≡ true }
     ensures same { SameConn live.old live.new }
     ensures told { is_some (S.Disk.view site.new).transcript ≡ is_some (S.Disk.view site.old).transcript }
 {
@@ -101,13 +103,15 @@ pub(crate) fn take_body<S: Site>(
     bytes: &[u8],
 ) -> bool
     requires stands { (m : Machine) × StandsOn S.Disk.view S.Disk.may_leave m origin.old site.old }
+    requires open { is_some live.old.push ≡ true }
     requires live { IfSome (S.Disk.view site.old).transcript (IsLive live.old.number) }
-    ensures goes_on { (h : History) (place : Option (List ℕ)) (more : List PartItem) (items : List WireItem) → Keeps S.Disk.view S.Disk.may_leave S.Disk.left_at h site.old
-        → StandsOn S.Disk.view S.Disk.may_leave h.point.machine origin.old site.old → PlaceIs live.old.push place → Left place (map (λ x. byte x) bytes.now ++ more) items
+    ensures goes_on { (h : History) (b : List ℕ) (more : List PartItem) (items : List WireItem) → Keeps S.Disk.view S.Disk.may_leave S.Disk.left_at h site.old
+        → StandsOn S.Disk.view S.Disk.may_leave h.point.machine origin.old site.old → PlaceIs live.old.push (Some b) → Left (Some b) (map (λ x. byte x) bytes.now ++ more) items
         → h.point.phase ≡ acting live.old.number items → h.point.counts live.old.number ≡ counts_of live.old
-        → PartGives S.Disk.view S.Disk.may_leave S.Disk.left_at h live.old.number result live.new.push (counts_of live.new) place (map (λ x. byte x) bytes.now) more origin.new site.new }
+        → PartGives S.Disk.view S.Disk.may_leave S.Disk.left_at h live.old.number result live.new.push (counts_of live.new) (Some b) (map (λ x. byte x) bytes.now) more origin.new site.new }
     ensures stands { (m : Machine) × StandsOn S.Disk.view S.Disk.may_leave m origin.new site.new }
     ensures open { IsTrue result → IfSome (S.Disk.view site.new).transcript (IsLive live.old.number) }
+    ensures push { IsTrue result → is_some live.new.push ≡ true }
     ensures same { SameConn live.old live.new }
     ensures told { is_some (S.Disk.view site.new).transcript ≡ is_some (S.Disk.view site.old).transcript }
 {
@@ -143,7 +147,7 @@ pub(crate) fn take_end<S: Site>(
     ensures told { is_some (S.Disk.view site.new).transcript ≡ is_some (S.Disk.view site.old).transcript }
 {
     match end(&mut live.push) {
-        Ok(()) => end_push(site, origin, live, close),
+        Ok(()) => end_push(alloc, site, origin, live, close),
         Err(PushFault::Refused { before: _, refusal }) => act_on(
             alloc,
             site,

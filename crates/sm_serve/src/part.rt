@@ -44,6 +44,7 @@ fn take_inside<S: Site>(
     part: Part,
 ) -> bool
     requires stands { (m : Machine) × StandsOn S.Disk.view S.Disk.may_leave m origin.old site.old }
+    requires open { is_some live.old.push ≡ true }
     requires live { IfSome (S.Disk.view site.old).transcript (IsLive live.old.number) }
     ensures goes_on { (h : History) (b : List ℕ) (more : List PartItem) (items : List WireItem) → Keeps S.Disk.view S.Disk.may_leave S.Disk.left_at h site.old
         → StandsOn S.Disk.view S.Disk.may_leave h.point.machine origin.old site.old → PlaceIs live.old.push (Some b) → Left (Some b) (items_of part ++ more) items

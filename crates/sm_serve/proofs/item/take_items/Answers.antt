@@ -33,8 +33,8 @@ returns-then-not-take_item-clause-goes_on g c h more keeps stands phase counts =
     let was = c.loop-item.invariant.goes_on h more keeps stands phase counts in
     let next = ap (acting n) (next_shown items i c.in-Some.item more t.0 t.1) in
     let go = go_from V A L c.loop-item.live.number n c.loop-item.site c.take_item.new.site c.loop-item.origin c.take_item.new.origin (λ m. acting m (shown_item c.in-Some.item ∷ rest)) (λ m. if false then acting m rest else idle)
-             (counts_of c.loop-item.live) (counts_of c.take_item.new.live) false c.loop-item.invariant.same.number
-             (λ k kk ks kp kc. c.if-not-take_item.ensures.goes_on k rest kk ks kp kc) in
+    (counts_of c.loop-item.live) (counts_of c.take_item.new.live) false c.loop-item.invariant.same.number
+    (λ k kk ks kp kc. c.if-not-take_item.ensures.goes_on k rest kk ks kp kc) in
     goes_then V A L h n _ idle _ _ c.loop-item.origin c.take_item.new.origin c.loop-item.site c.take_item.new.site false was (λ k kk ks kp kc. go k kk ks (kp ∙ next) kc)
 
 pub loop-item-preserved : goal.loop-item-preserved
@@ -57,8 +57,8 @@ loop-item-preserved g c =
           let was = c.loop-item.invariant.goes_on h more keeps stands phase counts in
           let next = ap (acting n) (next_shown items i c.in-Some.item more t.0 t.1) in
           let go = go_from V A L c.loop-item.live.number n c.loop-item.site c.take_item.new.site c.loop-item.origin c.take_item.new.origin (λ m. acting m (shown_item c.in-Some.item ∷ rest)) (λ m. if true then acting m rest else idle)
-                   (counts_of c.loop-item.live) (counts_of c.take_item.new.live) true c.loop-item.invariant.same.number
-                   (λ k kk ks kp kc. c.if-not-take_item.ensures.goes_on k rest kk ks kp kc) in
+          (counts_of c.loop-item.live) (counts_of c.take_item.new.live) true c.loop-item.invariant.same.number
+          (λ k kk ks kp kc. c.if-not-take_item.ensures.goes_on k rest kk ks kp kc) in
           let at : length (c.loop-item.yielded ++ c.in-Some.item ∷ []) ≡ i + 1 = length_push c.loop-item.yielded c.in-Some.item in
           subst (λ (j : ℕ). Reaches V A L h n true (acting n (map shown_item (drop j items) ++ more)) (counts_of c.take_item.new.live) c.take_item.new.origin c.take_item.new.site) (sym at)
           (goes_then V A L h n _ (acting n rest) _ _ c.loop-item.origin c.take_item.new.origin c.loop-item.site c.take_item.new.site true was (λ k kk ks kp kc. go k kk ks (kp ∙ next) kc));

@@ -44,9 +44,9 @@ returns-then-not-take_part-clause-goes_on g c h place more items keeps stands is
     let x = c.in-Some.part in
     let rest = joined (drop (i + 1) parts) ++ more in
     let one = subst (λ (qs : List PartItem). StaysOpen V A L h n c.loop-part.live.push (counts_of c.loop-part.live) place (joined (take i parts)) qs c.loop-part.origin c.loop-part.site) (joined_drop parts i x more t.0 t.1)
-        (c.loop-part.invariant.goes_on h place more items keeps stands is left phase counts) in
+    (c.loop-part.invariant.goes_on h place more items keeps stands is left phase counts) in
     let T : ℕ → Type 0 = λ m. (k : History) → Keeps V A L k c.loop-part.site → StandsOn V A k.point.machine c.loop-part.origin c.loop-part.site → k.point.phase ≡ acting m one.left → k.point.counts m ≡ counts_of c.loop-part.live
-        → PartGives V A L k m false c.take_part.new.live.push (counts_of c.take_part.new.live) one.after (items_of x) rest c.take_part.new.origin c.take_part.new.site in
+    → PartGives V A L k m false c.take_part.new.live.push (counts_of c.take_part.new.live) one.after (items_of x) rest c.take_part.new.origin c.take_part.new.site in
     let go : T c.loop-part.live.number = λ k kk ks kp kc. c.if-not-take_part.ensures.goes_on k one.after rest one.left kk ks one.after_is one.left_is kp kc in
     then_gives V A L h n false c.loop-part.live.push c.take_part.new.live.push (counts_of c.loop-part.live) (counts_of c.take_part.new.live) place (joined (take i parts)) (items_of x) rest c.loop-part.origin c.take_part.new.origin c.loop-part.site c.take_part.new.site one
     (subst T c.loop-part.invariant.same.number go)
@@ -70,12 +70,12 @@ loop-part-preserved g c =
       goes_on = λ h place more items keeps stands is left phase counts.
           let rest = joined (drop (i + 1) parts) ++ more in
           let one = subst (λ (qs : List PartItem). StaysOpen V A L h n c.loop-part.live.push (counts_of c.loop-part.live) place (joined (take i parts)) qs c.loop-part.origin c.loop-part.site) (joined_drop parts i x more t.0 t.1)
-              (c.loop-part.invariant.goes_on h place more items keeps stands is left phase counts) in
+          (c.loop-part.invariant.goes_on h place more items keeps stands is left phase counts) in
           let T : ℕ → Type 0 = λ m. (k : History) → Keeps V A L k c.loop-part.site → StandsOn V A k.point.machine c.loop-part.origin c.loop-part.site → k.point.phase ≡ acting m one.left → k.point.counts m ≡ counts_of c.loop-part.live
-              → PartGives V A L k m true c.take_part.new.live.push (counts_of c.take_part.new.live) one.after (items_of x) rest c.take_part.new.origin c.take_part.new.site in
+          → PartGives V A L k m true c.take_part.new.live.push (counts_of c.take_part.new.live) one.after (items_of x) rest c.take_part.new.origin c.take_part.new.site in
           let go : T c.loop-part.live.number = λ k kk ks kp kc. c.if-not-take_part.ensures.goes_on k one.after rest one.left kk ks one.after_is one.left_is kp kc in
           let all = then_gives V A L h n true c.loop-part.live.push c.take_part.new.live.push (counts_of c.loop-part.live) (counts_of c.take_part.new.live) place (joined (take i parts)) (items_of x) rest c.loop-part.origin c.take_part.new.origin c.loop-part.site c.take_part.new.site one
-              (subst T c.loop-part.invariant.same.number go) in
+          (subst T c.loop-part.invariant.same.number go) in
           let at : length (c.loop-part.yielded ++ x ∷ []) ≡ i + 1 = length_push c.loop-part.yielded x in
           subst (λ (j : ℕ). StaysOpen V A L h n c.take_part.new.live.push (counts_of c.take_part.new.live) place (joined (take j parts)) (joined (drop j parts) ++ more) c.take_part.new.origin c.take_part.new.site) (sym at)
           (subst (λ (ps : List PartItem). StaysOpen V A L h n c.take_part.new.live.push (counts_of c.take_part.new.live) place ps rest c.take_part.new.origin c.take_part.new.site) (sym (joined_take parts i x t.0 t.1)) all);

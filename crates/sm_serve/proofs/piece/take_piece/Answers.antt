@@ -44,7 +44,7 @@ returns-in-Err-clause-goes_on g c h m pending stands phase is_live counts rests 
       from = at_event h.point (sending n NO_MEMORY.now true []) m;
       from_counts = refl;
       reaches = subst (λ (b : Bool). Reaches V A L k n b idle (counts_of c.args.live.now) c.args.origin.now c.tell.new.site) (sym shut)
-        (closed_counts V A L k n idle _ (counts_of c.args.live.now) c.args.origin.now c.tell.new.site
-        (subst (λ (b : Bool). Reaches V A L k n b (if b then acting n [] else idle) (k.point.counts n) c.args.origin.now c.tell.new.site) shut told));
+          (closed_counts V A L k n idle _ (counts_of c.args.live.now) c.args.origin.now c.tell.new.site
+          (subst (λ (b : Bool). Reaches V A L k n b (if b then acting n [] else idle) (k.point.counts n) c.args.origin.now c.tell.new.site) shut told));
       rests = λ t. absurd (let both : false ≡ true = sym shut ∙ t in cc);
     }

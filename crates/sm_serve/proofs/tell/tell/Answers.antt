@@ -23,9 +23,11 @@ close-requires-in-Err g c =
     let d = c.args.site.now in
     let e = c.send.new.self in
     let part : ((k : ℕ) × (k ≤ length c.args.bytes.now) × Adds (Sent c.args.number (take k c.args.bytes.now) true) (W d) (W e)) ⊎ ((W e).transcript ≡ (W d).transcript) = search rules in
-    record { live = ⊎_elim
-      (λ (p : (k : ℕ) × (k ≤ length c.args.bytes.now) × Adds (Sent c.args.number (take k c.args.bytes.now) true) (W d) (W e)). stays_live (g.S.Link.view c.args.site.now) (g.S.Link.view c.send.new.self) c.args.number (Sent c.args.number (take p.0 c.args.bytes.now) true) (λ was t. t) live p.2)
-      (λ (same : (W e).transcript ≡ (W d).transcript). subst (λ (o : _). IfSome o (IsLive c.args.number)) (sym same) live) part }
+    record {
+      live = ⊎_elim
+          (λ (p : (k : ℕ) × (k ≤ length c.args.bytes.now) × Adds (Sent c.args.number (take k c.args.bytes.now) true) (W d) (W e)). stays_live (g.S.Link.view c.args.site.now) (g.S.Link.view c.send.new.self) c.args.number (Sent c.args.number (take p.0 c.args.bytes.now) true) (λ was t. t) live p.2)
+          (λ (same : (W e).transcript ≡ (W d).transcript). subst (λ (o : _). IfSome o (IsLive c.args.number)) (sym same) live) part;
+    }
 
 pub returns-else-close-clause-open : goal.returns-else-close-clause-open
 returns-else-close-clause-open g c open_ =
@@ -42,13 +44,13 @@ returns-else-close-clause-goes_on g c h more origin keeps stands phase =
     let n = c.args.number in
     let adds : Adds (Sent n c.args.bytes.now false) (W d) (W e) = search rules in
     let faults : (W e).send_faults ≡ (W d).send_faults = search rules in
-    let call : LinkCall V W g.S.Disk.may_leave g.S.Link.may_leave g.S.Disk.left_at g.S.Link.left_at g.met.S.Site.one_view g.met.S.Site.one_disk g.met.S.Site.one_past d e = record { time = c.send.ensures.time; same = c.send.ensures.crash; disk = c.send.ensures.disk } in
+    let call : LinkCall V W g.S.Disk.may_leave g.S.Link.may_leave g.S.Disk.left_at g.S.Link.left_at g.met.S.Site.one_view g.met.S.Site.one_disk g.met.S.Site.one_past g.met.S.Disk.told d e = record { time = c.send.ensures.time; same = c.send.ensures.crash; disk = c.send.ensures.disk } in
     let same = same_here V W g.S.Disk.may_leave g.S.Link.may_leave g.S.Disk.left_at g.S.Link.left_at g.met.S.Site.one_view g.met.S.Site.one_disk g.met.S.Site.one_past d e c.send.ensures.crash in
-    let a = sent_after V W g.S.Disk.may_leave g.S.Link.may_leave g.S.Disk.left_at g.S.Link.left_at g.met.S.Site.one_view g.met.S.Site.one_disk g.met.S.Site.one_past h d e n c.args.bytes.now c.args.close more keeps call phase adds faults in
+    let a = sent_after V W g.S.Disk.may_leave g.S.Link.may_leave g.S.Disk.left_at g.S.Link.left_at g.met.S.Site.one_view g.met.S.Site.one_disk g.met.S.Site.one_past g.met.S.Disk.told h d e n c.args.bytes.now c.args.close more keeps call phase adds faults in
     let q = in_phase h.point (acting n more) in
     let is : a.later.point ≡ q = a.point_is ∙ ap (λ (b : Bool). in_phase h.point (if b then shutting n else acting n more)) c.if-close.false in
     reached V g.S.Disk.may_leave g.S.Disk.left_at h a.later n true e q origin a.keeps a.follows is refl refl
-    (c.fewer_images_stand.ensures h.point.machine origin d e stands (contents_here V W g.S.Disk.may_leave g.S.Link.may_leave g.S.Disk.left_at g.S.Link.left_at g.met.S.Site.one_view g.met.S.Site.one_disk g.met.S.Site.one_past d e call) (λ image left. (same image).0 left))
+    (c.fewer_images_stand.ensures h.point.machine origin d e stands (contents_here V W g.S.Disk.may_leave g.S.Link.may_leave g.S.Disk.left_at g.S.Link.left_at g.met.S.Site.one_view g.met.S.Site.one_disk g.met.S.Site.one_past g.met.S.Disk.told d e call) (λ image left. (same image).0 left))
 
 pub returns-then-close-clause-goes_on : goal.returns-then-close-clause-goes_on
 returns-then-close-clause-goes_on g c h more origin keeps stands phase =
@@ -60,16 +62,16 @@ returns-then-close-clause-goes_on g c h more origin keeps stands phase =
     let n = c.args.number in
     let adds : Adds (Sent n c.args.bytes.now false) (W d) (W e) = search rules in
     let faults : (W e).send_faults ≡ (W d).send_faults = search rules in
-    let call : LinkCall V W g.S.Disk.may_leave g.S.Link.may_leave g.S.Disk.left_at g.S.Link.left_at g.met.S.Site.one_view g.met.S.Site.one_disk g.met.S.Site.one_past d e = record { time = c.send.ensures.time; same = c.send.ensures.crash; disk = c.send.ensures.disk } in
+    let call : LinkCall V W g.S.Disk.may_leave g.S.Link.may_leave g.S.Disk.left_at g.S.Link.left_at g.met.S.Site.one_view g.met.S.Site.one_disk g.met.S.Site.one_past g.met.S.Disk.told d e = record { time = c.send.ensures.time; same = c.send.ensures.crash; disk = c.send.ensures.disk } in
     let same = same_here V W g.S.Disk.may_leave g.S.Link.may_leave g.S.Disk.left_at g.S.Link.left_at g.met.S.Site.one_view g.met.S.Site.one_disk g.met.S.Site.one_past d e c.send.ensures.crash in
-    let call2 : LinkCall V W g.S.Disk.may_leave g.S.Link.may_leave g.S.Disk.left_at g.S.Link.left_at g.met.S.Site.one_view g.met.S.Site.one_disk g.met.S.Site.one_past e f = record { time = c.close.ensures.time; same = c.close.ensures.crash; disk = c.close.ensures.disk } in
+    let call2 : LinkCall V W g.S.Disk.may_leave g.S.Link.may_leave g.S.Disk.left_at g.S.Link.left_at g.met.S.Site.one_view g.met.S.Site.one_disk g.met.S.Site.one_past g.met.S.Disk.told e f = record { time = c.close.ensures.time; same = c.close.ensures.crash; disk = c.close.ensures.disk } in
     let same2 = same_here V W g.S.Disk.may_leave g.S.Link.may_leave g.S.Disk.left_at g.S.Link.left_at g.met.S.Site.one_view g.met.S.Site.one_disk g.met.S.Site.one_past e f c.close.ensures.crash in
-    let a = sent_after V W g.S.Disk.may_leave g.S.Link.may_leave g.S.Disk.left_at g.S.Link.left_at g.met.S.Site.one_view g.met.S.Site.one_disk g.met.S.Site.one_past h d e n c.args.bytes.now c.args.close more keeps call phase adds faults in
+    let a = sent_after V W g.S.Disk.may_leave g.S.Link.may_leave g.S.Disk.left_at g.S.Link.left_at g.met.S.Site.one_view g.met.S.Site.one_disk g.met.S.Site.one_past g.met.S.Disk.told h d e n c.args.bytes.now c.args.close more keeps call phase adds faults in
     let q = in_phase h.point (if c.args.close then shutting n else acting n more) in
     let shuts : q.phase ≡ shutting n = ap (λ (b : Bool). if b then shutting n else acting n more) c.if-close.true in
-    let s = then_shut V W g.S.Disk.may_leave g.S.Link.may_leave g.S.Disk.left_at g.S.Link.left_at g.met.S.Site.one_view g.met.S.Site.one_disk g.met.S.Site.one_past h e f n q a shuts call2 c.close.ensures.shut c.close.ensures.send_faults in
+    let s = then_shut V W g.S.Disk.may_leave g.S.Link.may_leave g.S.Disk.left_at g.S.Link.left_at g.met.S.Site.one_view g.met.S.Site.one_disk g.met.S.Site.one_past g.met.S.Disk.told h e f n q a shuts call2 c.close.ensures.shut c.close.ensures.send_faults in
     reached V g.S.Disk.may_leave g.S.Disk.left_at h s.later n false f (in_phase q idle) origin s.keeps s.follows s.point_is refl refl
-    (c.fewer_images_stand.ensures h.point.machine origin d f stands (contents_here V W g.S.Disk.may_leave g.S.Link.may_leave g.S.Disk.left_at g.S.Link.left_at g.met.S.Site.one_view g.met.S.Site.one_disk g.met.S.Site.one_past e f call2 ∙ contents_here V W g.S.Disk.may_leave g.S.Link.may_leave g.S.Disk.left_at g.S.Link.left_at g.met.S.Site.one_view g.met.S.Site.one_disk g.met.S.Site.one_past d e call)
+    (c.fewer_images_stand.ensures h.point.machine origin d f stands (contents_here V W g.S.Disk.may_leave g.S.Link.may_leave g.S.Disk.left_at g.S.Link.left_at g.met.S.Site.one_view g.met.S.Site.one_disk g.met.S.Site.one_past g.met.S.Disk.told e f call2 ∙ contents_here V W g.S.Disk.may_leave g.S.Link.may_leave g.S.Disk.left_at g.S.Link.left_at g.met.S.Site.one_view g.met.S.Site.one_disk g.met.S.Site.one_past g.met.S.Disk.told d e call)
     (λ image left. (same image).0 ((same2 image).0 left)))
 
 pub returns-in-Err-clause-goes_on : goal.returns-in-Err-clause-goes_on
@@ -82,17 +84,17 @@ returns-in-Err-clause-goes_on g c h more origin keeps stands phase =
     let n = c.args.number in
     let part : ((k : ℕ) × (k ≤ length c.args.bytes.now) × Adds (Sent n (take k c.args.bytes.now) true) (W d) (W e)) ⊎ ((W e).transcript ≡ (W d).transcript) = search rules in
     let rose : Rose (W d).send_faults (W e).send_faults = search rules in
-    let call : LinkCall V W g.S.Disk.may_leave g.S.Link.may_leave g.S.Disk.left_at g.S.Link.left_at g.met.S.Site.one_view g.met.S.Site.one_disk g.met.S.Site.one_past d e = record { time = c.send.ensures.time; same = c.send.ensures.crash; disk = c.send.ensures.disk } in
+    let call : LinkCall V W g.S.Disk.may_leave g.S.Link.may_leave g.S.Disk.left_at g.S.Link.left_at g.met.S.Site.one_view g.met.S.Site.one_disk g.met.S.Site.one_past g.met.S.Disk.told d e = record { time = c.send.ensures.time; same = c.send.ensures.crash; disk = c.send.ensures.disk } in
     let same = same_here V W g.S.Disk.may_leave g.S.Link.may_leave g.S.Disk.left_at g.S.Link.left_at g.met.S.Site.one_view g.met.S.Site.one_disk g.met.S.Site.one_past d e c.send.ensures.crash in
-    let call2 : LinkCall V W g.S.Disk.may_leave g.S.Link.may_leave g.S.Disk.left_at g.S.Link.left_at g.met.S.Site.one_view g.met.S.Site.one_disk g.met.S.Site.one_past e f = record { time = c.close-in-Err.ensures.time; same = c.close-in-Err.ensures.crash; disk = c.close-in-Err.ensures.disk } in
+    let call2 : LinkCall V W g.S.Disk.may_leave g.S.Link.may_leave g.S.Disk.left_at g.S.Link.left_at g.met.S.Site.one_view g.met.S.Site.one_disk g.met.S.Site.one_past g.met.S.Disk.told e f = record { time = c.close-in-Err.ensures.time; same = c.close-in-Err.ensures.crash; disk = c.close-in-Err.ensures.disk } in
     let same2 = same_here V W g.S.Disk.may_leave g.S.Link.may_leave g.S.Disk.left_at g.S.Link.left_at g.met.S.Site.one_view g.met.S.Site.one_disk g.met.S.Site.one_past e f c.close-in-Err.ensures.crash in
     let q = behind_failure h.point (shutting n) in
-    let a : After V W g.S.Disk.may_leave g.S.Link.may_leave g.S.Disk.left_at g.S.Link.left_at g.met.S.Site.one_view g.met.S.Site.one_disk g.met.S.Site.one_past h n true e q = ⊎_elim
-      (λ (p : (k : ℕ) × (k ≤ length c.args.bytes.now) × Adds (Sent n (take k c.args.bytes.now) true) (W d) (W e)). failed_after V W g.S.Disk.may_leave g.S.Link.may_leave g.S.Disk.left_at g.S.Link.left_at g.met.S.Site.one_view g.met.S.Site.one_disk g.met.S.Site.one_past h d e n p.0 c.args.bytes.now c.args.close more keeps call phase p.2 rose)
-      (λ (still : (W e).transcript ≡ (W d).transcript). unsent_after V W g.S.Disk.may_leave g.S.Link.may_leave g.S.Disk.left_at g.S.Link.left_at g.met.S.Site.one_view g.met.S.Site.one_disk g.met.S.Site.one_past h d e n c.args.bytes.now c.args.close more keeps call phase still rose) part in
-    let s = then_shut V W g.S.Disk.may_leave g.S.Link.may_leave g.S.Disk.left_at g.S.Link.left_at g.met.S.Site.one_view g.met.S.Site.one_disk g.met.S.Site.one_past h e f n q a refl call2 c.close-in-Err.ensures.shut c.close-in-Err.ensures.send_faults in
+    let a : After V W g.S.Disk.may_leave g.S.Link.may_leave g.S.Disk.left_at g.S.Link.left_at g.met.S.Site.one_view g.met.S.Site.one_disk g.met.S.Site.one_past g.met.S.Disk.told h n true e q = ⊎_elim
+    (λ (p : (k : ℕ) × (k ≤ length c.args.bytes.now) × Adds (Sent n (take k c.args.bytes.now) true) (W d) (W e)). failed_after V W g.S.Disk.may_leave g.S.Link.may_leave g.S.Disk.left_at g.S.Link.left_at g.met.S.Site.one_view g.met.S.Site.one_disk g.met.S.Site.one_past g.met.S.Disk.told h d e n p.0 c.args.bytes.now c.args.close more keeps call phase p.2 rose)
+    (λ (still : (W e).transcript ≡ (W d).transcript). unsent_after V W g.S.Disk.may_leave g.S.Link.may_leave g.S.Disk.left_at g.S.Link.left_at g.met.S.Site.one_view g.met.S.Site.one_disk g.met.S.Site.one_past g.met.S.Disk.told h d e n c.args.bytes.now c.args.close more keeps call phase still rose) part in
+    let s = then_shut V W g.S.Disk.may_leave g.S.Link.may_leave g.S.Disk.left_at g.S.Link.left_at g.met.S.Site.one_view g.met.S.Site.one_disk g.met.S.Site.one_past g.met.S.Disk.told h e f n q a refl call2 c.close-in-Err.ensures.shut c.close-in-Err.ensures.send_faults in
     reached V g.S.Disk.may_leave g.S.Disk.left_at h s.later n false f (in_phase q idle) origin s.keeps s.follows s.point_is refl refl
-    (c.fewer_images_stand.ensures h.point.machine origin d f stands (contents_here V W g.S.Disk.may_leave g.S.Link.may_leave g.S.Disk.left_at g.S.Link.left_at g.met.S.Site.one_view g.met.S.Site.one_disk g.met.S.Site.one_past e f call2 ∙ contents_here V W g.S.Disk.may_leave g.S.Link.may_leave g.S.Disk.left_at g.S.Link.left_at g.met.S.Site.one_view g.met.S.Site.one_disk g.met.S.Site.one_past d e call)
+    (c.fewer_images_stand.ensures h.point.machine origin d f stands (contents_here V W g.S.Disk.may_leave g.S.Link.may_leave g.S.Disk.left_at g.S.Link.left_at g.met.S.Site.one_view g.met.S.Site.one_disk g.met.S.Site.one_past g.met.S.Disk.told e f call2 ∙ contents_here V W g.S.Disk.may_leave g.S.Link.may_leave g.S.Disk.left_at g.S.Link.left_at g.met.S.Site.one_view g.met.S.Site.one_disk g.met.S.Site.one_past g.met.S.Disk.told d e call)
     (λ image left. (same image).0 ((same2 image).0 left)))
 
 pub returns-else-close-clause-told : goal.returns-else-close-clause-told
@@ -114,8 +116,8 @@ returns-in-Err-clause-told g c =
     let e = c.send.new.self in
     let part : ((k : ℕ) × (k ≤ length c.args.bytes.now) × Adds (Sent c.args.number (take k c.args.bytes.now) true) (W d) (W e)) ⊎ ((W e).transcript ≡ (W d).transcript) = search rules in
     let sends : is_some (W e).transcript ≡ is_some (W d).transcript = ⊎_elim
-      (λ (p : (k : ℕ) × (k ≤ length c.args.bytes.now) × Adds (Sent c.args.number (take k c.args.bytes.now) true) (W d) (W e)). adds_told (W d) (W e) (Sent c.args.number (take p.0 c.args.bytes.now) true) p.2)
-      (λ (still : (W e).transcript ≡ (W d).transcript). ap is_some still) part in
+    (λ (p : (k : ℕ) × (k ≤ length c.args.bytes.now) × Adds (Sent c.args.number (take k c.args.bytes.now) true) (W d) (W e)). adds_told (W d) (W e) (Sent c.args.number (take p.0 c.args.bytes.now) true) p.2)
+    (λ (still : (W e).transcript ≡ (W d).transcript). ap is_some still) part in
     told_here g.S.Disk.view W g.met.S.Site.one_view d c.close-in-Err.new.self (adds_told (W e) (W c.close-in-Err.new.self) (Shut c.args.number) c.close-in-Err.ensures.shut ∙ sends)
 
 pub returns-else-close-clause-contents : goal.returns-else-close-clause-contents
@@ -124,8 +126,8 @@ returns-else-close-clause-contents g c =
     let W = g.S.Link.view in
     let d = c.args.site.now in
     let e = c.send.new.self in
-    let call : LinkCall V W g.S.Disk.may_leave g.S.Link.may_leave g.S.Disk.left_at g.S.Link.left_at g.met.S.Site.one_view g.met.S.Site.one_disk g.met.S.Site.one_past d e = record { time = c.send.ensures.time; same = c.send.ensures.crash; disk = c.send.ensures.disk } in
-    contents_here V W g.S.Disk.may_leave g.S.Link.may_leave g.S.Disk.left_at g.S.Link.left_at g.met.S.Site.one_view g.met.S.Site.one_disk g.met.S.Site.one_past d e call
+    let call : LinkCall V W g.S.Disk.may_leave g.S.Link.may_leave g.S.Disk.left_at g.S.Link.left_at g.met.S.Site.one_view g.met.S.Site.one_disk g.met.S.Site.one_past g.met.S.Disk.told d e = record { time = c.send.ensures.time; same = c.send.ensures.crash; disk = c.send.ensures.disk } in
+    contents_here V W g.S.Disk.may_leave g.S.Link.may_leave g.S.Disk.left_at g.S.Link.left_at g.met.S.Site.one_view g.met.S.Site.one_disk g.met.S.Site.one_past g.met.S.Disk.told d e call
 
 pub returns-then-close-clause-contents : goal.returns-then-close-clause-contents
 returns-then-close-clause-contents g c =
@@ -134,9 +136,9 @@ returns-then-close-clause-contents g c =
     let d = c.args.site.now in
     let e = c.send.new.self in
     let f = c.close.new.self in
-    let call : LinkCall V W g.S.Disk.may_leave g.S.Link.may_leave g.S.Disk.left_at g.S.Link.left_at g.met.S.Site.one_view g.met.S.Site.one_disk g.met.S.Site.one_past d e = record { time = c.send.ensures.time; same = c.send.ensures.crash; disk = c.send.ensures.disk } in
-    let call2 : LinkCall V W g.S.Disk.may_leave g.S.Link.may_leave g.S.Disk.left_at g.S.Link.left_at g.met.S.Site.one_view g.met.S.Site.one_disk g.met.S.Site.one_past e f = record { time = c.close.ensures.time; same = c.close.ensures.crash; disk = c.close.ensures.disk } in
-    contents_here V W g.S.Disk.may_leave g.S.Link.may_leave g.S.Disk.left_at g.S.Link.left_at g.met.S.Site.one_view g.met.S.Site.one_disk g.met.S.Site.one_past e f call2 ∙ contents_here V W g.S.Disk.may_leave g.S.Link.may_leave g.S.Disk.left_at g.S.Link.left_at g.met.S.Site.one_view g.met.S.Site.one_disk g.met.S.Site.one_past d e call
+    let call : LinkCall V W g.S.Disk.may_leave g.S.Link.may_leave g.S.Disk.left_at g.S.Link.left_at g.met.S.Site.one_view g.met.S.Site.one_disk g.met.S.Site.one_past g.met.S.Disk.told d e = record { time = c.send.ensures.time; same = c.send.ensures.crash; disk = c.send.ensures.disk } in
+    let call2 : LinkCall V W g.S.Disk.may_leave g.S.Link.may_leave g.S.Disk.left_at g.S.Link.left_at g.met.S.Site.one_view g.met.S.Site.one_disk g.met.S.Site.one_past g.met.S.Disk.told e f = record { time = c.close.ensures.time; same = c.close.ensures.crash; disk = c.close.ensures.disk } in
+    contents_here V W g.S.Disk.may_leave g.S.Link.may_leave g.S.Disk.left_at g.S.Link.left_at g.met.S.Site.one_view g.met.S.Site.one_disk g.met.S.Site.one_past g.met.S.Disk.told e f call2 ∙ contents_here V W g.S.Disk.may_leave g.S.Link.may_leave g.S.Disk.left_at g.S.Link.left_at g.met.S.Site.one_view g.met.S.Site.one_disk g.met.S.Site.one_past g.met.S.Disk.told d e call
 
 pub returns-in-Err-clause-contents : goal.returns-in-Err-clause-contents
 returns-in-Err-clause-contents g c =
@@ -145,6 +147,6 @@ returns-in-Err-clause-contents g c =
     let d = c.args.site.now in
     let e = c.send.new.self in
     let f = c.close-in-Err.new.self in
-    let call : LinkCall V W g.S.Disk.may_leave g.S.Link.may_leave g.S.Disk.left_at g.S.Link.left_at g.met.S.Site.one_view g.met.S.Site.one_disk g.met.S.Site.one_past d e = record { time = c.send.ensures.time; same = c.send.ensures.crash; disk = c.send.ensures.disk } in
-    let call2 : LinkCall V W g.S.Disk.may_leave g.S.Link.may_leave g.S.Disk.left_at g.S.Link.left_at g.met.S.Site.one_view g.met.S.Site.one_disk g.met.S.Site.one_past e f = record { time = c.close-in-Err.ensures.time; same = c.close-in-Err.ensures.crash; disk = c.close-in-Err.ensures.disk } in
-    contents_here V W g.S.Disk.may_leave g.S.Link.may_leave g.S.Disk.left_at g.S.Link.left_at g.met.S.Site.one_view g.met.S.Site.one_disk g.met.S.Site.one_past e f call2 ∙ contents_here V W g.S.Disk.may_leave g.S.Link.may_leave g.S.Disk.left_at g.S.Link.left_at g.met.S.Site.one_view g.met.S.Site.one_disk g.met.S.Site.one_past d e call
+    let call : LinkCall V W g.S.Disk.may_leave g.S.Link.may_leave g.S.Disk.left_at g.S.Link.left_at g.met.S.Site.one_view g.met.S.Site.one_disk g.met.S.Site.one_past g.met.S.Disk.told d e = record { time = c.send.ensures.time; same = c.send.ensures.crash; disk = c.send.ensures.disk } in
+    let call2 : LinkCall V W g.S.Disk.may_leave g.S.Link.may_leave g.S.Disk.left_at g.S.Link.left_at g.met.S.Site.one_view g.met.S.Site.one_disk g.met.S.Site.one_past g.met.S.Disk.told e f = record { time = c.close-in-Err.ensures.time; same = c.close-in-Err.ensures.crash; disk = c.close-in-Err.ensures.disk } in
+    contents_here V W g.S.Disk.may_leave g.S.Link.may_leave g.S.Disk.left_at g.S.Link.left_at g.met.S.Site.one_view g.met.S.Site.one_disk g.met.S.Site.one_past g.met.S.Disk.told e f call2 ∙ contents_here V W g.S.Disk.may_leave g.S.Link.may_leave g.S.Disk.left_at g.S.Link.left_at g.met.S.Site.one_view g.met.S.Site.one_disk g.met.S.Site.one_past g.met.S.Disk.told d e call
