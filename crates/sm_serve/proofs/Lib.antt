@@ -9,3 +9,14 @@ pub mod Lives
 pub mod Taking
 pub mod Events
 pub mod Growing
+pub mod Answering
+pub mod Requests
+pub mod Fronts
+pub mod Onward
+pub mod Quiet
+pub mod Moving
+pub mod Stepping
+pub mod Along
+pub mod Laws
+pub mod Replying
+pub mod Crashing

@@ -7,3 +7,5 @@ pub mod Resting
 pub mod Items
 pub mod Giving
 pub mod Serving
+pub mod Shown
+pub mod Texts
