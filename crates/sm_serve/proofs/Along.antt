@@ -10,8 +10,7 @@ use Rattle.sm_origin.specs.Shown.{Claim}
 use Rattle.sm_serve.specs.Connections.{received}
 use Rattle.sm_serve.specs.Run.{Phase, idle, at, start, sent_of, Point, Stepped, Moves, opened, crowded, came, unread, passed, left, over, continues, acts_on, wants, done, sent, failed, unsent, shut, declared, Run, begins, goes_on}
 use Rattle.sm_serve.specs.Shown.{replies}
-use Rattle.sm_serve.specs.Texts.{HeldIn, TextsHold}
-use Rattle.sm_serve.proofs.Answering.{HeldBy, Core, IsAway, Stood, WireLaws}
+use Rattle.sm_serve.proofs.Answering.{HeldIn, TextsHold, HeldBy, Core, IsAway, Stood, WireLaws}
 use Rattle.sm_serve.proofs.Adding.{Extends}
 use Rattle.sm_serve.proofs.Growing.{itself, Stays, StepsOn}
 use Rattle.sm_serve.proofs.Fronts.{steps_on, steps_grow}

@@ -13,8 +13,7 @@ use Rattle.sm_serve.specs.Connections.{received}
 use Rattle.sm_serve.specs.Run.{Point, Stepped, Moves, opened, crowded, came, unread, passed, left, over, continues, acts_on, wants, done, sent, failed, unsent, shut, declared, Run, begins, goes_on}
 use Rattle.sm_serve.specs.Moments.{machine_at}
 use Rattle.sm_serve.specs.Shown.{requests_from, replies, until, Shown}
-use Rattle.sm_serve.specs.Texts.{HeldIn}
-use Rattle.sm_serve.proofs.Answering.{AllBy, HeldBy, Core, WireLaws}
+use Rattle.sm_serve.proofs.Answering.{HeldIn, AllBy, HeldBy, Core, WireLaws}
 use Rattle.sm_serve.proofs.Adding.{Extends, and_then, step_adds}
 use Rattle.sm_serve.proofs.Going.{machine_push}
 use Rattle.sm_serve.proofs.Growing.{itself, Stays, StepsOn, kind_of, below, reached_by, not_reached}

@@ -2,15 +2,13 @@
 use Rattle.std.proofs.Common.{◌≡◌, ℕ, List, [], ◌∷◌, ◌++◌, refl, sym, ◌∙◌, ap, subst, append_assoc, lit<}
 use Rattle.std.proofs.lemmas.List.{append-nil}
 use Rattle.sm_model.specs.declared.entry.Entry.{Entry}
-use Rattle.sm_log.specs.Logs.{IsSound}
 use Rattle.sm_head.specs.Requests.{IsWaiting}
 use Rattle.sm_head.proofs.HeadLaw.{none_empty}
 use Rattle.sm_conn.specs.Parts.{in_head, waiting}
 use Rattle.sm_wire.specs.declared.item.WireItem.{WireItem}
 use Rattle.sm_wire.specs.Wire.{wire, IsWire}
-use Rattle.sm_origin.specs.Shown.{Claim, Holds}
-use Rattle.sm_serve.specs.Texts.{HeldIn}
-use Rattle.sm_serve.proofs.Answering.{WireLaws}
+use Rattle.sm_origin.specs.Shown.{IsReal, Claim, Holds}
+use Rattle.sm_serve.proofs.Answering.{HeldIn, WireLaws}
 
 -- ---- what bytes give
 
@@ -48,6 +46,6 @@ wire_laws front = record { none = nothing_yet; front = front; one = one }
 
 -- ---- longer logs
 
-pub longer_logs : ((log more : List Entry) → IsSound (log ++ more) → IsSound log) → ((log more : List Entry) (claim : Claim) → Holds log claim → Holds (log ++ more) claim) → (log more : List Entry) (claim : Claim)
+pub longer_logs : ((log more : List Entry) → IsReal (log ++ more) → IsReal log) → ((log more : List Entry) (claim : Claim) → Holds log claim → Holds (log ++ more) claim) → (log more : List Entry) (claim : Claim)
     → HeldIn log claim → HeldIn (log ++ more) claim
 longer_logs front stays log more claim held sound = stays log more claim (held (front log more sound))

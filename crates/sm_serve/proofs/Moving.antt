@@ -16,8 +16,7 @@ use Rattle.sm_serve.specs.Connections.{received, live, is_among}
 use Rattle.sm_serve.specs.Run.{Phase, in_phase, at_event, behind_failure, at, idle, acting, sending, shutting, Point, Stepped}
 use Rattle.sm_serve.specs.Moments.{machine_at}
 use Rattle.sm_serve.specs.Shown.{replies}
-use Rattle.sm_serve.specs.Texts.{IsOk, HeldIn, TextsHold}
-use Rattle.sm_serve.proofs.Answering.{complete, open_push, AllBy, HeldBy, AreKept, Core, IsAway, IsOpenWith, Open, Sends, head, reply, refused, Stood, WireLaws}
+use Rattle.sm_serve.proofs.Answering.{IsOk, HeldIn, TextsHold, complete, open_push, AllBy, HeldBy, AreKept, Core, IsAway, IsOpenWith, Open, Sends, head, reply, refused, Stood, WireLaws}
 use Rattle.sm_serve.proofs.Quiet.{bytes_begun, parts_begun, bytes_came, parts_came, bytes_sent, parts_sent, parts_head, not_live, still_live}
 use Rattle.sm_serve.proofs.Onward.{replied, taken_in, all_by_front, anew, recast, mapped, with_bad, outside, passes, stands_acting, stands_sending, stands_shutting, stands_idle}
 
@@ -62,7 +61,8 @@ module _ (laws : WireLaws) (texts : TextsHold) (first : Machine) (items : List I
       (recast (HeldBy first now ss) q (received n items ++ bytes) (received n now) (replies n items) (replies n now) more (bytes_came n k m bytes items same) (parts_came n k m bytes items) taken)
 
   -- a piece that isn't read
-  unread_core : (m k : ℕ) (bytes : List ℕ) → k ≡ n → (d : Core (HeldBy first (items ++ at m (Came k bytes)) ss) p.machine.log (received n (items ++ at m (Came k bytes))) (replies n (items ++ at m (Came k bytes)))) × (s.core.bad ≡ [] → d.bad ≡ [])
+  unread_core : (m k : ℕ) (bytes : List ℕ) → k ≡ n
+      → (d : Core (HeldBy first (items ++ at m (Came k bytes)) ss) p.machine.log (received n (items ++ at m (Came k bytes))) (replies n (items ++ at m (Came k bytes)))) × (s.core.bad ≡ [] → d.bad ≡ [])
   unread_core m k bytes same =
       let now = items ++ at m (Came k bytes) in
       outside (HeldBy first items ss) (HeldBy first now ss) p.machine.log (received n items) (received n now) (replies n items) (replies n now) bytes (bytes_came n k m bytes items same) (parts_came n k m bytes items)

@@ -16,8 +16,7 @@ use Rattle.sm_serve.specs.Connections.{received, live, is_among}
 use Rattle.sm_serve.specs.Run.{Phase, in_phase, idle, acting, sending, shutting, Point, Stepped}
 use Rattle.sm_serve.specs.Moments.{machine_at}
 use Rattle.sm_serve.specs.Shown.{replies}
-use Rattle.sm_serve.specs.Texts.{IsOk, HeldIn, TextsHold}
-use Rattle.sm_serve.proofs.Answering.{complete, open_push, Matches, AllBy, HeldBy, AreKept, Core, IsAway, IsOpenWith, Open, Sends, head, refused, Stood, WireLaws}
+use Rattle.sm_serve.proofs.Answering.{IsOk, HeldIn, TextsHold, complete, open_push, Matches, AllBy, HeldBy, AreKept, Core, IsAway, IsOpenWith, Open, Sends, head, refused, Stood, WireLaws}
 use Rattle.sm_serve.proofs.Adding.{Extends}
 use Rattle.sm_serve.proofs.Growing.{reached_by}
 use Rattle.sm_serve.proofs.Going.{machine_push}
@@ -117,7 +116,8 @@ module _ (longer : (log more : List Entry) (claim : Claim) → HeldIn log claim 
     (none, clean, refl),
   )
 
-  pub carries : (H K : Claim → Type 0) (p q : Point) (bytes : List ℕ) (parts : List (List ℕ)) (more : List WireItem) → ((claim : Claim) → H claim → K claim) → Extends p.machine q.machine → Open H p bytes parts more → Open K q bytes parts more
+  pub carries : (H K : Claim → Type 0) (p q : Point) (bytes : List ℕ) (parts : List (List ℕ)) (more : List WireItem) → ((claim : Claim) → H claim → K claim) → Extends p.machine q.machine
+      → Open H p bytes parts more → Open K q bytes parts more
   carries H K p q bytes parts more so grow (c, open_) = (
     record {
       base = c.base;

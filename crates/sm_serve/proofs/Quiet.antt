@@ -41,7 +41,8 @@ ended_less n k ns now =
     ]
 
 pub quiet_began : (n k m : ℕ) (items : List Item) → (k ≡ n → ⊥) → IsQuiet n items (at m (Began k))
-quiet_began n k m items other = quiet_by n m items (Began k) (ap (λ (b : Bool). if b then [] else received n items) (ne_eqb k n other)) (ap (λ (b : Bool). if b then [] else replies n items) (ne_eqb k n other)) (began_less n k (live items) other)
+quiet_began n k m items other =
+    quiet_by n m items (Began k) (ap (λ (b : Bool). if b then [] else received n items) (ne_eqb k n other)) (ap (λ (b : Bool). if b then [] else replies n items) (ne_eqb k n other)) (began_less n k (live items) other)
 
 pub quiet_came : (n k m : ℕ) (bytes : List ℕ) (items : List Item) → (k ≡ n → ⊥) → IsQuiet n items (at m (Came k bytes))
 quiet_came n k m bytes items other = quiet_by n m items (Came k bytes) (ap (λ (b : Bool). if b then received n items ++ bytes else received n items) (ne_eqb k n other)) refl (λ now. now)

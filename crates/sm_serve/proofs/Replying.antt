@@ -11,7 +11,7 @@ use Rattle.sm_model.specs.declared.fragment.Fragment.{Fragment}
 use Rattle.sm_model.specs.declared.target.Target.{Target}
 use Rattle.sm_model.specs.declared.target.Target.TheVariants as targets
 use Rattle.sm_model.specs.Entries.{address_of}
-use Rattle.sm_log.specs.Logs.{kept_at, IsSound}
+use Rattle.sm_log.specs.Logs.{kept_at}
 use Rattle.sm_site.specs.Clauses.{Rose}
 use Rattle.sm_head.specs.declared.reply.Content.{Content}
 use Rattle.sm_head.specs.declared.reply.Content.TheVariants.{Plain}
@@ -20,10 +20,10 @@ use Rattle.sm_head.specs.Replies.{reply_text}
 use Rattle.sm_head.specs.Shown.{shows_status}
 use Rattle.sm_origin.specs.declared.reply.Reply.{Reply}
 use Rattle.sm_origin.specs.Machine.{Machine, Step, entry_of}
-use Rattle.sm_origin.specs.Shown.{Claim, lists, names, serves, acknowledges, Holds, Asked, Shows}
+use Rattle.sm_origin.specs.Shown.{IsReal, Claim, lists, names, serves, acknowledges, Holds, Asked, Shows}
 use Rattle.sm_serve.specs.declared.texts.TheConstants.{TOO_MANY}
 use Rattle.sm_serve.specs.Run.{act_of_target, sent_of}
-use Rattle.sm_serve.specs.Texts.{IsOk, HeldIn, TextsHold}
+use Rattle.sm_serve.proofs.Answering.{IsOk, HeldIn, TextsHold}
 use Rattle.sm_serve.proofs.Adding.{step_adds}
 
 abbrev IsCode : ℕ → Type 0
@@ -76,12 +76,12 @@ module _ (ready_goes_on : (other : ℕ) (part more : List ℕ) → IsCode other 
     (says : (a b : ℕ) (m n : Machine) (act : Act) (r : Reply) → Step (Rose a b) m act n r → r.status ≢ 0 → r.status ≢ 500 → (part more : List ℕ) → part ++ more ≡ r.bytes
     → (other : ℕ) → IsCode other → shows_status other part ≡ true → other ≡ r.status)
     (kept : (a b : ℕ) (m n : Machine) (f : Fragment) (r : Reply) → Step (Rose a b) m (acts.Frag f) n r → r.status ≡ 0 → IsSome (kept_at n.log (address_of f)))
-    (manifest : (a b : ℕ) (m n : Machine) (r : Reply) → IsSound m.log → Step (Rose a b) m acts.Manifest n r → r.status ≢ 500 → (part more : List ℕ) → part ++ more ≡ r.bytes
+    (manifest : (a b : ℕ) (m n : Machine) (r : Reply) → IsReal m.log → Step (Rose a b) m acts.Manifest n r → r.status ≢ 500 → (part more : List ℕ) → part ++ more ≡ r.bytes
     → shows_status 200 part ≡ true → (claim : Claim) → Shows (Asked targets.Manifest) part claim → Holds m.log claim)
-    (fragment : (a b : ℕ) (m n : Machine) (address : Address) (r : Reply) → IsSound m.log → Step (Rose a b) m (acts.Fragment address) n r → r.status ≢ 500 → (part more : List ℕ) → part ++ more ≡ r.bytes
+    (fragment : (a b : ℕ) (m n : Machine) (address : Address) (r : Reply) → IsReal m.log → Step (Rose a b) m (acts.Fragment address) n r → r.status ≢ 500 → (part more : List ℕ) → part ++ more ≡ r.bytes
     → shows_status 200 part ≡ true → (claim : Claim) → Shows (Asked (targets.Fragment address)) part claim → Holds m.log claim)
     (stays : (log more : List Entry) (claim : Claim) → Holds log claim → Holds (log ++ more) claim)
-    (front : (log more : List Entry) → IsSound (log ++ more) → IsSound log) where
+    (front : (log more : List Entry) → IsReal (log ++ more) → IsReal log) where
   none_ready : (other k : ℕ) → IsCode other → other ≢ 500 → shows_status other (take k NO_MEMORY.now) ≡ true → ⊥
   none_ready other k code differs says = differs (ready_no_memory other (take k NO_MEMORY.now) (drop k NO_MEMORY.now) code (take-append-drop k NO_MEMORY.now) says)
 
@@ -114,7 +114,7 @@ module _ (ready_goes_on : (other : ℕ) (part more : List ℕ) → IsCode other 
 
   -- what is shown in answer to a request that reads
   answered : (a b : ℕ) (m n : Machine) (act : Act) (r : Reply) (bytes : List ℕ) (k : ℕ) (claim : Claim) → Step (Rose a b) m act n r → sent_of r ≡ Some bytes → IsOk (take k bytes)
-      → (IsSound m.log → r.status ≢ 500 → (part more : List ℕ) → part ++ more ≡ r.bytes → part ≡ take k bytes → Holds m.log claim) → HeldIn n.log claim
+      → (IsReal m.log → r.status ≢ 500 → (part more : List ℕ) → part ++ more ≡ r.bytes → part ≡ take k bytes → Holds m.log claim) → HeldIn n.log claim
   answered a b m n act r bytes k claim step some ok shows sound = go (way_of r)
     where
       grow : (more : List Entry) × (n.log ≡ m.log ++ more)
@@ -128,7 +128,7 @@ module _ (ready_goes_on : (other : ℕ) (part more : List ℕ) → IsCode other 
       go (own one two sent) =
           let same : r.bytes ≡ bytes = (let e : Some r.bytes ≡ Some bytes = sym sent ∙ some in cc) in
           subst (λ (log : List Entry). Holds log claim) (sym grow.1)
-          (stays m.log grow.0 claim (shows (front m.log grow.0 (subst (λ (log : List Entry). IsSound log) grow.1 sound)) two (take k r.bytes) (drop k r.bytes) (take-append-drop k r.bytes) (ap (λ (z : List ℕ). take k z) same)))
+          (stays m.log grow.0 claim (shows (front m.log grow.0 (subst (λ (log : List Entry). IsReal log) grow.1 sound)) two (take k r.bytes) (drop k r.bytes) (take-append-drop k r.bytes) (ap (λ (z : List ℕ). take k z) same)))
 
   -- a request for nothing shows nothing
   asked : (a b : ℕ) (m n : Machine) (target : Target) (r : Reply) (bytes : List ℕ) (k : ℕ) (claim : Claim) → Step (Rose a b) m (act_of_target target) n r → sent_of r ≡ Some bytes → IsOk (take k bytes)
@@ -159,7 +159,8 @@ module _ (ready_goes_on : (other : ℕ) (part more : List ℕ) → IsCode other 
     asked = asked;
     no_memory = λ k. not_true (shows_status 200 (take k NO_MEMORY.now)) (none_ready 200 k well_code (λ e. omega (arith, e)));
     too_many = λ k. not_true (shows_status 200 (take k TOO_MANY.now)) (λ shown.
-        let e : 200 ≡ 503 = part_own 503 200 Plain (codes "49 TooManyConnections" ++ 10 ∷ []) true (take k TOO_MANY.now) (drop k TOO_MANY.now) too_many_code well_code (take-append-drop k TOO_MANY.now ∙ too_many_is) shown in omega (arith, e));
+        let e : 200 ≡ 503 = part_own 503 200 Plain (codes "49 TooManyConnections" ++ 10 ∷ []) true (take k TOO_MANY.now) (drop k TOO_MANY.now) too_many_code well_code (take-append-drop k TOO_MANY.now ∙ too_many_is) shown in
+        omega (arith, e));
     continue_ok = λ k. not_true (shows_status 200 (take k CONTINUE.now)) (λ shown.
         let e : 200 ≡ 100 = ready_goes_on 200 (take k CONTINUE.now) (drop k CONTINUE.now) well_code (take-append-drop k CONTINUE.now) shown in omega (arith, e));
     continue_100 = ready_whole;

@@ -11,8 +11,7 @@ use Rattle.sm_wire.specs.declared.item.WireItem.TheVariants.{Continue, Get, Head
 use Rattle.sm_wire.specs.Wire.{IsWire}
 use Rattle.sm_origin.specs.Shown.{Claim, Acknowledged, lists, names, serves, acknowledges, Request, Asked, Pushed, Shows}
 use Rattle.sm_serve.specs.Shown.{requests_from, replies_after, replies_from, replies}
-use Rattle.sm_serve.specs.Texts.{IsOk, HeldIn}
-use Rattle.sm_serve.proofs.Answering.{complete, open_push, Answers, Matches, AreNotOk, AreKept, Core, WireLaws}
+use Rattle.sm_serve.proofs.Answering.{IsOk, HeldIn, complete, open_push, Answers, Matches, AreNotOk, AreKept, Core, WireLaws}
 
 -- ---- requests: those that are whole, and the push that is open
 

@@ -19,8 +19,7 @@ use Rattle.sm_serve.specs.Connections.{received}
 use Rattle.sm_serve.specs.Run.{acting, sending, shutting, phase_after, behind_step, act_of, act_of_target, closes, sent_of, Point, Stepped, IsStep}
 use Rattle.sm_serve.specs.Moments.{machine_at}
 use Rattle.sm_serve.specs.Shown.{replies}
-use Rattle.sm_serve.specs.Texts.{IsOk, HeldIn, TextsHold}
-use Rattle.sm_serve.proofs.Answering.{complete, open_push, HeldBy, AreKept, IsAway, Open, reply, refused, Stood}
+use Rattle.sm_serve.proofs.Answering.{IsOk, HeldIn, TextsHold, complete, open_push, HeldBy, AreKept, IsAway, Open, reply, refused, Stood}
 use Rattle.sm_serve.proofs.Adding.{Extends}
 use Rattle.sm_serve.proofs.Requests.{complete_split, open_split, end_shows}
 use Rattle.sm_serve.proofs.Onward.{fresh, held_more, joins, passes, carries, stands_acting, stands_sending, stands_shutting}
@@ -112,7 +111,8 @@ module _ (longer : (log more : List Entry) (claim : Claim) → HeldIn log claim 
       elim (option_cases (sent_of x.reply)) [
         | inl none ↦ shuts (Get target close) more phase none (texts.replies x.faults x.faults_after x.before x.after (act_of_target target) x.reply done (reads_only target) none)
         | inr (bytes, some) ↦ replies_to (Get target close) more bytes (Asked target) (here (Get target close) more phase) some refl refl
-            (λ j. texts.final x.faults x.faults_after x.before x.after (act_of_target target) x.reply bytes j done some) (λ j ok claim shown. texts.asked x.faults x.faults_after x.before x.after target x.reply bytes j claim done some ok shown)
+            (λ j. texts.final x.faults x.faults_after x.before x.after (act_of_target target) x.reply bytes j done some)
+            (λ j ok claim shown. texts.asked x.faults x.faults_after x.before x.after target x.reply bytes j claim done some ok shown)
       ]
   acted (Header channel) more phase does =
       let is : act ≡ acts.Header channel = let e : acts.Header channel ≡ act = cc in sym e in

@@ -8,4 +8,3 @@ pub mod Items
 pub mod Giving
 pub mod Serving
 pub mod Shown
-pub mod Texts
