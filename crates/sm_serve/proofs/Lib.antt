@@ -8,4 +8,5 @@ pub mod Piece
 pub mod Lives
 pub mod Taking
 pub mod Events
+pub mod Adding
 pub mod Growing
