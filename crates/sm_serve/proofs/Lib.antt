@@ -4,7 +4,7 @@ pub mod Sending
 pub mod Reaching
 pub mod Lists
 pub mod Giving
-pub mod Piece
+pub mod Pieces
 pub mod Lives
 pub mod Taking
 pub mod Events
