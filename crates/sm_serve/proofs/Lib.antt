@@ -4,10 +4,11 @@ pub mod Sending
 pub mod Reaching
 pub mod Lists
 pub mod Giving
-pub mod Piece
+pub mod Pieces
 pub mod Lives
 pub mod Taking
 pub mod Events
+pub mod Adding
 pub mod Growing
 pub mod Answering
 pub mod Requests

@@ -194,7 +194,7 @@ module _ {D : Type 0} (view : D → View) (leave : D → Image → Type 0) (left
         serves = record {
           keeps = pending q (left m n rest.phase_is refl refl refl) refl refl refl;
           rest = record {
-            stands = rest.stands;
+            stands = subst (λ (o : Origin). StandsOn view leave h.point.machine o d) (sym forgets.origin) rest.stands;
             phase_is = refl;
             numbers = forgets.numbers distinct ∙ ap (without n) rest.numbers ∙ sym (live_push h.items (record { moment = m; deal = Left n }));
             resting = forgets.resting h k (λ l other was. same_rest h k l (left_bytes l.number n m h) refl was) distinct rest.resting;

@@ -1,5 +1,5 @@
 //! The loop.
-ghost use Rattle.std.specs.Prelude.{◌≡◌, ◌≢◌, ◌↔◌, ◌⊎◌, ◌∷◌, ◌++◌, IsTrue, [], ℕ, true, false, Some, IfSome, IfNone, is_some, length, ◌<◌, slice_index};
+ghost use Rattle.std.specs.Prelude.{◌≡◌, ◌≢◌, ◌↔◌, ◌⊎◌, ◌∷◌, ◌++◌, IsTrue, [], ℕ, true, false, Some, IfSome, IfNone, OnOk, OnErr, is_some, length, ◌<◌, slice_index};
 ghost use Rattle.sm_site.specs.Meanings.{IsLive};
 ghost use Rattle.sm_site.specs.Meanings.Deal.{Began, Came, Over};
 ghost use Rattle.sm_site.specs.Event.{deal_of};
@@ -17,6 +17,7 @@ use crate::outcome::{Served, Turn};
 use crate::piece::take_piece;
 use crate::tell::tell;
 use crate::{Live, State, TOO_MANY};
+use sm_model::NoMemory;
 use sm_origin::law::fewer_images_stand;
 use sm_site::{Event, LinkError, Site};
 
@@ -72,25 +73,23 @@ fn open<S: Site>(site: &mut S, state: &mut State, number: u64)
         tell(site, number, TOO_MANY, true);
         return;
     }
-    if admit(state, number) {
-        return;
+    match admit(state, number) {
+        Ok(()) => {}
+        Err(NoMemory) => {
+            starve(site, number);
+        }
     }
-    starve(site, number);
 }
 
-/// Puts a new connection into the list. False is want of memory.
-fn admit(state: &mut State, number: u64) -> bool
-    ensures admitted { IsTrue result → (new : Live) × IsNewborn number new × (state.new.lives.items ≡ state.old.lives.items ++ new ∷ []) }
-    ensures refused { result ≡ false → state.new.lives.items ≡ state.old.lives.items }
+/// Puts a new connection into the list.
+fn admit(state: &mut State, number: u64) -> Result<(), NoMemory>
+    ensures admitted { OnOk result ((new : Live) × IsNewborn number new × (state.new.lives.items ≡ state.old.lives.items ++ new ∷ [])) }
+    ensures refused { OnErr result (state.new.lives.items ≡ state.old.lives.items) }
     ensures origin { state.new.origin ≡ state.old.origin }
 {
-    match Live::new(state.alloc, number) {
-        Ok(live) => match state.lives.push(live) {
-            Ok(()) => true,
-            Err(_) => false,
-        },
-        Err(_) => false,
-    }
+    let live = Live::new(state.alloc, number)?;
+    state.lives.push(live)?;
+    Ok(())
 }
 
 /// Forgets a connection that the peer closed.

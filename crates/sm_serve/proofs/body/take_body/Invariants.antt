@@ -1,4 +1,4 @@
-use Rattle.std.proofs.Common.{is_some, ◌≡◌, ◌≤◌, ℕ, ◌++◌, List, length, take, drop, Some, IfSome, true}
+use Rattle.std.proofs.Common.{is_some, ◌≡◌, ◌≤◌, ◌-◌, ℕ, ◌++◌, List, length, take, drop, Some, IfSome, true}
 use Rattle.std.specs.Prelude.{map}
 use Rattle.sm_site.specs.Meanings.{IsLive}
 use Rattle.sm_conn.specs.Parts.{PartItem, byte}
@@ -11,17 +11,20 @@ use Rattle.sm_serve.specs.Resting.{counts_of, PlaceIs, SameConn}
 use Rattle.sm_serve.specs.Giving.{StaysOpen}
 use Rattle.sm_serve.proofs.body.take_body.Given as goal
 
-abbrev pub invariant-loop : goal.invariant-loop
-invariant-loop g l = record {
-  within : l.done ≤ length l.fn.bytes.now;
+abbrev pub invariant-loop-done : goal.invariant-loop-done
+invariant-loop-done g l = record {
+  inside : l.done ≤ length l.bytes;
   stands : (m : Machine) × StandsOn g.S.Disk.view g.S.Disk.may_leave m l.origin l.site;
   live : IfSome (g.S.Disk.view l.site).transcript (IsLive l.live.number);
   told : is_some (g.S.Disk.view l.site).transcript ≡ is_some (g.S.Disk.view l.fn.site).transcript;
   open_ : is_some l.live.push ≡ true;
   same : SameConn l.fn.live l.live;
   goes_on : (h : History) (b : List ℕ) (more : List PartItem) (items : List WireItem) → Keeps g.S.Disk.view g.S.Disk.may_leave g.S.Disk.left_at h l.fn.site
-      → StandsOn g.S.Disk.view g.S.Disk.may_leave h.point.machine l.fn.origin l.fn.site → PlaceIs l.fn.live.push (Some b) → Left (Some b) (map (λ x. byte x) l.fn.bytes.now ++ more) items
+      → StandsOn g.S.Disk.view g.S.Disk.may_leave h.point.machine l.fn.origin l.fn.site → PlaceIs l.fn.live.push (Some b) → Left (Some b) (map (λ x. byte x) l.bytes ++ more) items
       → h.point.phase ≡ acting l.fn.live.number items → h.point.counts l.fn.live.number ≡ counts_of l.fn.live
-      → StaysOpen g.S.Disk.view g.S.Disk.may_leave g.S.Disk.left_at h l.fn.live.number l.live.push (counts_of l.live) (Some b) (map (λ x. byte x) (take l.done l.fn.bytes.now))
-      (map (λ x. byte x) (drop l.done l.fn.bytes.now) ++ more) l.origin l.site;
+      → StaysOpen g.S.Disk.view g.S.Disk.may_leave g.S.Disk.left_at h l.fn.live.number l.live.push (counts_of l.live) (Some b) (map (λ x. byte x) (take l.done l.bytes))
+      (map (λ x. byte x) (drop l.done l.bytes) ++ more) l.origin l.site;
 }
+
+abbrev pub decreases-loop-done : goal.decreases-loop-done
+decreases-loop-done g l = length l.bytes - l.done

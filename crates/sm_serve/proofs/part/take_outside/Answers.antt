@@ -30,7 +30,7 @@ returns-in-Get-clause-goes_on g c h more items keeps stands place left phase cou
     let is = get_items V A L t close more items here in
     let none = subst (λ (p : Option Standing). PlaceIs p None) (sym c.act_on.ensures.same.push) place in
     let gives = get_gives V A L h n t close c.act_on.result c.act_on.new.live.push (counts_of c.act_on.new.live) more c.act_on.new.origin c.act_on.new.site c.act_on.ensures.closed none
-    (c.act_on.ensures.goes_on h (Get t close) (if close then [] else wire None more) keeps stands (phase ∙ ap (acting n) is) counts (ap (λ (a : Act). Some a) (sym c.act_for-act.ensures)) refl (λ counted all. refl)) in
+    (c.act_on.ensures.goes_on h (Get t close) (if close then [] else wire None more) keeps stands (phase ∙ ap (acting n) is) counts (ap (λ (a : Act). Some a) (sym c.act_for-act.ensures.is)) refl (λ counted all. refl)) in
     subst (λ (p : Part). PartGives V A L h n c.act_on.result c.act_on.new.live.push (counts_of c.act_on.new.live) None (items_of p) more c.act_on.new.origin c.act_on.new.site) (sym c.in-Get.is) gives
 
 pub returns-in-Continue-clause-goes_on : goal.returns-in-Continue-clause-goes_on

@@ -1,6 +1,7 @@
 use Rattle.std.proofs.Common.{rules, ◌≡◌, ℕ, Bool, true, false, if◌then◌else◌, List, [], ◌∷◌, ◌++◌, Option, Some, None, IsTrue, refl, sym, ◌∙◌, ap, subst}
 use Rattle.sm_site.specs.Meanings.Deal.{Came}
 use Rattle.sm_conn.specs.declared.conn.Conn.{Conn}
+use Rattle.sm_conn.specs.declared.part.Part.{Part}
 use Rattle.sm_conn.specs.Stands.{StandsFor as Gave}
 use Rattle.sm_conn.specs.Stands.{joined}
 use Rattle.sm_serve.specs.declared.live.Live.{Live}
@@ -11,7 +12,7 @@ use Rattle.sm_serve.specs.Standing.{History, Keeps, moved, Reaches}
 use Rattle.sm_serve.specs.Resting.{counts_of}
 use Rattle.sm_serve.specs.Giving.{PieceGives}
 use Rattle.sm_serve.proofs.Reaching.{closed_counts}
-use Rattle.sm_serve.proofs.Piece.{read_move, unread_move, piece_gives}
+use Rattle.sm_serve.proofs.Pieces.{read_move, unread_move, piece_gives}
 use Rattle.sm_serve.proofs.piece.take_piece.Goals as goal
 
 pub returns-in-Ok-clause-goes_on : goal.returns-in-Ok-clause-goes_on
@@ -21,8 +22,9 @@ returns-in-Ok-clause-goes_on g c h m pending stands phase is_live counts rests =
     let L = g.S.Disk.left_at in
     let n = c.args.live.now.number in
     let piece = c.args.piece.now in
-    let ps = joined c.in-Ok.parts.items in
-    let gave = c.in-Ok.ensures.stands (received n h.items) rests.parts rests.stands in
+    let ps = joined c.into_vec.result.items in
+    let gave = subst (λ (qs : List Part). Gave c.feed.new.self (received n h.items ++ piece) (rests.parts ++ joined qs)) (sym c.into_vec.ensures)
+    (c.in-Ok.ensures.stands (received n h.items) rests.parts rests.stands) in
     let items = c.wire_of_front.ensures.left rests.place (ps ++ []) in
     let keeps = read_move V A L h m n piece c.args.live.now c.feed.new.self ps c.args.site.now pending phase is_live rests gave items.0 items.1 in
     let gives = c.take_parts.ensures.goes_on (moved h (at m (Came n piece)) (at_event h.point (acting n items.0) m)) rests.place [] items.0 keeps stands rests.place_is items.1 refl counts in
