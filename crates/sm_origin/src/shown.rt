@@ -24,7 +24,7 @@ use sm_log::law::{
     what_is_ahead_is_listed, what_is_kept_is_valid,
 };
 use sm_manout::law::manifests_list_what_is_kept;
-use sm_moof::law::fragments_show_themselves;
+use sm_moof::fragments_show_themselves;
 
 /// A reply is told apart by its status. Each part of one that is sent from its own bytes shows no other.
 pub fn replies_tell_by_their_status()
