@@ -17,7 +17,7 @@ use Rattle.sm_record.specs.Metas.{IsMetaOf}
 use Rattle.sm_site.specs.Image.{Image}
 use Rattle.sm_seglog.specs.Stores.{HasStore}
 use Rattle.sm_seglog.specs.Segments.{Segments}
-use Rattle.sm_archive.specs.Bodies.{Fits}
+use Rattle.sm_archive.specs.Bodies.{EndsWithin, Fits}
 use Rattle.sm_archive.specs.Bodies as seg
 use Rattle.sm_archive.specs.declared.index.Index.{Index}
 use Rattle.sm_archive.specs.declared.archive.Pending.{Pending}
@@ -31,7 +31,7 @@ use Rattle.sm_archive.specs.Stands.{Doubted, IsIndex, IndexIs, IsPending, Stands
 use Rattle.sm_archive.specs.Taking.{CanTake, Taken}
 use Rattle.sm_archive.specs.declared.limits.Limits.{Limits}
 use Rattle.sm_archive.specs.Appending.{CanAppend, IsUnused}
-use Rattle.sm_archive.specs.Keeping.{HasChannel, IsWithin, has_time}
+use Rattle.sm_archive.specs.Keeping.{HasChannel, IsWithin, IsWithinNow, has_time}
 use Rattle.sm_archive.specs.Keeper.{IsPrepared}
 use Rattle.sm_archive.proofs.Lists.{all_zip_len}
 use Rattle.sm_archive.proofs.Logs.{sound_push, spell_push}
@@ -112,9 +112,9 @@ module _ (a : Archive) (p : Pending) (body : List ℕ) (log : List Entry) (e : E
   unused : (v : Segments) (d : Option Doubt) → seg.Stays a.log v → IsUnused a (archive a v a.used a.index d)
   unused v d stay = record { limits = refl; used = refl; index = refl; files = stay.fits }
 
-  pub not_appended : (v : Segments) (now : Image → Type 0) → seg.Stays a.log v → ((bodies : List (List ℕ)) → seg.Stands a.log bodies None old → seg.Stands v bodies None now)
-      → IsUnused a (archive a v a.used a.index a.doubt) × (Stands (archive a v a.used a.index a.doubt) log None now ⊎ Stands (archive a v a.used a.index a.doubt) log (Some e) now)
-  not_appended v now stay so =
+  pub not_appended : (acted : Type 0) (v : Segments) (now : Image → Type 0) → seg.Stays a.log v → ((bodies : List (List ℕ)) → seg.Stands a.log bodies None old → seg.Stands v bodies None now)
+      → IsUnused a (archive a v a.used a.index a.doubt) × (Stands (archive a v a.used a.index a.doubt) log None now ⊎ (acted × Stands (archive a v a.used a.index a.doubt) log (Some e) now))
+  not_appended acted v now stay so =
       let k = s.keeps in
       let u = undoubted a.doubt a.index a.log log s.body k.doubted in
       let made : Stands (archive a v a.used a.index None) log None now = record {
@@ -125,14 +125,14 @@ module _ (a : Archive) (p : Pending) (body : List ℕ) (log : List Entry) (e : E
       } in
       (unused v a.doubt stay, inl (subst (λ (d : Option Doubt). Stands (archive a v a.used a.index d) log None now) (sym u.0) made))
 
-  pub doubted : (v : Segments) (bytes : ℕ) (now : Image → Type 0) → bytes ≡ 5 + length body → seg.Stays a.log v → ((bodies : List (List ℕ)) → seg.Stands a.log bodies None old → seg.Stands v bodies (Some body) now)
+  pub doubted : (acted : Type 0) → acted → (v : Segments) (bytes : ℕ) (now : Image → Type 0) → bytes ≡ 5 + length body → seg.Stays a.log v → ((bodies : List (List ℕ)) → seg.Stands a.log bodies None old → seg.Stands v bodies (Some body) now)
       → IsUnused a (archive a v a.used a.index (Some (record { entry = p; bytes = bytes }))) × (Stands (archive a v a.used a.index (Some (record { entry = p; bytes = bytes }))) log None now
-      ⊎ Stands (archive a v a.used a.index (Some (record { entry = p; bytes = bytes }))) log (Some e) now)
-  doubted v bytes now bytes_is stay so =
+      ⊎ (acted × Stands (archive a v a.used a.index (Some (record { entry = p; bytes = bytes }))) log (Some e) now))
+  doubted acted did v bytes now bytes_is stay so =
       let k = s.keeps in
       let d : Doubt = record { entry = p; bytes = bytes } in (
         unused v (Some d) stay,
-        inr (record {
+        inr (did, record {
           bodies = s.bodies;
           body = Some body;
           stands = so s.bodies seg_stands;
@@ -178,6 +178,15 @@ module _ (a : Archive) (r : Ready) (f : Fragment) (log : List Entry) (old : Imag
     entries = subst (λ (l : Limits). length log + 1 ≤ l.entries) (sym u.limits) within.entries;
     times = subst (λ (l : Limits). (has_time log f ≡ true) ⊎ (length (times_of f.stream (adds_of log)) < l.times)) (sym u.limits) within.times;
     files = u.files (body_len (Keep f)) within.files;
+  }
+
+  -- and it was so where it was appended
+  pub within_now : (b : Archive) → b.limits ≡ a.limits → b.used ≡ a.used + (5 + length r.body) → EndsWithin b.log → IsWithinNow b log f
+  within_now b limits used ends = record {
+    bytes = subst (λ (l : Limits). b.used ≤ l.store_bytes) (sym limits) (omega (arith, used, p.ready.len, within.bytes));
+    entries = subst (λ (l : Limits). length log + 1 ≤ l.entries) (sym limits) within.entries;
+    times = subst (λ (l : Limits). (has_time log f ≡ true) ⊎ (length (times_of f.stream (adds_of log)) < l.times)) (sym limits) within.times;
+    files = ends;
   }
 
 pub judged_without : (index : Option Index) (log : List Entry) (f : Fragment) → index ≡ None → IndexIs index log → NotDeclared ≡ verdict_on log f

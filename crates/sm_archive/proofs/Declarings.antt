@@ -6,10 +6,10 @@ use Rattle.sm_model.specs.declared.entry.Entry.{Entry}
 use Rattle.sm_model.specs.declared.entry.Entry.TheVariants.{Declare}
 use Rattle.sm_model.specs.Channels.{IsChannel}
 use Rattle.sm_log.specs.Logs.{channel_of}
-use Rattle.sm_archive.specs.Steps.{Settles, Grows}
+use Rattle.sm_archive.specs.Steps.{Clears, Settles, Grows}
 use Rattle.sm_record.specs.Bodies.{body_len}
 use Rattle.sm_site.specs.Image.{Image}
-use Rattle.sm_archive.specs.Bodies.{Fits}
+use Rattle.sm_archive.specs.Bodies.{EndsWithin, Fits}
 use Rattle.sm_archive.specs.declared.index.Index.{Index}
 use Rattle.sm_archive.specs.declared.archive.Pending.TheVariants as pending
 use Rattle.sm_archive.specs.declared.archive.Archive.{Archive}
@@ -20,7 +20,7 @@ use Rattle.sm_archive.specs.declared.answers.Declared.TheVariants as answer
 use Rattle.sm_archive.specs.Store.{IsStore}
 use Rattle.sm_archive.specs.Stands.{IndexIs, IsIndex, Stands}
 use Rattle.sm_archive.specs.Appending.{CanAppend, IsUnused}
-use Rattle.sm_archive.specs.Declaring.{IsHeader, ReadyHeader, IsWithin, Compares, DeclaredNew, DeclareStep, refusal_in}
+use Rattle.sm_archive.specs.Declaring.{IsHeader, ReadyHeader, IsWithin, IsWithinNow, Compares, DeclaredNew, DeclareStep, refusal_in}
 use Rattle.sm_archive.specs.Bodies.{room_of}
 use Rattle.std.specs.List.{position}
 use Rattle.std.proofs.lemmas.List.Quantifiers.{position-Some}
@@ -51,18 +51,26 @@ still_within a b channel u within = record {
   files = u.files (body_len (Declare channel)) within.files;
 }
 
+-- and it was so where it was fixed
+pub within_now : (a b : Archive) (h : Header) (channel : List Track) → IsHeader h channel a.log → IsWithin a channel → b.limits ≡ a.limits → b.used ≡ a.used + (5 + length h.body) → EndsWithin b.log → IsWithinNow b
+within_now a b h channel is within limits used ends = record {
+  bytes = subst (λ (l : Limits). b.used ≤ l.store_bytes) (sym limits) (omega (arith, used, is.len, within.bytes));
+  entries = subst (λ (l : Limits). 1 ≤ l.entries) (sym limits) within.entries;
+  files = ends;
+}
+
 -- the log of an index has its channel
 pub index_knows : (a : Archive) (i : Index) (log : List Entry) (outcomes : Image → Type 0) → Stands a log None outcomes → a.index ≡ Some i → channel_of log ≡ Some i.catalog.channel
 index_knows a i log outcomes s is = let x : IsIndex i log = subst (λ (o : Option Index). IndexIs o log) is s.keeps.index in ap (λ (l : List Entry). channel_of l) x.log_is
 
-pub compared : (a : Archive) (i : Index) (log : List Entry) (outcomes : Image → Type 0) (channel : List Track) → Stands a log None outcomes → a.index ≡ Some i → (d : Declared) → Compares i.catalog.channel channel d
-    → DeclaredNew outcomes a log channel d
-compared a i log outcomes channel s is answer.Agreed h = (i.catalog.channel, index_knows a i log outcomes s is, h, s)
-compared a i log outcomes channel s is (answer.Refused k) h = (i.catalog.channel, index_knows a i log outcomes s is, h, s)
-compared a i log outcomes channel s is answer.Fixed h = absurd h
-compared a i log outcomes channel s is answer.Full h = absurd h
-compared a i log outcomes channel s is answer.DiskFault h = absurd h
-compared a i log outcomes channel s is answer.NoMemory h = absurd h
+pub compared : (acted : Type 0) (a : Archive) (i : Index) (log : List Entry) (outcomes : Image → Type 0) (channel : List Track) → Stands a log None outcomes → a.index ≡ Some i → (d : Declared) → Compares i.catalog.channel channel d
+    → DeclaredNew acted outcomes a log channel d
+compared acted a i log outcomes channel s is answer.Agreed h = (i.catalog.channel, index_knows a i log outcomes s is, h, s)
+compared acted a i log outcomes channel s is (answer.Refused k) h = (i.catalog.channel, index_knows a i log outcomes s is, h, s)
+compared acted a i log outcomes channel s is answer.Fixed h = absurd h
+compared acted a i log outcomes channel s is answer.Full h = absurd h
+compared acted a i log outcomes channel s is answer.DiskFault h = absurd h
+compared acted a i log outcomes channel s is answer.NoMemory h = absurd h
 
 pub not_fault : (known channel : List Track) (d : Declared) → Compares known channel d → d ≡ answer.DiskFault → ⊥
 not_fault known channel d h e = subst (λ (x : Declared). Compares known channel x) e h
@@ -70,14 +78,27 @@ not_fault known channel d h e = subst (λ (x : Declared). Compares known channel
 pub empty_log : (a : Archive) (log : List Entry) (outcomes : Image → Type 0) → Stands a log None outcomes → a.index ≡ None → log ≡ []
 empty_log a log outcomes s is = subst (λ (o : Option Index). IndexIs o log) is s.keeps.index
 
-pub step_from : (outcomes : Image → Type 0) (new : Archive) (log : List Entry) (doubt : Option Entry) (mid : List Entry) (channel : List Track) → Settles log doubt mid → (d : Declared) → DeclaredNew outcomes new mid channel d
-    → DeclareStep outcomes new log doubt channel d
-step_from outcomes new log doubt mid channel settles answer.Fixed h = (mid, settles, h)
-step_from outcomes new log doubt mid channel settles answer.Agreed h = (mid, settles, h)
-step_from outcomes new log doubt mid channel settles (answer.Refused cause) h = (mid, settles, h)
-step_from outcomes new log doubt mid channel settles answer.Full h = (mid, settles, h)
-step_from outcomes new log doubt mid channel settles answer.DiskFault h = inr (mid, settles, h)
-step_from outcomes new log doubt mid channel settles answer.NoMemory h = absurd h
+declared_as : (acted did : Type 0) → (did → acted) → (outcomes : Image → Type 0) (new : Archive) (log : List Entry) (channel : List Track) (d : Declared) → DeclaredNew did outcomes new log channel d
+    → DeclaredNew acted outcomes new log channel d
+declared_as acted did so outcomes new log channel answer.Fixed h = (h.0, h.1, so h.2, h.3)
+declared_as acted did so outcomes new log channel answer.Agreed h = h
+declared_as acted did so outcomes new log channel (answer.Refused cause) h = h
+declared_as acted did so outcomes new log channel answer.Full h = h
+declared_as acted did so outcomes new log channel answer.DiskFault h = (h.0, h.1, elim h.2 [ inl s ↦ inl s | inr s ↦ inr (so s.0, s.1) ])
+declared_as acted did so outcomes new log channel answer.NoMemory h = absurd h
+
+step_with : (acted : Type 0) (outcomes : Image → Type 0) (new : Archive) (log : List Entry) (doubt : Option Entry) (mid : List Entry) (channel : List Track) → Clears acted log doubt mid → (d : Declared)
+    → DeclaredNew acted outcomes new mid channel d → DeclareStep acted outcomes new log doubt channel d
+step_with acted outcomes new log doubt mid channel clears answer.Fixed h = (mid, clears, h)
+step_with acted outcomes new log doubt mid channel clears answer.Agreed h = (mid, clears, h)
+step_with acted outcomes new log doubt mid channel clears (answer.Refused cause) h = (mid, clears, h)
+step_with acted outcomes new log doubt mid channel clears answer.Full h = (mid, clears, h)
+step_with acted outcomes new log doubt mid channel clears answer.DiskFault h = inr (mid, clears, h)
+step_with acted outcomes new log doubt mid channel clears answer.NoMemory h = absurd h
+
+pub step_from : (acted did : Type 0) → (did → acted) → (outcomes : Image → Type 0) (new : Archive) (log : List Entry) (doubt : Option Entry) (mid : List Entry) (channel : List Track) → Clears acted log doubt mid → (d : Declared)
+    → DeclaredNew did outcomes new mid channel d → DeclareStep acted outcomes new log doubt channel d
+step_from acted did so outcomes new log doubt mid channel clears d h = step_with acted outcomes new log doubt mid channel clears d (declared_as acted did so outcomes new mid channel d h)
 
 pub grown_from : (channel : List Track) (log after : List Entry) → log ≡ [] → (after ≡ []) ⊎ (after ≡ Declare channel ∷ []) → (after ≡ log) ⊎ (after ≡ log ++ Declare channel ∷ [])
 grown_from channel log after e (inl is) = inl (is ∙ sym e)
@@ -149,12 +170,12 @@ refused_differ known header tracks index t is same there =
 
 -- ---- whichever the answer, it stands for some log
 
-pub declared_again : (outcomes : Image → Type 0) (new : Archive) (log : List Entry) (doubt : Option Entry) (channel : List Track) (d : Declared) → DeclareStep outcomes new log doubt channel d
+pub declared_again : (acted : Type 0) (outcomes : Image → Type 0) (new : Archive) (log : List Entry) (doubt : Option Entry) (channel : List Track) (d : Declared) → DeclareStep acted outcomes new log doubt channel d
     → (l : List Entry) × (o : Option Entry) × Stands new l o outcomes
-declared_again outcomes new log doubt channel answer.Fixed h = (Declare channel ∷ [], None, h.2.1)
-declared_again outcomes new log doubt channel answer.Agreed h = (h.0, None, h.2.3)
-declared_again outcomes new log doubt channel (answer.Refused cause) h = (h.0, None, h.2.3)
-declared_again outcomes new log doubt channel answer.Full h = ([], None, h.2.2)
-declared_again outcomes new log doubt channel answer.DiskFault (inl h) = (log, doubt, h.1)
-declared_again outcomes new log doubt channel answer.DiskFault (inr h) = elim h.2.2 [ inl s ↦ ([], None, s) | inr s ↦ ([], Some (Declare channel), s) ]
-declared_again outcomes new log doubt channel answer.NoMemory h = (log, doubt, h)
+declared_again acted outcomes new log doubt channel answer.Fixed h = (Declare channel ∷ [], None, h.2.3)
+declared_again acted outcomes new log doubt channel answer.Agreed h = (h.0, None, h.2.3)
+declared_again acted outcomes new log doubt channel (answer.Refused cause) h = (h.0, None, h.2.3)
+declared_again acted outcomes new log doubt channel answer.Full h = ([], None, h.2.2)
+declared_again acted outcomes new log doubt channel answer.DiskFault (inl h) = (log, doubt, h.1)
+declared_again acted outcomes new log doubt channel answer.DiskFault (inr h) = elim h.2.2 [ inl s ↦ ([], None, s) | inr s ↦ ([], Some (Declare channel), s.1) ]
+declared_again acted outcomes new log doubt channel answer.NoMemory h = (log, doubt, h)

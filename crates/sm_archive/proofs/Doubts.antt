@@ -1,5 +1,5 @@
 -- What follows from whether an archive is in doubt, and what its images are.
-use Rattle.std.proofs.Common.{◌≡◌, ℕ, List, [], ◌∷◌, ◌++◌, Option, None, Some, refl, subst, inl, inr}
+use Rattle.std.proofs.Common.{◌≡◌, ℕ, List, [], ◌∷◌, ◌++◌, Option, None, Some, refl, subst, ◌⊎◌, inl, inr}
 use Rattle.sm_model.specs.declared.entry.Entry.{Entry}
 use Rattle.sm_log.specs.Logs.{IsSound}
 use Rattle.sm_archive.specs.Steps.{Settles}
@@ -60,3 +60,12 @@ images (Some x) index v log bodies (Some b) (Some e) c sound spell d (inr has) =
 -- each image that a crash may leave is the log, perhaps with the doubt
 pub image_of : (a : Archive) (log : List Entry) (doubt : Option Entry) (outcomes : Image → Type 0) → Stands a log doubt outcomes → (c : Image) → outcomes c → (after : List Entry) × IsStore after c × Settles log doubt after
 image_of a log doubt outcomes s c left = images a.doubt a.index a.log log s.bodies s.body doubt c s.keeps.sound s.keeps.spell s.keeps.doubted (perhaps_of s.bodies s.body a.log outcomes (s.stands.each c left) c left)
+
+pub image_fits : (a : Archive) (log : List Entry) (doubt : Option Entry) (outcomes : Image → Type 0) → Stands a log doubt outcomes → (c : Image) → outcomes c
+    → IsStore log c ⊎ ((d : Entry) × (doubt ≡ Some d) × IsStore (log ++ d ∷ []) c)
+image_fits a log doubt outcomes s c left =
+    let i = image_of a log doubt outcomes s c left in
+    elim i.2 [
+      | inl same ↦ inl (subst (λ (l : List Entry). IsStore l c) same i.1)
+      | inr more ↦ inr (more.0, more.1, subst (λ (l : List Entry). IsStore l c) more.2 i.1)
+    ]

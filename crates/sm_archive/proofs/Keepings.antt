@@ -8,7 +8,7 @@ use Rattle.sm_model.specs.Entries.{address_of}
 use Rattle.sm_log.specs.declared.verdict.Judged.TheVariants.{NotDeclared}
 use Rattle.sm_log.specs.Adds.{verdict, is_declared}
 use Rattle.sm_log.specs.Logs.{channel_of, verdict_on}
-use Rattle.sm_archive.specs.Steps.{Settles, Grows}
+use Rattle.sm_archive.specs.Steps.{Clears, Settles, Grows}
 use Rattle.sm_site.specs.Image.{Image}
 use Rattle.sm_site.specs.Clauses.{Rose}
 use Rattle.sm_archive.specs.declared.index.Index.{Index}
@@ -45,15 +45,16 @@ still_prepared a b r f p channel space spare room = record {
   space = space 1 r.address.stream p.space;
 }
 
-module _ (outcomes : Image → Type 0) (new : Archive) (log : List Entry) (doubt : Option Entry) (mid : List Entry) (settles : Settles log doubt mid) (f : Fragment) where
-  pub step_from : (k : Keeping) → KeptNew outcomes new mid f k → KeepStep outcomes new log doubt f k
-  step_from (keeping.Kept place) h = (mid, settles, h.0, h.1, h.2)
-  step_from (keeping.Known place) h = (mid, settles, h.0, h.1)
-  step_from (keeping.Refused why) h = (mid, settles, h.0, h.1)
-  step_from keeping.Full h = (mid, settles, h.0, h.1, h.2)
-  step_from keeping.DiskFault h = inr (mid, settles, h.0, h.1, h.2)
+module _ (acted did : Type 0) (so : did → acted) (outcomes : Image → Type 0) (new : Archive) (log : List Entry) (doubt : Option Entry) (mid : List Entry) (clears : Clears acted log doubt mid) (f : Fragment) where
+  pub step_from : (k : Keeping) → KeptNew did outcomes new mid f k → KeepStep acted outcomes new log doubt f k
+  step_from (keeping.Kept place) h = (mid, clears, h.0, h.1, h.2, so h.3, h.4)
+  step_from (keeping.Known place) h = (mid, clears, h.0, h.1)
+  step_from (keeping.Refused why) h = (mid, clears, h.0, h.1)
+  step_from keeping.Full h = (mid, clears, h.0, h.1, h.2)
+  step_from keeping.DiskFault h = inr (mid, clears, h.0, h.1, elim h.2 [ inl s ↦ inl s | inr s ↦ inr (so s.0, s.1) ])
   step_from keeping.NoMemory h = absurd h
 
+module _ (log : List Entry) (doubt : Option Entry) (mid : List Entry) (settles : Settles log doubt mid) (f : Fragment) where
   pub grown : (c : Image) → (after : List Entry) × IsStore after c × ((after ≡ mid) ⊎ (after ≡ mid ++ Keep f ∷ [])) → (after : List Entry) × IsStore after c × Grows log doubt (Keep f) after
   grown c h =
       elim h.2 [
@@ -89,11 +90,11 @@ refused_overlap v f end is = ap (λ (w : Judged). refusal_of f w) is
 abbrev pub StandsAgain : (Image → Type 0) → Archive → Type 0
 StandsAgain outcomes new = (log : List Entry) × (doubt : Option Entry) × Stands new log doubt outcomes
 
-pub kept_again : (outcomes : Image → Type 0) (new : Archive) (log : List Entry) (doubt : Option Entry) (f : Fragment) (k : Keeping) → KeepStep outcomes new log doubt f k → StandsAgain outcomes new
-kept_again outcomes new log doubt f (keeping.Kept place) h = (h.0 ++ Keep f ∷ [], None, h.4)
-kept_again outcomes new log doubt f (keeping.Known place) h = (h.0, None, h.3)
-kept_again outcomes new log doubt f (keeping.Refused cause) h = (h.0, None, h.3)
-kept_again outcomes new log doubt f keeping.Full h = (h.0, None, h.4)
-kept_again outcomes new log doubt f keeping.DiskFault (inl h) = (log, doubt, h.1)
-kept_again outcomes new log doubt f keeping.DiskFault (inr h) = elim h.4 [ inl s ↦ (h.0, None, s) | inr s ↦ (h.0, Some (Keep f), s) ]
-kept_again outcomes new log doubt f keeping.NoMemory h = (log, doubt, h)
+pub kept_again : (acted : Type 0) (outcomes : Image → Type 0) (new : Archive) (log : List Entry) (doubt : Option Entry) (f : Fragment) (k : Keeping) → KeepStep acted outcomes new log doubt f k → StandsAgain outcomes new
+kept_again acted outcomes new log doubt f (keeping.Kept place) h = (h.0 ++ Keep f ∷ [], None, h.6)
+kept_again acted outcomes new log doubt f (keeping.Known place) h = (h.0, None, h.3)
+kept_again acted outcomes new log doubt f (keeping.Refused cause) h = (h.0, None, h.3)
+kept_again acted outcomes new log doubt f keeping.Full h = (h.0, None, h.4)
+kept_again acted outcomes new log doubt f keeping.DiskFault (inl h) = (log, doubt, h.1)
+kept_again acted outcomes new log doubt f keeping.DiskFault (inr h) = elim h.4 [ inl s ↦ (h.0, None, s) | inr s ↦ (h.0, Some (Keep f), s.1) ]
+kept_again acted outcomes new log doubt f keeping.NoMemory h = (log, doubt, h)

@@ -5,7 +5,7 @@ use Rattle.std.proofs.lemmas.List.Sums.{sum_by_push}
 use Rattle.sm_model.specs.declared.track.Track.{Track}
 use Rattle.sm_model.specs.declared.entry.Entry.{Entry}
 use Rattle.sm_log.specs.Logs.{channel_of}
-use Rattle.sm_archive.specs.Steps.{Settles}
+use Rattle.sm_archive.specs.Steps.{Clears, Settles}
 use Rattle.sm_record.specs.Bodies.{IsBody}
 use Rattle.sm_site.specs.Image.{Image}
 use Rattle.sm_seglog.specs.Segments.{Segments}
@@ -55,12 +55,25 @@ entry_can_be_taken a x log doubt outcomes is s =
 used_push : (used bytes n : ℕ) (bodies : List (List ℕ)) (body : List ℕ) → used ≡ min (used_by bodies) (2 ^ 64 - 1) → bytes ≡ 5 + length body → n ≡ min (used + bytes) (2 ^ 64 - 1) → n ≡ min (used_by (bodies ++ body ∷ [])) (2 ^ 64 - 1)
 used_push used bytes n bodies body is b_is n_is = let p = sum_by_push (λ (b : List ℕ). 5 + length b) bodies body in omega (arith, is, b_is, n_is, p)
 
-pub stored : (a : Archive) (x : Doubt) (v : Segments) (used : ℕ) (index : Option Index) (place : ℕ) (old new : Image → Type 0) → a.doubt ≡ Some x → place ≡ (count_of a.log)
+some_entry : (o : Option Entry) (e : Entry) → o ≡ Some e → IsSome o
+some_entry (Some x) e h = refl
+some_entry None e h = absurd cc
+
+-- a doubt that is cleared is settled, whatever acted
+pub clears_settles : (acted : Type 0) (log : List Entry) (doubt : Option Entry) (mid : List Entry) → Clears acted log doubt mid → Settles log doubt mid
+clears_settles acted log doubt mid (inl h) = inl h.1
+clears_settles acted log doubt mid (inr h) = h.1
+
+pub clears_as : (acted also : Type 0) (log : List Entry) (doubt : Option Entry) (mid : List Entry) → (acted → also) → Clears acted log doubt mid → Clears also log doubt mid
+clears_as acted also log doubt mid so (inl h) = inl h
+clears_as acted also log doubt mid so (inr h) = inr (h.0, h.1, so h.2)
+
+pub stored : (acted : Type 0) → acted → (a : Archive) (x : Doubt) (v : Segments) (used : ℕ) (index : Option Index) (place : ℕ) (old new : Image → Type 0) → a.doubt ≡ Some x → place ≡ (count_of a.log)
     → ((bodies : List (List ℕ)) (body : List ℕ) → seg.Stands a.log bodies (Some body) old → seg.Stands v (bodies ++ body ∷ []) None new)
     → used ≡ min (a.used + x.bytes) (2 ^ 64 - 1) → Taken a.index x.entry place index
     → (empty : Option Doubt) → empty ≡ None
-    → (log : List Entry) (doubt : Option Entry) → Stands a log doubt old → (after : List Entry) × Settles log doubt after × Stands (archive a v used index empty) after None new
-stored a x v used index place old new is place_is so used_is taken empty empty_is log doubt s =
+    → (log : List Entry) (doubt : Option Entry) → Stands a log doubt old → (after : List Entry) × Clears acted log doubt after × Stands (archive a v used index empty) after None new
+stored acted did a x v used index place old new is place_is so used_is taken empty empty_is log doubt s =
     let d = in_doubt a x log doubt old is s in
     let k = s.keeps in
     let len : length log ≡ length s.bodies = all_zip_len (IsBody (channel_of log)) log s.bodies k.spell in
@@ -81,13 +94,13 @@ stored a x v used index place old new is place_is so used_is taken empty empty_i
         doubted = tt;
       };
     } in
-    (log ++ d.entry ∷ [], inr (d.entry, d.doubt_is, refl), subst (λ (n : Option Doubt). Stands (archive a v used index n) (log ++ d.entry ∷ []) None new) (sym empty_is) made)
+    (log ++ d.entry ∷ [], inr (some_entry doubt d.entry d.doubt_is, inr (d.entry, d.doubt_is, refl), did), subst (λ (n : Option Doubt). Stands (archive a v used index n) (log ++ d.entry ∷ []) None new) (sym empty_is) made)
 
-pub gone : (a : Archive) (x : Doubt) (v : Segments) (old new : Image → Type 0) → a.doubt ≡ Some x
+pub gone : (acted : Type 0) → acted → (a : Archive) (x : Doubt) (v : Segments) (old new : Image → Type 0) → a.doubt ≡ Some x
     → ((bodies : List (List ℕ)) (body : List ℕ) → seg.Stands a.log bodies (Some body) old → seg.Stands v bodies None new)
     → (empty : Option Doubt) → empty ≡ None
-    → (log : List Entry) (doubt : Option Entry) → Stands a log doubt old → (after : List Entry) × Settles log doubt after × Stands (archive a v a.used a.index empty) after None new
-gone a x v old new is so empty empty_is log doubt s =
+    → (log : List Entry) (doubt : Option Entry) → Stands a log doubt old → (after : List Entry) × Clears acted log doubt after × Stands (archive a v a.used a.index empty) after None new
+gone acted did a x v old new is so empty empty_is log doubt s =
     let d = in_doubt a x log doubt old is s in
     let k = s.keeps in
     let stands : seg.Stands a.log s.bodies (Some d.own) old = subst (λ (b : Option (List ℕ)). seg.Stands a.log s.bodies b old) d.body_is s.stands in
@@ -97,11 +110,11 @@ gone a x v old new is so empty empty_is log doubt s =
       stands = so s.bodies d.own stands;
       keeps = record { count = (so s.bodies d.own stands).count; spell = k.spell; sound = k.sound; index = k.index; used = k.used; few = k.few; low = k.low; doubted = tt };
     } in
-    (log, inl refl, subst (λ (n : Option Doubt). Stands (archive a v a.used a.index n) log None new) (sym empty_is) made)
+    (log, inr (some_entry doubt d.entry d.doubt_is, inl refl, did), subst (λ (n : Option Doubt). Stands (archive a v a.used a.index n) log None new) (sym empty_is) made)
 
-pub no_doubt : (a : Archive) (empty : Option Doubt) (outcomes : Image → Type 0) → a.doubt ≡ None → empty ≡ None
-    → (log : List Entry) (doubt : Option Entry) → Stands a log doubt outcomes → (after : List Entry) × Settles log doubt after × Stands (archive a a.log a.used a.index empty) after None outcomes
-no_doubt a empty outcomes is empty_is log doubt s =
+pub no_doubt : (acted : Type 0) (a : Archive) (empty : Option Doubt) (outcomes : Image → Type 0) → a.doubt ≡ None → empty ≡ None
+    → (log : List Entry) (doubt : Option Entry) → Stands a log doubt outcomes → (after : List Entry) × Clears acted log doubt after × Stands (archive a a.log a.used a.index empty) after None outcomes
+no_doubt acted a empty outcomes is empty_is log doubt s =
     let k = s.keeps in
     let e = doubted_none a.index a.log log a.doubt s.body doubt is k.doubted in
     let made : Stands (archive a a.log a.used a.index None) log None outcomes = record {
@@ -110,15 +123,11 @@ no_doubt a empty outcomes is empty_is log doubt s =
       stands = subst (λ (b : Option (List ℕ)). seg.Stands a.log s.bodies b outcomes) e.0 s.stands;
       keeps = record { count = k.count; spell = k.spell; sound = k.sound; index = k.index; used = k.used; few = k.few; low = k.low; doubted = tt };
     } in
-    (log, inl refl, subst (λ (n : Option Doubt). Stands (archive a a.log a.used a.index n) log None outcomes) (sym empty_is) made)
+    (log, inl (e.1, refl), subst (λ (n : Option Doubt). Stands (archive a a.log a.used a.index n) log None outcomes) (sym empty_is) made)
 
 -- fewer outcomes
 pub stands_fewer : (a : Archive) (old new : Image → Type 0) → ((c : Image) → new c → old c) → (log : List Entry) (doubt : Option Entry) → Stands a log doubt old → Stands a log doubt new
 stands_fewer a old new less log doubt s = record { bodies = s.bodies; body = s.body; stands = fewer_outcomes a.log s.bodies s.body old new less s.stands; keeps = s.keeps }
-
-some_entry : (o : Option Entry) (e : Entry) → o ≡ Some e → IsSome o
-some_entry (Some x) e h = refl
-some_entry None e h = absurd cc
 
 pub failed : (a : Archive) (x : Doubt) (v : Segments) (old new : Image → Type 0) → a.doubt ≡ Some x → v ≡ a.log → ((c : Image) → new c → old c)
     → (log : List Entry) (doubt : Option Entry) → Stands a log doubt old → IsSome doubt × Stands (archive a v a.used a.index (Some x)) log doubt new

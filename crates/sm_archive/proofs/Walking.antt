@@ -8,7 +8,6 @@ use Rattle.sm_model.specs.declared.entry.Entry.{Entry}
 use Rattle.sm_log.specs.Logs.{IsSound}
 use Rattle.sm_site.specs.Image.{Image}
 use Rattle.sm_site.specs.Meanings.{View}
-use Rattle.sm_site.specs.Clauses.{Throughout}
 use Rattle.sm_seglog.specs.Stores.{HasStore, slots_in, NotAStore as NoLog}
 use Rattle.sm_seglog.specs.Segments.{Segments, SegStands, IsOpened, slots_of}
 use Rattle.sm_gatelog.specs.declared.slot.Slot.{Slot}
@@ -175,14 +174,6 @@ left_told before contents same some = subst (λ (o : Option Image). IsSome o) sa
 
 pub same_told : (before contents : Option Image) → is_some contents ≡ is_some before → IsSome before → IsSome contents
 same_told before contents same some = same ∙ some
-
--- where no call is made
-pub no_call : {D : Type 0} (view : D → View) (left_at : D → ℕ → Image → Type 0) (d : D) (P : ℕ → Image → Type 0) → ((t : ℕ) (c : Image) → left_at d t c → t ≤ (view d).moment) → Throughout view left_at d d P
-no_call view left_at d P no_later = record {
-  later = omega arith;
-  keeps = λ t c le. (λ left. left, λ left. left);
-  each = λ t c after left. absurd (omega (arith, after, no_later t c left));
-}
 
 -- the same of a result
 pub some_one : (contents : Option Image) (v : Segments) (old : Image → Type 0) → OneList → OneCut → v.last.doubt ≡ None → IfSome contents (λ c. IsOpened v c old) → IfSome contents (IsOne v old)

@@ -17,7 +17,7 @@ use Rattle.sm_gatelog.specs.declared.answer.Appended.TheVariants as appended
 use Rattle.sm_gatelog.specs.declared.answer.Settled.{Settled}
 use Rattle.sm_gatelog.specs.declared.answer.Settled.TheVariants as settled
 use Rattle.sm_seglog.specs.Segments.{Segments, SegStands, GoesOn, IsNextReady, IsReady, IsBlank, NextGrows, OnlyReserved, SegAfter, advanced, count_of, slots_of, with_last}
-use Rattle.sm_archive.specs.Bodies.{next_room, room_of, Fits, Stands, Stays, IsFault}
+use Rattle.sm_archive.specs.Bodies.{next_room, room_of, EndsWithin, Fits, Stands, Stays, IsFault}
 
 -- ---- what is reserved
 
@@ -84,6 +84,7 @@ place_more b l n = omega arith
 -- the value of the last segment after an append, where nothing was in doubt
 pub record LastAfter (log : Log) (n : ℕ) (r : Appended) (new : Log) : Type 0 where
   pub count : (place : ℕ) → r ≡ appended.Stored place → length new.slots ≡ length log.slots + 1
+  pub end : (place : ℕ) → r ≡ appended.Stored place → new.end ≡ log.end + (5 + n)
   pub stays : IsFault r → (length new.slots ≡ length log.slots) × (new.spare ≡ log.spare) × (new.slots ≡ log.slots) × (new.end ≡ log.end)
   pub sure : r ≢ appended.Doubt → new.doubt ≡ None
   pub doubt : r ≡ appended.Doubt → new.doubt ≡ Some n
@@ -91,18 +92,21 @@ pub record LastAfter (log : Log) (n : ℕ) (r : Appended) (new : Log) : Type 0 w
 last_after : (log : Log) (n : ℕ) (r : Appended) → log.doubt ≡ None → LastAfter log n r (log_after log n r)
 last_after log n (appended.Stored place) none = record {
   count = λ p e. length_push log.slots _;
+  end = λ p e. refl;
   stays = λ f. absurd f;
   sure = λ e. refl;
   doubt = λ e. absurd cc;
 }
 last_after log n appended.Clean none = record {
   count = λ p e. absurd cc;
+  end = λ p e. absurd cc;
   stays = λ f. (refl, refl, refl, refl);
   sure = λ e. none;
   doubt = λ e. absurd cc;
 }
 last_after log n appended.Doubt none = record {
   count = λ p e. absurd cc;
+  end = λ p e. absurd cc;
   stays = λ f. (refl, refl, refl, refl);
   sure = λ e. absurd (e refl);
   doubt = λ e. refl;
@@ -111,6 +115,7 @@ last_after log n appended.Doubt none = record {
 -- the whole value after an append
 pub record ValueAfter (old : Segments) (n : ℕ) (r : Appended) (new : Segments) : Type 0 where
   pub more : (place : ℕ) → r ≡ appended.Stored place → count_of new ≡ min (count_of old + 1) (2 ^ 64 - 1)
+  pub ends : (place : ℕ) → r ≡ appended.Stored place → EndsWithin new
   pub same : IsFault r → count_of new ≡ count_of old
   pub stays : IsFault r → Stays old new
   pub sure : r ≢ appended.Doubt → new.last.doubt ≡ None
@@ -124,11 +129,17 @@ fits_here old last slots end m (inl (inl none)) = inl (inl (slots ∙ none))
 fits_here old last slots end m (inl (inr le)) = inl (inr (omega (arith, end, le)))
 fits_here old last slots end m (inr few) = inr few
 
-value_here : (old : Segments) (n : ℕ) (r : Appended) → old.last.doubt ≡ None → 1 ≤ old.last.spare → ValueAfter old n r (with_last old (log_after old.last n r))
-value_here old n r none spare =
+ends_here : (last new : Log) (n : ℕ) → (last.slots ≡ []) ⊎ (last.end + (6 + n) ≤ 2 ^ 28) → length new.slots ≡ length last.slots + 1 → new.end ≡ last.end + (5 + n)
+    → (length new.slots ≡ 1) ⊎ (new.end + 1 ≤ 2 ^ 28)
+ends_here last new n (inl none) count end = inl (omega (arith, count, ap length none))
+ends_here last new n (inr le) count end = inr (omega (arith, le, end))
+
+value_here : (old : Segments) (n : ℕ) (r : Appended) → GoesOn old n → old.last.doubt ≡ None → 1 ≤ old.last.spare → ValueAfter old n r (with_last old (log_after old.last n r))
+value_here old n r goes none spare =
     let l = last_after old.last n r none in
     record {
       more = λ place e. omega (arith, count_here old (log_after old.last n r) 1 (l.count place e));
+      ends = λ place e. ends_here old.last (log_after old.last n r) n goes (l.count place e) (l.end place e);
       same = λ f. ap (λ (m : ℕ). min (old.before + m) (2 ^ 64 - 1)) (l.stays f).0;
       stays = λ f. record { fits = fits_here old (log_after old.last n r) (l.stays f).2 (l.stays f).3; spare = omega (arith, (l.stays f).1, spare) };
       sure = l.sure;
@@ -142,6 +153,7 @@ value_next old next n r blank spare =
     let none : length next.slots ≡ 0 = ap length blank.slots in
     record {
       more = λ place e. omega (arith, l.count place e, none);
+      ends = λ place e. inl (omega (arith, l.count place e, none));
       same = λ f. omega (arith, (l.stays f).0, none);
       stays = λ f. record { fits = λ m fits. inl (inl ((l.stays f).2 ∙ blank.slots)); spare = omega (arith, (l.stays f).1, spare) };
       sure = l.sure;
@@ -149,12 +161,13 @@ value_next old next n r blank spare =
     }
 
 pub value_after : (old : Segments) (n : ℕ) (r : Appended) (new : Segments) → old.last.doubt ≡ None → IsReady old n → Fits old n → SegAfter old n r new → ValueAfter old n r new
-value_after old n r new none ready fits (inl here) = subst (λ (v : Segments). ValueAfter old n r v) (sym here.1) (value_here old n r none ready.spare)
+value_after old n r new none ready fits (inl here) = subst (λ (v : Segments). ValueAfter old n r v) (sym here.1) (value_here old n r here.0 none ready.spare)
 value_after old n r new none ready fits (inr (inl same)) =
     subst (λ (v : Segments). ValueAfter old n r v) (sym same.1.1)
     (subst (λ (a : Appended). ValueAfter old n a old) (sym same.1.0)
     (record {
       more = λ place e. absurd cc;
+      ends = λ place e. absurd cc;
       same = λ f. refl;
       stays = λ f. record { fits = λ m h. h; spare = ready.spare };
       sure = λ e. none;

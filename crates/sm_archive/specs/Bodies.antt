@@ -19,6 +19,10 @@ room_of v = if nat_lt (length v.full) 1023 then min v.last.room (next_room v.nex
 abbrev pub Fits : Segments → ℕ → Type 0
 Fits v n = GoesOn v n ⊎ (length v.full < 1023)
 
+-- the record of the last body ends within its file, or is alone in it
+abbrev pub EndsWithin : Segments → Type 0
+EndsWithin v = (length v.last.slots ≡ 1) ⊎ (v.last.end + 1 ≤ 2 ^ 28)
+
 -- The log has so many bodies, and each outcome of a crash has these, and perhaps the one in doubt behind them.
 pub record Stands (v : Segments) (bodies : List (List ℕ)) (doubt : Option (List ℕ)) (outcomes : Image → Type 0) : Type 0 where
   pub count : count_of v ≡ min (length bodies) (2 ^ 64 - 1)

@@ -4,11 +4,11 @@ use Rattle.sm_model.specs.declared.track.Track.{Track}
 use Rattle.sm_model.specs.declared.entry.Entry.{Entry}
 use Rattle.sm_model.specs.declared.entry.Entry.TheVariants.{Declare}
 use Rattle.sm_log.specs.Logs.{channel_of}
-use Rattle.sm_archive.specs.Steps.{Settles}
+use Rattle.sm_archive.specs.Steps.{Clears}
 use Rattle.sm_record.specs.Bodies.{IsSealedBody, body_len}
 use Rattle.sm_site.specs.Image.{Image}
 use Rattle.sm_seglog.specs.Segments.{Segments}
-use Rattle.sm_archive.specs.Bodies.{Fits}
+use Rattle.sm_archive.specs.Bodies.{EndsWithin, Fits}
 use Rattle.sm_log.specs.Headers.{check}
 use Rattle.sm_model.specs.declared.cause.Cause.{Cause}
 use Rattle.sm_model.specs.declared.cause.Cause.TheVariants as cause
@@ -41,6 +41,12 @@ pub record IsWithin (a : Archive) (channel : List Track) : Type 0 where
   pub entries : 1 ≤ a.limits.entries
   pub files : Fits a.log (body_len (Declare channel))
 
+-- none was met by a header that the archive has now
+pub record IsWithinNow (a : Archive) : Type 0 where
+  pub bytes : a.used ≤ a.limits.store_bytes
+  pub entries : 1 ≤ a.limits.entries
+  pub files : EndsWithin a.log
+
 abbrev pub MeetsLimit : Archive → List Track → Type 0
 MeetsLimit a channel =
     (a.limits.store_bytes < a.used + (5 + body_len (Declare channel))) ⊎ ((a.limits.entries < 1) ⊎ (Fits a.log (body_len (Declare channel)) → ⊥))
@@ -60,24 +66,29 @@ Compares known channel answer.DiskFault = ⊥
 Compares known channel answer.NoMemory = ⊥
 
 -- what declare does once no entry is in doubt
-abbrev pub DeclaredNew : (Image → Type 0) → Archive → List Entry → List Track → Declared → Type 0
-DeclaredNew outcomes new log channel answer.Fixed = (log ≡ []) × Stands new (Declare channel ∷ []) None outcomes
-DeclaredNew outcomes new log channel answer.Agreed =
+abbrev pub DeclaredNew : Type 0 → (Image → Type 0) → Archive → List Entry → List Track → Declared → Type 0
+DeclaredNew acted outcomes new log channel answer.Fixed = (log ≡ []) × IsWithinNow new × acted × Stands new (Declare channel ∷ []) None outcomes
+DeclaredNew acted outcomes new log channel answer.Agreed =
     (known : List Track) × (channel_of log ≡ Some known) × (check known channel ≡ checked.Agreed) × Stands new log None outcomes
-DeclaredNew outcomes new log channel (answer.Refused cause) =
+DeclaredNew acted outcomes new log channel (answer.Refused cause) =
     (known : List Track) × (channel_of log ≡ Some known) × (refusal_in channel (check known channel) ≡ Some cause) × Stands new log None outcomes
-DeclaredNew outcomes new log channel answer.Full = (log ≡ []) × MeetsLimit new channel × Stands new [] None outcomes
-DeclaredNew outcomes new log channel answer.DiskFault =
-    (log ≡ []) × IsWithin new channel × (Stands new [] None outcomes ⊎ Stands new [] (Some (Declare channel)) outcomes)
-DeclaredNew outcomes new log channel answer.NoMemory = ⊥
+DeclaredNew acted outcomes new log channel answer.Full = (log ≡ []) × MeetsLimit new channel × Stands new [] None outcomes
+DeclaredNew acted outcomes new log channel answer.DiskFault =
+    (log ≡ []) × IsWithin new channel × (Stands new [] None outcomes ⊎ (acted × Stands new [] (Some (Declare channel)) outcomes))
+DeclaredNew acted outcomes new log channel answer.NoMemory = ⊥
 
--- a call of declare, from a log and a doubt to another, as a step of the machine
-abbrev pub DeclareStep : (Image → Type 0) → Archive → List Entry → Option Entry → List Track → Declared → Type 0
-DeclareStep outcomes new log doubt channel answer.DiskFault =
-    (IsSome doubt × Stands new log doubt outcomes) ⊎ ((mid : List Entry) × Settles log doubt mid × DeclaredNew outcomes new mid channel answer.DiskFault)
-DeclareStep outcomes new log doubt channel answer.NoMemory = Stands new log doubt outcomes
-DeclareStep outcomes new log doubt channel answer.Fixed = (mid : List Entry) × Settles log doubt mid × DeclaredNew outcomes new mid channel answer.Fixed
-DeclareStep outcomes new log doubt channel answer.Agreed = (mid : List Entry) × Settles log doubt mid × DeclaredNew outcomes new mid channel answer.Agreed
-DeclareStep outcomes new log doubt channel (answer.Refused cause) =
-    (mid : List Entry) × Settles log doubt mid × DeclaredNew outcomes new mid channel (answer.Refused cause)
-DeclareStep outcomes new log doubt channel answer.Full = (mid : List Entry) × Settles log doubt mid × DeclaredNew outcomes new mid channel answer.Full
+-- A call of declare, from a log and a doubt to another, as a step of the machine. A doubt goes or comes, and a header is fixed, only where
+-- the call acted on the disk.
+abbrev pub DeclareStep : Type 0 → (Image → Type 0) → Archive → List Entry → Option Entry → List Track → Declared → Type 0
+DeclareStep acted outcomes new log doubt channel answer.DiskFault =
+    (IsSome doubt × Stands new log doubt outcomes)
+    ⊎ ((mid : List Entry) × Clears acted log doubt mid × DeclaredNew acted outcomes new mid channel answer.DiskFault)
+DeclareStep acted outcomes new log doubt channel answer.NoMemory = Stands new log doubt outcomes
+DeclareStep acted outcomes new log doubt channel answer.Fixed =
+    (mid : List Entry) × Clears acted log doubt mid × DeclaredNew acted outcomes new mid channel answer.Fixed
+DeclareStep acted outcomes new log doubt channel answer.Agreed =
+    (mid : List Entry) × Clears acted log doubt mid × DeclaredNew acted outcomes new mid channel answer.Agreed
+DeclareStep acted outcomes new log doubt channel (answer.Refused cause) =
+    (mid : List Entry) × Clears acted log doubt mid × DeclaredNew acted outcomes new mid channel (answer.Refused cause)
+DeclareStep acted outcomes new log doubt channel answer.Full =
+    (mid : List Entry) × Clears acted log doubt mid × DeclaredNew acted outcomes new mid channel answer.Full

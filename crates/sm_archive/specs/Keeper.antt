@@ -21,7 +21,7 @@ use Rattle.sm_archive.specs.declared.answers.Keeping.{Keeping}
 use Rattle.sm_archive.specs.declared.answers.Keeping.TheVariants as keeping
 use Rattle.sm_archive.specs.Index.{HasSpace}
 use Rattle.sm_archive.specs.Stands.{Stands}
-use Rattle.sm_archive.specs.Keeping.{IsReady, SpaceIn, HasChannel, IsWithin, MeetsLimit, refusal_of}
+use Rattle.sm_archive.specs.Keeping.{IsReady, SpaceIn, HasChannel, IsWithin, IsWithinNow, MeetsLimit, refusal_of}
 use Rattle.sm_archive.specs.Bodies.{room_of}
 
 -- ready by this index
@@ -55,10 +55,12 @@ Prepared None a f = (channel : List Track) → HasChannel a channel → is_decla
 Prepared (Some r) a f = IsPrepared 2 a r f
 
 -- what keep does once no entry is in doubt
-abbrev pub KeptNew : (Image → Type 0) → Archive → List Entry → Fragment → Keeping → Type 0
-KeptNew outcomes new log f (keeping.Kept place) = (verdict_on log f ≡ New) × (place ≡ length log) × Stands new (log ++ Keep f ∷ []) None outcomes
-KeptNew outcomes new log f (keeping.Known place) = (verdict_on log f ≡ Known place) × Stands new log None outcomes
-KeptNew outcomes new log f (keeping.Refused cause) = (refusal_of f (verdict_on log f) ≡ Some cause) × Stands new log None outcomes
-KeptNew outcomes new log f keeping.Full = (verdict_on log f ≡ New) × MeetsLimit new log f × Stands new log None outcomes
-KeptNew outcomes new log f keeping.DiskFault = (verdict_on log f ≡ New) × IsWithin new log f × (Stands new log None outcomes ⊎ Stands new log (Some (Keep f)) outcomes)
-KeptNew outcomes new log f keeping.NoMemory = ⊥
+abbrev pub KeptNew : Type 0 → (Image → Type 0) → Archive → List Entry → Fragment → Keeping → Type 0
+KeptNew acted outcomes new log f (keeping.Kept place) =
+    (verdict_on log f ≡ New) × (place ≡ length log) × IsWithinNow new log f × acted × Stands new (log ++ Keep f ∷ []) None outcomes
+KeptNew acted outcomes new log f (keeping.Known place) = (verdict_on log f ≡ Known place) × Stands new log None outcomes
+KeptNew acted outcomes new log f (keeping.Refused cause) = (refusal_of f (verdict_on log f) ≡ Some cause) × Stands new log None outcomes
+KeptNew acted outcomes new log f keeping.Full = (verdict_on log f ≡ New) × MeetsLimit new log f × Stands new log None outcomes
+KeptNew acted outcomes new log f keeping.DiskFault =
+    (verdict_on log f ≡ New) × IsWithin new log f × (Stands new log None outcomes ⊎ (acted × Stands new log (Some (Keep f)) outcomes))
+KeptNew acted outcomes new log f keeping.NoMemory = ⊥

@@ -10,11 +10,11 @@ use Rattle.sm_log.specs.declared.verdict.Judged.TheVariants.{NotDeclared, Clash,
 use Rattle.sm_log.specs.Adds.{times_of}
 use Rattle.sm_log.specs.Times.{entry_at}
 use Rattle.sm_log.specs.Logs.{adds_of, verdict_on}
-use Rattle.sm_archive.specs.Steps.{Settles}
+use Rattle.sm_archive.specs.Steps.{Clears}
 use Rattle.sm_record.specs.Bodies.{IsBody, body_len}
 use Rattle.sm_record.specs.Metas.{IsMetaOf}
 use Rattle.sm_site.specs.Image.{Image}
-use Rattle.sm_archive.specs.Bodies.{Fits}
+use Rattle.sm_archive.specs.Bodies.{EndsWithin, Fits}
 use Rattle.sm_archive.specs.declared.index.Index.{Index}
 use Rattle.sm_archive.specs.declared.archive.Pending.TheVariants as pending
 use Rattle.sm_archive.specs.declared.archive.Archive.{Archive}
@@ -39,6 +39,13 @@ pub record IsWithin (a : Archive) (log : List Entry) (f : Fragment) : Type 0 whe
   pub entries : length log + 1 ≤ a.limits.entries
   pub times : (has_time log f ≡ true) ⊎ (length (times_of f.stream (adds_of log)) < a.limits.times)
   pub files : Fits a.log (body_len (Keep f))
+
+-- none was met by a fragment that the archive has now, behind this log
+pub record IsWithinNow (a : Archive) (log : List Entry) (f : Fragment) : Type 0 where
+  pub bytes : a.used ≤ a.limits.store_bytes
+  pub entries : length log + 1 ≤ a.limits.entries
+  pub times : (has_time log f ≡ true) ⊎ (length (times_of f.stream (adds_of log)) < a.limits.times)
+  pub files : EndsWithin a.log
 
 -- one of the limits is met
 abbrev pub MeetsLimit : Archive → List Entry → Fragment → Type 0
@@ -81,17 +88,20 @@ refusal_of f NotDeclared = Some (cause.NotDeclared f.stream f.bitrate)
 refusal_of f (Clash kept) = Some (cause.DurationClash kept f.duration)
 refusal_of f (Overlap end) = Some (cause.Overlap end)
 
--- a call of keep, from a log and a doubt to another, as a step of the machine
-abbrev pub KeepStep : (Image → Type 0) → Archive → List Entry → Option Entry → Fragment → Keeping → Type 0
-KeepStep outcomes new log doubt f (keeping.Kept place) =
-    (mid : List Entry) × Settles log doubt mid × (verdict_on mid f ≡ New) × (place ≡ length mid) × Stands new (mid ++ Keep f ∷ []) None outcomes
-KeepStep outcomes new log doubt f (keeping.Known place) =
-    (mid : List Entry) × Settles log doubt mid × (verdict_on mid f ≡ Known place) × Stands new mid None outcomes
-KeepStep outcomes new log doubt f (keeping.Refused cause) =
-    (mid : List Entry) × Settles log doubt mid × (refusal_of f (verdict_on mid f) ≡ Some cause) × Stands new mid None outcomes
-KeepStep outcomes new log doubt f keeping.Full =
-    (mid : List Entry) × Settles log doubt mid × (verdict_on mid f ≡ New) × MeetsLimit new mid f × Stands new mid None outcomes
-KeepStep outcomes new log doubt f keeping.DiskFault =
+-- A call of keep, from a log and a doubt to another, as a step of the machine. A doubt goes or comes, and a fragment is kept, only where
+-- the call acted on the disk.
+abbrev pub KeepStep : Type 0 → (Image → Type 0) → Archive → List Entry → Option Entry → Fragment → Keeping → Type 0
+KeepStep acted outcomes new log doubt f (keeping.Kept place) =
+    (mid : List Entry) × Clears acted log doubt mid × (verdict_on mid f ≡ New) × (place ≡ length mid) × IsWithinNow new mid f × acted
+    × Stands new (mid ++ Keep f ∷ []) None outcomes
+KeepStep acted outcomes new log doubt f (keeping.Known place) =
+    (mid : List Entry) × Clears acted log doubt mid × (verdict_on mid f ≡ Known place) × Stands new mid None outcomes
+KeepStep acted outcomes new log doubt f (keeping.Refused cause) =
+    (mid : List Entry) × Clears acted log doubt mid × (refusal_of f (verdict_on mid f) ≡ Some cause) × Stands new mid None outcomes
+KeepStep acted outcomes new log doubt f keeping.Full =
+    (mid : List Entry) × Clears acted log doubt mid × (verdict_on mid f ≡ New) × MeetsLimit new mid f × Stands new mid None outcomes
+KeepStep acted outcomes new log doubt f keeping.DiskFault =
     ((is_some doubt ≡ true) × Stands new log doubt outcomes)
-    ⊎ ((mid : List Entry) × Settles log doubt mid × (verdict_on mid f ≡ New) × IsWithin new mid f × (Stands new mid None outcomes ⊎ Stands new mid (Some (Keep f)) outcomes))
-KeepStep outcomes new log doubt f keeping.NoMemory = Stands new log doubt outcomes
+    ⊎ ((mid : List Entry) × Clears acted log doubt mid × (verdict_on mid f ≡ New) × IsWithin new mid f
+    × (Stands new mid None outcomes ⊎ (acted × Stands new mid (Some (Keep f)) outcomes)))
+KeepStep acted outcomes new log doubt f keeping.NoMemory = Stands new log doubt outcomes

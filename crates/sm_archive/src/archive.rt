@@ -2,15 +2,15 @@
 ghost use Rattle.std.specs.Prelude.{◌≡◌, ◌⊎◌, ℕ, ◌+◌, ◌≤◌, List, [], ◌∷◌, ◌++◌, length, Option, None, Some, OnOk, OnErr, IsErr, IsSome};
 ghost use Rattle.sm_model.specs.declared.track.Track.{Track};
 ghost use Rattle.sm_model.specs.declared.entry.Entry.{Entry};
-ghost use Rattle.sm_archive.specs.Steps.{Settles};
+ghost use Rattle.sm_archive.specs.Steps.{Clears, Settles};
 ghost use Rattle.sm_site.specs.Meanings.{SameLink};
-ghost use Rattle.sm_site.specs.Clauses.{Rose, Throughout};
+ghost use Rattle.sm_site.specs.Clauses.{Acted, Recorded, Rose, Throughout};
 ghost use Rattle.sm_archive.specs.Store.{IsStore};
 ghost use Rattle.sm_archive.specs.Stands.{Stands};
 ghost use Rattle.sm_archive.specs.Keeping.{HasChannel, SpaceIn};
 ghost use Rattle.sm_archive.specs.Taking.{CanTake, Taken};
 ghost use Rattle.sm_archive.specs.Appending.{CanAppend, IsUnused};
-ghost use Rattle.sm_archive.specs.Bodies.{room_of};
+ghost use Rattle.sm_archive.specs.Bodies.{EndsWithin, room_of};
 
 use crate::answers::DiskFault;
 use crate::bodies;
@@ -69,7 +69,7 @@ impl Archive {
         // It stands for some log again, whichever it stood for.
         ensures stands { (log : List Entry) × (doubt : Option Entry) × Stands self.new log doubt (D.may_leave disk.new) }
         ensures settled { OnOk result ((log : List Entry) (doubt : Option Entry) → Stands self.old log doubt (D.may_leave disk.old) → (after : List Entry)
-            × Settles log doubt after × Stands self.new after None (D.may_leave disk.new)) }
+            × Clears (Acted (D.view disk.old) (D.view disk.new)) log doubt after × Stands self.new after None (D.may_leave disk.new)) }
         ensures failed { OnErr result ((log : List Entry) (doubt : Option Entry) → Stands self.old log doubt (D.may_leave disk.old) → (IsSome doubt)
             × Stands self.new log doubt (D.may_leave disk.new)) }
         ensures any_moment { (log : List Entry) (doubt : Option Entry) → Stands self.old log doubt (D.may_leave disk.old)
@@ -79,6 +79,8 @@ impl Archive {
         ensures channel { (channel : List Track) → HasChannel self.new channel → HasChannel self.old channel }
         ensures space { (n : ℕ) (stream : List ℕ) → SpaceIn self.old (n + 1) stream → SpaceIn self.new n stream }
         ensures reserved { (self.old.log.last.spare ≤ self.new.log.last.spare + 1) × ((room_of self.old.log) ≤ (room_of self.new.log)) }
+        ensures recorded { Recorded (D.view disk.old) (D.view disk.new) }
+        ensures limits { self.new.limits ≡ self.old.limits }
         ensures no_fewer { (D.view disk.old).disk_faults ≤ (D.view disk.new).disk_faults }
         ensures link { SameLink (D.view disk.old) (D.view disk.new) }
     {
@@ -110,12 +112,18 @@ impl Archive {
         requires can { (log : List Entry) × (e : Entry) × Stands self.old log None (D.may_leave disk.old) × CanAppend self.old entry body log e }
         ensures stored { (place : ℕ) → result ≡ Some place → (log : List Entry) (e : Entry) → Stands self.old log None (D.may_leave disk.old)
             → CanAppend self.old entry body log e → (place ≡ length log) × Stands self.new (log ++ e ∷ []) None (D.may_leave disk.new) }
+        ensures used { (place : ℕ) → result ≡ Some place → self.new.used ≡ self.old.used + (5 + length body) }
+        ensures ends { (place : ℕ) → result ≡ Some place → EndsWithin self.new.log }
+        ensures acts { (place : ℕ) → result ≡ Some place → Acted (D.view disk.old) (D.view disk.new) }
         ensures failed { result ≡ None → (log : List Entry) (e : Entry) → Stands self.old log None (D.may_leave disk.old) → CanAppend self.old entry body log e
-            → IsUnused self.old self.new × (Stands self.new log None (D.may_leave disk.new) ⊎ Stands self.new log (Some e) (D.may_leave disk.new)) }
+            → IsUnused self.old self.new × (Stands self.new log None (D.may_leave disk.new)
+            ⊎ (Acted (D.view disk.old) (D.view disk.new) × Stands self.new log (Some e) (D.may_leave disk.new))) }
         ensures any_moment { (log : List Entry) (e : Entry) → Stands self.old log None (D.may_leave disk.old) → CanAppend self.old entry body log e
             → IsSome (D.view disk.old).contents → Throughout D.view D.left_at disk.old disk.new (λ t c. (after : List Entry) × IsStore after c × ((after ≡ log)
             ⊎ (after ≡ log ++ e ∷ []))) }
         ensures fault { result ≡ None → Rose (D.view disk.old).disk_faults (D.view disk.new).disk_faults }
+        ensures recorded { Recorded (D.view disk.old) (D.view disk.new) }
+        ensures limits { self.new.limits ≡ self.old.limits }
         ensures no_fewer { (D.view disk.old).disk_faults ≤ (D.view disk.new).disk_faults }
         ensures link { SameLink (D.view disk.old) (D.view disk.new) }
     {

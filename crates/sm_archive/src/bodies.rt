@@ -2,13 +2,14 @@
 ghost use Rattle.std.specs.Prelude.{◌≡◌, ◌⊎◌, ℕ, ◌+◌, ◌≤◌, ◌<◌, ◌^◌, true, None, Some, List, ◌∷◌, ◌++◌, [], length, get_or, slice_get, Option, IfSome, IsSome, OnOk, IfOk, IsErrOf, is_some};
 ghost use Rattle.sm_site.specs.Image.{Image};
 ghost use Rattle.sm_site.specs.Meanings.{SameLink};
-ghost use Rattle.sm_site.specs.Clauses.{Rose, Throughout};
+ghost use Rattle.sm_site.specs.Clauses.{Recorded, Rose, Throughout};
+ghost use Rattle.sm_gatelog.specs.Logs.{Acts, SettleActs};
 ghost use Rattle.sm_gatelog.specs.declared.answer.Appended.TheVariants as appended;
 ghost use Rattle.sm_gatelog.specs.declared.answer.Settled.TheVariants as settled;
 ghost use Rattle.sm_gatelog.specs.declared.answer.ReadFault.TheVariants as read_fault;
 ghost use Rattle.sm_seglog.specs.Stores.{StorePerhaps};
 ghost use Rattle.sm_seglog.specs.Segments.{OnlyReserved, count_of};
-ghost use Rattle.sm_archive.specs.Bodies.{Fits, IsFault, Stands, Stays, room_of};
+ghost use Rattle.sm_archive.specs.Bodies.{EndsWithin, Fits, IsFault, Stands, Stays, room_of};
 
 use sm_gatelog::{Appended, ReadFault, Settled};
 use sm_model::{Bytes, NoMemory};
@@ -36,12 +37,15 @@ pub(crate) fn append<D: Disk>(log: &mut SegLog, disk: &mut D, body: &[u8]) -> Ap
     requires stands { (bodies : List (List ℕ)) × Stands log.old bodies None (D.may_leave disk.old) }
     ensures stored { (place : ℕ) → result ≡ appended.Stored place → (place ≡ count_of log.old)
         × ((bodies : List (List ℕ)) → Stands log.old bodies None (D.may_leave disk.old) → Stands log.new (bodies ++ body.now ∷ []) None (D.may_leave disk.new)) }
+    ensures ends { (place : ℕ) → result ≡ appended.Stored place → EndsWithin log.new }
     ensures clean { result ≡ appended.Clean → Stays log.old log.new
         × ((bodies : List (List ℕ)) → Stands log.old bodies None (D.may_leave disk.old) → Stands log.new bodies None (D.may_leave disk.new)) }
     ensures doubt { result ≡ appended.Doubt → Stays log.old log.new
         × ((bodies : List (List ℕ)) → Stands log.old bodies None (D.may_leave disk.old) → Stands log.new bodies (Some body.now) (D.may_leave disk.new)) }
     ensures any_moment { (bodies : List (List ℕ)) → Stands log.old bodies None (D.may_leave disk.old) → IsSome (D.view disk.old).contents
         → Throughout D.view D.left_at disk.old disk.new (λ t c. StorePerhaps bodies (Some body.now) c) }
+    ensures acts { Acts result (D.view disk.old) (D.view disk.new) }
+    ensures recorded { Recorded (D.view disk.old) (D.view disk.new) }
     ensures fault { IsFault result → Rose (D.view disk.old).disk_faults (D.view disk.new).disk_faults }
     ensures no_fewer { (D.view disk.old).disk_faults ≤ (D.view disk.new).disk_faults }
     ensures link { SameLink (D.view disk.old) (D.view disk.new) }
@@ -59,6 +63,7 @@ pub(crate) fn settle<D: Disk>(log: &mut SegLog, disk: &mut D) -> Settled
     ensures gone { result ≡ settled.Gone
         → (bodies : List (List ℕ)) (body : List ℕ) → Stands log.old bodies (Some body) (D.may_leave disk.old) → Stands log.new bodies None (D.may_leave disk.new) }
     ensures failed { result ≡ settled.DiskFault → (log.new ≡ log.old) × Rose (D.view disk.old).disk_faults (D.view disk.new).disk_faults }
+    ensures acts { SettleActs result (D.view disk.old) (D.view disk.new) }
     ensures reserved { (log.old.last.spare ≤ log.new.last.spare + 1) × (room_of log.old ≤ room_of log.new) }
     ensures contents { (D.view disk.new).contents ≡ (D.view disk.old).contents }
     ensures no_more { (c : Image) → D.may_leave disk.new c → D.may_leave disk.old c }

@@ -7,7 +7,7 @@ ghost use Rattle.sm_model.specs.Channels.{IsChannel};
 ghost use Rattle.sm_archive.specs.Steps.{Grows};
 ghost use Rattle.sm_record.specs.Bodies.{body_len};
 ghost use Rattle.sm_site.specs.Meanings.{SameLink};
-ghost use Rattle.sm_site.specs.Clauses.{Rose, Throughout};
+ghost use Rattle.sm_site.specs.Clauses.{Acted, Recorded, Rose, Throughout};
 ghost use Rattle.sm_seglog.specs.Segments.{OnlyReserved};
 ghost use Rattle.sm_archive.specs.declared.answers.Declared.TheVariants as answer;
 ghost use Rattle.sm_archive.specs.declared.index.Index.{Index};
@@ -89,12 +89,14 @@ impl Archive {
     fn fix<D: Disk>(&mut self, disk: &mut D, header: Header) -> Declared
         requires can { (channel : List Track) × Stands self.old [] None (D.may_leave disk.old) × IsHeader header channel self.old.log × IsChannel channel }
         ensures step { (channel : List Track) → Stands self.old [] None (D.may_leave disk.old) → IsHeader header channel self.old.log → IsChannel channel
-            → DeclaredNew (D.may_leave disk.new) self.new [] channel result }
+            → DeclaredNew (Acted (D.view disk.old) (D.view disk.new)) (D.may_leave disk.new) self.new [] channel result }
         ensures any_moment { (channel : List Track) → Stands self.old [] None (D.may_leave disk.old) → IsHeader header channel self.old.log → IsChannel channel
             → IsSome (D.view disk.old).contents → Throughout D.view D.left_at disk.old disk.new (λ t c. (after : List Entry) × IsStore after c × ((after ≡ [])
             ⊎ (after ≡ Declare channel ∷ []))) }
         ensures no_memory { result ≡ answer.NoMemory → ⊥ }
         ensures fault { result ≡ answer.DiskFault → Rose (D.view disk.old).disk_faults (D.view disk.new).disk_faults }
+        ensures recorded { Recorded (D.view disk.old) (D.view disk.new) }
+        ensures limits { self.new.limits ≡ self.old.limits }
         ensures no_fewer { (D.view disk.old).disk_faults ≤ (D.view disk.new).disk_faults }
         ensures link { SameLink (D.view disk.old) (D.view disk.new) }
     {
@@ -143,12 +145,14 @@ impl Archive {
         requires valid { IsChannel channel.now }
         requires can { (log : List Entry) × Stands self.old log None (D.may_leave disk.old) × ReadyHeader header channel.now self.old.log log }
         ensures step { (log : List Entry) → Stands self.old log None (D.may_leave disk.old) → ReadyHeader header channel.now self.old.log log
-            → DeclaredNew (D.may_leave disk.new) self.new log channel.now result }
+            → DeclaredNew (Acted (D.view disk.old) (D.view disk.new)) (D.may_leave disk.new) self.new log channel.now result }
         ensures any_moment { (log : List Entry) → Stands self.old log None (D.may_leave disk.old) → ReadyHeader header channel.now self.old.log log
             → IsSome (D.view disk.old).contents → Throughout D.view D.left_at disk.old disk.new (λ t c. (after : List Entry) × IsStore after c × ((after ≡ log)
             ⊎ (after ≡ log ++ Declare channel.now ∷ []))) }
         ensures no_memory { result ≡ answer.NoMemory → ⊥ }
         ensures fault { result ≡ answer.DiskFault → Rose (D.view disk.old).disk_faults (D.view disk.new).disk_faults }
+        ensures recorded { Recorded (D.view disk.old) (D.view disk.new) }
+        ensures limits { self.new.limits ≡ self.old.limits }
         ensures no_fewer { (D.view disk.old).disk_faults ≤ (D.view disk.new).disk_faults }
         ensures link { SameLink (D.view disk.old) (D.view disk.new) }
     {
@@ -173,12 +177,14 @@ impl Archive {
         requires valid { IsChannel channel.now }
         requires stands { (log : List Entry) × (doubt : Option Entry) × Stands self.old log doubt (D.may_leave disk.old) }
         ensures step { (log : List Entry) (doubt : Option Entry) → Stands self.old log doubt (D.may_leave disk.old)
-            → DeclareStep (D.may_leave disk.new) self.new log doubt channel.now result }
+            → DeclareStep (Acted (D.view disk.old) (D.view disk.new)) (D.may_leave disk.new) self.new log doubt channel.now result }
         ensures any_moment { (log : List Entry) (doubt : Option Entry) → Stands self.old log doubt (D.may_leave disk.old)
             → IsSome (D.view disk.old).contents → Throughout D.view D.left_at disk.old disk.new (λ t c. (after : List Entry) × IsStore after c
             × Grows log doubt (Declare channel.now) after) }
         ensures memory_first { result ≡ answer.NoMemory → disk.new ≡ disk.old }
         ensures fault { result ≡ answer.DiskFault → Rose (D.view disk.old).disk_faults (D.view disk.new).disk_faults }
+        ensures recorded { Recorded (D.view disk.old) (D.view disk.new) }
+        ensures limits { self.new.limits ≡ self.old.limits }
         ensures no_fewer { (D.view disk.old).disk_faults ≤ (D.view disk.new).disk_faults }
         ensures link { SameLink (D.view disk.old) (D.view disk.new) }
     {
@@ -199,13 +205,15 @@ impl Archive {
         // It stands for some log again, whichever it stood for.
         ensures stands { (log : List Entry) × (doubt : Option Entry) × Stands self.new log doubt (D.may_leave disk.new) }
         ensures step { (log : List Entry) (doubt : Option Entry) → Stands self.old log doubt (D.may_leave disk.old)
-            → DeclareStep (D.may_leave disk.new) self.new log doubt channel.now result }
+            → DeclareStep (Acted (D.view disk.old) (D.view disk.new)) (D.may_leave disk.new) self.new log doubt channel.now result }
         ensures any_moment { (log : List Entry) (doubt : Option Entry) → Stands self.old log doubt (D.may_leave disk.old)
             → IsSome (D.view disk.old).contents → Throughout D.view D.left_at disk.old disk.new (λ t c. (after : List Entry) × IsStore after c
             × Grows log doubt (Declare channel.now) after) }
         // All memory is taken before the disk is called.
         ensures memory_first { result ≡ answer.NoMemory → disk.new ≡ disk.old }
         ensures fault { result ≡ answer.DiskFault → Rose (D.view disk.old).disk_faults (D.view disk.new).disk_faults }
+        ensures recorded { Recorded (D.view disk.old) (D.view disk.new) }
+        ensures limits { self.new.limits ≡ self.old.limits }
         ensures no_fewer { (D.view disk.old).disk_faults ≤ (D.view disk.new).disk_faults }
         ensures link { SameLink (D.view disk.old) (D.view disk.new) }
     {

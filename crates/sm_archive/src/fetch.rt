@@ -9,7 +9,7 @@ ghost use Rattle.sm_log.specs.Adds.{place_of};
 ghost use Rattle.sm_log.specs.Logs.{adds_of};
 ghost use Rattle.sm_site.specs.Image.{Image};
 ghost use Rattle.sm_site.specs.Meanings.{SameLink};
-ghost use Rattle.sm_site.specs.Clauses.{Rose, Throughout};
+ghost use Rattle.sm_site.specs.Clauses.{Recorded, Rose, Throughout};
 ghost use Rattle.sm_archive.specs.declared.fetch.Fetched.TheVariants.{Found, Absent, DiskFault, Damaged};
 ghost use Rattle.sm_record.specs.Bodies.{IsBody};
 ghost use Rattle.sm_record.specs.declared.fault.RecordFault.TheVariants as record_fault;
@@ -103,6 +103,7 @@ impl Archive {
         ensures fault { result ≡ DiskFault → Rose (D.view disk.old).disk_faults (D.view disk.new).disk_faults }
         ensures no_more { (c : Image) → D.may_leave disk.new c → D.may_leave disk.old c }
         ensures any_moment { Throughout D.view D.left_at disk.old disk.new (λ t c. D.may_leave disk.old c) }
+        ensures recorded { Recorded (D.view disk.old) (D.view disk.new) }
         ensures no_fewer { (D.view disk.old).disk_faults ≤ (D.view disk.new).disk_faults }
         ensures link { SameLink (D.view disk.old) (D.view disk.new) }
     {
@@ -136,6 +137,7 @@ impl Archive {
         ensures stands { (log : List Entry) (doubt : Option Entry) → Stands self.now log doubt (D.may_leave disk.old)
             → Stands self.now log doubt (D.may_leave disk.new) }
         ensures any_moment { Throughout D.view D.left_at disk.old disk.new (λ t c. D.may_leave disk.old c) }
+        ensures recorded { Recorded (D.view disk.old) (D.view disk.new) }
         ensures no_fewer { (D.view disk.old).disk_faults ≤ (D.view disk.new).disk_faults }
         ensures link { SameLink (D.view disk.old) (D.view disk.new) }
     {

@@ -10,7 +10,7 @@ ghost use Rattle.sm_log.specs.declared.verdict.Judged.TheVariants.{New};
 ghost use Rattle.sm_log.specs.Logs.{verdict_on};
 ghost use Rattle.sm_archive.specs.Steps.{Grows};
 ghost use Rattle.sm_site.specs.Meanings.{SameLink};
-ghost use Rattle.sm_site.specs.Clauses.{Rose, Throughout};
+ghost use Rattle.sm_site.specs.Clauses.{Acted, Recorded, Rose, Throughout};
 ghost use Rattle.sm_seglog.specs.Segments.{OnlyReserved};
 ghost use Rattle.sm_model.specs.declared.cause.Cause.TheVariants as cause;
 ghost use Rattle.sm_archive.specs.declared.answers.Keeping.TheVariants as keeping;
@@ -164,13 +164,15 @@ impl Archive {
         requires can { (log : List Entry) × (f : Fragment) × Stands self.old log None (D.may_leave disk.old) × IsPrepared 1 self.old ready f × IsValid f
             × (verdict_on log f ≡ New) × IsWithin self.old log f }
         ensures step { (log : List Entry) (f : Fragment) → Stands self.old log None (D.may_leave disk.old) → IsPrepared 1 self.old ready f → IsValid f
-            → verdict_on log f ≡ New → IsWithin self.old log f → KeptNew (D.may_leave disk.new) self.new log f result }
+            → verdict_on log f ≡ New → IsWithin self.old log f → KeptNew (Acted (D.view disk.old) (D.view disk.new)) (D.may_leave disk.new) self.new log f result }
         ensures any_moment { (log : List Entry) (f : Fragment) → Stands self.old log None (D.may_leave disk.old) → IsPrepared 1 self.old ready f → IsValid f
             → verdict_on log f ≡ New → IsWithin self.old log f
             → IsSome (D.view disk.old).contents → Throughout D.view D.left_at disk.old disk.new (λ t c. (after : List Entry) × IsStore after c × ((after ≡ log)
             ⊎ (after ≡ log ++ Keep f ∷ []))) }
         ensures no_memory { result ≡ keeping.NoMemory → ⊥ }
         ensures fault { result ≡ keeping.DiskFault → Rose (D.view disk.old).disk_faults (D.view disk.new).disk_faults }
+        ensures recorded { Recorded (D.view disk.old) (D.view disk.new) }
+        ensures limits { self.new.limits ≡ self.old.limits }
         ensures no_fewer { (D.view disk.old).disk_faults ≤ (D.view disk.new).disk_faults }
         ensures link { SameLink (D.view disk.old) (D.view disk.new) }
     {
@@ -184,12 +186,14 @@ impl Archive {
     fn keep_ready<D: Disk>(&mut self, disk: &mut D, ready: Ready) -> Keeping
         requires can { (log : List Entry) × (f : Fragment) × Stands self.old log None (D.may_leave disk.old) × IsPrepared 1 self.old ready f × IsValid f }
         ensures step { (log : List Entry) (f : Fragment) → Stands self.old log None (D.may_leave disk.old) → IsPrepared 1 self.old ready f → IsValid f
-            → KeptNew (D.may_leave disk.new) self.new log f result }
+            → KeptNew (Acted (D.view disk.old) (D.view disk.new)) (D.may_leave disk.new) self.new log f result }
         ensures any_moment { (log : List Entry) (f : Fragment) → Stands self.old log None (D.may_leave disk.old) → IsPrepared 1 self.old ready f → IsValid f
             → IsSome (D.view disk.old).contents → Throughout D.view D.left_at disk.old disk.new (λ t c. (after : List Entry) × IsStore after c × ((after ≡ log)
             ⊎ (after ≡ log ++ Keep f ∷ []))) }
         ensures no_memory { result ≡ keeping.NoMemory → ⊥ }
         ensures fault { result ≡ keeping.DiskFault → Rose (D.view disk.old).disk_faults (D.view disk.new).disk_faults }
+        ensures recorded { Recorded (D.view disk.old) (D.view disk.new) }
+        ensures limits { self.new.limits ≡ self.old.limits }
         ensures no_fewer { (D.view disk.old).disk_faults ≤ (D.view disk.new).disk_faults }
         ensures link { SameLink (D.view disk.old) (D.view disk.new) }
     {
@@ -223,12 +227,14 @@ impl Archive {
         requires valid { IsValid fragment.now }
         requires stands { (log : List Entry) × (doubt : Option Entry) × Stands self.old log doubt (D.may_leave disk.old) }
         ensures step { (log : List Entry) (doubt : Option Entry) → Stands self.old log doubt (D.may_leave disk.old)
-            → KeepStep (D.may_leave disk.new) self.new log doubt fragment.now result }
+            → KeepStep (Acted (D.view disk.old) (D.view disk.new)) (D.may_leave disk.new) self.new log doubt fragment.now result }
         ensures any_moment { (log : List Entry) (doubt : Option Entry) → Stands self.old log doubt (D.may_leave disk.old)
             → IsSome (D.view disk.old).contents → Throughout D.view D.left_at disk.old disk.new (λ t c. (after : List Entry) × IsStore after c
             × Grows log doubt (Keep fragment.now) after) }
         ensures memory_first { result ≡ keeping.NoMemory → disk.new ≡ disk.old }
         ensures fault { result ≡ keeping.DiskFault → Rose (D.view disk.old).disk_faults (D.view disk.new).disk_faults }
+        ensures recorded { Recorded (D.view disk.old) (D.view disk.new) }
+        ensures limits { self.new.limits ≡ self.old.limits }
         ensures no_fewer { (D.view disk.old).disk_faults ≤ (D.view disk.new).disk_faults }
         ensures link { SameLink (D.view disk.old) (D.view disk.new) }
     {
@@ -252,7 +258,7 @@ impl Archive {
         // It stands for some log again, whichever it stood for.
         ensures stands { (log : List Entry) × (doubt : Option Entry) × Stands self.new log doubt (D.may_leave disk.new) }
         ensures step { (log : List Entry) (doubt : Option Entry) → Stands self.old log doubt (D.may_leave disk.old)
-            → KeepStep (D.may_leave disk.new) self.new log doubt fragment.now result }
+            → KeepStep (Acted (D.view disk.old) (D.view disk.new)) (D.may_leave disk.new) self.new log doubt fragment.now result }
         // A crash at any moment of the call leaves the log from before it, perhaps followed by the doubt, by the fragment, or by both in this order.
         ensures any_moment { (log : List Entry) (doubt : Option Entry) → Stands self.old log doubt (D.may_leave disk.old)
             → IsSome (D.view disk.old).contents → Throughout D.view D.left_at disk.old disk.new (λ t c. (after : List Entry) × IsStore after c
@@ -260,6 +266,8 @@ impl Archive {
         // All memory is taken before the disk is called.
         ensures memory_first { result ≡ keeping.NoMemory → disk.new ≡ disk.old }
         ensures fault { result ≡ keeping.DiskFault → Rose (D.view disk.old).disk_faults (D.view disk.new).disk_faults }
+        ensures recorded { Recorded (D.view disk.old) (D.view disk.new) }
+        ensures limits { self.new.limits ≡ self.old.limits }
         ensures no_fewer { (D.view disk.old).disk_faults ≤ (D.view disk.new).disk_faults }
         ensures link { SameLink (D.view disk.old) (D.view disk.new) }
     {

@@ -18,7 +18,7 @@ mod ready;
 pub use answers::{Declared, DiskFault, Keeping};
 pub use archive::Archive;
 pub use fetch::Fetched;
-pub use law::bodies_have_one_log;
+pub use law::{an_image_fits, bodies_have_one_log, fewer_images_stand};
 pub use limits::Limits;
 pub use opened::{OpenFault, open_store};
 

@@ -3,7 +3,7 @@ ghost use Rattle.std.specs.Prelude.{◌≡◌, ◌++◌, ℕ, ◌≤◌, ◌<◌
 ghost use Rattle.sm_model.specs.declared.entry.Entry.{Entry};
 ghost use Rattle.sm_site.specs.Image.{Image};
 ghost use Rattle.sm_site.specs.Meanings.{SameLink};
-ghost use Rattle.sm_site.specs.Clauses.{Rose, Throughout};
+ghost use Rattle.sm_site.specs.Clauses.{NoMore, Recorded, Rose, Throughout};
 ghost use Rattle.sm_archive.specs.Bodies as seg;
 ghost use Rattle.sm_seglog.specs.Stores.{HasStore};
 ghost use Rattle.sm_archive.specs.declared.opened.OpenFault.TheVariants as open_fault;
@@ -49,6 +49,7 @@ fn walk<D: Disk>(
     ensures refused { (at : ℕ) → IsErrOf result (open_fault.NotAStore at) → (bodies : List (List ℕ)) → seg.Stands log.now bodies None (D.may_leave disk.old)
         → IsSome (D.view disk.old).contents
         → (place : ℕ) × (slot : Slot) × (slice_get (slots_of log.now.full ++ log.now.last.slots) place ≡ Some slot) × (at ≡ slot.gate) × FailsAt bodies place }
+    ensures some { (at : ℕ) → IsErrOf result (open_fault.NotAStore at) → 1 ≤ count_of log.now }
     ensures contents { (D.view disk.new).contents ≡ (D.view disk.old).contents }
     ensures no_more { (c : Image) → D.may_leave disk.new c → D.may_leave disk.old c }
     ensures any_moment { Throughout D.view D.left_at disk.old disk.new (λ t c. D.may_leave disk.old c) }
@@ -90,11 +91,16 @@ pub fn open_store<D: Disk>(
     ensures has { IfOk result (λ a. IfSome (D.view disk.old).contents (λ c. (log : List Entry) × IsStore log c)) }
     ensures store { IfOk result (λ a. IfSome (D.view disk.old).contents (λ c. (log : List Entry) → IsStore log c → Stands a log None (D.may_leave disk.new))) }
     ensures refused { (at : ℕ) → IsErrOf result (open_fault.NotAStore at) → IfSome (D.view disk.old).contents (NotAStore at) }
+    // A store that is refused isn't written: the contents stay, and at no moment a crash leaves what it couldn't leave before.
+    ensures untouched { (at : ℕ) → IsErrOf result (open_fault.NotAStore at) → ((D.view disk.new).contents ≡ (D.view disk.old).contents)
+        × NoMore (D.may_leave disk.old) (D.may_leave disk.new) × Throughout D.view D.left_at disk.old disk.new (λ t c. D.may_leave disk.old c) }
+    ensures limits { IfOk result (λ a. a.limits ≡ limits) }
     // Where every image is a store of the same bodies, it stays one at each moment.
     ensures stays { (bodies : List (List ℕ)) → ((c : Image) → D.may_leave disk.old c → HasStore bodies c) → (c : Image) → D.may_leave disk.new c
         → HasStore bodies c }
     ensures any_moment { (bodies : List (List ℕ)) → ((c : Image) → D.may_leave disk.old c → HasStore bodies c)
         → Throughout D.view D.left_at disk.old disk.new (λ t c. HasStore bodies c) }
+    ensures recorded { Recorded (D.view disk.old) (D.view disk.new) }
     ensures fault { IsErrOf result open_fault.DiskFault → Rose (D.view disk.old).disk_faults (D.view disk.new).disk_faults }
     ensures no_fewer { (D.view disk.old).disk_faults ≤ (D.view disk.new).disk_faults }
     ensures link { SameLink (D.view disk.old) (D.view disk.new) }

@@ -2,14 +2,14 @@
 use Rattle.std.proofs.Common.{◌≡◌, ℕ, ◌≤◌, List, refl, ◌∙◌, arith}
 use Rattle.sm_site.specs.Image.{Image, bytes_of}
 use Rattle.sm_site.specs.Meanings.{View, SameLink}
-use Rattle.sm_site.specs.Clauses.{Elapses, NoMore, Throughout}
-use Rattle.sm_site.proofs.Moments.{one_call, weakened, and_then}
+use Rattle.sm_site.specs.Clauses.{Elapses, NoMore, Recorded, Throughout}
+use Rattle.sm_site.proofs.Moments.{one_call, no_call, weakened, and_then}
 use Rattle.sm_gatelog.specs.Moments.{InFile, Looks, EveryMoment}
 
 module _ {D : Type 0} (view : D → View) (may_leave : D → Image → Type 0) (left_at : D → ℕ → Image → Type 0) where
   pub by_call : (old new : D) (P : Image → Type 0) → Elapses (view old) (view new) (left_at old) (left_at new) (may_leave old) (may_leave new)
-      → ((c : Image) → may_leave old c → P c) → ((c : Image) → may_leave new c → P c) → EveryMoment view may_leave left_at old new P
-  by_call old new P time from to = record { moments = one_call view left_at old new _ _ _ time (λ t c was. from c was) (λ t c now. to c now); now = to }
+      → Recorded (view old) (view new) → ((c : Image) → may_leave old c → P c) → ((c : Image) → may_leave new c → P c) → EveryMoment view may_leave left_at old new P
+  by_call old new P time recorded from to = record { moments = one_call view left_at old new _ _ _ time recorded (λ t c was. from c was) (λ t c now. to c now); now = to }
 
   pub by_looks : (old new : D) (P : Image → Type 0) → Looks view may_leave left_at old new → ((c : Image) → may_leave old c → P c) → EveryMoment view may_leave left_at old new P
   by_looks old new P looks from = record { moments = weakened view left_at old new _ _ looks.moments (λ t c was. from c was); now = λ c now. from c (looks.crash c now) }
@@ -24,10 +24,10 @@ module _ {D : Type 0} (view : D → View) (may_leave : D → Image → Type 0) (
   every_then old mid new P first second = record { moments = and_then view left_at old mid new _ first.moments second.moments; now = second.now }
 
   pub looks_call : (old new : D) → (view new).contents ≡ (view old).contents → NoMore (may_leave old) (may_leave new)
-      → Elapses (view old) (view new) (left_at old) (left_at new) (may_leave old) (may_leave new) → (view old).reads ≤ (view new).reads → SameLink (view old) (view new)
-      → Looks view may_leave left_at old new
-  looks_call old new contents crash time reads link =
-      record { contents = contents; crash = crash; moments = one_call view left_at old new _ _ _ time (λ t c was. was) (λ t c now. crash c now); reads = reads; link = link }
+      → Elapses (view old) (view new) (left_at old) (left_at new) (may_leave old) (may_leave new) → Recorded (view old) (view new)
+      → (view old).reads ≤ (view new).reads → SameLink (view old) (view new) → Looks view may_leave left_at old new
+  looks_call old new contents crash time recorded reads link =
+      record { contents = contents; crash = crash; moments = one_call view left_at old new _ _ _ time recorded (λ t c was. was) (λ t c now. crash c now); reads = reads; link = link }
 
   pub looks_then : (old mid new : D) → Looks view may_leave left_at old mid → Looks view may_leave left_at mid new → Looks view may_leave left_at old new
   looks_then old mid new first second = record {
@@ -47,7 +47,7 @@ module _ {D : Type 0} (view : D → View) (may_leave : D → Image → Type 0) (
   looks_same d no_later = record {
     contents = refl;
     crash = λ c now. now;
-    moments = record { later = omega arith; keeps = λ t c le. (λ x. x, λ x. x); each = λ t c after left. absurd (omega (arith, no_later t c left)) };
+    moments = no_call view left_at d _ no_later;
     reads = omega arith;
     link = record { transcript = refl; script = refl; link_faults = refl; send_faults = refl };
   }

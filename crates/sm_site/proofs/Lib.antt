@@ -1,6 +1,7 @@
 pub mod Told
 pub mod Views
 pub mod Moments
+pub mod Recording
 pub mod Lives
 mod Connections
 mod Crashes

@@ -3,6 +3,7 @@ use Rattle.std.specs.Prelude.{IfOk}
 use Rattle.sm_model.specs.declared.entry.Entry.{Entry}
 use Rattle.sm_site.specs.Image.{Image}
 use Rattle.sm_site.proofs.Moments.{weakened, and_then}
+use Rattle.sm_site.proofs.Recording.{recorded_then}
 use Rattle.sm_seglog.specs.Segments.{count_of}
 use Rattle.sm_archive.specs.Bodies as seg
 use Rattle.sm_archive.specs.declared.archive.Archive.{Archive}
@@ -73,5 +74,29 @@ returns-in-Err-clause-refused g c = λ at is.
 
 pub returns-in-Err-clause-any_moment : goal.returns-in-Err-clause-any_moment
 returns-in-Err-clause-any_moment g c = λ bodies each.
+    and_then g.D.Disk.view g.D.Disk.left_at _ _ _ _ (c.open_log.ensures.images bodies each).moments
+    (weakened g.D.Disk.view g.D.Disk.left_at _ _ _ _ c.walk.ensures.any_moment (λ t x left. (c.open_log.ensures.images bodies each).now x left))
+
+pub returns-in-Err-clause-recorded : goal.returns-in-Err-clause-recorded
+returns-in-Err-clause-recorded g c = recorded_then (g.D.Disk.view c.args.disk.now) (g.D.Disk.view c.open_log.new.disk) (g.D.Disk.view c.walk.new.disk) c.open_log.ensures.recorded c.walk.ensures.any_moment.recorded
+
+pub returns-in-Ok-walk-clause-recorded : goal.returns-in-Ok-walk-clause-recorded
+returns-in-Ok-walk-clause-recorded g c = recorded_then (g.D.Disk.view c.args.disk.now) (g.D.Disk.view c.open_log.new.disk) (g.D.Disk.view c.walk.new.disk) c.open_log.ensures.recorded c.walk.ensures.any_moment.recorded
+
+pub returns-in-Err-NotAStore-clause-untouched : goal.returns-in-Err-NotAStore-clause-untouched
+returns-in-Err-NotAStore-clause-untouched g c = λ at is.
+    let looks = c.open_log.ensures.untouched at (search rules) in
+    (looks.contents, looks.crash, looks.moments)
+
+pub returns-in-Err-clause-untouched : goal.returns-in-Err-clause-untouched
+returns-in-Err-clause-untouched g c = λ at is.
+    let looks = c.in-Ok.ensures.unwritten (c.in-Err.ensures.some at (search rules)) in (
+      c.walk.ensures.contents ∙ looks.contents,
+      λ x left. looks.crash x (c.walk.ensures.no_more x left),
+      and_then g.D.Disk.view g.D.Disk.left_at _ _ _ _ looks.moments (weakened g.D.Disk.view g.D.Disk.left_at _ _ _ _ c.walk.ensures.any_moment (λ t x left. looks.crash x left)),
+    )
+
+pub returns-in-Ok-walk-clause-any_moment : goal.returns-in-Ok-walk-clause-any_moment
+returns-in-Ok-walk-clause-any_moment g c = λ bodies each.
     and_then g.D.Disk.view g.D.Disk.left_at _ _ _ _ (c.open_log.ensures.images bodies each).moments
     (weakened g.D.Disk.view g.D.Disk.left_at _ _ _ _ c.walk.ensures.any_moment (λ t x left. (c.open_log.ensures.images bodies each).now x left))

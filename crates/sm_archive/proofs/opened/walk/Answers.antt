@@ -2,13 +2,13 @@ use Rattle.std.proofs.Common.{rules, arith, ◌≡◌, ◌∙◌, ◌+◌, ℕ, 
 use Rattle.sm_model.specs.declared.entry.Entry.{Entry}
 use Rattle.sm_site.specs.Image.{Image}
 use Rattle.sm_site.specs.Clauses.{Throughout}
-use Rattle.sm_site.proofs.Moments.{weakened, and_then}
+use Rattle.sm_site.proofs.Moments.{no_call, weakened, and_then}
 use Rattle.sm_archive.specs.Bodies as seg
 use Rattle.sm_seglog.specs.Segments.{slots_of}
 use Rattle.sm_archive.specs.Opening.{IsRead, IsWalked, IsMisfit}
 use Rattle.sm_archive.specs.declared.index.Index.{Index}
 use Rattle.sm_archive.proofs.Words.{outcome, slot_there}
-use Rattle.sm_archive.proofs.Walking.{read_none, read_next, stands_read, spelled_read, body_read, no_call, left_told, fails_at, place_is}
+use Rattle.sm_archive.proofs.Walking.{read_none, read_next, stands_read, spelled_read, body_read, left_told, fails_at, place_is}
 use Rattle.sm_archive.proofs.opened.walk.Goals as goal
 use Rattle.sm_seglog.specs.Segments.{count_of}
 
@@ -56,3 +56,23 @@ returns-in-Err-Damaged-clause-refused g c = λ at is bodies s some.
       sym (place_is {A = Option Index × ℕ} c.gate.result at is) ∙ c.gate.ensures (record { gate = 0; length = 0 }),
       fails_at _ c.args.log.now (g.D.Disk.may_leave c.args.disk.now) c.loop-place.index c.loop-place.used c.loop-place.place i.is_read c.in-Ok.body bodies some s there misfit,
     )
+
+pub returns-in-Err-DiskFault-clause-any_moment : goal.returns-in-Err-DiskFault-clause-any_moment
+returns-in-Err-DiskFault-clause-any_moment g c =
+    let i = c.loop-place.invariant in
+    and_then g.D.Disk.view g.D.Disk.left_at _ _ _ _ i.moments (weakened g.D.Disk.view g.D.Disk.left_at _ _ _ _ c.read.ensures.any_moment (λ t x left. i.crash x left))
+
+pub returns-in-Err-NoMemory-clause-any_moment : goal.returns-in-Err-NoMemory-clause-any_moment
+returns-in-Err-NoMemory-clause-any_moment g c =
+    let i = c.loop-place.invariant in
+    and_then g.D.Disk.view g.D.Disk.left_at _ _ _ _ i.moments (weakened g.D.Disk.view g.D.Disk.left_at _ _ _ _ c.read.ensures.any_moment (λ t x left. i.crash x left))
+
+pub returns-in-Err-Damaged-clause-any_moment : goal.returns-in-Err-Damaged-clause-any_moment
+returns-in-Err-Damaged-clause-any_moment g c =
+    let i = c.loop-place.invariant in
+    and_then g.D.Disk.view g.D.Disk.left_at _ _ _ _ i.moments (weakened g.D.Disk.view g.D.Disk.left_at _ _ _ _ c.read.ensures.any_moment (λ t x left. i.crash x left))
+
+pub returns-in-Err-NoMemory-admit-clause-any_moment : goal.returns-in-Err-NoMemory-admit-clause-any_moment
+returns-in-Err-NoMemory-admit-clause-any_moment g c =
+    let i = c.loop-place.invariant in
+    and_then g.D.Disk.view g.D.Disk.left_at _ _ _ _ i.moments (weakened g.D.Disk.view g.D.Disk.left_at _ _ _ _ c.read.ensures.any_moment (λ t x left. i.crash x left))

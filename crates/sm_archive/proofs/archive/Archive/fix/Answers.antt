@@ -1,6 +1,7 @@
 use Rattle.std.proofs.Common.{refl, []}
 use Rattle.sm_model.specs.declared.entry.Entry.TheVariants.{Declare}
-use Rattle.sm_archive.proofs.Declarings.{header_can, still_within}
+use Rattle.sm_site.proofs.Recording.{recorded_none}
+use Rattle.sm_archive.proofs.Declarings.{header_can, still_within, within_now}
 use Rattle.sm_archive.proofs.archive.Archive.fix.Goals as goal
 
 pub append-requires : goal.append-requires
@@ -11,7 +12,13 @@ append-requires g c =
 pub returns-in-Some-clause-step : goal.returns-in-Some-clause-step
 returns-in-Some-clause-step g c = λ channel s h valid.
     let can = header_can c.args.self.now c.args.header channel h valid (c.is_full_for.ensures.within channel h.len c.if-is_full_for.false) in
-    (refl, (c.append.ensures.stored c.in-Some.field-0 c.in-Some.is [] (Declare channel) s can).1)
+    (
+      refl,
+      within_now c.args.self.now c.append.new.self c.args.header channel h (c.is_full_for.ensures.within channel h.len c.if-is_full_for.false) c.append.ensures.limits
+          (c.append.ensures.used c.in-Some.field-0 c.in-Some.is) (c.append.ensures.ends c.in-Some.field-0 c.in-Some.is),
+      c.append.ensures.acts c.in-Some.field-0 c.in-Some.is,
+      (c.append.ensures.stored c.in-Some.field-0 c.in-Some.is [] (Declare channel) s can).1,
+    )
 
 pub returns-in-None-clause-step : goal.returns-in-None-clause-step
 returns-in-None-clause-step g c = λ channel s h valid.
@@ -27,3 +34,6 @@ returns-in-Some-clause-any_moment g c = λ channel s h valid told.
 pub returns-in-None-clause-any_moment : goal.returns-in-None-clause-any_moment
 returns-in-None-clause-any_moment g c = λ channel s h valid told.
     c.append.ensures.any_moment [] (Declare channel) s (header_can c.args.self.now c.args.header channel h valid (c.is_full_for.ensures.within channel h.len c.if-is_full_for.false)) told
+
+pub returns-then-is_full_for-clause-recorded : goal.returns-then-is_full_for-clause-recorded
+returns-then-is_full_for-clause-recorded g c = recorded_none (g.D.Disk.view c.args.disk.now)

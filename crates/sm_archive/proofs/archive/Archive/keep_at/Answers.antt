@@ -3,12 +3,14 @@ use Rattle.sm_model.specs.declared.entry.Entry.{Entry}
 use Rattle.sm_model.specs.declared.entry.Entry.TheVariants.{Keep}
 use Rattle.sm_archive.specs.Steps.{Grows}
 use Rattle.sm_site.specs.Image.{Image}
-use Rattle.sm_site.specs.Clauses.{Throughout}
+use Rattle.sm_site.specs.Clauses.{Acted, Throughout}
 use Rattle.sm_site.proofs.Moments.{weakened, and_then}
+use Rattle.sm_site.proofs.Recording.{recorded_none, recorded_then, acted_first, acted_then}
 use Rattle.sm_archive.specs.declared.ready.Ready.{Ready}
 use Rattle.sm_archive.specs.Store.{IsStore}
 use Rattle.sm_archive.specs.Keeper.{IsPrepared, Prepared}
 use Rattle.sm_archive.proofs.Reservings.{stands_reserved, index_channel, pending_channel}
+use Rattle.sm_archive.proofs.Settling.{clears_settles, clears_as}
 use Rattle.sm_archive.proofs.Keepings.{still_prepared, step_from, grown, undeclared, refused_undeclared, rose_later}
 use Rattle.sm_model.specs.declared.cause.Cause.{Cause}
 use Rattle.sm_log.specs.Logs.{verdict_on}
@@ -70,7 +72,9 @@ returns-in-Some-clause-step g c = λ log doubt s.
     let m = e.settled log doubt (stands_reserved c.args.self.now c.ready.new.self (g.D.Disk.may_leave c.args.disk.now) c.in-Ok.ensures.reserved log doubt s) in
     let p : IsPrepared 2 c.ready.new.self c.in-Some.ready c.args.fragment.now = subst (λ (o : Option Ready). Prepared o c.ready.new.self c.args.fragment.now) c.in-Some.is c.in-Ok.ensures.prepared in
     let q = still_prepared c.ready.new.self c.settle.new.self c.in-Some.ready c.args.fragment.now p e.channel e.space e.reserved.0 e.reserved.1 in
-    step_from (g.D.Disk.may_leave c.keep_ready.new.disk) c.keep_ready.new.self log doubt m.0 m.1 c.args.fragment.now c.keep_ready.result (c.keep_ready.ensures.step m.0 c.args.fragment.now m.2 q c.requires.valid)
+    let clears = clears_as (Acted (g.D.Disk.view c.args.disk.now) (g.D.Disk.view c.settle.new.disk)) (Acted (g.D.Disk.view c.args.disk.now) (g.D.Disk.view c.keep_ready.new.disk)) log doubt m.0 (λ did. acted_first (g.D.Disk.view c.args.disk.now) (g.D.Disk.view c.settle.new.disk) (g.D.Disk.view c.keep_ready.new.disk) did c.keep_ready.ensures.recorded) m.1 in
+    step_from (Acted (g.D.Disk.view c.args.disk.now) (g.D.Disk.view c.keep_ready.new.disk)) (Acted (g.D.Disk.view c.settle.new.disk) (g.D.Disk.view c.keep_ready.new.disk)) (λ did. acted_then (g.D.Disk.view c.args.disk.now) (g.D.Disk.view c.settle.new.disk) (g.D.Disk.view c.keep_ready.new.disk) c.settle.ensures.recorded did) (g.D.Disk.may_leave c.keep_ready.new.disk) c.keep_ready.new.self log doubt m.0 clears
+    c.args.fragment.now c.keep_ready.result (c.keep_ready.ensures.step m.0 c.args.fragment.now m.2 q c.requires.valid)
 
 pub returns-in-Some-clause-any_moment : goal.returns-in-Some-clause-any_moment
 returns-in-Some-clause-any_moment g c = λ log doubt s told.
@@ -83,8 +87,14 @@ returns-in-Some-clause-any_moment g c = λ log doubt s told.
     let first : Throughout g.D.Disk.view g.D.Disk.left_at c.args.disk.now c.settle.new.disk P =
     weakened g.D.Disk.view g.D.Disk.left_at _ _ _ _ (c.settle.ensures.any_moment log doubt s1) (λ t x h. (h.0, h.1, inl h.2)) in
     let second : Throughout g.D.Disk.view g.D.Disk.left_at c.settle.new.disk c.keep_ready.new.disk P =
-    weakened g.D.Disk.view g.D.Disk.left_at _ _ _ _ (c.keep_ready.ensures.any_moment m.0 c.args.fragment.now m.2 q c.requires.valid (subst (λ (o : Option Image). IsSome o) (sym e.contents) told)) (λ t x h. grown (g.D.Disk.may_leave c.keep_ready.new.disk) c.keep_ready.new.self log doubt m.0 m.1 c.args.fragment.now x h) in
+    weakened g.D.Disk.view g.D.Disk.left_at _ _ _ _ (c.keep_ready.ensures.any_moment m.0 c.args.fragment.now m.2 q c.requires.valid (subst (λ (o : Option Image). IsSome o) (sym e.contents) told)) (λ t x h. grown log doubt m.0 (clears_settles _ log doubt m.0 m.1) c.args.fragment.now x h) in
     and_then g.D.Disk.view g.D.Disk.left_at _ _ _ P first second
 
 pub returns-in-Some-clause-fault : goal.returns-in-Some-clause-fault
 returns-in-Some-clause-fault g c = λ is. rose_later _ _ _ c.settle.ensures.no_fewer (c.keep_ready.ensures.fault is)
+
+pub returns-in-Some-clause-recorded : goal.returns-in-Some-clause-recorded
+returns-in-Some-clause-recorded g c = recorded_then (g.D.Disk.view c.args.disk.now) (g.D.Disk.view c.settle.new.disk) (g.D.Disk.view c.keep_ready.new.disk) c.settle.ensures.recorded c.keep_ready.ensures.recorded
+
+pub returns-in-Err-clause-recorded : goal.returns-in-Err-clause-recorded
+returns-in-Err-clause-recorded g c = recorded_none (g.D.Disk.view c.args.disk.now)

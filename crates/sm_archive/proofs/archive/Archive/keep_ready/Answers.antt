@@ -1,5 +1,6 @@
 use Rattle.std.proofs.Common.{◌≡◌, Some, sym, subst}
 use Rattle.sm_model.specs.declared.cause.Cause.{Cause}
+use Rattle.sm_site.proofs.Recording.{recorded_none}
 use Rattle.sm_log.specs.Logs.{verdict_on}
 use Rattle.sm_archive.specs.Keeping.{refusal_of}
 use Rattle.sm_archive.proofs.Keepings.{refused_undeclared, refused_clash, refused_overlap}
@@ -51,3 +52,18 @@ returns-in-Clash-clause-step g c = λ log f s p valid.
 pub returns-in-Overlap-clause-step : goal.returns-in-Overlap-clause-step
 returns-in-Overlap-clause-step g c = λ log f s p valid.
     (refused_overlap (verdict_on log f) f c.in-Overlap.end (sym (c.in-Overlap.ensures log f s.keeps.index p.ready.address p.ready.duration)), s)
+
+pub returns-then-is_full-clause-recorded : goal.returns-then-is_full-clause-recorded
+returns-then-is_full-clause-recorded g c = recorded_none (g.D.Disk.view c.args.disk.now)
+
+pub returns-in-NotDeclared-clause-recorded : goal.returns-in-NotDeclared-clause-recorded
+returns-in-NotDeclared-clause-recorded g c = recorded_none (g.D.Disk.view c.args.disk.now)
+
+pub returns-in-Clash-clause-recorded : goal.returns-in-Clash-clause-recorded
+returns-in-Clash-clause-recorded g c = recorded_none (g.D.Disk.view c.args.disk.now)
+
+pub returns-in-Overlap-clause-recorded : goal.returns-in-Overlap-clause-recorded
+returns-in-Overlap-clause-recorded g c = recorded_none (g.D.Disk.view c.args.disk.now)
+
+pub returns-in-Known-clause-recorded : goal.returns-in-Known-clause-recorded
+returns-in-Known-clause-recorded g c = recorded_none (g.D.Disk.view c.args.disk.now)

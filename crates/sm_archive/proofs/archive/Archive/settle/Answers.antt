@@ -1,5 +1,9 @@
-use Rattle.std.proofs.Common.{None, sym}
+use Rattle.std.proofs.Common.{None, sym, subst}
+use Rattle.sm_site.specs.Clauses.{Acted}
 use Rattle.sm_site.proofs.Moments.{weakened}
+use Rattle.sm_site.proofs.Recording.{recorded_none}
+use Rattle.sm_gatelog.specs.Logs.{SettleActs}
+use Rattle.sm_gatelog.specs.declared.answer.Settled.{Settled}
 use Rattle.sm_archive.proofs.Doubts.{image_of}
 use Rattle.sm_archive.proofs.Settling.{stored, gone, no_doubt, failed, channel_stays, channel_same, channel_taken, space_stays, space_same, space_taken}
 use Rattle.sm_archive.proofs.archive.Archive.settle.Goals as goal
@@ -11,12 +15,13 @@ pub returns-in-None-clause-space : goal.returns-in-None-clause-space
 returns-in-None-clause-space g c = space_stays c.args.self.now c.args.self.now.log c.args.self.now.used c.take.new.self c.take.ensures.after
 
 pub returns-in-None-clause-settled : goal.returns-in-None-clause-settled
-returns-in-None-clause-settled g c = no_doubt c.args.self.now c.take.new.self (g.D.Disk.may_leave c.args.disk.now) (sym c.in-None.ensures.value) c.take.ensures.after
+returns-in-None-clause-settled g c = no_doubt _ c.args.self.now c.take.new.self (g.D.Disk.may_leave c.args.disk.now) (sym c.in-None.ensures.value) c.take.ensures.after
 
 pub returns-in-Stored-clause-settled : goal.returns-in-Stored-clause-settled
 returns-in-Stored-clause-settled g c =
     let e = c.settle.ensures.stored c.in-Stored.place c.in-Stored.is in
-    stored c.args.self.now c.in-Some.doubt c.settle.new.log c.saturating_add-self.result c.take_in.new.index c.in-Stored.place (g.D.Disk.may_leave c.args.disk.now) (g.D.Disk.may_leave c.settle.new.disk)
+    let did : Acted (g.D.Disk.view c.args.disk.now) (g.D.Disk.view c.settle.new.disk) = subst (λ (r : Settled). SettleActs r (g.D.Disk.view c.args.disk.now) (g.D.Disk.view c.settle.new.disk)) c.in-Stored.is c.settle.ensures.acts in
+    stored _ did c.args.self.now c.in-Some.doubt c.settle.new.log c.saturating_add-self.result c.take_in.new.index c.in-Stored.place (g.D.Disk.may_leave c.args.disk.now) (g.D.Disk.may_leave c.settle.new.disk)
     (sym c.in-Some.ensures.value) e.0 e.1 c.saturating_add-self.ensures c.take_in.ensures c.take.new.self c.take.ensures.after
 
 pub returns-in-Stored-clause-any_moment : goal.returns-in-Stored-clause-any_moment
@@ -34,7 +39,8 @@ returns-in-Stored-clause-space g c =
 pub returns-in-Gone-clause-settled : goal.returns-in-Gone-clause-settled
 returns-in-Gone-clause-settled g c =
     let e = c.settle.ensures.gone c.in-Gone.is in
-    gone c.args.self.now c.in-Some.doubt c.settle.new.log (g.D.Disk.may_leave c.args.disk.now) (g.D.Disk.may_leave c.settle.new.disk) (sym c.in-Some.ensures.value) e c.take.new.self c.take.ensures.after
+    let did : Acted (g.D.Disk.view c.args.disk.now) (g.D.Disk.view c.settle.new.disk) = subst (λ (r : Settled). SettleActs r (g.D.Disk.view c.args.disk.now) (g.D.Disk.view c.settle.new.disk)) c.in-Gone.is c.settle.ensures.acts in
+    gone _ did c.args.self.now c.in-Some.doubt c.settle.new.log (g.D.Disk.may_leave c.args.disk.now) (g.D.Disk.may_leave c.settle.new.disk) (sym c.in-Some.ensures.value) e c.take.new.self c.take.ensures.after
 
 pub returns-in-Gone-clause-any_moment : goal.returns-in-Gone-clause-any_moment
 returns-in-Gone-clause-any_moment g c = λ log doubt s.
@@ -78,3 +84,15 @@ returns-in-DiskFault-clause-stands g c =
     let h = c.requires.stands in
     let m = returns-in-DiskFault-clause-failed g c h.0 h.1 h.2 in
     (h.0, h.1, m.1)
+
+pub returns-in-Stored-clause-recorded : goal.returns-in-Stored-clause-recorded
+returns-in-Stored-clause-recorded g c = c.settle.ensures.any_moment.recorded
+
+pub returns-in-Gone-clause-recorded : goal.returns-in-Gone-clause-recorded
+returns-in-Gone-clause-recorded g c = c.settle.ensures.any_moment.recorded
+
+pub returns-in-DiskFault-clause-recorded : goal.returns-in-DiskFault-clause-recorded
+returns-in-DiskFault-clause-recorded g c = c.settle.ensures.any_moment.recorded
+
+pub returns-in-None-clause-recorded : goal.returns-in-None-clause-recorded
+returns-in-None-clause-recorded g c = recorded_none (g.D.Disk.view c.args.disk.now)

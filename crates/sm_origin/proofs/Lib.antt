@@ -1,0 +1,4 @@
+pub mod Ahead
+pub mod Places
+pub mod Steps
+pub mod Acts

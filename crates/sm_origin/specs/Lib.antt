@@ -1,0 +1,8 @@
+pub mod Replies
+pub mod Answers
+pub mod Machine
+pub mod Stores
+pub mod Acting
+pub mod Opening
+pub mod Caching
+pub mod Giving

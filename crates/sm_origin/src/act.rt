@@ -1,0 +1,49 @@
+//! One act is one step.
+ghost use Rattle.std.specs.Prelude.{◌≡◌, ◌≤◌, Some, IsSome, is_some};
+ghost use Rattle.sm_model.specs.declared.address.Address.{Address};
+ghost use Rattle.sm_model.specs.declared.act.Act.TheVariants.{Fragment as Ask};
+ghost use Rattle.sm_cache.specs.declared.cache.Kept.{Kept};
+ghost use Rattle.sm_site.specs.Meanings.{SameLink};
+ghost use Rattle.sm_origin.specs.Machine.{Machine};
+ghost use Rattle.sm_origin.specs.Acting.{StandsFor, IsValidAct, ActGives};
+ghost use Rattle.sm_origin.specs.Caching.{Remembers, held_at};
+
+use crate::listing::list;
+use crate::origin::Origin;
+use crate::refusal::{tell, tell_at, tell_counts};
+use crate::reply::Reply;
+use crate::told::or_starved;
+use sm_model::{Act, Cause};
+use sm_site::Site;
+use std::alloc::Global;
+
+impl Origin {
+    /// Answers one act, by the log as it stands. A header or a fragment of a push that is accepted is answered by nothing, and from then on every
+    /// crash leaves it; an entry in doubt is settled before one is looked at. A fragment that is asked for is taken from the cache, or read
+    /// back from the disk and put there.
+    pub fn act<S: Site>(&mut self, alloc: Global, site: &mut S, act: &Act) -> Reply
+        requires valid { IsValidAct act.now }
+        requires stands { (m : Machine) × StandsFor (IsSome (S.Disk.view site.old).contents) m self.old (S.Disk.may_leave site.old) }
+        // It stands for some machine again, whichever it stood for.
+        ensures stands { (m : Machine) × StandsFor (IsSome (S.Disk.view site.new).contents) m self.new (S.Disk.may_leave site.new) }
+        ensures step { IsSome (S.Disk.view site.old).contents → (m : Machine) → StandsFor (IsSome (S.Disk.view site.old).contents) m self.old (S.Disk.may_leave site.old)
+            → ActGives S.Disk.view S.Disk.may_leave S.Disk.left_at site.old site.new m self.new act.now result }
+        // A fragment in the cache is given without a read of the disk.
+        ensures unread { (a : Address) (kept : Kept) → act.now ≡ Ask a → held_at a self.old.cache ≡ Some kept
+            → (S.Disk.view site.new).reads ≡ (S.Disk.view site.old).reads }
+        ensures remembers { Remembers act.now result self.old.cache self.new.cache }
+        ensures told { is_some (S.Disk.view site.new).contents ≡ is_some (S.Disk.view site.old).contents }
+        ensures no_fewer { (S.Disk.view site.old).disk_faults ≤ (S.Disk.view site.new).disk_faults }
+        ensures link { SameLink (S.Disk.view site.old) (S.Disk.view site.new) }
+    {
+        match act {
+            Act::Manifest => or_starved(alloc, list(alloc, &self.archive)),
+            Act::Fragment(address) => self.fragment(alloc, site, address),
+            Act::Unknown => or_starved(alloc, tell(alloc, Cause::NoTarget)),
+            Act::Header(channel) => self.header(alloc, site, channel),
+            Act::Frag(fragment) => self.keep(alloc, site, fragment),
+            Act::End { kept, known } => or_starved(alloc, tell_counts(alloc, *kept, *known)),
+            Act::Refuse(refusal) => or_starved(alloc, tell_at(alloc, refusal)),
+        }
+    }
+}

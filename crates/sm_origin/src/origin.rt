@@ -1,0 +1,73 @@
+//! The origin.
+ghost use Rattle.std.specs.Prelude.{◌≡◌, ◌≤◌, ◌<◌, ◌^◌, ℕ, List, [], None, IfOk, IfSome, IsSome, IsErrOf};
+ghost use Rattle.sm_model.specs.declared.entry.Entry.{Entry};
+ghost use Rattle.lru.specs.LruCache.{lru_cache};
+ghost use Rattle.sm_site.specs.Meanings.{SameLink};
+ghost use Rattle.sm_site.specs.Clauses.{Rose, Throughout};
+ghost use Rattle.sm_archive.specs.declared.opened.OpenFault.TheVariants as open_fault;
+ghost use Rattle.sm_archive.specs.Store.{IsStore};
+ghost use Rattle.sm_archive.specs.Opening.{NotAStore};
+ghost use Rattle.sm_origin.specs.Machine.{Machine};
+ghost use Rattle.sm_origin.specs.Acting.{StandsFor};
+ghost use Rattle.sm_origin.specs.Opening.{HasOneStore};
+
+use sm_archive::{Archive, Limits, OpenFault, open_store};
+use sm_cache::Cache;
+use sm_model::NoMemory;
+use sm_site::Site;
+use std::alloc::Global;
+
+/// The origin of one store: its archive, and the 16 fragments that were used last.
+#[derive(Drop)]
+pub struct Origin {
+    pub(crate) archive: Archive,
+    pub(crate) cache: Cache,
+}
+
+impl Origin {
+    /// Opens the store of a site under these limits. A file that is fresh is made; nothing else is written.
+    pub fn open_origin<S: Site>(
+        alloc: Global,
+        site: &mut S,
+        limits: Limits,
+    ) -> Result<Origin, OpenFault>
+        requires bytes { limits.store_bytes ≤ 2 ^ 62 }
+        requires entries { limits.entries < 2 ^ 32 }
+        // It stands for some log, which is the store's where the disk tells its contents.
+        ensures opened { IfOk result (λ o. (m : Machine) × (m.doubt ≡ None) × StandsFor (IsSome (S.Disk.view site.new).contents) m o (S.Disk.may_leave site.new)) }
+        ensures store { IfOk result (λ o. IfSome (S.Disk.view site.old).contents (λ c. (m : Machine) × IsStore m.log c × (m.doubt ≡ None)
+            × StandsFor (IsSome (S.Disk.view site.new).contents) m o (S.Disk.may_leave site.new))) }
+        ensures limits { IfOk result (λ o. o.archive.limits ≡ limits) }
+        ensures empty { IfOk result (λ o. o.cache ≡ lru_cache [] 16) }
+        ensures refused { (at : ℕ) → IsErrOf result (open_fault.NotAStore at) → IfSome (S.Disk.view site.old).contents (NotAStore at) }
+        // Where every image is one store, it stays that at each moment.
+        ensures any_moment { (log : List Entry) → HasOneStore log (S.Disk.may_leave site.old)
+            → Throughout S.Disk.view S.Disk.left_at site.old site.new (λ t c. IsStore log c) }
+        ensures stays { (log : List Entry) → HasOneStore log (S.Disk.may_leave site.old) → HasOneStore log (S.Disk.may_leave site.new) }
+        ensures fault { IsErrOf result open_fault.DiskFault → Rose (S.Disk.view site.old).disk_faults (S.Disk.view site.new).disk_faults }
+        ensures no_fewer { (S.Disk.view site.old).disk_faults ≤ (S.Disk.view site.new).disk_faults }
+        ensures link { SameLink (S.Disk.view site.old) (S.Disk.view site.new) }
+    {
+        match Cache::new(alloc, 16) {
+            Err(NoMemory) => Err(OpenFault::NoMemory),
+            Ok(cache) => match open_store(alloc, site, limits) {
+                Err(fault) => Err(fault),
+                Ok(archive) => Ok(Origin { archive, cache }),
+            },
+        }
+    }
+
+    /// The archive of the store.
+    pub fn archive(&self) -> &Archive
+        ensures { result.now ≡ self.now.archive }
+    {
+        &self.archive
+    }
+
+    /// The fragments that were used last.
+    pub fn cache(&self) -> &Cache
+        ensures { result.now ≡ self.now.cache }
+    {
+        &self.cache
+    }
+}

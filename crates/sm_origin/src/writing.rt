@@ -1,0 +1,100 @@
+//! Headers and fragments of pushes.
+ghost use Rattle.std.specs.Prelude.{◌≡◌, ◌⊎◌, ◌≤◌, ℕ, IsSome, is_some};
+ghost use Rattle.lru.specs.LruCache.{LruCache};
+ghost use Rattle.sm_model.specs.declared.act.Act.TheVariants.{Header, Frag};
+ghost use Rattle.sm_model.specs.Channels.{IsChannel};
+ghost use Rattle.sm_model.specs.Fragments.{IsValid};
+ghost use Rattle.sm_site.specs.Meanings.{SameLink};
+ghost use Rattle.sm_origin.specs.Answers.{reply_to_header};
+ghost use Rattle.sm_origin.specs.Machine.{Machine};
+ghost use Rattle.sm_origin.specs.Acting.{StandsFor, ActGives};
+ghost use Rattle.sm_origin.specs.Caching.{Remembers, with_kept};
+
+use crate::origin::Origin;
+use crate::reply::Reply;
+use crate::told::{tell_declared, tell_kept};
+use sm_archive::{Declared, Keeping};
+use sm_model::{Channel, Fragment, NoMemory};
+use sm_site::{Disk, Site};
+use std::alloc::Global;
+
+impl Origin {
+    // Puts a fragment that was just kept into the cache, where memory is there for it.
+    fn remember(&mut self, alloc: Global, place: u64, fragment: &Fragment)
+        ensures archive { self.new.archive ≡ self.old.archive }
+        ensures cache { (self.new.cache ≡ self.old.cache) ⊎ (self.new.cache ≡ with_kept self.old.cache place fragment.now) }
+    {
+        match fragment.copy(alloc) {
+            Err(NoMemory) => {}
+            Ok(own) => match self.cache.put(alloc, place, own) {
+                Err(NoMemory) => {}
+                Ok(()) => {}
+            },
+        }
+    }
+
+    // Keeps a fragment of a push.
+    pub(crate) fn keep<D: Disk>(
+        &mut self,
+        alloc: Global,
+        disk: &mut D,
+        fragment: &Fragment,
+    ) -> Reply
+        requires valid { IsValid fragment.now }
+        requires stands { (m : Machine) × StandsFor (IsSome (D.view disk.old).contents) m self.old (D.may_leave disk.old) }
+        // It stands for some machine again, whichever it stood for.
+        ensures stands { (m : Machine) × StandsFor (IsSome (D.view disk.new).contents) m self.new (D.may_leave disk.new) }
+        ensures step { IsSome (D.view disk.old).contents → (m : Machine) → StandsFor (IsSome (D.view disk.old).contents) m self.old (D.may_leave disk.old)
+            → ActGives D.view D.may_leave D.left_at disk.old disk.new m self.new (Frag fragment.now) result }
+        ensures remembers { Remembers (Frag fragment.now) result self.old.cache self.new.cache }
+        ensures told { is_some (D.view disk.new).contents ≡ is_some (D.view disk.old).contents }
+        ensures no_fewer { (D.view disk.old).disk_faults ≤ (D.view disk.new).disk_faults }
+        ensures link { SameLink (D.view disk.old) (D.view disk.new) }
+    {
+        let answer = self.archive.keep(alloc, disk, fragment);
+        if let Keeping::Kept { place } = &answer {
+            self.remember(alloc, *place, fragment);
+        }
+        tell_kept(alloc, answer)
+    }
+
+    /// Declares a channel in an empty log, or compares it with the one that stands: what a header of a push does, without a reply. An
+    /// entry in doubt is settled first.
+    pub fn declare<S: Site>(&mut self, alloc: Global, site: &mut S, channel: &Channel) -> Declared
+        requires valid { IsChannel channel.now }
+        requires stands { (m : Machine) × StandsFor (IsSome (S.Disk.view site.old).contents) m self.old (S.Disk.may_leave site.old) }
+        // It is one step, whose reply is the answer's.
+        // It stands for some machine again, whichever it stood for.
+        ensures stands { (m : Machine) × StandsFor (IsSome (S.Disk.view site.new).contents) m self.new (S.Disk.may_leave site.new) }
+        ensures step { IsSome (S.Disk.view site.old).contents → (m : Machine) → StandsFor (IsSome (S.Disk.view site.old).contents) m self.old (S.Disk.may_leave site.old)
+            → ActGives S.Disk.view S.Disk.may_leave S.Disk.left_at site.old site.new m self.new (Header channel.now) (reply_to_header result) }
+        ensures cache { self.new.cache ≡ self.old.cache }
+        ensures told { is_some (S.Disk.view site.new).contents ≡ is_some (S.Disk.view site.old).contents }
+        ensures no_fewer { (S.Disk.view site.old).disk_faults ≤ (S.Disk.view site.new).disk_faults }
+        ensures link { SameLink (S.Disk.view site.old) (S.Disk.view site.new) }
+    {
+        self.archive.declare(alloc, site, channel)
+    }
+
+    // Takes the header of a push.
+    pub(crate) fn header<S: Site>(
+        &mut self,
+        alloc: Global,
+        site: &mut S,
+        channel: &Channel,
+    ) -> Reply
+        requires valid { IsChannel channel.now }
+        requires stands { (m : Machine) × StandsFor (IsSome (S.Disk.view site.old).contents) m self.old (S.Disk.may_leave site.old) }
+        // It stands for some machine again, whichever it stood for.
+        ensures stands { (m : Machine) × StandsFor (IsSome (S.Disk.view site.new).contents) m self.new (S.Disk.may_leave site.new) }
+        ensures step { IsSome (S.Disk.view site.old).contents → (m : Machine) → StandsFor (IsSome (S.Disk.view site.old).contents) m self.old (S.Disk.may_leave site.old)
+            → ActGives S.Disk.view S.Disk.may_leave S.Disk.left_at site.old site.new m self.new (Header channel.now) result }
+        ensures remembers { Remembers (Header channel.now) result self.old.cache self.new.cache }
+        ensures told { is_some (S.Disk.view site.new).contents ≡ is_some (S.Disk.view site.old).contents }
+        ensures no_fewer { (S.Disk.view site.old).disk_faults ≤ (S.Disk.view site.new).disk_faults }
+        ensures link { SameLink (S.Disk.view site.old) (S.Disk.view site.new) }
+    {
+        let answer = self.declare(alloc, site, channel);
+        tell_declared(alloc, answer)
+    }
+}
