@@ -1,5 +1,6 @@
 //! Connections played through the loop on a site in memory.
-ghost use Rattle.std.specs.Prelude.{◌≡◌, [], ◌+◌, ◌-◌, ◌^◌, ◌<◌, drop, IfSome, IsTrue, ℕ, length};
+ghost use Rattle.std.specs.Prelude.{◌∷◌, List, IfSome, IsTrue};
+ghost use Rattle.sm_site.specs.declared.event.Event.{Event};
 ghost use Rattle.sm_site.specs.Scripts.{is_script};
 
 use crate::{Served, State, serve};
@@ -13,7 +14,9 @@ fn none(alloc: Global) -> Numbers {
 }
 
 // The number from which those of later connections have to rise, or None where the event can't stand in a script.
-fn next_number(from: u64, event: &Event) -> Option<u64> {
+fn next_number(from: u64, event: &Event) -> Option<u64>
+    ensures { IfSome result (λ next. (rest : List Event) → IsTrue (is_script next rest) → IsTrue (is_script from (event.now ∷ rest))) }
+{
     match event {
         Event::Opened(number) => {
             if *number < from {
@@ -37,8 +40,8 @@ fn script_of(events: Vec<Event>) -> Option<Script>
     ensures { IfSome result (λ script. IsTrue (is_script 0 script)) }
 {
     let mut from = 0;
-    for event in events.iter() {
-        from = next_number(from, event)?;
+    for i in 0..events.len() {
+        from = next_number(from, &events[i])?;
     }
     Some(Script::from_vec(events))
 }

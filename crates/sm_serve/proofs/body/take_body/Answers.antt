@@ -23,6 +23,7 @@ loop-done-init g c = record {
   stands = c.requires.stands;
   live = c.requires.live;
   told = refl;
+  link_faults = refl;
   open_ = c.requires.open;
   same = record { number = refl; conn = refl };
   goes_on = λ h b more items keeps stands is left phase counts.
@@ -71,6 +72,7 @@ loop-done-preserved g c =
       stands = c.take_chunk.ensures.stands;
       live = subst (λ (m : ℕ). IfSome (V c.take_chunk.new.site).transcript (IsLive m)) (sym c.take_chunk.ensures.same.number) (c.if-not-take_chunk.ensures.open refl);
       told = c.take_chunk.ensures.told ∙ c.loop-done.invariant.told;
+      link_faults = c.take_chunk.ensures.link_faults ∙ c.loop-done.invariant.link_faults;
       open_ = c.if-not-take_chunk.ensures.push refl;
       same = same_then c.args.live.now c.loop-done.live c.take_chunk.new.live c.loop-done.invariant.same c.take_chunk.ensures.same;
       goes_on = λ h b more items keeps stands is left phase counts.

@@ -1,4 +1,4 @@
-use Rattle.std.proofs.Common.{rules, ◌≡◌, ◌⊎◌, ⊎_elim, ℕ, is_some, IfSome, false, refl, sym, ◌∙◌, ap, subst}
+use Rattle.std.proofs.Common.{rules, ◌≡◌, ◌⊎◌, ⊎_elim, ℕ, is_some, IfSome, ◌≤◌, false, refl, sym, ◌∙◌, ap, subst, arith}
 use Rattle.sm_site.specs.declared.event.Event.{Event}
 use Rattle.sm_site.specs.declared.event.Event.TheVariants.{Ended}
 use Rattle.sm_site.specs.Meanings.Deal.{Over}
@@ -104,3 +104,25 @@ returns-in-Err-NoMemory-clause-stands g c =
     record { time = c.next.ensures.time; same = c.next.ensures.crash; disk = c.next.ensures.disk } in
     let same = same_here g.S.Disk.view g.S.Link.view g.S.Disk.may_leave g.S.Link.may_leave g.S.Disk.left_at g.S.Link.left_at g.met.S.Site.one_view g.met.S.Site.one_disk g.met.S.Site.one_past d e c.next.ensures.crash in
     (m.0, c.fewer_images_stand.ensures m.0 c.args.state.now.origin d e m.1 (contents_here g.S.Disk.view g.S.Link.view g.S.Disk.may_leave g.S.Link.may_leave g.S.Disk.left_at g.S.Link.left_at g.met.S.Site.one_view g.met.S.Site.one_disk g.met.S.Site.one_past g.met.S.Disk.told d e call) (λ image left. (same image).0 left))
+
+pub returns-in-Ok-clause-link_faults : goal.returns-in-Ok-clause-link_faults
+returns-in-Ok-clause-link_faults g c =
+    let before = ap (λ (v : View). v.link_faults) (g.met.S.Site.one_view c.args.site.now) in
+    let between = ap (λ (v : View). v.link_faults) (g.met.S.Site.one_view c.next.new.self) in
+    let later = c.next.ensures.link_faults in
+    let same = c.handle.ensures.link_faults in
+    omega (arith, before, between, later, same)
+
+pub returns-in-Err-Failed-clause-link_faults : goal.returns-in-Err-Failed-clause-link_faults
+returns-in-Err-Failed-clause-link_faults g c =
+    let before = ap (λ (v : View). v.link_faults) (g.met.S.Site.one_view c.args.site.now) in
+    let between = ap (λ (v : View). v.link_faults) (g.met.S.Site.one_view c.next.new.self) in
+    let later = c.next.ensures.link_faults in
+    omega (arith, before, between, later)
+
+pub returns-in-Err-NoMemory-clause-link_faults : goal.returns-in-Err-NoMemory-clause-link_faults
+returns-in-Err-NoMemory-clause-link_faults g c =
+    let before = ap (λ (v : View). v.link_faults) (g.met.S.Site.one_view c.args.site.now) in
+    let between = ap (λ (v : View). v.link_faults) (g.met.S.Site.one_view c.next.new.self) in
+    let later = c.next.ensures.link_faults in
+    omega (arith, before, between, later)
