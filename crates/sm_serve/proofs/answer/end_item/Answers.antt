@@ -1,7 +1,6 @@
-use Rattle.std.proofs.Common.{◌≡◌, Bool, true, false, if◌then◌else◌, refl, sym, ◌∙◌, ap}
+use Rattle.std.proofs.Common.{◌≡◌, Bool, false, if◌then◌else◌, refl, ◌∙◌, ap}
 use Rattle.sm_site.proofs.Views.{same_here}
-use Rattle.sm_serve.specs.Run.{Phase, idle, acting, shutting, in_phase}
-use Rattle.sm_serve.specs.Standing.{History, Keeps, Reaches}
+use Rattle.sm_serve.specs.Run.{idle, acting, shutting, in_phase}
 use Rattle.sm_site.specs.Meanings.Deal.{Shut}
 use Rattle.sm_serve.proofs.Transcripts.{adds_told, told_here, faults_here}
 use Rattle.sm_serve.proofs.Reaching.{reached}

@@ -1,4 +1,4 @@
-use Rattle.std.proofs.Common.{rules, ◌≡◌, ◌<◌, ◌+◌, ◌≤◌, ℕ, List, [], ◌++◌, ◌∷◌, length, take, drop, get_or, true, false, Bool, Option, IfSome, refl, sym, ◌∙◌, ap, subst, arith}
+use Rattle.std.proofs.Common.{rules, ◌≡◌, ◌+◌, ◌≤◌, ℕ, List, [], ◌++◌, ◌∷◌, length, take, drop, true, false, IfSome, refl, sym, ◌∙◌, subst, arith}
 use Rattle.std.proofs.lemmas.Iterator.Adapters.{YieldsList-from_vec}
 use Rattle.std.proofs.lemmas.Iterator.Consumers.{YieldsList-turn, YieldsList-end}
 use Rattle.std.proofs.lemmas.List.{length_push, take_all}
@@ -6,12 +6,10 @@ use Rattle.sm_site.specs.Meanings.{IsLive}
 use Rattle.sm_conn.specs.declared.part.Part.{Part}
 use Rattle.sm_conn.specs.Stands.{items_of, joined}
 use Rattle.sm_conn.specs.Parts.{PartItem}
-use Rattle.sm_wire.specs.declared.item.WireItem.{WireItem}
-use Rattle.sm_wire.specs.Wire.{Left}
 use Rattle.sm_serve.specs.Standing.{StandsOn}
 use Rattle.sm_serve.specs.declared.live.Live.{Live}
-use Rattle.sm_serve.specs.Run.{Phase, idle, acting}
-use Rattle.sm_serve.specs.Standing.{History, Keeps, Reaches}
+use Rattle.sm_serve.specs.Run.{acting}
+use Rattle.sm_serve.specs.Standing.{History, Keeps}
 use Rattle.sm_serve.specs.Resting.{counts_of, SameConn}
 use Rattle.sm_serve.specs.Giving.{StaysOpen, PartGives}
 use Rattle.sm_serve.proofs.Lists.{joined_drop, joined_take, drop_all}

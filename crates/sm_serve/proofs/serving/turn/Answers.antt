@@ -1,16 +1,15 @@
-use Rattle.std.proofs.Common.{rules, ◌≡◌, ◌⊎◌, ⊎_elim, ℕ, is_some, IfSome, ◌≤◌, false, refl, sym, ◌∙◌, ap, subst, arith}
+use Rattle.std.proofs.Common.{◌≡◌, ⊎_elim, ℕ, IfSome, refl, sym, ap, subst, arith}
 use Rattle.sm_site.specs.declared.event.Event.{Event}
 use Rattle.sm_site.specs.declared.event.Event.TheVariants.{Ended}
 use Rattle.sm_site.specs.Meanings.Deal.{Over}
 use Rattle.sm_site.specs.Event.{deal_of, IsNext}
-use Rattle.sm_site.specs.Clauses.{Adds, Rose}
+use Rattle.sm_site.specs.Clauses.{Adds}
 use Rattle.sm_site.specs.Meanings.{View}
 use Rattle.sm_site.proofs.Views.{same_here}
 use Rattle.sm_serve.specs.declared.outcome.Turn.{Turn as Turned}
 use Rattle.sm_serve.specs.declared.outcome.Turn.TheVariants as turned
 use Rattle.sm_serve.specs.declared.outcome.Turn.TheVariants.{Went, LinkFault, NoMemory}
-use Rattle.sm_serve.specs.Standing.{History}
-use Rattle.sm_serve.specs.Serving.{taken_by, Serves, Turns, MayHandle, IsNew, IsAtRest}
+use Rattle.sm_serve.specs.Serving.{taken_by, Turns, IsAtRest}
 use Rattle.sm_serve.proofs.Transcripts.{adds_told, told_here}
 use Rattle.sm_serve.proofs.Sending.{LinkCall, contents_here}
 use Rattle.sm_serve.proofs.Events.{pend, still_serves, may_handle, is_new}

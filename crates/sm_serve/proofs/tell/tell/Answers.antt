@@ -1,10 +1,9 @@
-use Rattle.std.proofs.Common.{rules, ◌≡◌, ◌≢◌, ◌⊎◌, ⊎_elim, ◌<◌, ◌≤◌, ◌-◌, ◌^◌, ℕ, List, [], ◌∷◌, ◌++◌, take, length, Bool, true, false, if◌then◌else◌, IsTrue, IfSome, is_some, refl, sym, ◌∙◌, ap, subst}
+use Rattle.std.proofs.Common.{rules, ◌≡◌, ◌⊎◌, ⊎_elim, ◌≤◌, ℕ, take, length, Bool, true, false, if◌then◌else◌, IfSome, is_some, refl, sym, ◌∙◌, ap, subst}
 use Rattle.sm_site.specs.Meanings.{View, IsLive}
 use Rattle.sm_site.specs.Meanings.Deal.{Sent, Shut}
-use Rattle.sm_site.specs.Clauses.{SameOutcomes, Adds, Rose}
+use Rattle.sm_site.specs.Clauses.{Adds, Rose}
 use Rattle.sm_site.proofs.Views.{same_here}
-use Rattle.sm_serve.specs.Run.{Point, Phase, idle, acting, sending, shutting, in_phase, behind_failure}
-use Rattle.sm_serve.specs.Standing.{History, Keeps, Follows, Reaches}
+use Rattle.sm_serve.specs.Run.{idle, acting, shutting, in_phase, behind_failure}
 use Rattle.sm_serve.proofs.Transcripts.{stays_live, adds_told, told_here, faults_here}
 use Rattle.sm_serve.proofs.Reaching.{reached}
 use Rattle.sm_serve.proofs.Sending.{After, LinkCall, contents_here, sent_after, failed_after, unsent_after, then_shut}

@@ -1,6 +1,4 @@
-use Rattle.std.proofs.Common.{ℕ, List, ⊎_elim, IsTrue, false}
-use Rattle.sm_push.specs.Standing.{Stands}
-use Rattle.sm_serve.specs.Pushes.{GivesValid}
+use Rattle.std.proofs.Common.{⊎_elim, false}
 use Rattle.sm_serve.proofs.Validity.{gives_valid, failed_valid}
 use Rattle.sm_serve.proofs.push.OpenPush.feed.Goals as goal
 
