@@ -4,7 +4,7 @@ use Rattle.std.proofs.lemmas.List.{append-nil}
 use Rattle.sm_model.specs.declared.act.Act.{Act}
 use Rattle.sm_model.specs.declared.entry.Entry.{Entry}
 use Rattle.sm_origin.specs.declared.reply.Reply.{Reply}
-use Rattle.sm_origin.specs.Machine.{Machine, SameLog, Writes, refused, there, full, kept, unwritten, Settled, Clear, Row, answered, unread, unsettled, wrote, Step, row, wants, untold}
+use Rattle.sm_origin.specs.Machine.{Machine, Writes, refused, there, full, kept, unwritten, Clear, Row, answered, unread, unsettled, wrote, Step, row, wants, untold}
 
 abbrev pub Extends : Machine → Machine → Type 0
 Extends m n = (more : List Entry) × (n.log ≡ m.log ++ more)

@@ -1,5 +1,5 @@
 -- What the next event brings to a run.
-use Rattle.std.proofs.Common.{◌≡◌, ◌≢◌, ◌⊎◌, inl, inr, ⊎_elim, ◌↔◌, ℕ, ◌+◌, ◌-◌, ◌<◌, ◌≤◌, ◌^◌, Bool, true, false, ◌==◌, ◌||◌, if◌then◌else◌, List, [], ◌∷◌, ◌++◌, length, get_or, Option, Some, None, is_some, IsSome, IfSome, IsTrue, refl, sym, ◌∙◌, ap, subst, arith}
+use Rattle.std.proofs.Common.{◌≡◌, inl, inr, ⊎_elim, ◌↔◌, ℕ, ◌+◌, ◌-◌, ◌<◌, ◌≤◌, ◌^◌, Bool, true, false, ◌==◌, if◌then◌else◌, List, [], ◌∷◌, ◌++◌, Option, Some, None, is_some, IsSome, IfSome, IsTrue, refl, sym, ◌∙◌, ap, subst, arith}
 use Rattle.std.specs.Prelude.{All}
 use Rattle.std.specs.List.{AllByRecursion}
 use Rattle.std.proofs.lemmas.List.Elements.{recursion_from_All}
@@ -8,7 +8,7 @@ use Rattle.std.proofs.lemmas.Bool.Decides.{eqb_tells}
 use Rattle.sm_site.specs.Image.{Image}
 use Rattle.sm_site.specs.Meanings.{View, Deal, Item, DiskCall, IsLive, open_after, open_from}
 use Rattle.sm_site.specs.Meanings.Deal.{Began, Came, Left, Over, Sent, Shut}
-use Rattle.sm_site.specs.Clauses.{Both, NoMore, Elapses, SameOutcomes, Adds}
+use Rattle.sm_site.specs.Clauses.{Both, NoMore, Adds}
 use Rattle.sm_model.specs.declared.act.Act.TheVariants.{Header}
 use Rattle.sm_model.specs.declared.track.Track.{Track}
 use Rattle.sm_archive.specs.declared.answers.Declared.{Declared}
@@ -26,9 +26,9 @@ use Rattle.sm_serve.specs.Connections.{without, is_among, live_after, live_from,
 use Rattle.std.proofs.lemmas.List.{append-nil}
 use Rattle.sm_origin.specs.declared.origin.Origin.{Origin}
 use Rattle.sm_serve.specs.Standing.{StandsOn}
-use Rattle.sm_serve.specs.Run.{Point, idle, Moves, declared, at, start, begins}
-use Rattle.sm_serve.specs.Standing.{History, is_told, Keeps, Pending, moved, calls_of}
-use Rattle.sm_serve.specs.Serving.{numbers_of, AreResting, IsAtRest, Serves, Known, Since, Turns, Served, EndsAs, MayHandle, IsNew, Begins, DeclaresIn}
+use Rattle.sm_serve.specs.Run.{Point, idle, declared, at, start, begins}
+use Rattle.sm_serve.specs.Standing.{History, is_told, Keeps, Pending, calls_of}
+use Rattle.sm_serve.specs.Serving.{numbers_of, AreResting, Serves, Known, Turns, Served, EndsAs, MayHandle, IsNew, Begins, DeclaresIn}
 use Rattle.sm_serve.proofs.Transcripts.{told_adds, open_push, stays_live}
 use Rattle.sm_serve.proofs.Going.{Acted, stepped, run_as, link_move}
 use Rattle.sm_serve.proofs.Sending.{LinkCall, calls_here, contents_here, told_here}

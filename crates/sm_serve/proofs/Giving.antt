@@ -1,5 +1,5 @@
 -- What parts give to a run.
-use Rattle.std.proofs.Common.{◌≡◌, ℕ, Bool, true, false, if◌then◌else◌, List, [], ◌∷◌, ◌++◌, Option, Some, None, Result, Ok, Err, is_some, refl, sym, ◌∙◌, ap, subst, append_assoc}
+use Rattle.std.proofs.Common.{◌≡◌, ℕ, Bool, true, false, if◌then◌else◌, List, [], ◌∷◌, ◌++◌, Option, Some, None, Ok, Err, is_some, refl, sym, ◌∙◌, ap, subst, append_assoc}
 use Rattle.std.specs.Prelude.{map}
 use Rattle.sm_site.specs.Image.{Image}
 use Rattle.sm_site.specs.Meanings.{View}
@@ -11,9 +11,8 @@ use Rattle.sm_model.specs.declared.header.HeaderTrack.{HeaderTrack}
 use Rattle.std.specs.List.{AllByRecursion}
 use Rattle.sm_serve.specs.Pushes.{AreValid}
 use Rattle.sm_model.specs.Body.{body, body_end, led_by, refused}
-use Rattle.sm_push.specs.declared.fault.PushFault.{PushFault}
 use Rattle.sm_push.specs.declared.fault.PushFault.TheVariants as pushes
-use Rattle.sm_push.specs.Standing.{Standing, Stands, push_header}
+use Rattle.sm_push.specs.Standing.{Standing, push_header}
 use Rattle.sm_model.specs.declared.target.Target.{Target}
 use Rattle.sm_conn.specs.Parts.{PartItem, got, continued, ended}
 use Rattle.sm_wire.specs.declared.item.WireItem.{WireItem}
@@ -22,7 +21,7 @@ use Rattle.sm_wire.specs.Wire.{wire, Left, shown}
 use Rattle.sm_wire.proofs.WireLaw.{left_unique, got_left, got_close, continue_left, ended_left, ended_close}
 use Rattle.sm_origin.specs.declared.origin.Origin.{Origin}
 use Rattle.sm_serve.specs.Items.{shown_item, ItemIsValid}
-use Rattle.sm_serve.specs.Run.{Counts, Phase, idle, acting}
+use Rattle.sm_serve.specs.Run.{Counts, idle, acting}
 use Rattle.sm_serve.specs.Standing.{History, Keeps, Reaches}
 use Rattle.sm_serve.specs.Resting.{PlaceIs}
 use Rattle.sm_serve.specs.Standing.{StandsOn}

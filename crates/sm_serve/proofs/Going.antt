@@ -1,5 +1,5 @@
 -- How a run goes on, on a site.
-use Rattle.std.proofs.Common.{◌≡◌, ◌≢◌, ◌⊎◌, inl, inr, ⊎_elim, ◌↔◌, ℕ, ◌+◌, ◌-◌, ◌<◌, ◌≤◌, ◌^◌, Bool, true, false, nat_le, if◌then◌else◌, List, [], ◌∷◌, ◌++◌, Option, Some, None, IfSome, IsSome, is_some, IsTrue, refl, sym, ◌∙◌, ap, subst, arith, append_assoc}
+use Rattle.std.proofs.Common.{◌≡◌, ◌≢◌, ◌⊎◌, inl, inr, ⊎_elim, ℕ, ◌-◌, ◌<◌, ◌≤◌, ◌^◌, Bool, true, false, nat_le, if◌then◌else◌, List, [], ◌∷◌, ◌++◌, Option, Some, None, IfSome, IsSome, is_some, IsTrue, refl, sym, ◌∙◌, ap, subst, arith, append_assoc}
 use Rattle.std.proofs.lemmas.List.{append-nil}
 use Rattle.std.proofs.lemmas.Bool.{cases_lt, cases_Bool}
 use Rattle.std.proofs.lemmas.Bool.Decides.{nat_tests}
@@ -16,7 +16,7 @@ use Rattle.sm_origin.specs.Stores.{IsPartOf, Fits, FitsInside}
 use Rattle.sm_origin.specs.Acting.{ActGives}
 use Rattle.sm_site.specs.Clauses.{last_moment}
 use Rattle.sm_serve.specs.Run.{Point, Stepped, OnMachine, IsStep, Moves, Run, goes_on}
-use Rattle.sm_serve.specs.Moments.{machine_at, IsInside, IsOneOf, FitsAt}
+use Rattle.sm_serve.specs.Moments.{machine_at, IsOneOf, FitsAt}
 use Rattle.sm_serve.specs.Standing.{History, StandsOn, is_told, Keeps, moved, calls_of}
 
 -- ---- the machine at a moment

@@ -1,12 +1,12 @@
 -- The logs of a run only grow.
-use Rattle.std.proofs.Common.{◌≡◌, ◌⊎◌, inl, inr, ⊎_elim, ℕ, ◌<◌, ◌≤◌, Bool, true, nat_le, if◌then◌else◌, List, [], ◌∷◌, ◌++◌, refl, sym, ◌∙◌, ap, subst, append_assoc, arith}
+use Rattle.std.proofs.Common.{◌≡◌, ◌⊎◌, inl, inr, ⊎_elim, ℕ, ◌<◌, ◌≤◌, true, nat_le, if◌then◌else◌, List, [], ◌∷◌, ◌++◌, refl, sym, ◌∙◌, ap, subst, arith}
 use Rattle.std.proofs.lemmas.List.{append-nil}
 use Rattle.std.proofs.lemmas.Bool.{cases_lt}
 use Rattle.std.proofs.lemmas.Bool.Decides.{nat_tests}
 use Rattle.sm_site.specs.Meanings.{Item}
 use Rattle.sm_site.specs.Clauses.{Rose}
 use Rattle.sm_origin.specs.Machine.{Machine, Step}
-use Rattle.sm_serve.specs.Run.{Point, Stepped, IsStep, Moves, opened, crowded, came, unread, passed, left, over, continues, acts_on, wants, done, sent, failed, unsent, shut, declared, Run, begins, goes_on}
+use Rattle.sm_serve.specs.Run.{Point, Stepped, Moves, opened, crowded, came, unread, passed, left, over, continues, acts_on, wants, done, sent, failed, unsent, shut, declared, Run, begins, goes_on}
 use Rattle.sm_serve.specs.Moments.{machine_at}
 use Rattle.sm_serve.proofs.Going.{machine_push}
 use Rattle.sm_serve.proofs.Adding.{Extends, and_then, step_adds}

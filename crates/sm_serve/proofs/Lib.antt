@@ -3,6 +3,7 @@ pub mod Going
 pub mod Sending
 pub mod Reaching
 pub mod Lists
+pub mod Validity
 pub mod Giving
 pub mod Pieces
 pub mod Lives

@@ -1,9 +1,9 @@
 -- A piece that was taken.
-use Rattle.std.proofs.Common.{◌≡◌, ℕ, Bool, true, false, if◌then◌else◌, List, [], ◌∷◌, ◌++◌, Option, Some, None, IsTrue, refl, sym, ◌∙◌, ap, subst, append_assoc}
+use Rattle.std.proofs.Common.{◌≡◌, ℕ, Bool, true, false, List, [], ◌++◌, Option, Some, None, refl, sym, ◌∙◌, ap, append_assoc}
 use Rattle.std.proofs.lemmas.List.{append-nil}
 use Rattle.std.specs.Prelude.{map}
 use Rattle.sm_site.specs.Image.{Image}
-use Rattle.sm_site.specs.Meanings.{View, Deal}
+use Rattle.sm_site.specs.Meanings.{View}
 use Rattle.sm_site.specs.Meanings.Deal.{Came}
 use Rattle.sm_model.specs.declared.cause.Refusal.{Refusal}
 use Rattle.sm_model.specs.Body.{body}
@@ -15,17 +15,16 @@ use Rattle.sm_wire.proofs.WireLaw.{same_rest}
 use Rattle.sm_conn.specs.declared.conn.Conn.{Conn}
 use Rattle.sm_conn.specs.Stands.{StandsFor as Gave}
 use Rattle.sm_origin.specs.declared.origin.Origin.{Origin}
-use Rattle.sm_serve.specs.Standing.{StandsOn}
 use Rattle.sm_serve.specs.declared.live.Live.{Live}
 use Rattle.sm_head.specs.declared.reply.TheConstants.{NO_MEMORY}
 use Rattle.sm_serve.specs.Connections.{received, is_open}
-use Rattle.sm_serve.specs.Run.{Counts, Point, Phase, idle, acting, sending, Moves, came, unread, done, at, at_event, in_phase}
+use Rattle.sm_serve.specs.Run.{Counts, idle, acting, sending, came, unread, done, at, at_event, in_phase}
 use Rattle.sm_serve.specs.Standing.{History, Keeps, Pending, moved, Reaches}
 use Rattle.sm_serve.specs.Resting.{counts_of, PlaceIs, Rests}
-use Rattle.sm_serve.specs.Giving.{StaysOpen, PartGives, PieceGives}
+use Rattle.sm_serve.specs.Giving.{PartGives, PieceGives}
 use Rattle.sm_serve.proofs.Going.{silent_move, paused}
 use Rattle.sm_serve.proofs.Sending.{follows_then}
-use Rattle.sm_serve.proofs.Reaching.{follows_itself, closed_counts}
+use Rattle.sm_serve.proofs.Reaching.{follows_itself}
 use Rattle.sm_serve.proofs.Giving.{place_clear}
 
 -- nothing is left where no part is left

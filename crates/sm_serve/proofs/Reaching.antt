@@ -1,5 +1,5 @@
 -- What a run reaches.
-use Rattle.std.proofs.Common.{◌≡◌, ◌↔◌, ℕ, ◌<◌, ◌≤◌, Bool, true, false, ◌||◌, if◌then◌else◌, List, [], ◌∷◌, ◌++◌, Option, Some, None, is_some, IsSome, IsTrue, refl, sym, ◌∙◌, ap, subst}
+use Rattle.std.proofs.Common.{◌≡◌, ℕ, Bool, true, false, ◌||◌, if◌then◌else◌, List, [], ◌∷◌, Some, IsTrue, refl, sym, ◌∙◌, ap, subst}
 use Rattle.sm_site.specs.Image.{Image}
 use Rattle.sm_site.specs.Meanings.{View}
 use Rattle.sm_model.specs.declared.act.Act.{Act}
@@ -9,7 +9,7 @@ use Rattle.sm_wire.specs.declared.item.WireItem.{WireItem}
 use Rattle.sm_wire.specs.declared.item.WireItem.TheVariants.{Continue}
 use Rattle.sm_origin.specs.declared.origin.Origin.{Origin}
 use Rattle.sm_serve.specs.Standing.{StandsOn}
-use Rattle.sm_serve.specs.Run.{Counts, Point, Phase, Stepped, idle, acting, sending, in_phase, wants, continues, Moves, acts_on, act_of, closes, counts_after, set_counts, phase_after, sent_of, behind_step, IsStep}
+use Rattle.sm_serve.specs.Run.{Counts, Point, Phase, acting, sending, in_phase, wants, continues, acts_on, act_of, closes, counts_after, set_counts, phase_after, sent_of, behind_step}
 use Rattle.std.proofs.lemmas.Bool.{eq-eqb, ne_eqb}
 use Rattle.sm_serve.specs.Connections.{received, live, events_in}
 use Rattle.sm_serve.specs.Standing.{History, Keeps, Follows, Reaches}

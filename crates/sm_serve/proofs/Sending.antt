@@ -1,5 +1,5 @@
 -- Sends and closes of a run.
-use Rattle.std.proofs.Common.{◌≡◌, ◌≢◌, ◌⊎◌, ⊎_elim, inl, inr, ◌↔◌, ℕ, ◌+◌, ◌-◌, ◌<◌, ◌≤◌, ◌^◌, Bool, true, false, if◌then◌else◌, List, [], ◌∷◌, ◌++◌, take, length, Option, Some, None, is_some, IfSome, IsSome, IsTrue, refl, sym, ◌∙◌, ap, subst, arith}
+use Rattle.std.proofs.Common.{◌≡◌, ◌↔◌, ℕ, ◌+◌, ◌-◌, ◌<◌, ◌≤◌, ◌^◌, Bool, true, false, if◌then◌else◌, List, [], ◌++◌, take, Option, Some, is_some, IsSome, IsTrue, refl, sym, ◌∙◌, ap, subst, arith}
 use Rattle.std.proofs.lemmas.List.{append-nil}
 use Rattle.sm_site.specs.Image.{Image}
 use Rattle.sm_site.specs.Meanings.{View, Item, Deal, SameDisk}
@@ -7,8 +7,8 @@ use Rattle.sm_site.specs.Meanings.Deal.{Sent, Shut}
 use Rattle.sm_site.specs.Clauses.{Elapses, SameOutcomes, Adds, Rose}
 use Rattle.sm_site.proofs.Views.{seen_here, same_here, elapses_here}
 use Rattle.sm_wire.specs.declared.item.WireItem.{WireItem}
-use Rattle.sm_serve.specs.Connections.{received, live, without, live_after, received_after, events_in}
-use Rattle.sm_serve.specs.Run.{Counts, Phase, Point, idle, acting, sending, shutting, Moves, sent, failed, unsent, shut, at, in_phase, behind_failure}
+use Rattle.sm_serve.specs.Connections.{received, live, without, events_in}
+use Rattle.sm_serve.specs.Run.{Counts, Point, idle, acting, sending, shutting, Moves, sent, failed, unsent, shut, at, in_phase, behind_failure}
 use Rattle.sm_serve.specs.Standing.{History, is_told, Keeps, moved, Follows}
 use Rattle.sm_serve.proofs.Transcripts.{received_push, live_push, events_push, told_adds}
 use Rattle.sm_serve.proofs.Going.{link_move}

@@ -1,21 +1,21 @@
 -- Events that were taken.
-use Rattle.std.proofs.Common.{◌≡◌, ◌≢◌, ℕ, ◌<◌, Bool, true, false, ◌==◌, if◌then◌else◌, List, [], ◌∷◌, ◌++◌, length, get_or, Option, Some, None, IsTrue, refl, sym, ◌∙◌, ap, subst, arith}
+use Rattle.std.proofs.Common.{◌≡◌, ◌≢◌, ℕ, ◌<◌, Bool, true, false, ◌==◌, if◌then◌else◌, List, [], ◌∷◌, ◌++◌, length, get_or, refl, sym, ◌∙◌, ap, subst}
 use Rattle.std.specs.Prelude.{slice_set}
 use Rattle.std.specs.List.{remove}
 use Rattle.std.proofs.lemmas.Bool.{eq-eqb, ne_eqb}
 use Rattle.sm_site.specs.Image.{Image}
-use Rattle.sm_site.specs.Meanings.{View, Deal}
+use Rattle.sm_site.specs.Meanings.{View}
 use Rattle.sm_site.specs.Meanings.Deal.{Began, Came, Left, Over}
 use Rattle.sm_origin.specs.declared.origin.Origin.{Origin}
 use Rattle.sm_serve.specs.Standing.{StandsOn}
 use Rattle.sm_serve.specs.declared.live.Live.{Live}
 use Rattle.sm_serve.specs.declared.state.State.{State}
-use Rattle.sm_serve.specs.Connections.{received, received_after, live, without, is_among, AreDistinct}
-use Rattle.sm_serve.specs.Run.{Counts, no_counts, Point, idle, Moves, passed, left, over, at, at_event}
-use Rattle.sm_serve.specs.Standing.{History, Keeps, Pending, moved, Follows, Reaches}
+use Rattle.sm_serve.specs.Connections.{received, live, without, is_among, AreDistinct}
+use Rattle.sm_serve.specs.Run.{Counts, no_counts, Point, idle, passed, left, over, at, at_event}
+use Rattle.sm_serve.specs.Standing.{History, Pending, moved, Follows, Reaches}
 use Rattle.sm_serve.specs.Resting.{Rests, counts_of, IsNewborn}
 use Rattle.sm_serve.specs.Giving.{PieceGives}
-use Rattle.sm_serve.specs.Serving.{numbers_of, IsResting, AreResting, IsAtRest, Serves, Since, Turns, Forgets}
+use Rattle.sm_serve.specs.Serving.{numbers_of, IsResting, AreResting, IsAtRest, Turns, Forgets}
 use Rattle.sm_serve.proofs.Transcripts.{received_push, live_push, events_push}
 use Rattle.sm_serve.proofs.Lives.{rest_others, rest_push, push_numbers, set_numbers, remove_numbers, live_distinct, rest_set, rest_remove, rest_all, without_none}
 

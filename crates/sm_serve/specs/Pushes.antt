@@ -1,5 +1,5 @@
 -- The push that is open on a connection.
-use Rattle.std.specs.Prelude.{◌≡◌, ◌⊎◌, ℕ, true, false, List, Result, Ok, Err, IsTrue}
+use Rattle.std.specs.Prelude.{◌⊎◌, ℕ, false, List, Result, Ok, Err, IsTrue}
 use Rattle.std.specs.List.{AllByRecursion}
 use Rattle.sm_model.specs.Items.{Given}
 use Rattle.sm_push.specs.declared.fault.PushFault.{PushFault}

@@ -1,5 +1,5 @@
 -- A connection between two pieces.
-use Rattle.std.specs.Prelude.{◌≡◌, ◌⊎◌, ℕ, true, false, List, [], ◌++◌, Option, Some, None}
+use Rattle.std.specs.Prelude.{◌≡◌, ℕ, false, List, [], ◌++◌, Option, Some, None}
 use Rattle.sm_push.specs.Standing.{Standing, Stands}
 use Rattle.sm_conn.specs.Parts.{PartItem}
 use Rattle.sm_conn.specs.Stands.{StandsFor}

@@ -1,5 +1,5 @@
 -- The loop between two events.
-use Rattle.std.specs.Prelude.{◌≡◌, ◌⊎◌, ◌+◌, ◌<◌, ◌≤◌, ◌-◌, ◌^◌, ℕ, true, false, List, [], ◌∷◌, ◌++◌, map, length, Option, Some, None, IsSome, IfSome, IsTrue}
+use Rattle.std.specs.Prelude.{◌≡◌, ◌⊎◌, ◌+◌, ◌<◌, ◌≤◌, ◌-◌, ◌^◌, ℕ, true, false, List, [], ◌∷◌, ◌++◌, map, Option, Some, None, IsSome, IfSome}
 use Rattle.sm_site.specs.Image.{Image}
 use Rattle.sm_site.specs.Meanings.{View, Item, DiskCall, IsLive}
 use Rattle.sm_site.specs.Meanings.Deal.{Over}
@@ -9,7 +9,6 @@ use Rattle.sm_model.specs.declared.act.Act.TheVariants.{Header}
 use Rattle.sm_model.specs.declared.track.Track.{Track}
 use Rattle.sm_archive.specs.declared.answers.Declared.{Declared}
 use Rattle.sm_origin.specs.Answers.{reply_to_header}
-use Rattle.sm_origin.specs.declared.origin.Origin.{Origin}
 use Rattle.sm_serve.specs.declared.live.Live.{Live}
 use Rattle.sm_serve.specs.declared.state.State.{State}
 use Rattle.sm_origin.specs.Machine.{Machine}

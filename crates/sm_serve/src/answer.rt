@@ -28,6 +28,7 @@ fn send_reply<S: Site>(site: &mut S, number: u64, reply: &Reply, close: bool) ->
     ensures contents { (S.Disk.view site.new).contents ≡ (S.Disk.view site.old).contents }
     ensures open { IsTrue result → IfSome (S.Disk.view site.new).transcript (IsLive number) }
     ensures told { is_some (S.Disk.view site.new).transcript ≡ is_some (S.Disk.view site.old).transcript }
+    ensures link_faults { (S.Disk.view site.new).link_faults ≡ (S.Disk.view site.old).link_faults }
 {
     if reply.status == 0 {
         return end_item(site, number, close);
@@ -49,6 +50,7 @@ fn end_item<S: Site>(site: &mut S, number: u64, close: bool) -> bool
     ensures contents { (S.Disk.view site.new).contents ≡ (S.Disk.view site.old).contents }
     ensures open { IsTrue result → IfSome (S.Disk.view site.new).transcript (IsLive number) }
     ensures told { is_some (S.Disk.view site.new).transcript ≡ is_some (S.Disk.view site.old).transcript }
+    ensures link_faults { (S.Disk.view site.new).link_faults ≡ (S.Disk.view site.old).link_faults }
 {
     fewer_images_stand::<S>();
     if close {
@@ -79,6 +81,7 @@ pub(crate) fn answer<S: Site>(
     ensures stands { (m : Machine) × StandsOn S.Disk.view S.Disk.may_leave m origin.new site.new }
     ensures open { IsSome result → IfSome (S.Disk.view site.new).transcript (IsLive number) }
     ensures told { is_some (S.Disk.view site.new).transcript ≡ is_some (S.Disk.view site.old).transcript }
+    ensures link_faults { (S.Disk.view site.new).link_faults ≡ (S.Disk.view site.old).link_faults }
 {
     fewer_images_stand::<S>();
     let reply = origin.act(alloc, site, act);

@@ -78,6 +78,7 @@ fn take_chunk<S: Site>(
     ensures push { IsTrue result → is_some live.new.push ≡ true }
     ensures same { SameConn live.old live.new }
     ensures told { is_some (S.Disk.view site.new).transcript ≡ is_some (S.Disk.view site.old).transcript }
+    ensures link_faults { (S.Disk.view site.new).link_faults ≡ (S.Disk.view site.old).link_faults }
 {
     wire_of_front();
     match feed(&mut live.push, bytes) {
@@ -114,6 +115,7 @@ pub(crate) fn take_body<S: Site>(
     ensures push { IsTrue result → is_some live.new.push ≡ true }
     ensures same { SameConn live.old live.new }
     ensures told { is_some (S.Disk.view site.new).transcript ≡ is_some (S.Disk.view site.old).transcript }
+    ensures link_faults { (S.Disk.view site.new).link_faults ≡ (S.Disk.view site.old).link_faults }
 {
     let mut done = 0;
     while done < bytes.len() {
@@ -145,6 +147,7 @@ pub(crate) fn take_end<S: Site>(
     ensures open { IsTrue result → IfSome (S.Disk.view site.new).transcript (IsLive live.old.number) }
     ensures same { SameConn live.old live.new }
     ensures told { is_some (S.Disk.view site.new).transcript ≡ is_some (S.Disk.view site.old).transcript }
+    ensures link_faults { (S.Disk.view site.new).link_faults ≡ (S.Disk.view site.old).link_faults }
 {
     match end(&mut live.push) {
         Ok(()) => end_push(alloc, site, origin, live, close),
@@ -180,6 +183,7 @@ fn end_push<S: Site>(
     ensures push { IsTrue result → live.new.push ≡ None }
     ensures same { SameConn live.old live.new }
     ensures told { is_some (S.Disk.view site.new).transcript ≡ is_some (S.Disk.view site.old).transcript }
+    ensures link_faults { (S.Disk.view site.new).link_faults ≡ (S.Disk.view site.old).link_faults }
 {
     let act = Act::End {
         kept: live.kept,

@@ -43,6 +43,7 @@ pub(crate) fn act_on<S: Site>(
     ensures open { IsTrue result → IfSome (S.Disk.view site.new).transcript (IsLive live.old.number) }
     ensures same { SameBut live.old live.new }
     ensures told { is_some (S.Disk.view site.new).transcript ≡ is_some (S.Disk.view site.old).transcript }
+    ensures link_faults { (S.Disk.view site.new).link_faults ≡ (S.Disk.view site.old).link_faults }
 {
     match answer(alloc, site, origin, live.number, act, close) {
         Some(counted) => {
@@ -63,6 +64,7 @@ pub(crate) fn starve<S: Site>(site: &mut S, number: u64) -> bool
     ensures contents { (S.Disk.view site.new).contents ≡ (S.Disk.view site.old).contents }
     ensures closed { result ≡ false }
     ensures told { is_some (S.Disk.view site.new).transcript ≡ is_some (S.Disk.view site.old).transcript }
+    ensures link_faults { (S.Disk.view site.new).link_faults ≡ (S.Disk.view site.old).link_faults }
 {
     tell(site, number, NO_MEMORY, true)
 }
@@ -85,6 +87,7 @@ fn take_item<S: Site>(
     ensures open { IsTrue result → IfSome (S.Disk.view site.new).transcript (IsLive live.old.number) }
     ensures same { SameBut live.old live.new }
     ensures told { is_some (S.Disk.view site.new).transcript ≡ is_some (S.Disk.view site.old).transcript }
+    ensures link_faults { (S.Disk.view site.new).link_faults ≡ (S.Disk.view site.old).link_faults }
 {
     let act = act_for_item(item);
     act_on(alloc, site, origin, live, &act, false)
@@ -120,6 +123,7 @@ pub(crate) fn take_items<S: Site>(
     ensures open { IsTrue result → IfSome (S.Disk.view site.new).transcript (IsLive live.old.number) }
     ensures same { SameBut live.old live.new }
     ensures told { is_some (S.Disk.view site.new).transcript ≡ is_some (S.Disk.view site.old).transcript }
+    ensures link_faults { (S.Disk.view site.new).link_faults ≡ (S.Disk.view site.old).link_faults }
 {
     for item in items {
         if !take_item(alloc, site, origin, live, item) {

@@ -54,6 +54,7 @@ fn take_inside<S: Site>(
     ensures open { IsTrue result → IfSome (S.Disk.view site.new).transcript (IsLive live.old.number) }
     ensures same { SameConn live.old live.new }
     ensures told { is_some (S.Disk.view site.new).transcript ≡ is_some (S.Disk.view site.old).transcript }
+    ensures link_faults { (S.Disk.view site.new).link_faults ≡ (S.Disk.view site.old).link_faults }
 {
     match part {
         Part::Body(bytes) => {
@@ -95,6 +96,7 @@ fn take_outside<S: Site>(
     ensures open { IsTrue result → IfSome (S.Disk.view site.new).transcript (IsLive live.old.number) }
     ensures same { SameConn live.old live.new }
     ensures told { is_some (S.Disk.view site.new).transcript ≡ is_some (S.Disk.view site.old).transcript }
+    ensures link_faults { (S.Disk.view site.new).link_faults ≡ (S.Disk.view site.old).link_faults }
 {
     match part {
         Part::Get { target, close } => {
@@ -141,6 +143,7 @@ pub(crate) fn take_part<S: Site>(
     ensures open { IsTrue result → IfSome (S.Disk.view site.new).transcript (IsLive live.old.number) }
     ensures same { SameConn live.old live.new }
     ensures told { is_some (S.Disk.view site.new).transcript ≡ is_some (S.Disk.view site.old).transcript }
+    ensures link_faults { (S.Disk.view site.new).link_faults ≡ (S.Disk.view site.old).link_faults }
 {
     if live.push.is_some() {
         return take_inside(alloc, site, origin, live, part);

@@ -42,6 +42,7 @@ fn take_parts<S: Site>(
     ensures open { IsTrue result → IfSome (S.Disk.view site.new).transcript (IsLive live.old.number) }
     ensures same { SameConn live.old live.new }
     ensures told { is_some (S.Disk.view site.new).transcript ≡ is_some (S.Disk.view site.old).transcript }
+    ensures link_faults { (S.Disk.view site.new).link_faults ≡ (S.Disk.view site.old).link_faults }
 {
     for part in parts {
         if !take_part(alloc, site, origin, live, part) {
@@ -68,6 +69,7 @@ pub(crate) fn take_piece<S: Site>(
     ensures stands { (m : Machine) × StandsOn S.Disk.view S.Disk.may_leave m origin.new site.new }
     ensures same { live.new.number ≡ live.old.number }
     ensures told { is_some (S.Disk.view site.new).transcript ≡ is_some (S.Disk.view site.old).transcript }
+    ensures link_faults { (S.Disk.view site.new).link_faults ≡ (S.Disk.view site.old).link_faults }
 {
     wire_of_front();
     match live.conn.feed(piece) {

@@ -1,5 +1,5 @@
 //! The loop.
-ghost use Rattle.std.specs.Prelude.{◌≡◌, ◌≢◌, ◌↔◌, ◌⊎◌, ◌∷◌, ◌++◌, IsTrue, [], ℕ, true, false, Some, IfSome, IfNone, OnOk, OnErr, is_some, length, ◌<◌, slice_index};
+ghost use Rattle.std.specs.Prelude.{◌≡◌, ◌≢◌, ◌↔◌, ◌⊎◌, ◌∷◌, ◌++◌, IsTrue, [], ℕ, true, false, Some, IfSome, IfNone, OnOk, OnErr, is_some, length, ◌<◌, ◌≤◌, slice_index};
 ghost use Rattle.sm_site.specs.Meanings.{IsLive};
 ghost use Rattle.sm_site.specs.Meanings.Deal.{Began, Came, Over};
 ghost use Rattle.sm_site.specs.Event.{deal_of};
@@ -42,6 +42,7 @@ fn take<S: Site>(site: &mut S, state: &mut State, number: u64, piece: &[u8])
         → IsAtRest S.Disk.view S.Disk.may_leave h state.old site.old → Turns S.Disk.view S.Disk.may_leave S.Disk.left_at h 1 state.new site.new }
     ensures stands { (m : Machine) × StandsOn S.Disk.view S.Disk.may_leave m state.new.origin site.new }
     ensures told { is_some (S.Disk.view site.new).transcript ≡ is_some (S.Disk.view site.old).transcript }
+    ensures link_faults { (S.Disk.view site.new).link_faults ≡ (S.Disk.view site.old).link_faults }
 {
     match find(&state.lives, number) {
         Some(i) => {
@@ -68,6 +69,7 @@ fn open<S: Site>(site: &mut S, state: &mut State, number: u64)
         → IsAtRest S.Disk.view S.Disk.may_leave h state.old site.old → is_among number (live h.items) ≡ false → Turns S.Disk.view S.Disk.may_leave S.Disk.left_at h 1 state.new site.new }
     ensures stands { (m : Machine) × StandsOn S.Disk.view S.Disk.may_leave m state.new.origin site.new }
     ensures told { is_some (S.Disk.view site.new).transcript ≡ is_some (S.Disk.view site.old).transcript }
+    ensures link_faults { (S.Disk.view site.new).link_faults ≡ (S.Disk.view site.old).link_faults }
 {
     if state.lives.len() >= 64 {
         tell(site, number, TOO_MANY, true);
@@ -112,6 +114,7 @@ fn handle<S: Site>(site: &mut S, state: &mut State, event: Event) -> Turn
         → IsAtRest S.Disk.view S.Disk.may_leave h state.old site.old → IsNew event h → Turns S.Disk.view S.Disk.may_leave S.Disk.left_at h 1 state.new site.new }
     ensures stands { (m : Machine) × StandsOn S.Disk.view S.Disk.may_leave m state.new.origin site.new }
     ensures told { is_some (S.Disk.view site.new).transcript ≡ is_some (S.Disk.view site.old).transcript }
+    ensures link_faults { (S.Disk.view site.new).link_faults ≡ (S.Disk.view site.old).link_faults }
     ensures ended { result ≡ Turn.Ended ↔ event ≡ Event.Ended }
     ensures still { event ≡ Event.Ended → site.new ≡ site.old }
     ensures no_fault { result ≢ Turn.LinkFault }
@@ -146,6 +149,7 @@ pub fn turn<S: Site>(site: &mut S, state: &mut State) -> Turn
     ensures told { is_some (S.Disk.view site.new).transcript ≡ is_some (S.Disk.view site.old).transcript }
     // Exactly where the event says so.
     ensures ended { result ≡ Turn.Ended → Adds Over (S.Link.view site.old) (S.Link.view site.new) }
+    ensures link_faults { (S.Disk.view site.old).link_faults ≤ (S.Disk.view site.new).link_faults }
     ensures link_fault { result ≡ Turn.LinkFault → Rose (S.Disk.view site.old).link_faults (S.Disk.view site.new).link_faults }
     ensures none_taken { (result ≡ Turn.LinkFault) ⊎ (result ≡ Turn.NoMemory) → (S.Disk.view site.new).transcript ≡ (S.Disk.view site.old).transcript }
 {
@@ -165,6 +169,8 @@ pub fn serve<S: Site>(site: &mut S, state: &mut State, turns: u64) -> Served
     ensures goes_on { (h : History) → Serves S.Disk.view S.Disk.may_leave S.Disk.left_at h state.old site.old → (n : ℕ) × Turns S.Disk.view S.Disk.may_leave S.Disk.left_at h n state.new site.new }
     ensures stands { (m : Machine) × StandsOn S.Disk.view S.Disk.may_leave m state.new.origin site.new }
     ensures told { is_some (S.Disk.view site.new).transcript ≡ is_some (S.Disk.view site.old).transcript }
+    ensures link_faults { (S.Disk.view site.old).link_faults ≤ (S.Disk.view site.new).link_faults }
+    ensures link_fault { result ≡ Served.LinkFault → Rose (S.Disk.view site.old).link_faults (S.Disk.view site.new).link_faults }
 {
     for taken in 0..turns {
         match turn(site, state) {

@@ -1,8 +1,7 @@
-use Rattle.std.proofs.Common.{◌≡◌, ◌||◌, Bool, true, false, if◌then◌else◌, Some, refl, sym, ◌∙◌, ap, subst}
-use Rattle.sm_origin.specs.declared.origin.Origin.{Origin}
-use Rattle.sm_serve.specs.Run.{Phase, idle, acting, phase_after, sent_of, closes}
-use Rattle.sm_serve.specs.Standing.{History, Keeps, Reaches}
-use Rattle.sm_serve.proofs.Going.{Acted, acted}
+use Rattle.std.proofs.Common.{Bool, true, false, if◌then◌else◌, Some, subst}
+use Rattle.sm_serve.specs.Run.{idle, acting}
+use Rattle.sm_serve.specs.Standing.{Reaches}
+use Rattle.sm_serve.proofs.Going.{acted}
 use Rattle.sm_serve.proofs.Reaching.{reach_then, behind, behind_keeps, behind_follows, behind_counts, behind_phase}
 use Rattle.sm_serve.proofs.answer.answer.Goals as goal
 

@@ -1,9 +1,8 @@
-use Rattle.std.proofs.Common.{◌≡◌, Bool, true, false, if◌then◌else◌, refl, sym, ◌∙◌, ap}
+use Rattle.std.proofs.Common.{◌≡◌, Bool, false, if◌then◌else◌, refl, ◌∙◌, ap}
 use Rattle.sm_site.proofs.Views.{same_here}
-use Rattle.sm_serve.specs.Run.{Phase, idle, acting, shutting, in_phase}
-use Rattle.sm_serve.specs.Standing.{History, Keeps, Reaches}
+use Rattle.sm_serve.specs.Run.{idle, acting, shutting, in_phase}
 use Rattle.sm_site.specs.Meanings.Deal.{Shut}
-use Rattle.sm_serve.proofs.Transcripts.{adds_told, told_here}
+use Rattle.sm_serve.proofs.Transcripts.{adds_told, told_here, faults_here}
 use Rattle.sm_serve.proofs.Reaching.{reached}
 use Rattle.sm_serve.proofs.Sending.{LinkCall, contents_here, shut_after}
 use Rattle.sm_serve.proofs.answer.end_item.Goals as goal
@@ -34,3 +33,6 @@ returns-then-close-clause-contents g c =
     let e = c.close.new.self in
     let call : LinkCall V W g.S.Disk.may_leave g.S.Link.may_leave g.S.Disk.left_at g.S.Link.left_at g.met.S.Site.one_view g.met.S.Site.one_disk g.met.S.Site.one_past g.met.S.Disk.told d e = record { time = c.close.ensures.time; same = c.close.ensures.crash; disk = c.close.ensures.disk } in
     contents_here V W g.S.Disk.may_leave g.S.Link.may_leave g.S.Disk.left_at g.S.Link.left_at g.met.S.Site.one_view g.met.S.Site.one_disk g.met.S.Site.one_past g.met.S.Disk.told d e call
+
+pub returns-then-close-clause-link_faults : goal.returns-then-close-clause-link_faults
+returns-then-close-clause-link_faults g c = faults_here g.S.Disk.view g.S.Link.view g.met.S.Site.one_view c.args.site.now c.close.new.self c.close.ensures.link_faults

@@ -1,7 +1,6 @@
-use Rattle.std.proofs.Common.{◌≡◌, true, false, refl, sym, ◌∙◌, ap, Option, Some}
+use Rattle.std.proofs.Common.{refl, ap}
 use Rattle.sm_wire.specs.declared.item.WireItem.TheVariants.{End}
 use Rattle.sm_serve.specs.Run.{Counts, act_of}
-use Rattle.sm_serve.specs.Standing.{History, Keeps, Reaches}
 use Rattle.sm_serve.proofs.Reaching.{closed_counts}
 use Rattle.sm_serve.proofs.body.end_push.Goals as goal
 

@@ -1,8 +1,7 @@
-use Rattle.std.proofs.Common.{rules, ◌≡◌, ◌<◌, ◌+◌, ◌-◌, ◌≤◌, ℕ, List, [], ◌++◌, ◌∷◌, length, take, drop, true, false, Bool, Option, Some, IfSome, refl, sym, ◌∙◌, ap, subst, arith}
+use Rattle.std.proofs.Common.{◌≡◌, ◌+◌, ◌-◌, ◌≤◌, ℕ, List, ◌++◌, length, take, drop, true, false, Option, Some, IfSome, refl, sym, ◌∙◌, ap, subst, arith}
 use Rattle.std.specs.Prelude.{map}
 use Rattle.sm_site.specs.Meanings.{IsLive}
 use Rattle.sm_conn.specs.Parts.{PartItem, byte}
-use Rattle.sm_wire.specs.declared.item.WireItem.{WireItem}
 use Rattle.sm_wire.specs.Wire.{Left}
 use Rattle.sm_serve.specs.declared.live.Live.{Live}
 use Rattle.sm_serve.specs.Run.{acting}
@@ -23,6 +22,7 @@ loop-done-init g c = record {
   stands = c.requires.stands;
   live = c.requires.live;
   told = refl;
+  link_faults = refl;
   open_ = c.requires.open;
   same = record { number = refl; conn = refl };
   goes_on = λ h b more items keeps stands is left phase counts.
@@ -71,6 +71,7 @@ loop-done-preserved g c =
       stands = c.take_chunk.ensures.stands;
       live = subst (λ (m : ℕ). IfSome (V c.take_chunk.new.site).transcript (IsLive m)) (sym c.take_chunk.ensures.same.number) (c.if-not-take_chunk.ensures.open refl);
       told = c.take_chunk.ensures.told ∙ c.loop-done.invariant.told;
+      link_faults = c.take_chunk.ensures.link_faults ∙ c.loop-done.invariant.link_faults;
       open_ = c.if-not-take_chunk.ensures.push refl;
       same = same_then c.args.live.now c.loop-done.live c.take_chunk.new.live c.loop-done.invariant.same c.take_chunk.ensures.same;
       goes_on = λ h b more items keeps stands is left phase counts.

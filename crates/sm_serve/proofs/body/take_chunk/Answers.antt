@@ -1,4 +1,4 @@
-use Rattle.std.proofs.Common.{rules, ◌≡◌, ℕ, Bool, true, false, if◌then◌else◌, List, [], ◌∷◌, ◌++◌, Option, Some, None, refl, sym, ◌∙◌, ap, subst}
+use Rattle.std.proofs.Common.{◌≡◌, if◌then◌else◌, List, [], ◌∷◌, ◌++◌, Option, Some, refl, sym, ◌∙◌, ap, subst}
 use Rattle.std.specs.Prelude.{map}
 use Rattle.sm_push.specs.Standing.{Standing}
 use Rattle.sm_conn.specs.Parts.{PartItem, byte}
@@ -6,10 +6,8 @@ use Rattle.sm_wire.specs.declared.item.WireItem.{WireItem}
 use Rattle.sm_wire.specs.declared.item.WireItem.TheVariants.{Refuse}
 use Rattle.sm_wire.specs.Wire.{Left, shown}
 use Rattle.sm_wire.proofs.WireLaw.{left_unique, bytes_left}
-use Rattle.sm_serve.specs.Run.{Phase, idle, acting}
-use Rattle.sm_serve.specs.Standing.{History, Keeps, Reaches}
+use Rattle.sm_serve.specs.Run.{idle, acting}
 use Rattle.sm_serve.specs.Resting.{PlaceIs, counts_of}
-use Rattle.sm_serve.specs.Giving.{PartGives}
 use Rattle.sm_serve.proofs.Giving.{fed_place, fed_refused, shown_vec, valid_vec, open_gives, closed_gives}
 use Rattle.sm_serve.proofs.Reaching.{goes_then, go_from}
 use Rattle.sm_serve.proofs.body.take_chunk.Goals as goal

@@ -1,14 +1,11 @@
-use Rattle.std.proofs.Common.{rules, ◌≡◌, ℕ, Bool, true, false, if◌then◌else◌, List, [], ◌∷◌, ◌++◌, Option, Some, None, refl, sym, ◌∙◌, ap, subst}
+use Rattle.std.proofs.Common.{◌≡◌, false, if◌then◌else◌, [], ◌∷◌, Some, None, refl, ◌∙◌, ap}
 use Rattle.sm_model.specs.Body.{body_end}
-use Rattle.sm_conn.specs.Parts.{PartItem, ended}
-use Rattle.sm_wire.specs.declared.item.WireItem.{WireItem}
-use Rattle.sm_wire.specs.declared.item.WireItem.TheVariants.{End, Refuse}
-use Rattle.sm_wire.specs.Wire.{Left, wire}
+use Rattle.sm_conn.specs.Parts.{ended}
+use Rattle.sm_wire.specs.declared.item.WireItem.TheVariants.{Refuse}
+use Rattle.sm_wire.specs.Wire.{wire}
 use Rattle.sm_wire.proofs.WireLaw.{left_unique, ended_refused}
-use Rattle.sm_serve.specs.Run.{Phase, idle, acting}
-use Rattle.sm_serve.specs.Standing.{History, Keeps, Reaches}
-use Rattle.sm_serve.specs.Resting.{PlaceIs, counts_of}
-use Rattle.sm_serve.specs.Giving.{PartGives}
+use Rattle.sm_serve.specs.Run.{acting}
+use Rattle.sm_serve.specs.Resting.{counts_of}
 use Rattle.sm_serve.proofs.Giving.{closed_gives, end_gives, end_items}
 use Rattle.sm_serve.proofs.body.take_end.Goals as goal
 

@@ -1,7 +1,5 @@
-use Rattle.std.proofs.Common.{◌≡◌, true, false, refl, sym, ◌∙◌, ap, subst, Option, Some}
-use Rattle.sm_model.specs.declared.act.Act.{Act}
+use Rattle.std.proofs.Common.{◌∙◌, ap}
 use Rattle.sm_serve.specs.Run.{Counts, act_of}
-use Rattle.sm_serve.specs.Standing.{History, Keeps, Reaches}
 use Rattle.sm_serve.proofs.Reaching.{closed_counts}
 use Rattle.sm_serve.proofs.item.act_on.Goals as goal
 

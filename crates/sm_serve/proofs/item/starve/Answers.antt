@@ -1,6 +1,6 @@
-use Rattle.std.proofs.Common.{◌≡◌, true, false, if◌then◌else◌, [], refl, sym, ap, subst, Bool}
-use Rattle.sm_serve.specs.Run.{Phase, idle, acting, sending, in_phase}
-use Rattle.sm_serve.specs.Standing.{History, Keeps, Reaches}
+use Rattle.std.proofs.Common.{◌≡◌, true, false, if◌then◌else◌, [], refl, subst, Bool}
+use Rattle.sm_serve.specs.Run.{idle, acting, sending, in_phase}
+use Rattle.sm_serve.specs.Standing.{Reaches}
 use Rattle.sm_head.specs.declared.reply.TheConstants.{NO_MEMORY}
 use Rattle.sm_serve.proofs.Going.{paused}
 use Rattle.sm_serve.proofs.Reaching.{reach_then, closed_counts, starving, paused_follows}

@@ -1,15 +1,14 @@
-use Rattle.std.proofs.Common.{rules, ◌≡◌, ◌<◌, ◌+◌, ◌≤◌, ℕ, List, [], ◌++◌, ◌∷◌, length, drop, get_or, true, false, Bool, if◌then◌else◌, refl, sym, ◌∙◌, ap, subst, arith, length-append}
+use Rattle.std.proofs.Common.{rules, ◌≡◌, ◌+◌, ℕ, List, [], ◌++◌, ◌∷◌, length, drop, true, false, if◌then◌else◌, refl, sym, ◌∙◌, ap, subst, arith}
 use Rattle.std.specs.Prelude.{map}
 use Rattle.std.proofs.lemmas.Iterator.Adapters.{YieldsList-from_vec}
 use Rattle.std.proofs.lemmas.Iterator.Consumers.{YieldsList-turn, YieldsList-end}
 use Rattle.std.proofs.lemmas.List.{length_push}
 use Rattle.sm_model.specs.declared.item.Item.{Item}
-use Rattle.sm_wire.specs.declared.item.WireItem.{WireItem}
 use Rattle.std.proofs.Common.{IfSome}
 use Rattle.sm_site.specs.Meanings.{IsLive}
 use Rattle.sm_serve.specs.declared.live.Live.{Live}
-use Rattle.sm_serve.specs.Run.{Phase, idle, acting}
-use Rattle.sm_serve.specs.Standing.{History, Keeps, Reaches}
+use Rattle.sm_serve.specs.Run.{idle, acting}
+use Rattle.sm_serve.specs.Standing.{Reaches}
 use Rattle.sm_serve.specs.Resting.{counts_of, SameBut}
 use Rattle.sm_serve.specs.Items.{shown_item}
 use Rattle.sm_serve.proofs.Lists.{next_shown, drop_all}
@@ -51,6 +50,7 @@ loop-item-preserved g c =
       stands = c.take_item.ensures.stands;
       live = subst (λ (m : ℕ). IfSome (V c.take_item.new.site).transcript (IsLive m)) (sym c.take_item.ensures.same.number) (c.if-not-take_item.ensures.open refl);
       told = c.take_item.ensures.told ∙ c.loop-item.invariant.told;
+      link_faults = c.take_item.ensures.link_faults ∙ c.loop-item.invariant.link_faults;
       same = same_then c.args.live.now c.loop-item.live c.take_item.new.live c.loop-item.invariant.same c.take_item.ensures.same;
       goes_on = λ h more keeps stands phase counts.
           let rest = map shown_item (drop (i + 1) items) ++ more in

@@ -1,14 +1,13 @@
-use Rattle.std.proofs.Common.{rules, ◌≡◌, ℕ, Bool, true, false, List, [], ◌∷◌, ◌++◌, Option, Some, None, refl, sym, ◌∙◌, ap, subst}
+use Rattle.std.proofs.Common.{◌≡◌, ℕ, List, [], ◌∷◌, ◌++◌, Some, refl, sym, ◌∙◌, ap, subst}
 use Rattle.std.specs.Prelude.{map}
 use Rattle.sm_conn.specs.declared.part.Part.{Part}
-use Rattle.sm_conn.specs.Parts.{PartItem, byte, bad}
-use Rattle.sm_wire.specs.declared.item.WireItem.{WireItem}
+use Rattle.sm_conn.specs.Parts.{byte, bad}
 use Rattle.sm_wire.specs.declared.item.WireItem.TheVariants.{Refuse}
 use Rattle.sm_wire.specs.Wire.{Left, unplaced}
 use Rattle.sm_wire.proofs.WireLaw.{left_unique, bad_inside}
 use Rattle.sm_conn.specs.Stands.{items_of}
 use Rattle.sm_serve.specs.Run.{acting}
-use Rattle.sm_serve.specs.Resting.{PlaceIs, counts_of}
+use Rattle.sm_serve.specs.Resting.{counts_of}
 use Rattle.sm_serve.specs.Giving.{PartGives}
 use Rattle.sm_serve.proofs.Giving.{place_clear, closed_gives}
 use Rattle.sm_serve.proofs.part.take_inside.Goals as goal

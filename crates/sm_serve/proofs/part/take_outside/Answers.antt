@@ -1,16 +1,14 @@
-use Rattle.std.proofs.Common.{rules, ◌≡◌, ℕ, Bool, true, false, if◌then◌else◌, List, [], ◌∷◌, ◌++◌, Option, Some, None, refl, sym, ◌∙◌, ap, subst}
+use Rattle.std.proofs.Common.{◌≡◌, false, if◌then◌else◌, [], ◌∷◌, ◌++◌, Option, Some, None, refl, sym, ◌∙◌, ap, subst}
 use Rattle.sm_push.specs.Standing.{Standing}
 use Rattle.sm_conn.specs.declared.part.Part.{Part}
 use Rattle.sm_model.specs.declared.act.Act.{Act}
-use Rattle.sm_conn.specs.Parts.{PartItem, got, continued, posted, bad}
-use Rattle.sm_wire.specs.declared.item.WireItem.{WireItem}
+use Rattle.sm_conn.specs.Parts.{continued, posted, bad}
 use Rattle.sm_wire.specs.declared.item.WireItem.TheVariants.{Get, Continue, Refuse}
 use Rattle.sm_wire.specs.Wire.{Left, unplaced, wire}
 use Rattle.sm_wire.proofs.WireLaw.{left_unique, continue_left, posted_left, posted_back, bad_left}
 use Rattle.sm_conn.specs.Stands.{items_of}
 use Rattle.sm_head.specs.declared.reply.TheConstants.{CONTINUE}
 use Rattle.sm_serve.specs.Run.{idle, acting, sending, in_phase}
-use Rattle.sm_serve.specs.Standing.{History, Keeps, Reaches}
 use Rattle.sm_serve.specs.Resting.{PlaceIs, counts_of}
 use Rattle.sm_serve.specs.Giving.{PartGives, StaysOpen}
 use Rattle.sm_serve.proofs.Going.{paused}

@@ -1,9 +1,6 @@
-use Rattle.std.proofs.Common.{rules, ◌≡◌, ℕ, Bool, true, false, List, [], ◌∷◌, ◌++◌, Option, Some, None, is_some, refl, sym, ◌∙◌, ap, subst}
-use Rattle.sm_conn.specs.Parts.{PartItem}
-use Rattle.sm_wire.specs.declared.item.WireItem.{WireItem}
+use Rattle.std.proofs.Common.{rules, ◌≡◌, ℕ, true, false, List, ◌++◌, Option, is_some, sym, subst}
 use Rattle.sm_wire.specs.Wire.{Left}
 use Rattle.sm_conn.specs.Stands.{items_of}
-use Rattle.sm_serve.specs.Run.{acting}
 use Rattle.sm_serve.specs.Resting.{PlaceIs, counts_of}
 use Rattle.sm_serve.specs.Giving.{PartGives}
 use Rattle.sm_serve.proofs.Giving.{place_some, place_none}

@@ -1,4 +1,4 @@
-use Rattle.std.proofs.Common.{rules, ◌≡◌, ◌<◌, ◌+◌, ◌≤◌, ℕ, List, [], ◌++◌, ◌∷◌, length, take, drop, get_or, true, false, Bool, Option, IfSome, refl, sym, ◌∙◌, ap, subst, arith}
+use Rattle.std.proofs.Common.{rules, ◌≡◌, ◌+◌, ◌≤◌, ℕ, List, [], ◌++◌, ◌∷◌, length, take, drop, true, false, IfSome, refl, sym, ◌∙◌, subst, arith}
 use Rattle.std.proofs.lemmas.Iterator.Adapters.{YieldsList-from_vec}
 use Rattle.std.proofs.lemmas.Iterator.Consumers.{YieldsList-turn, YieldsList-end}
 use Rattle.std.proofs.lemmas.List.{length_push, take_all}
@@ -6,12 +6,10 @@ use Rattle.sm_site.specs.Meanings.{IsLive}
 use Rattle.sm_conn.specs.declared.part.Part.{Part}
 use Rattle.sm_conn.specs.Stands.{items_of, joined}
 use Rattle.sm_conn.specs.Parts.{PartItem}
-use Rattle.sm_wire.specs.declared.item.WireItem.{WireItem}
-use Rattle.sm_wire.specs.Wire.{Left}
 use Rattle.sm_serve.specs.Standing.{StandsOn}
 use Rattle.sm_serve.specs.declared.live.Live.{Live}
-use Rattle.sm_serve.specs.Run.{Phase, idle, acting}
-use Rattle.sm_serve.specs.Standing.{History, Keeps, Reaches}
+use Rattle.sm_serve.specs.Run.{acting}
+use Rattle.sm_serve.specs.Standing.{History, Keeps}
 use Rattle.sm_serve.specs.Resting.{counts_of, SameConn}
 use Rattle.sm_serve.specs.Giving.{StaysOpen, PartGives}
 use Rattle.sm_serve.proofs.Lists.{joined_drop, joined_take, drop_all}
@@ -26,6 +24,7 @@ loop-part-init g c = record {
   stands = c.requires.stands;
   live = c.requires.live;
   told = refl;
+  link_faults = refl;
   same = record { number = refl; conn = refl };
   goes_on = λ h place more items keeps stands is left phase counts.
       open_here g.S.Disk.view g.S.Disk.may_leave g.S.Disk.left_at h c.args.live.now.number c.args.site.now c.args.live.now.push (counts_of c.args.live.now) place (joined c.args.parts.items ++ more) items c.args.origin.now keeps stands is left phase counts;
@@ -66,6 +65,7 @@ loop-part-preserved g c =
       stands = c.take_part.ensures.stands;
       live = subst (λ (m : ℕ). IfSome (V c.take_part.new.site).transcript (IsLive m)) (sym c.take_part.ensures.same.number) (c.if-not-take_part.ensures.open refl);
       told = c.take_part.ensures.told ∙ c.loop-part.invariant.told;
+      link_faults = c.take_part.ensures.link_faults ∙ c.loop-part.invariant.link_faults;
       same = same_then c.args.live.now c.loop-part.live c.take_part.new.live c.loop-part.invariant.same c.take_part.ensures.same;
       goes_on = λ h place more items keeps stands is left phase counts.
           let rest = joined (drop (i + 1) parts) ++ more in

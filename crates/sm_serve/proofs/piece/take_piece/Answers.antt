@@ -1,16 +1,14 @@
-use Rattle.std.proofs.Common.{rules, ◌≡◌, ℕ, Bool, true, false, if◌then◌else◌, List, [], ◌∷◌, ◌++◌, Option, Some, None, IsTrue, refl, sym, ◌∙◌, ap, subst}
+use Rattle.std.proofs.Common.{◌≡◌, Bool, true, false, if◌then◌else◌, List, [], ◌++◌, refl, sym, ◌∙◌, subst}
 use Rattle.sm_site.specs.Meanings.Deal.{Came}
 use Rattle.sm_conn.specs.declared.conn.Conn.{Conn}
 use Rattle.sm_conn.specs.declared.part.Part.{Part}
 use Rattle.sm_conn.specs.Stands.{StandsFor as Gave}
 use Rattle.sm_conn.specs.Stands.{joined}
-use Rattle.sm_serve.specs.declared.live.Live.{Live}
 use Rattle.sm_head.specs.declared.reply.TheConstants.{NO_MEMORY}
 use Rattle.sm_serve.specs.Connections.{received}
-use Rattle.sm_serve.specs.Run.{Phase, idle, acting, sending, at, at_event}
-use Rattle.sm_serve.specs.Standing.{History, Keeps, moved, Reaches}
+use Rattle.sm_serve.specs.Run.{idle, acting, sending, at, at_event}
+use Rattle.sm_serve.specs.Standing.{moved, Reaches}
 use Rattle.sm_serve.specs.Resting.{counts_of}
-use Rattle.sm_serve.specs.Giving.{PieceGives}
 use Rattle.sm_serve.proofs.Reaching.{closed_counts}
 use Rattle.sm_serve.proofs.Pieces.{read_move, unread_move, piece_gives}
 use Rattle.sm_serve.proofs.piece.take_piece.Goals as goal

@@ -1,16 +1,15 @@
-use Rattle.std.proofs.Common.{rules, ◌≡◌, ◌⊎◌, ⊎_elim, ℕ, is_some, IfSome, false, refl, sym, ◌∙◌, ap, subst}
+use Rattle.std.proofs.Common.{◌≡◌, ⊎_elim, ℕ, IfSome, refl, sym, ap, subst, arith}
 use Rattle.sm_site.specs.declared.event.Event.{Event}
 use Rattle.sm_site.specs.declared.event.Event.TheVariants.{Ended}
 use Rattle.sm_site.specs.Meanings.Deal.{Over}
 use Rattle.sm_site.specs.Event.{deal_of, IsNext}
-use Rattle.sm_site.specs.Clauses.{Adds, Rose}
+use Rattle.sm_site.specs.Clauses.{Adds}
 use Rattle.sm_site.specs.Meanings.{View}
 use Rattle.sm_site.proofs.Views.{same_here}
 use Rattle.sm_serve.specs.declared.outcome.Turn.{Turn as Turned}
 use Rattle.sm_serve.specs.declared.outcome.Turn.TheVariants as turned
 use Rattle.sm_serve.specs.declared.outcome.Turn.TheVariants.{Went, LinkFault, NoMemory}
-use Rattle.sm_serve.specs.Standing.{History}
-use Rattle.sm_serve.specs.Serving.{taken_by, Serves, Turns, MayHandle, IsNew, IsAtRest}
+use Rattle.sm_serve.specs.Serving.{taken_by, Turns, IsAtRest}
 use Rattle.sm_serve.proofs.Transcripts.{adds_told, told_here}
 use Rattle.sm_serve.proofs.Sending.{LinkCall, contents_here}
 use Rattle.sm_serve.proofs.Events.{pend, still_serves, may_handle, is_new}
@@ -104,3 +103,25 @@ returns-in-Err-NoMemory-clause-stands g c =
     record { time = c.next.ensures.time; same = c.next.ensures.crash; disk = c.next.ensures.disk } in
     let same = same_here g.S.Disk.view g.S.Link.view g.S.Disk.may_leave g.S.Link.may_leave g.S.Disk.left_at g.S.Link.left_at g.met.S.Site.one_view g.met.S.Site.one_disk g.met.S.Site.one_past d e c.next.ensures.crash in
     (m.0, c.fewer_images_stand.ensures m.0 c.args.state.now.origin d e m.1 (contents_here g.S.Disk.view g.S.Link.view g.S.Disk.may_leave g.S.Link.may_leave g.S.Disk.left_at g.S.Link.left_at g.met.S.Site.one_view g.met.S.Site.one_disk g.met.S.Site.one_past g.met.S.Disk.told d e call) (λ image left. (same image).0 left))
+
+pub returns-in-Ok-clause-link_faults : goal.returns-in-Ok-clause-link_faults
+returns-in-Ok-clause-link_faults g c =
+    let before = ap (λ (v : View). v.link_faults) (g.met.S.Site.one_view c.args.site.now) in
+    let between = ap (λ (v : View). v.link_faults) (g.met.S.Site.one_view c.next.new.self) in
+    let later = c.next.ensures.link_faults in
+    let same = c.handle.ensures.link_faults in
+    omega (arith, before, between, later, same)
+
+pub returns-in-Err-Failed-clause-link_faults : goal.returns-in-Err-Failed-clause-link_faults
+returns-in-Err-Failed-clause-link_faults g c =
+    let before = ap (λ (v : View). v.link_faults) (g.met.S.Site.one_view c.args.site.now) in
+    let between = ap (λ (v : View). v.link_faults) (g.met.S.Site.one_view c.next.new.self) in
+    let later = c.next.ensures.link_faults in
+    omega (arith, before, between, later)
+
+pub returns-in-Err-NoMemory-clause-link_faults : goal.returns-in-Err-NoMemory-clause-link_faults
+returns-in-Err-NoMemory-clause-link_faults g c =
+    let before = ap (λ (v : View). v.link_faults) (g.met.S.Site.one_view c.args.site.now) in
+    let between = ap (λ (v : View). v.link_faults) (g.met.S.Site.one_view c.next.new.self) in
+    let later = c.next.ensures.link_faults in
+    omega (arith, before, between, later)

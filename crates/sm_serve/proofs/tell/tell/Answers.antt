@@ -1,11 +1,10 @@
-use Rattle.std.proofs.Common.{rules, ◌≡◌, ◌≢◌, ◌⊎◌, ⊎_elim, ◌<◌, ◌≤◌, ◌-◌, ◌^◌, ℕ, List, [], ◌∷◌, ◌++◌, take, length, Bool, true, false, if◌then◌else◌, IsTrue, IfSome, is_some, refl, sym, ◌∙◌, ap, subst}
+use Rattle.std.proofs.Common.{rules, ◌≡◌, ◌⊎◌, ⊎_elim, ◌≤◌, ℕ, take, length, Bool, true, false, if◌then◌else◌, IfSome, is_some, refl, sym, ◌∙◌, ap, subst}
 use Rattle.sm_site.specs.Meanings.{View, IsLive}
 use Rattle.sm_site.specs.Meanings.Deal.{Sent, Shut}
-use Rattle.sm_site.specs.Clauses.{SameOutcomes, Adds, Rose}
+use Rattle.sm_site.specs.Clauses.{Adds, Rose}
 use Rattle.sm_site.proofs.Views.{same_here}
-use Rattle.sm_serve.specs.Run.{Point, Phase, idle, acting, sending, shutting, in_phase, behind_failure}
-use Rattle.sm_serve.specs.Standing.{History, Keeps, Follows, Reaches}
-use Rattle.sm_serve.proofs.Transcripts.{stays_live, adds_told, told_here}
+use Rattle.sm_serve.specs.Run.{idle, acting, shutting, in_phase, behind_failure}
+use Rattle.sm_serve.proofs.Transcripts.{stays_live, adds_told, told_here, faults_here}
 use Rattle.sm_serve.proofs.Reaching.{reached}
 use Rattle.sm_serve.proofs.Sending.{After, LinkCall, contents_here, sent_after, failed_after, unsent_after, then_shut}
 use Rattle.sm_serve.proofs.tell.tell.Goals as goal
@@ -150,3 +149,14 @@ returns-in-Err-clause-contents g c =
     let call : LinkCall V W g.S.Disk.may_leave g.S.Link.may_leave g.S.Disk.left_at g.S.Link.left_at g.met.S.Site.one_view g.met.S.Site.one_disk g.met.S.Site.one_past g.met.S.Disk.told d e = record { time = c.send.ensures.time; same = c.send.ensures.crash; disk = c.send.ensures.disk } in
     let call2 : LinkCall V W g.S.Disk.may_leave g.S.Link.may_leave g.S.Disk.left_at g.S.Link.left_at g.met.S.Site.one_view g.met.S.Site.one_disk g.met.S.Site.one_past g.met.S.Disk.told e f = record { time = c.close-in-Err.ensures.time; same = c.close-in-Err.ensures.crash; disk = c.close-in-Err.ensures.disk } in
     contents_here V W g.S.Disk.may_leave g.S.Link.may_leave g.S.Disk.left_at g.S.Link.left_at g.met.S.Site.one_view g.met.S.Site.one_disk g.met.S.Site.one_past g.met.S.Disk.told e f call2 ∙ contents_here V W g.S.Disk.may_leave g.S.Link.may_leave g.S.Disk.left_at g.S.Link.left_at g.met.S.Site.one_view g.met.S.Site.one_disk g.met.S.Site.one_past g.met.S.Disk.told d e call
+
+pub returns-else-close-clause-link_faults : goal.returns-else-close-clause-link_faults
+returns-else-close-clause-link_faults g c = faults_here g.S.Disk.view g.S.Link.view g.met.S.Site.one_view c.args.site.now c.send.new.self c.send.ensures.link_faults
+
+pub returns-then-close-clause-link_faults : goal.returns-then-close-clause-link_faults
+returns-then-close-clause-link_faults g c =
+    faults_here g.S.Disk.view g.S.Link.view g.met.S.Site.one_view c.args.site.now c.close.new.self (c.close.ensures.link_faults ∙ c.send.ensures.link_faults)
+
+pub returns-in-Err-clause-link_faults : goal.returns-in-Err-clause-link_faults
+returns-in-Err-clause-link_faults g c =
+    faults_here g.S.Disk.view g.S.Link.view g.met.S.Site.one_view c.args.site.now c.close-in-Err.new.self (c.close-in-Err.ensures.link_faults ∙ c.send.ensures.link_faults)

@@ -1,8 +1,7 @@
-use Rattle.std.proofs.Common.{◌≡◌, ℕ, List, [], ◌++◌, Option, None, refl, sym, ◌∙◌, ap, subst}
+use Rattle.std.proofs.Common.{◌≡◌, List, [], ◌++◌, None, refl}
 use Rattle.sm_conn.specs.Parts.{PartItem}
 use Rattle.sm_wire.specs.declared.item.WireItem.{WireItem}
-use Rattle.sm_wire.specs.Wire.{wire, Left}
-use Rattle.sm_serve.specs.Resting.{IsNewborn, Rests}
+use Rattle.sm_wire.specs.Wire.{wire}
 use Rattle.sm_serve.proofs.live.Live.new.Goals as goal
 
 nothing_read : (more : List PartItem) (items : List WireItem) → wire None more ≡ items → wire None ([] ++ more) ≡ wire None [] ++ items

@@ -1,4 +1,4 @@
-use Rattle.std.proofs.Common.{◌≡◌, None, refl}
+use Rattle.std.proofs.Common.{None, refl}
 use Rattle.sm_model.specs.declared.act.Act.TheVariants.{Header}
 use Rattle.sm_origin.specs.Answers.{reply_to_header}
 use Rattle.sm_serve.proofs.Going.{acted}

@@ -1,4 +1,3 @@
-use Rattle.std.proofs.Common.{◌≡◌, refl}
 use Rattle.sm_serve.proofs.Events.{begun}
 use Rattle.sm_serve.proofs.state.State.start.Goals as goal
 
