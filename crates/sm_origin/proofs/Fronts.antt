@@ -14,7 +14,7 @@ use Rattle.sm_origin.specs.Giving.{Made}
 use Rattle.sm_origin.specs.Acting.{IsHeld, AreHeld}
 use Rattle.sm_origin.specs.Caching.{Remembers, held_at, with_front}
 use Rattle.sm_origin.proofs.Acts.{some_address}
-use Rattle.sm_origin.proofs.Telling.{ask_is, status_of}
+use Rattle.sm_origin.proofs.Asked.{ask_is, status_of}
 
 -- what isn't held leaves it as it was
 pub absent_stays : (a : Address) (c new : LruCache Address Kept) → new ≡ with_front c a → held_at a c ≡ None → new ≡ c

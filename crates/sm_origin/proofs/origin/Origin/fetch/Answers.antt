@@ -10,7 +10,7 @@ use Rattle.sm_origin.specs.Replies.{fragment_of}
 use Rattle.sm_origin.proofs.Places.{has_channel, place_within, kept_there}
 use Rattle.sm_origin.proofs.Steps.{told_row}
 use Rattle.sm_origin.proofs.Acts.{told_before, held_told, held_read, made_step, read_gives}
-use Rattle.sm_origin.proofs.Telling.{asked_is, absent_is, not_kept, kept_if, read_remembers, two_hundred, no_hit, same_cache}
+use Rattle.sm_origin.proofs.Asked.{asked_is, absent_is, not_kept, kept_if, read_remembers, two_hundred, no_hit, same_cache}
 use Rattle.sm_origin.proofs.origin.Origin.fetch.Goals as goal
 
 pub give_read-requires-clause-place : goal.give_read-requires-clause-place

@@ -8,7 +8,7 @@ use Rattle.sm_origin.specs.Caching.{Remembers, held_at}
 use Rattle.sm_origin.specs.Replies.{fragment_of}
 use Rattle.sm_origin.proofs.Places.{has_channel, place_within, kept_there}
 use Rattle.sm_origin.proofs.Acts.{made_step, read_gives}
-use Rattle.sm_origin.proofs.Telling.{asked_is, two_hundred}
+use Rattle.sm_origin.proofs.Asked.{asked_is, two_hundred}
 use Rattle.sm_origin.proofs.Fronts.{absent_stays, front_held, hit_held, hit_remembers}
 use Rattle.sm_origin.proofs.origin.Origin.fragment.Goals as goal
 

@@ -9,7 +9,7 @@ use Rattle.sm_site.specs.Clauses.{Rose, Acted}
 use Rattle.sm_archive.specs.Stands.{Stands}
 use Rattle.sm_origin.proofs.Steps.{fragment_step}
 use Rattle.sm_origin.proofs.Acts.{same_told, told_before, held_after, put_or_same, of_archive, kept_there_now, write_gives}
-use Rattle.sm_origin.proofs.Telling.{same_behind}
+use Rattle.sm_origin.proofs.Asked.{same_behind}
 use Rattle.sm_origin.proofs.origin.Origin.keep.Goals as goal
 
 -- where it was kept

@@ -1,0 +1,287 @@
+-- What the next event brings to a run.
+use Rattle.std.proofs.Common.{◌≡◌, inl, inr, ⊎_elim, ◌↔◌, ℕ, ◌+◌, ◌-◌, ◌<◌, ◌≤◌, ◌^◌, Bool, true, false, ◌==◌, if◌then◌else◌, List, [], ◌∷◌, ◌++◌, Option, Some, None, is_some, IsSome, IfSome, IsTrue, refl, sym, ◌∙◌, ap, subst, arith}
+use Rattle.std.specs.Prelude.{All}
+use Rattle.std.specs.List.{AllByRecursion}
+use Rattle.std.proofs.lemmas.List.Elements.{recursion_from_All}
+use Rattle.std.proofs.lemmas.Bool.{eq-eqb, cases_lt, cases_Bool}
+use Rattle.std.proofs.lemmas.Bool.Decides.{eqb_tells}
+use Rattle.sm_site.specs.Image.{Image}
+use Rattle.sm_site.specs.Meanings.{View, Deal, Item, DiskCall, IsLive, open_after, open_from}
+use Rattle.sm_site.specs.Meanings.Deal.{Began, Came, Left, Over, Sent, Shut}
+use Rattle.sm_site.specs.Clauses.{Both, NoMore, Adds}
+use Rattle.sm_model.specs.declared.act.Act.TheVariants.{Header}
+use Rattle.sm_model.specs.declared.track.Track.{Track}
+use Rattle.sm_archive.specs.declared.answers.Declared.{Declared}
+use Rattle.sm_origin.specs.Answers.{reply_to_header}
+use Rattle.sm_site.specs.Event.{deal_of, IsBelow, IsNext}
+use Rattle.sm_site.specs.declared.event.Event.{Event}
+use Rattle.sm_site.specs.declared.event.Event.TheVariants.{Opened, Piece, Closed, Ended}
+use Rattle.sm_site.proofs.Views.{seen_here, same_here, elapses_here}
+use Rattle.sm_origin.specs.Stores.{Fits}
+use Rattle.sm_origin.specs.Machine.{Machine}
+use Rattle.sm_serve.specs.declared.live.Live.{Live}
+use Rattle.sm_serve.specs.declared.state.State.{State}
+use Rattle.sm_serve.specs.declared.outcome.Served.{Served as Outcome}
+use Rattle.sm_serve.specs.Connections.{without, is_among, live_after, live_from, live, events_in}
+use Rattle.std.proofs.lemmas.List.{append-nil}
+use Rattle.sm_origin.specs.declared.origin.Origin.{Origin}
+use Rattle.sm_serve.specs.Standing.{StandsOn}
+use Rattle.sm_serve.specs.Run.{Point, idle, declared, at, start, begins}
+use Rattle.sm_serve.specs.Standing.{History, is_told, Keeps, Pending, calls_of}
+use Rattle.sm_serve.specs.Serving.{numbers_of, AreResting, Serves, Known, Turns, Served, EndsAs, MayHandle, IsNew, Begins, DeclaresIn}
+use Rattle.sm_serve.proofs.Transcripts.{told_adds, open_push, stays_live}
+use Rattle.sm_serve.proofs.Going.{Acted, stepped, run_as, link_move}
+use Rattle.sm_serve.proofs.Sending.{LinkCall, calls_here, contents_here, told_here}
+use Rattle.sm_serve.proofs.Lives.{among_push, among_less, among_itself, rest_all}
+
+-- ---- a connection is live where it is open in the transcript
+
+still_open : (n k : ℕ) (ns : List ℕ) (was : Bool) → (is_among n ns ≡ true → was ≡ true) → is_among n (without k ns) ≡ true → (if k == n then false else was) ≡ true
+still_open n k ns was so among = elim (eqb_tells k n) [
+  | inl same ↦ absurd (let gone = subst (λ (j : ℕ). is_among n (without j ns) ≡ false) (sym same.1) (among_itself n ns) in cc)
+  | inr other ↦ ap (λ (b : Bool). if b then false else was) other.0 ∙ elim (cases_Bool (is_among n ns)) [
+    | inl there ↦ so there
+    | inr none ↦ absurd (let gone = among_less n k ns none in cc)
+  ]
+]
+
+open_after_live : (n : ℕ) (ns : List ℕ) (was : Bool) (deal : Deal) → (is_among n ns ≡ true → was ≡ true) → is_among n (live_after ns deal) ≡ true → open_after was n deal ≡ true
+open_after_live n ns was (Began k) so among = elim (eqb_tells k n) [
+  | inl same ↦ ap (λ (b : Bool). if b then true else was) same.0
+  | inr other ↦ ap (λ (b : Bool). if b then true else was) other.0 ∙ elim (cases_Bool (is_among n ns)) [
+    | inl there ↦ so there
+    | inr none ↦ absurd (let gone = among_push n k (without k ns) (among_less n k ns none) (λ e. other.1 (sym e)) in cc)
+  ]
+]
+open_after_live n ns was (Came k bytes) so among = so among
+open_after_live n ns was (Left k) so among = still_open n k ns was so among
+open_after_live n ns was Over so among = so among
+open_after_live n ns was (Sent k bytes failed) so among = so among
+open_after_live n ns was (Shut k) so among = still_open n k ns was so among
+
+open_from_live : (n : ℕ) (ns : List ℕ) (was : Bool) (items : List Item) → (is_among n ns ≡ true → was ≡ true) → is_among n (live_from ns items) ≡ true → open_from was n items ≡ true
+open_from_live n ns was [] so among = so among
+open_from_live n ns was (item ∷ items) so among = open_from_live n (live_after ns item.deal) (open_after was n item.deal) items (open_after_live n ns was item.deal so) among
+
+open_append : (was : Bool) (n : ℕ) (xs ys : List Item) → open_from was n (xs ++ ys) ≡ open_from (open_from was n xs) n ys
+open_append was n [] ys = refl
+open_append was n (x ∷ xs) ys = open_append (open_after was n x.deal) n xs ys
+
+live_is_open : (n : ℕ) (base items : List Item) → is_among n (live items) ≡ true → IsLive n (base ++ items)
+unfolding live
+live_is_open n base items among = open_append false n base items ∙ open_from_live n [] (open_from false n base) items (λ e. absurd (cc)) among
+
+-- ---- a number above all before is none of those that are live
+
+below_after : (n : ℕ) (ns : List ℕ) (deal : Deal) → IsBelow n deal → is_among n ns ≡ false → is_among n (live_after ns deal) ≡ false
+below_after n ns (Began k) below none = among_push n k (without k ns) (among_less n k ns none) (λ e. omega (arith, e, below))
+below_after n ns (Came k bytes) below none = none
+below_after n ns (Left k) below none = among_less n k ns none
+below_after n ns Over below none = none
+below_after n ns (Sent k bytes failed) below none = none
+below_after n ns (Shut k) below none = among_less n k ns none
+
+below_from : (n : ℕ) (ns : List ℕ) (items : List Item) → AllByRecursion (λ item. IsBelow n item.deal) items → is_among n ns ≡ false → is_among n (live_from ns items) ≡ false
+below_from n ns [] all none = none
+below_from n ns (item ∷ items) all none = below_from n (live_after ns item.deal) items all.1 (below_after n ns item.deal all.0 none)
+
+behind_base : (n : ℕ) (base items : List Item) → AllByRecursion (λ item. IsBelow n item.deal) (base ++ items) → AllByRecursion (λ item. IsBelow n item.deal) items
+behind_base n [] items all = all
+behind_base n (x ∷ base) items all = behind_base n base items all.1
+
+fresh : (n : ℕ) (base items : List Item) → All (λ item. IsBelow n item.deal) (base ++ items) → is_among n (live items) ≡ false
+unfolding live
+fresh n base items all = below_from n [] items (behind_base n base items (recursion_from_All (λ item. IsBelow n item.deal) (base ++ items) all)) refl
+
+if_told : (o : Option (List Item)) (P : List Item → Type 0) (items : List Item) → o ≡ Some items → IfSome o P → P items
+if_told None P items e holds = absurd (cc)
+if_told (Some x) P items e holds = let same : x ≡ items = cc in subst P same holds
+
+-- an entry that begins a connection opens it
+began_live : (v w : View) (n : ℕ) → Adds (Began n) v w → IfSome w.transcript (IsLive n)
+began_live v w n adds = go v.transcript w.transcript adds
+  where
+    go : (a b : Option (List Item)) → Both a b (λ before now. (m : ℕ) × (v.moment < m) × (m ≤ w.moment) × (now ≡ before ++ (record { moment = m; deal = Began n }) ∷ [])) → IfSome b (IsLive n)
+    go None None both = tt
+    go None (Some y) both = absurd both
+    go (Some x) None both = tt
+    go (Some x) (Some y) (m, lt, le, on) =
+        subst (λ (l : List Item). IsLive n l) (sym on) (open_push false n x (record { moment = m; deal = Began n }) ∙ ap (λ (b : Bool). if b then true else open_from false n x) (eq-eqb n n refl))
+
+told_by : (o : Option (List Item)) → IsSome o → (items : List Item) × (o ≡ Some items)
+told_by None some = absurd (cc)
+told_by (Some items) some = (items, refl)
+
+module _ {D : Type 0} (view W : D → View) (leave leave' : D → Image → Type 0) (left_at left' : D → ℕ → Image → Type 0)
+    (one_view : (s : D) → view s ≡ W s) (one_disk : (s : D) (c : Image) → leave s c ↔ leave' s c) (one_past : (s : D) (t : ℕ) (c : Image) → left_at s t c ↔ left' s t c)
+    (told : (s : D) (t : ℕ) (image : Image) → left_at s t image → IsSome (view s).contents) where
+  -- the run goes on from an event
+  pub pend : (h : History) (d e : D) (deal : Deal) → Keeps view leave left_at h d → LinkCall view W leave leave' left_at left' one_view one_disk one_past told d e → Adds deal (W d) (W e) → (W e).send_faults ≡ (W d).send_faults
+      → (m : ℕ) × Pending view leave left_at h m deal e
+  pend h d e deal keeps call adds faults =
+      let here = seen_here view W leave leave' left_at left' one_view one_disk one_past (Adds deal) d e adds in
+      let t = told_adds (view d) (view e) (h.base ++ h.items) deal keeps.told here in
+      let time = elapses_here view W leave leave' left_at left' one_view one_disk one_past d e call.time in
+      let same = same_here view W leave leave' left_at left' one_view one_disk one_past d e call.same in
+      let sends : (view e).send_faults ≡ (view d).send_faults = ap (λ (v : View). v.send_faults) (one_view e) ∙ faults ∙ ap (λ (v : View). v.send_faults) (sym (one_view d)) in
+      let above : (view d).moment < t.0 = t.1 in
+      let within : t.0 ≤ (view e).moment = t.2 in
+      let before : IsTrue (is_told (view e)) → h.point.ended ≤ (view d).moment =
+      λ has. keeps.clock (told_here view W leave leave' left_at left' one_view one_disk one_past told d e call has) in (
+        t.0,
+        λ q move machine ended failed.
+            link_move view leave left_at told h d e (at t.0 deal) q keeps move machine (λ has. (let b = before has in omega (arith, ended, b, above))) t.3 time same
+            (calls_here view W leave leave' left_at left' one_view one_disk one_past told d e call) (contents_here view W leave leave' left_at left' one_view one_disk one_past told d e call)
+            (λ has. omega (arith, ended, within))
+            (λ below. subst (λ (k : ℕ). k ≤ (view e).send_faults) (sym failed) (subst (λ (k : ℕ). h.point.failed ≤ k) (sym sends) (keeps.blamed (subst (λ (k : ℕ). k < 2 ^ 64 - 1) sends below)))),
+      )
+
+  -- a call that takes no event
+  pub still_serves : (fewer : (m : Machine) (o : Origin) (old new : D) → StandsOn view leave m o old → (view new).contents ≡ (view old).contents → NoMore (leave old) (leave new) → StandsOn view leave m o new)
+      → (h : History) (state : State) (d e : D) → Serves view leave left_at h state d → LinkCall view W leave leave' left_at left' one_view one_disk one_past told d e
+      → (W e).transcript ≡ (W d).transcript → (W e).send_faults ≡ (W d).send_faults → Turns view leave left_at h 0 state e
+  still_serves fewer h state d e serves call still faults =
+      let keeps = serves.keeps in
+      let time = elapses_here view W leave leave' left_at left' one_view one_disk one_past d e call.time in
+      let same = same_here view W leave leave' left_at left' one_view one_disk one_past d e call.same in
+      let contents = contents_here view W leave leave' left_at left' one_view one_disk one_past told d e call in
+      let sends : (view e).send_faults ≡ (view d).send_faults = ap (λ (v : View). v.send_faults) (one_view e) ∙ faults ∙ ap (λ (v : View). v.send_faults) (sym (one_view d)) in
+      let before : IsTrue (is_told (view e)) → IsTrue (is_told (view d)) = told_here view W leave leave' left_at left' one_view one_disk one_past told d e call in
+      record {
+        later = h;
+        serves = record {
+          keeps = record {
+            run = run_as (is_told (view d)) (is_told (view e)) h.first h.begin h.items h.steps h.point (ap (λ (o : Option Image). is_some o) contents) keeps.run;
+            told = ap (λ (v : View). v.transcript) (one_view e) ∙ still ∙ ap (λ (v : View). v.transcript) (sym (one_view d)) ∙ keeps.told;
+            clock = λ has. (let c = keeps.clock (before has) in let l = time.later in omega (arith, c, l));
+            current = λ has. keeps.current (before has);
+            now = λ image left. keeps.now image ((same image).0 left);
+            images = λ t image from left. elim (cases_lt (view d).moment t) [
+              | inl after ↦
+                  let has : IsTrue (is_told (view d)) = before (told e t image left) in
+                  let was : leave d image = ⊎_elim (λ o. o) (λ n. (same image).0 n) (time.within t image after left) in
+                  inl (subst (λ (m : Machine). Fits m image) (sym (keeps.current has t (let c = keeps.clock has in omega (arith, c, after)))) (keeps.now image was))
+              | inr before ↦ keeps.images t image from ((time.keeps t image before).0 left)
+            ];
+            recorded = subst (λ (o : Option (List DiskCall)). IfSome o (λ cs. (before : List DiskCall) × (cs ≡ before ++ calls_of h.steps))) (sym (calls_here view W leave leave' left_at left' one_view one_disk one_past told d e call)) keeps.recorded;
+            blamed = λ below. subst (λ (k : ℕ). h.point.failed ≤ k) (sym sends) (keeps.blamed (subst (λ (k : ℕ). k < 2 ^ 64 - 1) sends below));
+          };
+          rest = record {
+            stands = fewer h.point.machine state.origin d e serves.rest.stands contents (λ image left. (same image).0 left);
+            phase_is = serves.rest.phase_is;
+            numbers = serves.rest.numbers;
+            resting = serves.rest.resting;
+          };
+        };
+        since = record { first = refl; begin = refl; base = refl };
+        taken = omega arith;
+      }
+
+  pub may_handle : (event : Event) (state : State) (d e : D) → Known view leave left_at state d → Adds (deal_of event) (W d) (W e) → is_some (view e).transcript ≡ is_some (view d).transcript
+      → MayHandle event state.lives.items (view e).transcript
+  may_handle (Opened n) state d e known adds told = subst (λ (v : View). IfSome v.transcript (IsLive n)) (sym (one_view e)) (began_live (W d) (W e) n adds)
+  may_handle (Piece n piece) state d e known adds told = λ among. go among (view d).transcript refl
+    where
+      go : is_among n (numbers_of state.lives.items) ≡ true → (o : Option (List Item)) → (view d).transcript ≡ o → IfSome (view e).transcript (IsLive n)
+      go among None is = none (view e).transcript (told ∙ ap is_some is)
+        where
+          none : (o : Option (List Item)) → is_some o ≡ false → IfSome o (IsLive n)
+          none None e = tt
+          none (Some x) e = absurd (cc)
+      go among (Some items) is =
+          let k = known (ap is_some is) in
+          let live_now : IsLive n (k.0.base ++ k.0.items) = live_is_open n k.0.base k.0.items (subst (λ (ns : List ℕ). is_among n ns ≡ true) k.1.rest.numbers among) in
+          let was : IfSome (view d).transcript (IsLive n) = subst (λ (o : Option (List Item)). IfSome o (IsLive n)) (sym k.1.keeps.told) live_now in
+          let there : IfSome (W d).transcript (IsLive n) = subst (λ (v : View). IfSome v.transcript (IsLive n)) (one_view d) was in
+          subst (λ (v : View). IfSome v.transcript (IsLive n)) (sym (one_view e)) (stays_live (W d) (W e) n (Came n piece) (λ b t. t) there adds)
+  may_handle (Closed n) state d e known adds told = tt
+  may_handle Ended state d e known adds told = tt
+
+  pub is_new : (event : Event) (h : History) (d : D) → (view d).transcript ≡ Some (h.base ++ h.items) → IfSome (W d).transcript (IsNext event) → IsNew event h
+  is_new (Opened n) h d told next = fresh n h.base h.items (if_told (W d).transcript (IsNext (Opened n)) (h.base ++ h.items) (ap (λ (v : View). v.transcript) (sym (one_view d)) ∙ told) next)
+  is_new (Piece n piece) h d told next = tt
+  is_new (Closed n) h d told next = tt
+  is_new Ended h d told next = tt
+
+module _ {D : Type 0} (view : D → View) (leave : D → Image → Type 0) (left_at : D → ℕ → Image → Type 0) where
+  pub turns_then : (h : History) (i j k : ℕ) (state : State) (d : D) (mid : State) (c : D) → j + i ≡ k → (one : Turns view leave left_at h i mid c) → Turns view leave left_at one.later j state d → Turns view leave left_at h k state d
+  turns_then h i j k state d mid c sum one two = record {
+    later = two.later;
+    serves = two.serves;
+    since = record { first = two.since.first ∙ one.since.first; begin = two.since.begin ∙ one.since.begin; base = two.since.base ∙ one.since.base };
+    taken = omega (arith, two.taken, one.taken, sum);
+  }
+
+  pub turns_here : (h : History) (state : State) (d : D) → Serves view leave left_at h state d → Turns view leave left_at h 0 state d
+  turns_here h state d serves = record { later = h; serves = serves; since = record { first = refl; begin = refl; base = refl }; taken = omega arith }
+
+  pub has_served : (h : History) (n turns : ℕ) (result : Outcome) (state : State) (d : D) → (all : Turns view leave left_at h n state d) → EndsAs turns result (view d).transcript (events_in h.items) (events_in all.later.items) → Served view leave left_at h result turns state d
+  has_served h n turns result state d all ends =
+      let k = all.serves.keeps in
+      record { later = all.later; since = all.since; ended = ends; run = k.run; awaits = all.serves.rest.phase_is; told = k.told; stands = all.serves.rest.stands; recorded = k.recorded; blamed = k.blamed; crash = k.images }
+
+recorded_first : (o : Option (List DiskCall)) → IfSome o (λ cs. (before : List DiskCall) × (cs ≡ before ++ []))
+recorded_first None = tt
+recorded_first (Some cs) = (cs, sym (append-nil cs))
+
+nothing_live : (ls : List Live) → ls ≡ [] → numbers_of ls ≡ live []
+unfolding live
+nothing_live ls none = ap numbers_of none
+
+module _ {D : Type 0} (view : D → View) (leave : D → Image → Type 0) (left_at : D → ℕ → Image → Type 0)
+    (no_later : (d : D) (t : ℕ) (c : Image) → left_at d t c → t ≤ (view d).moment) (at_now : (d : D) (c : Image) → left_at d (view d).moment c → leave d c)
+    (fits : (m : Machine) (o : Origin) (d : D) (image : Image) → StandsOn view leave m o d → leave d image → Fits m image) where
+  pub begun : (state : State) (d : D) → state.lives.items ≡ [] → Begins view leave left_at state d
+  begun state d none m base stands told =
+      let begin = (view d).moment in
+      let h : History = record { first = m; begin = begin; base = base; items = []; steps = []; point = start m begin } in (
+        h,
+        refl,
+        refl,
+        refl,
+        refl,
+        refl,
+        record {
+          keeps = record {
+            run = begins;
+            told = told ∙ ap (λ (l : List Item). Some l) (sym (append-nil base));
+            clock = λ has. omega arith;
+            current = λ has t le. refl;
+            now = λ image left. fits m state.origin d image stands left;
+            images = λ t image from left.
+                let early = no_later d t image left in
+                let now : t ≡ (view d).moment = omega (arith, early, from) in
+                inl (fits m state.origin d image stands (at_now d image (subst (λ (k : ℕ). left_at d k image) now left)));
+            recorded = recorded_first (view d).calls;
+            blamed = λ below. omega arith;
+          };
+          rest = record { stands = stands; phase_is = refl; numbers = nothing_live state.lives.items none; resting = subst (λ (ls : List Live). AreResting h ls) (sym none) tt };
+        },
+      )
+
+-- a ladder is one step
+pub declares : {D : Type 0} (view : D → View) (leave : D → Image → Type 0) (left_at : D → ℕ → Image → Type 0) (h : History) (channel : List Track) (result : Declared) (old new : State) (d e : D)
+    → Serves view leave left_at h old d → new.lives ≡ old.lives → Acted view leave left_at h e None (Header channel) (reply_to_header result) new.origin
+    → DeclaresIn view leave left_at h channel result new e
+declares view leave left_at h channel result old new d e serves lives a =
+    let q : Point = record { machine = a.x.after; counts = h.point.counts; phase = idle; ended = a.x.ends; failed = h.point.failed } in
+    let k = stepped view leave left_at h a.x q in
+    record {
+      later = k;
+      serves = record {
+        keeps = a.keeps q (declared channel a.x serves.rest.phase_is a.conn_is a.is_step refl refl refl) refl refl refl;
+        rest = record {
+          stands = a.stands;
+          phase_is = refl;
+          numbers = ap (λ (ls : _). numbers_of ls.items) lives ∙ serves.rest.numbers;
+          resting = subst (λ (ls : List Live). AreResting k ls) (sym (ap (λ (ls : _). ls.items) lives)) (rest_all h k (λ l rest. record { rests = rest.rests; counts = rest.counts }) old.lives.items serves.rest.resting);
+        };
+      };
+      since = record { first = refl; begin = refl; base = refl };
+      same = refl;
+      step = a.x;
+      steps = refl;
+      conn = a.conn_is;
+      act = a.is_step.act_is;
+      reply = a.reply_is;
+    }

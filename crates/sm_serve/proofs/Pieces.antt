@@ -1,0 +1,98 @@
+-- A piece that was taken.
+use Rattle.std.proofs.Common.{◌≡◌, ℕ, Bool, true, false, List, [], ◌++◌, Option, Some, None, refl, sym, ◌∙◌, ap, append_assoc}
+use Rattle.std.proofs.lemmas.List.{append-nil}
+use Rattle.std.specs.Prelude.{map}
+use Rattle.sm_site.specs.Image.{Image}
+use Rattle.sm_site.specs.Meanings.{View}
+use Rattle.sm_site.specs.Meanings.Deal.{Came}
+use Rattle.sm_model.specs.declared.cause.Refusal.{Refusal}
+use Rattle.sm_model.specs.Body.{body}
+use Rattle.sm_push.specs.Standing.{Standing}
+use Rattle.sm_conn.specs.Parts.{PartItem}
+use Rattle.sm_wire.specs.declared.item.WireItem.{WireItem}
+use Rattle.sm_wire.specs.Wire.{wire, Left, pushed, shown}
+use Rattle.sm_wire.proofs.WireLaw.{same_rest}
+use Rattle.sm_conn.specs.declared.conn.Conn.{Conn}
+use Rattle.sm_conn.specs.Stands.{StandsFor as Gave}
+use Rattle.sm_origin.specs.declared.origin.Origin.{Origin}
+use Rattle.sm_serve.specs.declared.live.Live.{Live}
+use Rattle.sm_head.specs.declared.reply.TheConstants.{NO_MEMORY}
+use Rattle.sm_serve.specs.Connections.{received, is_open}
+use Rattle.sm_serve.specs.Run.{Counts, idle, acting, sending, came, unread, done, at, at_event, in_phase}
+use Rattle.sm_serve.specs.Standing.{History, Keeps, Pending, moved, Reaches}
+use Rattle.sm_serve.specs.Resting.{counts_of, PlaceIs, Rests}
+use Rattle.sm_serve.specs.Giving.{PartGives, PieceGives}
+use Rattle.sm_serve.proofs.Going.{silent_move, paused}
+use Rattle.sm_serve.proofs.Sending.{follows_then}
+use Rattle.sm_serve.proofs.Reaching.{follows_itself}
+use Rattle.sm_serve.proofs.Giving.{place_clear}
+
+-- nothing is left where no part is left
+none_left : (push : Option Standing) (place : Option (List ℕ)) (left : List WireItem) → PlaceIs push place → Left place [] left → left ≡ []
+unfolding wire
+none_left push None left is l = sym l
+none_left push (Some b) left is l =
+    let clear = place_clear push b is in
+    let none : map shown (body false b).items ++ [] ≡ map shown (body false b).items ++ left = sym (ap (λ (r : Option Refusal). pushed (body false b) r []) clear) ∙ l in
+    sym (same_rest (map shown (body false b).items) [] left none)
+
+module _ {D : Type 0} (view : D → View) (leave : D → Image → Type 0) (left_at : D → ℕ → Image → Type 0) where
+  -- the run awaits the next event
+  pub rests_now : (h : History) (n : ℕ) (left : List WireItem) (counts : Counts) (origin : Origin) (d : D) → left ≡ [] → Reaches view leave left_at h n true (acting n left) counts origin d
+      → Reaches view leave left_at h n true idle counts origin d
+  rests_now h n left counts origin d none was =
+      let k = was.later in
+      let phase : k.point.phase ≡ acting n [] = was.phase_is ∙ ap (acting n) none in
+      record {
+        later = paused view leave left_at k (in_phase k.point idle);
+        keeps = silent_move view leave left_at k d (in_phase k.point idle) was.keeps (done n phase refl refl refl) refl refl refl;
+        stands = was.stands;
+        follows = follows_then n true h k (paused view leave left_at k (in_phase k.point idle)) was.follows (follows_itself n k (paused view leave left_at k (in_phase k.point idle)) refl refl refl refl (λ j other. refl));
+        phase_is = refl;
+        counts_are = was.counts_are;
+      }
+
+  -- what was read of a piece
+  pub read_move : (h : History) (m n : ℕ) (piece : List ℕ) (live : Live) (conn : Conn) (ps : List PartItem) (d : D) → Pending view leave left_at h m (Came n piece) d → h.point.phase ≡ idle → is_open n h.items ≡ true
+      → (rests : Rests live (received n h.items)) → Gave conn (received n h.items ++ piece) (rests.parts ++ ps) → (items : List WireItem) → Left rests.place (ps ++ []) items
+      → Keeps view leave left_at (moved h (at m (Came n piece)) (at_event h.point (acting n items) m)) d
+  read_move h m n piece live conn ps d pending phase is_live rests gave items left =
+      let all : wire None (rests.parts ++ ps) ≡ wire None rests.parts ++ items = ap (λ (qs : List PartItem). wire None (rests.parts ++ qs)) (sym (append-nil ps)) ∙ rests.later (ps ++ []) items left in
+      pending (at_event h.point (acting n items) m)
+      (came m n piece (wire None rests.parts) items phase is_live refl refl (rests.parts, (_, rests.stands), refl) (rests.parts ++ ps, (_, gave), sym all) refl) refl refl refl
+
+  pub unread_move : (h : History) (m n : ℕ) (piece : List ℕ) (d : D) → Pending view leave left_at h m (Came n piece) d → h.point.phase ≡ idle → is_open n h.items ≡ true
+      → Keeps view leave left_at (moved h (at m (Came n piece)) (at_event h.point (sending n NO_MEMORY.now true []) m)) d
+  unread_move h m n piece d pending phase is_live = pending (at_event h.point (sending n NO_MEMORY.now true []) m) (unread m n piece phase is_live refl refl refl) refl refl refl
+
+  -- the connection rests behind the piece
+  pub piece_gives : (h : History) (m n : ℕ) (piece : List ℕ) (old new : Live) (r : Bool) (ps : List PartItem) (items : List WireItem) (origin : Origin) (d : D) (rests : Rests old (received n h.items))
+      → Gave new.conn (received n h.items ++ piece) (rests.parts ++ ps)
+      → PartGives view leave left_at (moved h (at m (Came n piece)) (at_event h.point (acting n items) m)) n r new.push (counts_of new) rests.place ps [] origin d
+      → PieceGives view leave left_at h m piece n r new origin d
+  piece_gives h m n piece old new false ps items origin d rests gave gives = record {
+    from = at_event h.point (acting n items) m;
+    from_counts = refl;
+    reaches = gives;
+    rests = λ t. absurd (cc);
+  }
+  piece_gives h m n piece old new true ps items origin d rests gave gives =
+      let none : gives.left ≡ [] = none_left new.push gives.after gives.left gives.after_is gives.left_is in
+      let all : wire None (rests.parts ++ ps) ≡ wire None rests.parts ++ gives.given =
+      ap (λ (qs : List PartItem). wire None (rests.parts ++ qs)) (sym (append-nil ps))
+      ∙ rests.later (ps ++ []) (gives.given ++ gives.left) (gives.on [] gives.left gives.left_is)
+      ∙ ap (λ (ws : List WireItem). wire None rests.parts ++ (gives.given ++ ws)) none ∙ ap (λ (ws : List WireItem). wire None rests.parts ++ ws) (append-nil gives.given) in
+      record {
+        from = at_event h.point (acting n items) m;
+        from_counts = refl;
+        reaches = rests_now (moved h (at m (Came n piece)) (at_event h.point (acting n items) m)) n gives.left (counts_of new) origin d none gives.reaches;
+        rests = λ t. record {
+          parts = rests.parts ++ ps;
+          stands = gave;
+          place = gives.after;
+          place_is = gives.after_is;
+          later = λ qs ws l.
+              ap (wire None) (append_assoc rests.parts ps qs) ∙ rests.later (ps ++ qs) (gives.given ++ ws) (gives.on qs ws l)
+              ∙ sym (append_assoc (wire None rests.parts) gives.given ws) ∙ ap (λ (us : List WireItem). us ++ ws) (sym all);
+        };
+      }

@@ -1,0 +1,146 @@
+-- Sends and closes of a run.
+use Rattle.std.proofs.Common.{◌≡◌, ◌↔◌, ℕ, ◌+◌, ◌-◌, ◌<◌, ◌≤◌, ◌^◌, Bool, true, false, if◌then◌else◌, List, [], ◌++◌, take, Option, Some, is_some, IsSome, IsTrue, refl, sym, ◌∙◌, ap, subst, arith}
+use Rattle.std.proofs.lemmas.List.{append-nil}
+use Rattle.sm_site.specs.Image.{Image}
+use Rattle.sm_site.specs.Meanings.{View, Item, Deal, SameDisk}
+use Rattle.sm_site.specs.Meanings.Deal.{Sent, Shut}
+use Rattle.sm_site.specs.Clauses.{Elapses, SameOutcomes, Adds, Rose}
+use Rattle.sm_site.proofs.Views.{seen_here, same_here, elapses_here}
+use Rattle.sm_wire.specs.declared.item.WireItem.{WireItem}
+use Rattle.sm_serve.specs.Connections.{received, live, without, events_in}
+use Rattle.sm_serve.specs.Run.{Counts, Point, idle, acting, sending, shutting, Moves, sent, failed, unsent, shut, at, in_phase, behind_failure}
+use Rattle.sm_serve.specs.Standing.{History, is_told, Keeps, moved, Follows}
+use Rattle.sm_serve.proofs.Transcripts.{received_push, live_push, events_push, told_adds}
+use Rattle.sm_serve.proofs.Going.{link_move}
+
+pub follows_then : (n : ℕ) (is_open : Bool) (h k l : History) → Follows n true h k → Follows n is_open k l → Follows n is_open h l
+follows_then n is_open h k l one two = record {
+  first = two.first ∙ one.first;
+  begin = two.begin ∙ one.begin;
+  base = two.base ∙ one.base;
+  received = λ j. two.received j ∙ one.received j;
+  events = two.events ∙ one.events;
+  live = two.live ∙ ap (λ (ns : List ℕ). if is_open then ns else without n ns) one.live;
+  counts = λ j other. two.counts j other ∙ one.counts j other;
+}
+
+module _ {D : Type 0} (view W : D → View) (leave leave' : D → Image → Type 0) (left_at left' : D → ℕ → Image → Type 0)
+    (one_view : (s : D) → view s ≡ W s) (one_disk : (s : D) (c : Image) → leave s c ↔ leave' s c) (one_past : (s : D) (t : ℕ) (c : Image) → left_at s t c ↔ left' s t c)
+    (told : (s : D) (t : ℕ) (image : Image) → left_at s t image → IsSome (view s).contents) where
+  -- a history behind calls of the link, at a point
+  pub record After (h : History) (n : ℕ) (is_open : Bool) (e : D) (q : Point) : Type 0 where
+    pub later : History
+    pub keeps : Keeps view leave left_at later e
+    pub follows : Follows n is_open h later
+    pub point_is : later.point ≡ q
+
+  -- the clauses of a call of the link
+  pub record LinkCall (d e : D) : Type 0 where
+    pub time : Elapses (W d) (W e) (left' d) (left' e) (leave' d) (leave' e)
+    pub same : SameOutcomes (leave' d) (leave' e)
+    pub disk : SameDisk (W d) (W e)
+
+  pub calls_here : (d e : D) → LinkCall d e → (view e).calls ≡ (view d).calls
+  calls_here d e call = ap (λ (v : View). v.calls) (one_view e) ∙ call.disk.calls ∙ ap (λ (v : View). v.calls) (sym (one_view d))
+
+  pub contents_here : (d e : D) → LinkCall d e → (view e).contents ≡ (view d).contents
+  contents_here d e call = ap (λ (v : View). v.contents) (one_view e) ∙ call.disk.contents ∙ ap (λ (v : View). v.contents) (sym (one_view d))
+
+  pub told_here : (d e : D) → LinkCall d e → IsTrue (is_told (view e)) → IsTrue (is_told (view d))
+  told_here d e call has = sym (ap (λ (o : Option Image). is_some o) (contents_here d e call)) ∙ has
+
+  added : (h : History) (d e : D) (deal : Deal) (q : Point) → Keeps view leave left_at h d → LinkCall d e → Adds deal (W d) (W e)
+      → ((m : ℕ) → (IsTrue (is_told (view e)) → h.point.ended < m) → Moves (is_told (view e)) h.items h.point (at m deal) [] q)
+      → q.machine ≡ h.point.machine → q.ended ≡ h.point.ended → ((view e).send_faults < 2 ^ 64 - 1 → q.failed ≤ (view e).send_faults)
+      → (m : ℕ) × Keeps view leave left_at (moved h (at m deal) q) e
+  added h d e deal q keeps call adds move machine ended blamed =
+      let here = seen_here view W leave leave' left_at left' one_view one_disk one_past (Adds deal) d e adds in
+      let t = told_adds (view d) (view e) (h.base ++ h.items) deal keeps.told here in
+      let time = elapses_here view W leave leave' left_at left' one_view one_disk one_past d e call.time in
+      let same = same_here view W leave leave' left_at left' one_view one_disk one_past d e call.same in
+      let m = t.0 in
+      let above : (view d).moment < m = t.1 in
+      let within : m ≤ (view e).moment = t.2 in
+      let behind : IsTrue (is_told (view e)) → h.point.ended < m = λ has. (let c = keeps.clock (told_here d e call has) in omega (arith, c, above)) in (
+        m,
+        link_move view leave left_at told h d e (at m deal) q keeps (move m behind) machine (λ has. omega (arith, ended))
+            t.3 time same (calls_here d e call) (contents_here d e call) (λ has. (let b = behind has in omega (arith, ended, b, within))) blamed,
+      )
+
+  follows_sent : (h : History) (m n : ℕ) (bytes : List ℕ) (fails : Bool) (q : Point) → q.counts ≡ h.point.counts → Follows n true h (moved h (at m (Sent n bytes fails)) q)
+  follows_sent h m n bytes fails q counts = record {
+    first = refl;
+    begin = refl;
+    base = refl;
+    received = λ j. received_push j h.items (record { moment = m; deal = Sent n bytes fails });
+    events = events_push h.items (record { moment = m; deal = Sent n bytes fails });
+    live = live_push h.items (record { moment = m; deal = Sent n bytes fails });
+    counts = λ j other. ap (λ (f : ℕ → Counts). f j) counts;
+  }
+
+  pub sent_after : (h : History) (d e : D) (n : ℕ) (bytes : List ℕ) (close : Bool) (more : List WireItem) → Keeps view leave left_at h d → LinkCall d e → h.point.phase ≡ sending n bytes close more
+      → Adds (Sent n bytes false) (W d) (W e) → (W e).send_faults ≡ (W d).send_faults → After h n true e (in_phase h.point (if close then shutting n else acting n more))
+  sent_after h d e n bytes close more keeps call phase adds faults =
+      let q = in_phase h.point (if close then shutting n else acting n more) in
+      let same : (view e).send_faults ≡ (view d).send_faults = ap (λ (v : View). v.send_faults) (one_view e) ∙ faults ∙ ap (λ (v : View). v.send_faults) (sym (one_view d)) in
+      let a = added h d e (Sent n bytes false) q keeps call adds (λ m behind. sent m n bytes close more phase behind refl refl refl) refl refl
+      (λ below. subst (λ (k : ℕ). h.point.failed ≤ k) (sym same) (keeps.blamed (subst (λ (k : ℕ). k < 2 ^ 64 - 1) same below))) in
+      record { later = moved h (at a.0 (Sent n bytes false)) q; keeps = a.1; follows = follows_sent h a.0 n bytes false q refl; point_is = refl }
+
+  blame : (d e : D) (h : History) → Keeps view leave left_at h d → Rose (W d).send_faults (W e).send_faults → (view e).send_faults < 2 ^ 64 - 1 → h.point.failed + 1 ≤ (view e).send_faults
+  blame d e h keeps rose below =
+      let rises : (view d).send_faults < (view e).send_faults = seen_here view W leave leave' left_at left' one_view one_disk one_past (λ v w. v.send_faults < w.send_faults) d e
+      (rose.rose (λ last. absurd (let at : (view e).send_faults ≡ 2 ^ 64 - 1 = ap (λ (v : View). v.send_faults) (one_view e) ∙ last in omega (arith, at, below)))) in
+      let was = keeps.blamed (omega (arith, rises, below)) in
+      omega (arith, was, rises)
+
+  pub failed_after : (h : History) (d e : D) (n k : ℕ) (bytes : List ℕ) (close : Bool) (more : List WireItem) → Keeps view leave left_at h d → LinkCall d e → h.point.phase ≡ sending n bytes close more
+      → Adds (Sent n (take k bytes) true) (W d) (W e) → Rose (W d).send_faults (W e).send_faults → After h n true e (behind_failure h.point (shutting n))
+  failed_after h d e n k bytes close more keeps call phase adds rose =
+      let q = behind_failure h.point (shutting n) in
+      let a = added h d e (Sent n (take k bytes) true) q keeps call adds (λ m behind. failed m n k bytes close more phase behind refl refl refl) refl refl
+      (λ below. blame d e h keeps rose below) in
+      record { later = moved h (at a.0 (Sent n (take k bytes) true)) q; keeps = a.1; follows = follows_sent h a.0 n (take k bytes) true q refl; point_is = refl }
+
+  pub unsent_after : (h : History) (d e : D) (n : ℕ) (bytes : List ℕ) (close : Bool) (more : List WireItem) → Keeps view leave left_at h d → LinkCall d e → h.point.phase ≡ sending n bytes close more
+      → (W e).transcript ≡ (W d).transcript → Rose (W d).send_faults (W e).send_faults → After h n true e (behind_failure h.point (shutting n))
+  unsent_after h d e n bytes close more keeps call phase still rose =
+      let q = behind_failure h.point (shutting n) in
+      let time = elapses_here view W leave leave' left_at left' one_view one_disk one_past d e call.time in
+      let same = same_here view W leave leave' left_at left' one_view one_disk one_past d e call.same in
+      let told_is : (view e).transcript ≡ Some ((h.base ++ h.items) ++ []) = ap (λ (v : View). v.transcript) (one_view e) ∙ still ∙ ap (λ (v : View). v.transcript) (sym (one_view d)) ∙ keeps.told ∙ ap (λ (l : List Item). Some l) (sym (append-nil (h.base ++ h.items))) in
+      let on = link_move view leave left_at told h d e [] q keeps (unsent n bytes close more phase refl refl refl) refl (λ has. omega arith) told_is time same (calls_here d e call) (contents_here d e call)
+      (λ has. (let c = keeps.clock (told_here d e call has) in let l = time.later in omega (arith, c, l))) (λ below. blame d e h keeps rose below) in
+      record {
+        later = moved h [] q;
+        keeps = on;
+        follows = record { first = refl; begin = refl; base = refl; received = λ j. ap (received j) (append-nil h.items); events = ap events_in (append-nil h.items); live = ap live (append-nil h.items); counts = λ j other. refl };
+        point_is = refl;
+      }
+
+  pub shut_after : (h : History) (d e : D) (n : ℕ) → Keeps view leave left_at h d → LinkCall d e → h.point.phase ≡ shutting n
+      → Adds (Shut n) (W d) (W e) → (W e).send_faults ≡ (W d).send_faults → After h n false e (in_phase h.point idle)
+  shut_after h d e n keeps call phase adds faults =
+      let q = in_phase h.point idle in
+      let same : (view e).send_faults ≡ (view d).send_faults = ap (λ (v : View). v.send_faults) (one_view e) ∙ faults ∙ ap (λ (v : View). v.send_faults) (sym (one_view d)) in
+      let a = added h d e (Shut n) q keeps call adds (λ m behind. shut m n phase refl refl refl) refl refl
+      (λ below. subst (λ (k : ℕ). h.point.failed ≤ k) (sym same) (keeps.blamed (subst (λ (k : ℕ). k < 2 ^ 64 - 1) same below))) in
+      record {
+        later = moved h (at a.0 (Shut n)) q;
+        keeps = a.1;
+        follows = record {
+          first = refl;
+          begin = refl;
+          base = refl;
+          received = λ j. received_push j h.items (record { moment = a.0; deal = Shut n });
+          events = events_push h.items (record { moment = a.0; deal = Shut n });
+          live = live_push h.items (record { moment = a.0; deal = Shut n });
+          counts = λ j other. refl;
+        };
+        point_is = refl;
+      }
+
+  pub then_shut : (h : History) (d e : D) (n : ℕ) (q : Point) → (a : After h n true d q) → q.phase ≡ shutting n → LinkCall d e → Adds (Shut n) (W d) (W e) → (W e).send_faults ≡ (W d).send_faults → After h n false e (in_phase q idle)
+  then_shut h d e n q a phase call adds faults =
+      let s = shut_after a.later d e n a.keeps call (ap (λ (p : Point). p.phase) a.point_is ∙ phase) adds faults in
+      record { later = s.later; keeps = s.keeps; follows = follows_then n false h a.later s.later a.follows s.follows; point_is = s.point_is ∙ ap (λ (p : Point). in_phase p idle) a.point_is }

@@ -1,0 +1,14 @@
+use Rattle.std.proofs.Common.{refl, ap}
+use Rattle.sm_wire.specs.declared.item.WireItem.TheVariants.{End}
+use Rattle.sm_serve.specs.Run.{Counts, act_of}
+use Rattle.sm_serve.proofs.Reaching.{closed_counts}
+use Rattle.sm_serve.proofs.body.end_push.Goals as goal
+
+pub returns-in-Some-clause-goes_on : goal.returns-in-Some-clause-goes_on
+returns-in-Some-clause-goes_on g c h more keeps stands phase counts =
+    c.in-Some.ensures.goes_on h (End c.args.close) more keeps stands phase (ap (λ (k : Counts). act_of k (End c.args.close)) counts) refl
+
+pub returns-clause-goes_on : goal.returns-clause-goes_on
+returns-clause-goes_on g c h more keeps stands phase counts =
+    closed_counts g.S.Disk.view g.S.Disk.may_leave g.S.Disk.left_at h c.args.live.now.number _ _ _ c.answer.new.origin c.answer.new.site
+    (c.in-None.ensures.goes_on h (End c.args.close) more keeps stands phase (ap (λ (k : Counts). act_of k (End c.args.close)) counts) refl)

@@ -1,0 +1,97 @@
+use Rattle.std.proofs.Common.{rules, ◌≡◌, ◌+◌, ◌≤◌, ℕ, List, [], ◌++◌, ◌∷◌, length, take, drop, true, false, IfSome, refl, sym, ◌∙◌, subst, arith}
+use Rattle.std.proofs.lemmas.Iterator.Adapters.{YieldsList-from_vec}
+use Rattle.std.proofs.lemmas.Iterator.Consumers.{YieldsList-turn, YieldsList-end}
+use Rattle.std.proofs.lemmas.List.{length_push, take_all}
+use Rattle.sm_site.specs.Meanings.{IsLive}
+use Rattle.sm_conn.specs.declared.part.Part.{Part}
+use Rattle.sm_conn.specs.Stands.{items_of, joined}
+use Rattle.sm_conn.specs.Parts.{PartItem}
+use Rattle.sm_serve.specs.Standing.{StandsOn}
+use Rattle.sm_serve.specs.declared.live.Live.{Live}
+use Rattle.sm_serve.specs.Run.{acting}
+use Rattle.sm_serve.specs.Standing.{History, Keeps}
+use Rattle.sm_serve.specs.Resting.{counts_of, SameConn}
+use Rattle.sm_serve.specs.Giving.{StaysOpen, PartGives}
+use Rattle.sm_serve.proofs.Lists.{joined_drop, joined_take, drop_all}
+use Rattle.sm_serve.proofs.Giving.{open_here, then_gives}
+use Rattle.sm_serve.proofs.piece.take_parts.Goals as goal
+
+same_then : (old mid new : Live) → SameConn old mid → SameConn mid new → SameConn old new
+same_then old mid new one two = record { number = two.number ∙ one.number; conn = two.conn ∙ one.conn }
+
+pub loop-part-init : goal.loop-part-init
+loop-part-init g c = record {
+  stands = c.requires.stands;
+  live = c.requires.live;
+  told = refl;
+  link_faults = refl;
+  same = record { number = refl; conn = refl };
+  goes_on = λ h place more items keeps stands is left phase counts.
+      open_here g.S.Disk.view g.S.Disk.may_leave g.S.Disk.left_at h c.args.live.now.number c.args.site.now c.args.live.now.push (counts_of c.args.live.now) place (joined c.args.parts.items ++ more) items c.args.origin.now keeps stands is left phase counts;
+}
+
+pub returns-then-not-take_part-clause-goes_on : goal.returns-then-not-take_part-clause-goes_on
+returns-then-not-take_part-clause-goes_on g c h place more items keeps stands is left phase counts =
+    let V = g.S.Disk.view in
+    let A = g.S.Disk.may_leave in
+    let L = g.S.Disk.left_at in
+    let n = c.args.live.now.number in
+    let parts = c.args.parts.items in
+    let gives = c.into_iter-part-iterator.ensures.into_iter_gives in
+    let t = YieldsList-turn (YieldsList-from_vec parts gives.0 (gives.1 ∙ search rules)) c.loop-part.yielded c.loop-part.part-iterator c.loop-part.yielded_by _ c.next.new.self c.in-Some.part c.in-Some.is c.next.ensures.steps in
+    let i = length c.loop-part.yielded in
+    let x = c.in-Some.part in
+    let rest = joined (drop (i + 1) parts) ++ more in
+    let one = subst (λ (qs : List PartItem). StaysOpen V A L h n c.loop-part.live.push (counts_of c.loop-part.live) place (joined (take i parts)) qs c.loop-part.origin c.loop-part.site) (joined_drop parts i x more t.0 t.1)
+    (c.loop-part.invariant.goes_on h place more items keeps stands is left phase counts) in
+    let T : ℕ → Type 0 = λ m. (k : History) → Keeps V A L k c.loop-part.site → StandsOn V A k.point.machine c.loop-part.origin c.loop-part.site → k.point.phase ≡ acting m one.left → k.point.counts m ≡ counts_of c.loop-part.live
+    → PartGives V A L k m false c.take_part.new.live.push (counts_of c.take_part.new.live) one.after (items_of x) rest c.take_part.new.origin c.take_part.new.site in
+    let go : T c.loop-part.live.number = λ k kk ks kp kc. c.if-not-take_part.ensures.goes_on k one.after rest one.left kk ks one.after_is one.left_is kp kc in
+    then_gives V A L h n false c.loop-part.live.push c.take_part.new.live.push (counts_of c.loop-part.live) (counts_of c.take_part.new.live) place (joined (take i parts)) (items_of x) rest c.loop-part.origin c.take_part.new.origin c.loop-part.site c.take_part.new.site one
+    (subst T c.loop-part.invariant.same.number go)
+
+pub loop-part-preserved : goal.loop-part-preserved
+loop-part-preserved g c =
+    let V = g.S.Disk.view in
+    let A = g.S.Disk.may_leave in
+    let L = g.S.Disk.left_at in
+    let n = c.args.live.now.number in
+    let parts = c.args.parts.items in
+    let gives = c.into_iter-part-iterator.ensures.into_iter_gives in
+    let t = YieldsList-turn (YieldsList-from_vec parts gives.0 (gives.1 ∙ search rules)) c.loop-part.yielded c.loop-part.part-iterator c.loop-part.yielded_by _ c.next.new.self c.in-Some.part c.in-Some.is c.next.ensures.steps in
+    let i = length c.loop-part.yielded in
+    let x = c.in-Some.part in
+    record {
+      stands = c.take_part.ensures.stands;
+      live = subst (λ (m : ℕ). IfSome (V c.take_part.new.site).transcript (IsLive m)) (sym c.take_part.ensures.same.number) (c.if-not-take_part.ensures.open refl);
+      told = c.take_part.ensures.told ∙ c.loop-part.invariant.told;
+      link_faults = c.take_part.ensures.link_faults ∙ c.loop-part.invariant.link_faults;
+      same = same_then c.args.live.now c.loop-part.live c.take_part.new.live c.loop-part.invariant.same c.take_part.ensures.same;
+      goes_on = λ h place more items keeps stands is left phase counts.
+          let rest = joined (drop (i + 1) parts) ++ more in
+          let one = subst (λ (qs : List PartItem). StaysOpen V A L h n c.loop-part.live.push (counts_of c.loop-part.live) place (joined (take i parts)) qs c.loop-part.origin c.loop-part.site) (joined_drop parts i x more t.0 t.1)
+          (c.loop-part.invariant.goes_on h place more items keeps stands is left phase counts) in
+          let T : ℕ → Type 0 = λ m. (k : History) → Keeps V A L k c.loop-part.site → StandsOn V A k.point.machine c.loop-part.origin c.loop-part.site → k.point.phase ≡ acting m one.left → k.point.counts m ≡ counts_of c.loop-part.live
+          → PartGives V A L k m true c.take_part.new.live.push (counts_of c.take_part.new.live) one.after (items_of x) rest c.take_part.new.origin c.take_part.new.site in
+          let go : T c.loop-part.live.number = λ k kk ks kp kc. c.if-not-take_part.ensures.goes_on k one.after rest one.left kk ks one.after_is one.left_is kp kc in
+          let all = then_gives V A L h n true c.loop-part.live.push c.take_part.new.live.push (counts_of c.loop-part.live) (counts_of c.take_part.new.live) place (joined (take i parts)) (items_of x) rest c.loop-part.origin c.take_part.new.origin c.loop-part.site c.take_part.new.site one
+          (subst T c.loop-part.invariant.same.number go) in
+          let at : length (c.loop-part.yielded ++ x ∷ []) ≡ i + 1 = length_push c.loop-part.yielded x in
+          subst (λ (j : ℕ). StaysOpen V A L h n c.take_part.new.live.push (counts_of c.take_part.new.live) place (joined (take j parts)) (joined (drop j parts) ++ more) c.take_part.new.origin c.take_part.new.site) (sym at)
+          (subst (λ (ps : List PartItem). StaysOpen V A L h n c.take_part.new.live.push (counts_of c.take_part.new.live) place ps rest c.take_part.new.origin c.take_part.new.site) (sym (joined_take parts i x t.0 t.1)) all);
+    }
+
+pub returns-clause-goes_on : goal.returns-clause-goes_on
+returns-clause-goes_on g c h place more items keeps stands is left phase counts =
+    let V = g.S.Disk.view in
+    let A = g.S.Disk.may_leave in
+    let L = g.S.Disk.left_at in
+    let n = c.args.live.now.number in
+    let parts = c.args.parts.items in
+    let gives = c.into_iter-part-iterator.ensures.into_iter_gives in
+    let t = YieldsList-end (YieldsList-from_vec parts gives.0 (gives.1 ∙ search rules)) c.loop-part.yielded c.loop-part.part-iterator c.loop-part.yielded_by _ c.next.new.self c.in-None.is c.next.ensures.steps in
+    let i = length c.loop-part.yielded in
+    let long : length parts ≤ i = omega (arith, t.1) in
+    subst (λ (ps : List Part). StaysOpen V A L h n c.loop-part.live.push (counts_of c.loop-part.live) place (joined ps) more c.loop-part.origin c.loop-part.site) (take_all i parts long)
+    (subst (λ (ps : List Part). StaysOpen V A L h n c.loop-part.live.push (counts_of c.loop-part.live) place (joined (take i parts)) (joined ps ++ more) c.loop-part.origin c.loop-part.site) (drop_all i parts long)
+    (c.loop-part.invariant.goes_on h place more items keeps stands is left phase counts))

@@ -1,0 +1,127 @@
+use Rattle.std.proofs.Common.{◌≡◌, ⊎_elim, ℕ, IfSome, refl, sym, ap, subst, arith}
+use Rattle.sm_site.specs.declared.event.Event.{Event}
+use Rattle.sm_site.specs.declared.event.Event.TheVariants.{Ended}
+use Rattle.sm_site.specs.Meanings.Deal.{Over}
+use Rattle.sm_site.specs.Event.{deal_of, IsNext}
+use Rattle.sm_site.specs.Clauses.{Adds}
+use Rattle.sm_site.specs.Meanings.{View}
+use Rattle.sm_site.proofs.Views.{same_here}
+use Rattle.sm_serve.specs.declared.outcome.Turn.{Turn as Turned}
+use Rattle.sm_serve.specs.declared.outcome.Turn.TheVariants as turned
+use Rattle.sm_serve.specs.declared.outcome.Turn.TheVariants.{Went, LinkFault, NoMemory}
+use Rattle.sm_serve.specs.Serving.{taken_by, Turns, IsAtRest}
+use Rattle.sm_serve.proofs.Transcripts.{adds_told, told_here}
+use Rattle.sm_serve.proofs.Sending.{LinkCall, contents_here}
+use Rattle.sm_serve.proofs.Events.{pend, still_serves, may_handle, is_new}
+use Rattle.sm_serve.proofs.serving.turn.Goals as goal
+
+took : (r : Turned) → (r ≡ LinkFault → ⊥) → (r ≡ NoMemory → ⊥) → taken_by r ≡ 1
+took Went a b = refl
+took turned.Ended a b = refl
+took LinkFault a b = absurd (a refl)
+took NoMemory a b = absurd (b refl)
+
+pub handle-requires-clause-may : goal.handle-requires-clause-may
+handle-requires-clause-may g c =
+    let W = g.S.Link.view in
+    let d = c.args.site.now in
+    let e = c.next.new.self in
+    let adds : Adds (deal_of c.in-Ok.event) (W d) (W e) = c.in-Ok.ensures.taken in
+    may_handle g.S.Disk.view g.S.Link.view g.S.Disk.may_leave g.S.Link.may_leave g.S.Disk.left_at g.S.Link.left_at g.met.S.Site.one_view g.met.S.Site.one_disk g.met.S.Site.one_past g.met.S.Disk.told c.in-Ok.event c.args.state.now d e c.requires.known adds (told_here g.S.Disk.view W g.met.S.Site.one_view d e (adds_told (W d) (W e) (deal_of c.in-Ok.event) adds))
+
+pub returns-in-Ok-clause-runs : goal.returns-in-Ok-clause-runs
+returns-in-Ok-clause-runs g c h serves =
+    let W = g.S.Link.view in
+    let d = c.args.site.now in
+    let e = c.next.new.self in
+    let adds : Adds (deal_of c.in-Ok.event) (W d) (W e) = c.in-Ok.ensures.taken in
+    let call : LinkCall g.S.Disk.view g.S.Link.view g.S.Disk.may_leave g.S.Link.may_leave g.S.Disk.left_at g.S.Link.left_at g.met.S.Site.one_view g.met.S.Site.one_disk g.met.S.Site.one_past g.met.S.Disk.told d e = record { time = c.next.ensures.time; same = c.next.ensures.crash; disk = c.next.ensures.disk } in
+    let p = pend g.S.Disk.view g.S.Link.view g.S.Disk.may_leave g.S.Link.may_leave g.S.Disk.left_at g.S.Link.left_at g.met.S.Site.one_view g.met.S.Site.one_disk g.met.S.Site.one_past g.met.S.Disk.told h d e (deal_of c.in-Ok.event) serves.keeps call adds c.next.ensures.send_faults in
+    let next : IfSome (W d).transcript (IsNext c.in-Ok.event) = c.in-Ok.ensures.rising in
+    let same = same_here g.S.Disk.view g.S.Link.view g.S.Disk.may_leave g.S.Link.may_leave g.S.Disk.left_at g.S.Link.left_at g.met.S.Site.one_view g.met.S.Site.one_disk g.met.S.Site.one_past d e c.next.ensures.crash in
+    let rest : IsAtRest g.S.Disk.view g.S.Disk.may_leave h c.args.state.now e = record {
+      stands = c.fewer_images_stand.ensures h.point.machine c.args.state.now.origin d e serves.rest.stands (contents_here g.S.Disk.view g.S.Link.view g.S.Disk.may_leave g.S.Link.may_leave g.S.Disk.left_at g.S.Link.left_at g.met.S.Site.one_view g.met.S.Site.one_disk g.met.S.Site.one_past g.met.S.Disk.told d e call) (λ image left. (same image).0 left);
+      phase_is = serves.rest.phase_is;
+      numbers = serves.rest.numbers;
+      resting = serves.rest.resting;
+    } in
+    subst (λ (k : ℕ). Turns g.S.Disk.view g.S.Disk.may_leave g.S.Disk.left_at h k c.handle.new.state c.handle.new.site) (sym (took c.handle.result c.handle.ensures.no_fault c.handle.ensures.no_want))
+    (c.handle.ensures.goes_on h p.0 p.1 rest (is_new g.S.Disk.view g.S.Link.view g.S.Disk.may_leave g.S.Link.may_leave g.S.Disk.left_at g.S.Link.left_at g.met.S.Site.one_view g.met.S.Site.one_disk g.met.S.Site.one_past g.met.S.Disk.told c.in-Ok.event h d serves.keeps.told next))
+
+pub returns-in-Ok-clause-link_fault : goal.returns-in-Ok-clause-link_fault
+returns-in-Ok-clause-link_fault g c is = absurd (c.handle.ensures.no_fault is)
+
+pub returns-in-Ok-clause-none_taken : goal.returns-in-Ok-clause-none_taken
+returns-in-Ok-clause-none_taken g c is = absurd (⊎_elim c.handle.ensures.no_fault c.handle.ensures.no_want is)
+
+pub returns-in-Err-Failed-clause-runs : goal.returns-in-Err-Failed-clause-runs
+returns-in-Err-Failed-clause-runs g c h serves =
+    let call : LinkCall g.S.Disk.view g.S.Link.view g.S.Disk.may_leave g.S.Link.may_leave g.S.Disk.left_at g.S.Link.left_at g.met.S.Site.one_view g.met.S.Site.one_disk g.met.S.Site.one_past g.met.S.Disk.told c.args.site.now c.next.new.self = record { time = c.next.ensures.time; same = c.next.ensures.crash; disk = c.next.ensures.disk } in
+    still_serves g.S.Disk.view g.S.Link.view g.S.Disk.may_leave g.S.Link.may_leave g.S.Disk.left_at g.S.Link.left_at g.met.S.Site.one_view g.met.S.Site.one_disk g.met.S.Site.one_past g.met.S.Disk.told
+    c.fewer_images_stand.ensures h c.args.state.now c.args.site.now c.next.new.self serves call c.in-Err-Failed.ensures.not_taken c.next.ensures.send_faults
+
+pub returns-in-Err-NoMemory-clause-runs : goal.returns-in-Err-NoMemory-clause-runs
+returns-in-Err-NoMemory-clause-runs g c h serves =
+    let call : LinkCall g.S.Disk.view g.S.Link.view g.S.Disk.may_leave g.S.Link.may_leave g.S.Disk.left_at g.S.Link.left_at g.met.S.Site.one_view g.met.S.Site.one_disk g.met.S.Site.one_past g.met.S.Disk.told c.args.site.now c.next.new.self = record { time = c.next.ensures.time; same = c.next.ensures.crash; disk = c.next.ensures.disk } in
+    still_serves g.S.Disk.view g.S.Link.view g.S.Disk.may_leave g.S.Link.may_leave g.S.Disk.left_at g.S.Link.left_at g.met.S.Site.one_view g.met.S.Site.one_disk g.met.S.Site.one_past g.met.S.Disk.told
+    c.fewer_images_stand.ensures h c.args.state.now c.args.site.now c.next.new.self serves call c.in-Err-NoMemory.ensures.not_taken c.next.ensures.send_faults
+
+pub returns-in-Ok-clause-ended : goal.returns-in-Ok-clause-ended
+returns-in-Ok-clause-ended g c is =
+    let W = g.S.Link.view in
+    let over : c.in-Ok.event ≡ Ended = c.handle.ensures.ended.0 is in
+    let here = c.handle.ensures.still over in
+    let adds : Adds (deal_of c.in-Ok.event) (W c.args.site.now) (W c.next.new.self) = c.in-Ok.ensures.taken in
+    subst (λ (s : _). Adds Over (W c.args.site.now) (W s)) (sym here) (subst (λ (e : Event). Adds (deal_of e) (W c.args.site.now) (W c.next.new.self)) over adds)
+
+pub handle-requires-clause-stands : goal.handle-requires-clause-stands
+handle-requires-clause-stands g c =
+    let m = c.requires.stands in
+    let d = c.args.site.now in
+    let e = c.next.new.self in
+    let call : LinkCall g.S.Disk.view g.S.Link.view g.S.Disk.may_leave g.S.Link.may_leave g.S.Disk.left_at g.S.Link.left_at g.met.S.Site.one_view g.met.S.Site.one_disk g.met.S.Site.one_past g.met.S.Disk.told d e =
+    record { time = c.next.ensures.time; same = c.next.ensures.crash; disk = c.next.ensures.disk } in
+    let same = same_here g.S.Disk.view g.S.Link.view g.S.Disk.may_leave g.S.Link.may_leave g.S.Disk.left_at g.S.Link.left_at g.met.S.Site.one_view g.met.S.Site.one_disk g.met.S.Site.one_past d e c.next.ensures.crash in
+    (m.0, c.fewer_images_stand.ensures m.0 c.args.state.now.origin d e m.1 (contents_here g.S.Disk.view g.S.Link.view g.S.Disk.may_leave g.S.Link.may_leave g.S.Disk.left_at g.S.Link.left_at g.met.S.Site.one_view g.met.S.Site.one_disk g.met.S.Site.one_past g.met.S.Disk.told d e call) (λ image left. (same image).0 left))
+
+pub returns-in-Err-Failed-clause-stands : goal.returns-in-Err-Failed-clause-stands
+returns-in-Err-Failed-clause-stands g c =
+    let m = c.requires.stands in
+    let d = c.args.site.now in
+    let e = c.next.new.self in
+    let call : LinkCall g.S.Disk.view g.S.Link.view g.S.Disk.may_leave g.S.Link.may_leave g.S.Disk.left_at g.S.Link.left_at g.met.S.Site.one_view g.met.S.Site.one_disk g.met.S.Site.one_past g.met.S.Disk.told d e =
+    record { time = c.next.ensures.time; same = c.next.ensures.crash; disk = c.next.ensures.disk } in
+    let same = same_here g.S.Disk.view g.S.Link.view g.S.Disk.may_leave g.S.Link.may_leave g.S.Disk.left_at g.S.Link.left_at g.met.S.Site.one_view g.met.S.Site.one_disk g.met.S.Site.one_past d e c.next.ensures.crash in
+    (m.0, c.fewer_images_stand.ensures m.0 c.args.state.now.origin d e m.1 (contents_here g.S.Disk.view g.S.Link.view g.S.Disk.may_leave g.S.Link.may_leave g.S.Disk.left_at g.S.Link.left_at g.met.S.Site.one_view g.met.S.Site.one_disk g.met.S.Site.one_past g.met.S.Disk.told d e call) (λ image left. (same image).0 left))
+
+pub returns-in-Err-NoMemory-clause-stands : goal.returns-in-Err-NoMemory-clause-stands
+returns-in-Err-NoMemory-clause-stands g c =
+    let m = c.requires.stands in
+    let d = c.args.site.now in
+    let e = c.next.new.self in
+    let call : LinkCall g.S.Disk.view g.S.Link.view g.S.Disk.may_leave g.S.Link.may_leave g.S.Disk.left_at g.S.Link.left_at g.met.S.Site.one_view g.met.S.Site.one_disk g.met.S.Site.one_past g.met.S.Disk.told d e =
+    record { time = c.next.ensures.time; same = c.next.ensures.crash; disk = c.next.ensures.disk } in
+    let same = same_here g.S.Disk.view g.S.Link.view g.S.Disk.may_leave g.S.Link.may_leave g.S.Disk.left_at g.S.Link.left_at g.met.S.Site.one_view g.met.S.Site.one_disk g.met.S.Site.one_past d e c.next.ensures.crash in
+    (m.0, c.fewer_images_stand.ensures m.0 c.args.state.now.origin d e m.1 (contents_here g.S.Disk.view g.S.Link.view g.S.Disk.may_leave g.S.Link.may_leave g.S.Disk.left_at g.S.Link.left_at g.met.S.Site.one_view g.met.S.Site.one_disk g.met.S.Site.one_past g.met.S.Disk.told d e call) (λ image left. (same image).0 left))
+
+pub returns-in-Ok-clause-link_faults : goal.returns-in-Ok-clause-link_faults
+returns-in-Ok-clause-link_faults g c =
+    let before = ap (λ (v : View). v.link_faults) (g.met.S.Site.one_view c.args.site.now) in
+    let between = ap (λ (v : View). v.link_faults) (g.met.S.Site.one_view c.next.new.self) in
+    let later = c.next.ensures.link_faults in
+    let same = c.handle.ensures.link_faults in
+    omega (arith, before, between, later, same)
+
+pub returns-in-Err-Failed-clause-link_faults : goal.returns-in-Err-Failed-clause-link_faults
+returns-in-Err-Failed-clause-link_faults g c =
+    let before = ap (λ (v : View). v.link_faults) (g.met.S.Site.one_view c.args.site.now) in
+    let between = ap (λ (v : View). v.link_faults) (g.met.S.Site.one_view c.next.new.self) in
+    let later = c.next.ensures.link_faults in
+    omega (arith, before, between, later)
+
+pub returns-in-Err-NoMemory-clause-link_faults : goal.returns-in-Err-NoMemory-clause-link_faults
+returns-in-Err-NoMemory-clause-link_faults g c =
+    let before = ap (λ (v : View). v.link_faults) (g.met.S.Site.one_view c.args.site.now) in
+    let between = ap (λ (v : View). v.link_faults) (g.met.S.Site.one_view c.next.new.self) in
+    let later = c.next.ensures.link_faults in
+    omega (arith, before, between, later)

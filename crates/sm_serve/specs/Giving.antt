@@ -1,0 +1,48 @@
+-- What parts give to a run.
+use Rattle.std.specs.Prelude.{◌≡◌, ℕ, Bool, true, false, List, ◌++◌, Option, Some, None, Result, IsTrue}
+use Rattle.sm_site.specs.Image.{Image}
+use Rattle.sm_site.specs.Meanings.{View}
+use Rattle.sm_model.specs.Items.{Given}
+use Rattle.sm_push.specs.declared.fault.PushFault.{PushFault}
+use Rattle.sm_push.specs.Standing.{Standing, Answers, Ends}
+use Rattle.sm_conn.specs.Parts.{PartItem}
+use Rattle.sm_wire.specs.declared.item.WireItem.{WireItem}
+use Rattle.sm_wire.specs.Wire.{Left}
+use Rattle.sm_origin.specs.declared.origin.Origin.{Origin}
+use Rattle.sm_serve.specs.Run.{Counts, Point, idle, acting, at}
+use Rattle.sm_serve.specs.Standing.{History, moved, Reaches}
+use Rattle.sm_serve.specs.Resting.{PlaceIs, counts_of, Rests}
+use Rattle.sm_serve.specs.Connections.{received}
+use Rattle.sm_serve.specs.declared.live.Live.{Live}
+use Rattle.sm_site.specs.Meanings.Deal.{Came}
+
+abbrev pub FedPush : List ℕ → List ℕ → Option Standing → Result (List Given) PushFault → Type 0
+FedPush b piece None result = ⊥
+FedPush b piece (Some push) result = Answers false b piece push result
+
+abbrev pub EndedPush : List ℕ → Result (Unit {0}) PushFault → Type 0
+EndedPush b result = Ends false b result
+
+-- Behind these parts the connection is still open. Whatever parts follow, they give behind what was given what they give with the push that is open now.
+pub record StaysOpen {D : Type 0} (view : D → View) (leave : D → Image → Type 0) (left_at : D → ℕ → Image → Type 0) (h : History) (n : ℕ) (push : Option Standing) (counts : Counts)
+    (before : Option (List ℕ)) (parts more : List PartItem) (origin : Origin) (d : D) : Type 0 where
+  pub after : Option (List ℕ)
+  pub after_is : PlaceIs push after
+  pub given : List WireItem
+  pub on : (qs : List PartItem) (ws : List WireItem) → Left after qs ws → Left before (parts ++ qs) (given ++ ws)
+  pub left : List WireItem
+  pub left_is : Left after more left
+  pub reaches : Reaches view leave left_at h n true (acting n left) counts origin d
+
+abbrev pub PartGives : {D : Type 0} (view : D → View) (leave : D → Image → Type 0) (left_at : D → ℕ → Image → Type 0) → History → ℕ → Bool → Option Standing → Counts
+    → Option (List ℕ) → List PartItem → List PartItem → Origin → D → Type 0
+PartGives view leave left_at h n true push counts before parts more origin d = StaysOpen view leave left_at h n push counts before parts more origin d
+PartGives view leave left_at h n false push counts before parts more origin d = Reaches view leave left_at h n false idle counts origin d
+
+-- A piece was taken: the run goes on from its event to the next one, and an open connection rests with the piece.
+pub record PieceGives {D : Type 0} (view : D → View) (leave : D → Image → Type 0) (left_at : D → ℕ → Image → Type 0) (h : History) (m : ℕ) (piece : List ℕ) (n : ℕ) (is_open : Bool) (live : Live)
+    (origin : Origin) (d : D) : Type 0 where
+  pub from : Point
+  pub from_counts : from.counts ≡ h.point.counts
+  pub reaches : Reaches view leave left_at (moved h (at m (Came n piece)) from) n is_open idle (counts_of live) origin d
+  pub rests : IsTrue is_open → Rests live (received n h.items ++ piece)

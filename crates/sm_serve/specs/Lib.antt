@@ -1,0 +1,10 @@
+pub mod Connections
+pub mod Run
+pub mod Moments
+pub mod Standing
+pub mod Pushes
+pub mod Resting
+pub mod Items
+pub mod Giving
+pub mod Serving
+pub mod Shown

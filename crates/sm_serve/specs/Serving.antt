@@ -1,0 +1,134 @@
+-- The loop between two events.
+use Rattle.std.specs.Prelude.{◌≡◌, ◌⊎◌, ◌+◌, ◌<◌, ◌≤◌, ◌-◌, ◌^◌, ℕ, true, false, List, [], ◌∷◌, ◌++◌, map, Option, Some, None, IsSome, IfSome}
+use Rattle.sm_site.specs.Image.{Image}
+use Rattle.sm_site.specs.Meanings.{View, Item, DiskCall, IsLive}
+use Rattle.sm_site.specs.Meanings.Deal.{Over}
+use Rattle.sm_site.specs.declared.event.Event.{Event}
+use Rattle.sm_site.specs.declared.event.Event.TheVariants.{Opened, Piece, Closed, Ended}
+use Rattle.sm_model.specs.declared.act.Act.TheVariants.{Header}
+use Rattle.sm_model.specs.declared.track.Track.{Track}
+use Rattle.sm_archive.specs.declared.answers.Declared.{Declared}
+use Rattle.sm_origin.specs.Answers.{reply_to_header}
+use Rattle.sm_serve.specs.declared.live.Live.{Live}
+use Rattle.sm_serve.specs.declared.state.State.{State}
+use Rattle.sm_origin.specs.Machine.{Machine}
+use Rattle.sm_serve.specs.declared.outcome.Turn.{Turn as Turned}
+use Rattle.sm_serve.specs.declared.outcome.Turn.TheVariants as turned
+use Rattle.sm_serve.specs.declared.outcome.Served.{Served as Outcome}
+use Rattle.sm_serve.specs.declared.outcome.Served.TheVariants as served
+use Rattle.sm_serve.specs.Connections.{received, live, without, is_among, AreDistinct, events_in}
+use Rattle.sm_serve.specs.Run.{Stepped, idle, at, Run}
+use Rattle.sm_serve.specs.Moments.{FitsAt}
+use Rattle.sm_serve.specs.Standing.{History, StandsOn, is_told, Keeps, calls_of}
+use Rattle.sm_serve.specs.Resting.{Rests, counts_of}
+
+abbrev pub numbers_of : List Live → List ℕ
+numbers_of lives = map (λ l. l.number) lives
+
+-- the connection stands for the bytes that it has sent, and has the counts of its push
+pub record IsResting (h : History) (l : Live) : Type 0 where
+  pub rests : Rests l (received l.number h.items)
+  pub counts : h.point.counts l.number ≡ counts_of l
+
+abbrev pub AreResting : History → List Live → Type 0
+AreResting h [] = Unit {0}
+AreResting h (l ∷ ls) = IsResting h l × AreResting h ls
+
+-- the state is where the run is
+pub record IsAtRest {D : Type 0} (view : D → View) (leave : D → Image → Type 0) (h : History) (state : State) (d : D) : Type 0 where
+  pub stands : StandsOn view leave h.point.machine state.origin d
+  pub phase_is : h.point.phase ≡ idle
+  pub numbers : numbers_of state.lives.items ≡ live h.items
+  pub resting : AreResting h state.lives.items
+
+pub record Serves {D : Type 0} (view : D → View) (leave : D → Image → Type 0) (left_at : D → ℕ → Image → Type 0) (h : History) (state : State) (d : D) : Type 0 where
+  pub keeps : Keeps view leave left_at h d
+  pub rest : IsAtRest view leave h state d
+
+-- a later history from the same start
+pub record Since (h k : History) : Type 0 where
+  pub first : k.first ≡ h.first
+  pub begin : k.begin ≡ h.begin
+  pub base : k.base ≡ h.base
+
+-- the run goes on by so many events
+pub record Turns {D : Type 0} (view : D → View) (leave : D → Image → Type 0) (left_at : D → ℕ → Image → Type 0) (h : History) (events : ℕ) (state : State) (d : D) : Type 0 where
+  pub later : History
+  pub serves : Serves view leave left_at later state d
+  pub since : Since h later
+  pub taken : events_in later.items ≡ events + events_in h.items
+
+-- where the transcript is told, the state is where a run is
+abbrev pub Known : {D : Type 0} (view : D → View) (leave : D → Image → Type 0) (left_at : D → ℕ → Image → Type 0) → State → D → Type 0
+Known view leave left_at state d = IsSome (view d).transcript → (h : History) × Serves view leave left_at h state d
+
+-- a connection is out of the list
+pub record Forgets (n : ℕ) (old new : State) : Type 0 where
+  pub origin : new.origin ≡ old.origin
+  pub resting : (h k : History) → ((l : Live) → (l.number ≡ n → ⊥) → IsResting h l → IsResting k l) → AreDistinct (numbers_of old.lives.items) → AreResting h old.lives.items → AreResting k new.lives.items
+  pub numbers : AreDistinct (numbers_of old.lives.items) → numbers_of new.lives.items ≡ without n (numbers_of old.lives.items)
+
+-- an event that was just taken may be handled: its connection is open, if the transcript is told
+abbrev pub MayHandle : Event → List Live → Option (List Item) → Type 0
+MayHandle (Opened n) lives told = IfSome told (IsLive n)
+MayHandle (Piece n piece) lives told = is_among n (numbers_of lives) ≡ true → IfSome told (IsLive n)
+MayHandle (Closed n) lives told = Unit {0}
+MayHandle Ended lives told = Unit {0}
+
+-- a connection that begins is none of those that are live
+abbrev pub IsNew : Event → History → Type 0
+IsNew (Opened n) h = is_among n (live h.items) ≡ false
+IsNew (Piece n piece) h = Unit {0}
+IsNew (Closed n) h = Unit {0}
+IsNew Ended h = Unit {0}
+
+-- the last entry says that nothing more comes
+abbrev pub IsOver : Option (List Item) → Type 0
+IsOver told = IfSome told (λ items. (before : List Item) × (m : ℕ) × (items ≡ before ++ at m Over))
+
+-- Done is answered after as many events as were asked, or where one more came, which said that nothing more comes.
+abbrev pub EndsAs : ℕ → Outcome → Option (List Item) → ℕ → ℕ → Type 0
+EndsAs turns (served.Done taken behind short) told before now =
+    (((taken ≡ turns) × (now ≡ taken + before)) ⊎ ((taken < turns) × (now ≡ taken + 1 + before) × IsOver told)) × (behind ≡ 0) × (short ≡ 0)
+EndsAs turns served.LinkFault told before now = Unit {0}
+EndsAs turns served.NoMemory told before now = Unit {0}
+
+-- The loop served: from wherever a run had come it goes on, over the entries since; and at every moment since its start, each image that a
+-- crash may leave is the store of the last step that ended by then, or of that with the doubt, or of one of these with the entry that
+-- is being written.
+pub record Served {D : Type 0} (view : D → View) (leave : D → Image → Type 0) (left_at : D → ℕ → Image → Type 0) (h : History) (result : Outcome) (turns : ℕ) (state : State) (d : D) : Type 0 where
+  pub later : History
+  pub since : Since h later
+  pub ended : EndsAs turns result (view d).transcript (events_in h.items) (events_in later.items)
+  pub run : Run (is_told (view d)) later.first later.begin later.items later.steps later.point
+  pub awaits : later.point.phase ≡ idle
+  pub told : (view d).transcript ≡ Some (later.base ++ later.items)
+  pub stands : StandsOn view leave later.point.machine state.origin d
+  pub recorded : IfSome (view d).calls (λ cs. (before : List DiskCall) × (cs ≡ before ++ calls_of later.steps))
+  pub blamed : (view d).send_faults < 2 ^ 64 - 1 → later.point.failed ≤ (view d).send_faults
+  pub crash : (t : ℕ) (image : Image) → later.begin ≤ t → left_at d t image → FitsAt later.first later.steps t image
+
+-- A new state is where a run begins, whatever the machine that its origin stands for and the transcript before it.
+abbrev pub Begins : {D : Type 0} (view : D → View) (leave : D → Image → Type 0) (left_at : D → ℕ → Image → Type 0) → State → D → Type 0
+Begins view leave left_at state d = (m : Machine) (base : List Item) → StandsOn view leave m state.origin d → (view d).transcript ≡ Some base
+    → (h : History) × (h.first ≡ m) × (h.begin ≡ (view d).moment) × (h.base ≡ base) × (h.items ≡ []) × (h.steps ≡ []) × Serves view leave left_at h state d
+
+-- how many events a turn took
+abbrev pub taken_by : Turned → ℕ
+taken_by turned.Went = 1
+taken_by turned.Ended = 1
+taken_by turned.LinkFault = 0
+taken_by turned.NoMemory = 0
+
+-- A ladder is one step more, without a connection and without an entry.
+pub record DeclaresIn {D : Type 0} (view : D → View) (leave : D → Image → Type 0) (left_at : D → ℕ → Image → Type 0) (h : History) (channel : List Track) (result : Declared)
+    (state : State) (d : D) : Type 0 where
+  pub later : History
+  pub serves : Serves view leave left_at later state d
+  pub since : Since h later
+  pub same : later.items ≡ h.items
+  pub step : Stepped
+  pub steps : later.steps ≡ h.steps ++ step ∷ []
+  pub conn : step.conn ≡ None
+  pub act : step.act ≡ Header channel
+  pub reply : step.reply ≡ reply_to_header result

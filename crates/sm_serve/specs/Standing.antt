@@ -1,0 +1,83 @@
+-- A run so far, on a site.
+use Rattle.std.specs.Prelude.{◌≡◌, ◌≢◌, ℕ, ◌-◌, ◌<◌, ◌≤◌, ◌^◌, Bool, List, [], ◌∷◌, ◌++◌, Option, Some, None, IfSome, IsSome, is_some, if◌then◌else◌, IsTrue}
+use Rattle.sm_site.specs.Image.{Image}
+use Rattle.sm_site.specs.Meanings.{View, Item, Deal, DiskCall}
+use Rattle.sm_wire.specs.declared.item.WireItem.{WireItem}
+use Rattle.sm_origin.specs.declared.origin.Origin.{Origin}
+use Rattle.sm_origin.specs.declared.reply.Counted.{Counted}
+use Rattle.sm_origin.specs.Machine.{Machine}
+use Rattle.sm_origin.specs.Stores.{Fits}
+use Rattle.sm_origin.specs.Acting.{StandsFor}
+use Rattle.sm_serve.specs.Connections.{received, live, without, events_in}
+use Rattle.sm_serve.specs.Run.{Counts, counts_after, Phase, Point, Stepped, Moves, at, Run}
+use Rattle.sm_serve.specs.Moments.{machine_at, FitsAt}
+
+-- the machine found at the start and its moment, the transcript before it, and what has happened since
+pub record History : Type 0 where
+  pub first : Machine
+  pub begin : ℕ
+  pub base : List Item
+  pub items : List Item
+  pub steps : List Stepped
+  pub point : Point
+
+-- the disk calls of steps
+abbrev pub calls_of : List Stepped → List DiskCall
+calls_of [] = []
+calls_of (x ∷ steps) = x.calls ++ calls_of steps
+
+-- the origin stands for the machine on the site
+abbrev pub StandsOn : {D : Type 0} (view : D → View) (leave : D → Image → Type 0) → Machine → Origin → D → Type 0
+StandsOn view leave m origin d = StandsFor (IsSome (view d).contents) m origin (leave d)
+
+-- whether the site tells the contents of its disk
+abbrev pub is_told : View → Bool
+is_told v = is_some v.contents
+
+-- The site tells this run. What a crash may leave, now and at each moment since the start, fits it.
+pub record Keeps {D : Type 0} (view : D → View) (leave : D → Image → Type 0) (left_at : D → ℕ → Image → Type 0) (h : History) (d : D) : Type 0 where
+  pub run : Run (is_told (view d)) h.first h.begin h.items h.steps h.point
+  pub told : (view d).transcript ≡ Some (h.base ++ h.items)
+  pub clock : IsTrue (is_told (view d)) → h.point.ended ≤ (view d).moment
+  pub current : IsTrue (is_told (view d)) → (t : ℕ) → h.point.ended ≤ t → machine_at h.first h.steps t ≡ h.point.machine
+  pub now : (image : Image) → leave d image → Fits h.point.machine image
+  pub images : (t : ℕ) (image : Image) → h.begin ≤ t → left_at d t image → FitsAt h.first h.steps t image
+  -- the record of disk calls, where it is told, is that of the steps, behind what was there before
+  pub recorded : IfSome (view d).calls (λ cs. (before : List DiskCall) × (cs ≡ before ++ calls_of h.steps))
+  -- each send that failed was counted
+  pub blamed : (view d).send_faults < 2 ^ 64 - 1 → h.point.failed ≤ (view d).send_faults
+
+-- the history with further entries, at a point
+abbrev pub moved : History → List Item → Point → History
+moved h es q = record h { items = h.items ++ es; point = q }
+
+-- An event was taken, and the run goes on from it.
+abbrev pub Pending : {D : Type 0} (view : D → View) (leave : D → Image → Type 0) (left_at : D → ℕ → Image → Type 0) → History → ℕ → Deal → D → Type 0
+Pending view leave left_at h m deal d =
+    (q : Point) → Moves (is_told (view d)) h.items h.point (at m deal) [] q → q.machine ≡ h.point.machine → q.ended ≡ m → q.failed ≡ h.point.failed
+    → Keeps view leave left_at (moved h (at m deal) q) d
+
+-- A later history, in which one connection alone went on, and is still open or was closed.
+pub record Follows (n : ℕ) (is_open : Bool) (h k : History) : Type 0 where
+  pub first : k.first ≡ h.first
+  pub begin : k.begin ≡ h.begin
+  pub base : k.base ≡ h.base
+  pub received : (j : ℕ) → received j k.items ≡ received j h.items
+  pub events : events_in k.items ≡ events_in h.items
+  pub live : live k.items ≡ (if is_open then live h.items else without n (live h.items))
+  pub counts : (j : ℕ) → j ≢ n → k.point.counts j ≡ h.point.counts j
+
+-- The run reaches this phase, with these counts of the connection if it is open.
+pub record Reaches {D : Type 0} (view : D → View) (leave : D → Image → Type 0) (left_at : D → ℕ → Image → Type 0) (h : History) (n : ℕ) (is_open : Bool) (phase : Phase) (counts : Counts)
+    (origin : Origin) (d : D) : Type 0 where
+  pub later : History
+  pub keeps : Keeps view leave left_at later d
+  pub stands : StandsOn view leave later.point.machine origin d
+  pub follows : Follows n is_open h later
+  pub phase_is : later.point.phase ≡ phase
+  pub counts_are : IsTrue is_open → later.point.counts n ≡ counts
+
+-- the counts behind an item, where the connection is still open
+abbrev pub counts_with : WireItem → Option Counted → Counts → Counts
+counts_with item None counts = counts
+counts_with item (Some c) counts = counts_after item c counts

@@ -1,0 +1,94 @@
+//! One act of a connection, and its reply.
+ghost use Rattle.std.specs.Prelude.{◌≡◌, ◌∷◌, false, List, Some, IfSome, IsSome, is_some, IsTrue, if◌then◌else◌, None};
+ghost use Rattle.sm_site.specs.Meanings.{IsLive};
+ghost use Rattle.sm_site.specs.Clauses.{SameOutcomes};
+ghost use Rattle.sm_wire.specs.declared.item.WireItem.{WireItem};
+ghost use Rattle.sm_origin.specs.declared.origin.Origin.{Origin};
+ghost use Rattle.sm_origin.specs.Machine.{Machine};
+ghost use Rattle.sm_origin.specs.Acting.{IsValidAct};
+ghost use Rattle.sm_serve.specs.Run.{idle, acting, act_of, closes, phase_after, sent_of};
+ghost use Rattle.sm_serve.specs.Standing.{History, StandsOn, Keeps, Reaches, counts_with};
+
+use crate::tell::tell;
+use sm_head::NO_MEMORY;
+use sm_model::Act;
+use sm_origin::law::fewer_images_stand;
+use sm_origin::{Counted, Origin, Reply};
+use sm_site::Site;
+use std::alloc::Global;
+
+/// Sends a reply, where it has bytes, and closes the connection where that is to be closed. Says whether it is still open.
+fn send_reply<S: Site>(site: &mut S, number: u64, reply: &Reply, close: bool) -> bool
+    requires live { IfSome (S.Disk.view site.old).transcript (IsLive number) }
+    ensures goes_on { (h : History) (more : List WireItem) (origin : Origin) → Keeps S.Disk.view S.Disk.may_leave S.Disk.left_at h site.old
+        → StandsOn S.Disk.view S.Disk.may_leave h.point.machine origin site.old → h.point.phase ≡ phase_after number (sent_of reply.now) close more
+        → Reaches S.Disk.view S.Disk.may_leave S.Disk.left_at h number result (if result then acting number more else idle) (h.point.counts number) origin site.new }
+    ensures closed { IsTrue close → result ≡ false }
+    ensures same { SameOutcomes (S.Disk.may_leave site.old) (S.Disk.may_leave site.new) }
+    ensures contents { (S.Disk.view site.new).contents ≡ (S.Disk.view site.old).contents }
+    ensures open { IsTrue result → IfSome (S.Disk.view site.new).transcript (IsLive number) }
+    ensures told { is_some (S.Disk.view site.new).transcript ≡ is_some (S.Disk.view site.old).transcript }
+    ensures link_faults { (S.Disk.view site.new).link_faults ≡ (S.Disk.view site.old).link_faults }
+{
+    if reply.status == 0 {
+        return end_item(site, number, close);
+    }
+    if reply.status == 500 {
+        return tell(site, number, NO_MEMORY, close);
+    }
+    tell(site, number, reply.bytes.as_slice(), close)
+}
+
+/// Ends an item that has no reply.
+fn end_item<S: Site>(site: &mut S, number: u64, close: bool) -> bool
+    requires live { IfSome (S.Disk.view site.old).transcript (IsLive number) }
+    ensures goes_on { (h : History) (more : List WireItem) (origin : Origin) → Keeps S.Disk.view S.Disk.may_leave S.Disk.left_at h site.old
+        → StandsOn S.Disk.view S.Disk.may_leave h.point.machine origin site.old → h.point.phase ≡ phase_after number None close more
+        → Reaches S.Disk.view S.Disk.may_leave S.Disk.left_at h number result (if result then acting number more else idle) (h.point.counts number) origin site.new }
+    ensures closed { IsTrue close → result ≡ false }
+    ensures same { SameOutcomes (S.Disk.may_leave site.old) (S.Disk.may_leave site.new) }
+    ensures contents { (S.Disk.view site.new).contents ≡ (S.Disk.view site.old).contents }
+    ensures open { IsTrue result → IfSome (S.Disk.view site.new).transcript (IsLive number) }
+    ensures told { is_some (S.Disk.view site.new).transcript ≡ is_some (S.Disk.view site.old).transcript }
+    ensures link_faults { (S.Disk.view site.new).link_faults ≡ (S.Disk.view site.old).link_faults }
+{
+    fewer_images_stand::<S>();
+    if close {
+        site.close(number);
+        return false;
+    }
+    true
+}
+
+/// Acts, and sends the reply. What the act counts, or None where the connection was closed.
+pub(crate) fn answer<S: Site>(
+    alloc: Global,
+    site: &mut S,
+    origin: &mut Origin,
+    number: u64,
+    act: &Act,
+    close: bool,
+) -> Option<Counted>
+    requires valid { IsValidAct act.now }
+    requires stands { (m : Machine) × StandsOn S.Disk.view S.Disk.may_leave m origin.old site.old }
+    requires live { IfSome (S.Disk.view site.old).transcript (IsLive number) }
+    ensures goes_on { (h : History) (item : WireItem) (more : List WireItem) → Keeps S.Disk.view S.Disk.may_leave S.Disk.left_at h site.old
+        → StandsOn S.Disk.view S.Disk.may_leave h.point.machine origin.old site.old → h.point.phase ≡ acting number (item ∷ more)
+        → act_of (h.point.counts number) item ≡ Some act.now → closes item ≡ close
+        → Reaches S.Disk.view S.Disk.may_leave S.Disk.left_at h number (is_some result) (if is_some result then acting number more else idle)
+        (counts_with item result (h.point.counts number)) origin.new site.new }
+    ensures closed { IsTrue close → result ≡ None }
+    ensures stands { (m : Machine) × StandsOn S.Disk.view S.Disk.may_leave m origin.new site.new }
+    ensures open { IsSome result → IfSome (S.Disk.view site.new).transcript (IsLive number) }
+    ensures told { is_some (S.Disk.view site.new).transcript ≡ is_some (S.Disk.view site.old).transcript }
+    ensures link_faults { (S.Disk.view site.new).link_faults ≡ (S.Disk.view site.old).link_faults }
+{
+    fewer_images_stand::<S>();
+    let reply = origin.act(alloc, site, act);
+    let close = reply.close | close;
+    if send_reply(site, number, &reply, close) {
+        Some(reply.counted)
+    } else {
+        None
+    }
+}

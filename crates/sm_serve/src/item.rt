@@ -1,0 +1,134 @@
+//! The items of a connection.
+ghost use Rattle.std.specs.Prelude.{is_some, ◌≡◌, ◌∷◌, ◌++◌, false, List, Some, None, IfSome, IsTrue, if◌then◌else◌, map};
+ghost use Rattle.sm_site.specs.Meanings.{IsLive};
+ghost use Rattle.sm_site.specs.Clauses.{SameOutcomes};
+ghost use Rattle.sm_wire.specs.declared.item.WireItem.{WireItem};
+ghost use Rattle.sm_origin.specs.declared.origin.Origin.{Origin};
+ghost use Rattle.sm_origin.specs.declared.reply.Counted.{Counted};
+ghost use Rattle.sm_origin.specs.Machine.{Machine};
+ghost use Rattle.sm_origin.specs.Acting.{IsValidAct};
+ghost use Rattle.sm_serve.specs.Run.{Counts, idle, acting, act_of, closes, counts_after, counts_by};
+ghost use Rattle.sm_serve.specs.Standing.{History, StandsOn, Keeps, Reaches};
+ghost use Rattle.sm_serve.specs.Resting.{counts_of, SameBut};
+ghost use Rattle.sm_serve.specs.Items.{shown_item, ItemIsValid};
+ghost use Rattle.std.specs.List.{AllByRecursion};
+
+use crate::Live;
+use crate::answer::answer;
+use crate::tell::tell;
+use sm_head::NO_MEMORY;
+use sm_model::{Act, Item};
+use sm_origin::Origin;
+use sm_site::Site;
+use std::alloc::Global;
+
+/// Acts on an item that is no end of a push. Says whether the connection is still open.
+pub(crate) fn act_on<S: Site>(
+    alloc: Global,
+    site: &mut S,
+    origin: &mut Origin,
+    live: &mut Live,
+    act: &Act,
+    close: bool,
+) -> bool
+    requires valid { IsValidAct act.now }
+    requires stands { (m : Machine) × StandsOn S.Disk.view S.Disk.may_leave m origin.old site.old }
+    requires live { IfSome (S.Disk.view site.old).transcript (IsLive live.old.number) }
+    ensures goes_on { (h : History) (item : WireItem) (more : List WireItem) → Keeps S.Disk.view S.Disk.may_leave S.Disk.left_at h site.old
+        → StandsOn S.Disk.view S.Disk.may_leave h.point.machine origin.old site.old → h.point.phase ≡ acting live.old.number (item ∷ more) → h.point.counts live.old.number ≡ counts_of live.old
+        → act_of (counts_of live.old) item ≡ Some act.now → closes item ≡ close → ((c : Counted) (counts : Counts) → counts_after item c counts ≡ counts_by c counts)
+        → Reaches S.Disk.view S.Disk.may_leave S.Disk.left_at h live.old.number result (if result then acting live.old.number more else idle) (counts_of live.new) origin.new site.new }
+    ensures closed { IsTrue close → result ≡ false }
+    ensures stands { (m : Machine) × StandsOn S.Disk.view S.Disk.may_leave m origin.new site.new }
+    ensures open { IsTrue result → IfSome (S.Disk.view site.new).transcript (IsLive live.old.number) }
+    ensures same { SameBut live.old live.new }
+    ensures told { is_some (S.Disk.view site.new).transcript ≡ is_some (S.Disk.view site.old).transcript }
+    ensures link_faults { (S.Disk.view site.new).link_faults ≡ (S.Disk.view site.old).link_faults }
+{
+    match answer(alloc, site, origin, live.number, act, close) {
+        Some(counted) => {
+            live.count(counted);
+            true
+        }
+        None => false,
+    }
+}
+
+/// Sends 500 in place of what comes next, and closes.
+pub(crate) fn starve<S: Site>(site: &mut S, number: u64) -> bool
+    requires live { IfSome (S.Disk.view site.old).transcript (IsLive number) }
+    ensures goes_on { (h : History) (more : List WireItem) (counts : Counts) (origin : Origin) → Keeps S.Disk.view S.Disk.may_leave S.Disk.left_at h site.old
+        → StandsOn S.Disk.view S.Disk.may_leave h.point.machine origin site.old → h.point.phase ≡ acting number more
+        → Reaches S.Disk.view S.Disk.may_leave S.Disk.left_at h number false idle counts origin site.new }
+    ensures same { SameOutcomes (S.Disk.may_leave site.old) (S.Disk.may_leave site.new) }
+    ensures contents { (S.Disk.view site.new).contents ≡ (S.Disk.view site.old).contents }
+    ensures closed { result ≡ false }
+    ensures told { is_some (S.Disk.view site.new).transcript ≡ is_some (S.Disk.view site.old).transcript }
+    ensures link_faults { (S.Disk.view site.new).link_faults ≡ (S.Disk.view site.old).link_faults }
+{
+    tell(site, number, NO_MEMORY, true)
+}
+
+/// Acts on one item of a push.
+fn take_item<S: Site>(
+    alloc: Global,
+    site: &mut S,
+    origin: &mut Origin,
+    live: &mut Live,
+    item: Item,
+) -> bool
+    requires valid { ItemIsValid item }
+    requires stands { (m : Machine) × StandsOn S.Disk.view S.Disk.may_leave m origin.old site.old }
+    requires live { IfSome (S.Disk.view site.old).transcript (IsLive live.old.number) }
+    ensures goes_on { (h : History) (more : List WireItem) → Keeps S.Disk.view S.Disk.may_leave S.Disk.left_at h site.old
+        → StandsOn S.Disk.view S.Disk.may_leave h.point.machine origin.old site.old → h.point.phase ≡ acting live.old.number (shown_item item ∷ more) → h.point.counts live.old.number ≡ counts_of live.old
+        → Reaches S.Disk.view S.Disk.may_leave S.Disk.left_at h live.old.number result (if result then acting live.old.number more else idle) (counts_of live.new) origin.new site.new }
+    ensures stands { (m : Machine) × StandsOn S.Disk.view S.Disk.may_leave m origin.new site.new }
+    ensures open { IsTrue result → IfSome (S.Disk.view site.new).transcript (IsLive live.old.number) }
+    ensures same { SameBut live.old live.new }
+    ensures told { is_some (S.Disk.view site.new).transcript ≡ is_some (S.Disk.view site.old).transcript }
+    ensures link_faults { (S.Disk.view site.new).link_faults ≡ (S.Disk.view site.old).link_faults }
+{
+    let act = act_for_item(item);
+    act_on(alloc, site, origin, live, &act, false)
+}
+
+fn act_for_item(item: Item) -> Act
+    ensures valid { ItemIsValid item → IsValidAct result }
+    ensures act { (counts : Counts) → act_of counts (shown_item item) ≡ Some result }
+    ensures open { closes (shown_item item) ≡ false }
+    ensures counts { (c : Counted) (counts : Counts) → counts_after (shown_item item) c counts ≡ counts_by c counts }
+{
+    match item {
+        Item::Header(channel) => Act::Header(channel),
+        Item::Frag(fragment) => Act::Frag(fragment),
+    }
+}
+
+/// Acts on items of a push, one after the other.
+pub(crate) fn take_items<S: Site>(
+    alloc: Global,
+    site: &mut S,
+    origin: &mut Origin,
+    live: &mut Live,
+    items: Vec<Item>,
+) -> bool
+    requires valid { AllByRecursion ItemIsValid items.items }
+    requires stands { (m : Machine) × StandsOn S.Disk.view S.Disk.may_leave m origin.old site.old }
+    requires live { IfSome (S.Disk.view site.old).transcript (IsLive live.old.number) }
+    ensures goes_on { (h : History) (more : List WireItem) → Keeps S.Disk.view S.Disk.may_leave S.Disk.left_at h site.old
+        → StandsOn S.Disk.view S.Disk.may_leave h.point.machine origin.old site.old → h.point.phase ≡ acting live.old.number (map shown_item items.items ++ more) → h.point.counts live.old.number ≡ counts_of live.old
+        → Reaches S.Disk.view S.Disk.may_leave S.Disk.left_at h live.old.number result (if result then acting live.old.number more else idle) (counts_of live.new) origin.new site.new }
+    ensures stands { (m : Machine) × StandsOn S.Disk.view S.Disk.may_leave m origin.new site.new }
+    ensures open { IsTrue result → IfSome (S.Disk.view site.new).transcript (IsLive live.old.number) }
+    ensures same { SameBut live.old live.new }
+    ensures told { is_some (S.Disk.view site.new).transcript ≡ is_some (S.Disk.view site.old).transcript }
+    ensures link_faults { (S.Disk.view site.new).link_faults ≡ (S.Disk.view site.old).link_faults }
+{
+    for item in items {
+        if !take_item(alloc, site, origin, live, item) {
+            return false;
+        }
+    }
+    true
+}

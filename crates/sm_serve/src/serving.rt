@@ -1,0 +1,192 @@
+//! The loop.
+ghost use Rattle.std.specs.Prelude.{◌≡◌, ◌≢◌, ◌↔◌, ◌⊎◌, ◌∷◌, ◌++◌, IsTrue, [], ℕ, true, false, Some, IfSome, IfNone, OnOk, OnErr, is_some, length, ◌<◌, ◌≤◌, slice_index};
+ghost use Rattle.sm_site.specs.Meanings.{IsLive};
+ghost use Rattle.sm_site.specs.Meanings.Deal.{Began, Came, Over};
+ghost use Rattle.sm_site.specs.Event.{deal_of};
+ghost use Rattle.sm_site.specs.Clauses.{Rose, Adds};
+ghost use Rattle.sm_origin.specs.Machine.{Machine};
+ghost use Rattle.sm_serve.specs.declared.live.Live.{Live};
+ghost use Rattle.sm_serve.specs.Connections.{is_among, live};
+ghost use Rattle.sm_serve.specs.Standing.{History, StandsOn, Pending};
+ghost use Rattle.sm_serve.specs.Resting.{IsNewborn};
+ghost use Rattle.sm_serve.specs.Serving.{IsAtRest, Turns, Serves, Known, numbers_of, Forgets, MayHandle, IsNew};
+ghost use Rattle.sm_serve.specs.Serving.{Served as HasServed, taken_by};
+
+use crate::item::starve;
+use crate::outcome::{Served, Turn};
+use crate::piece::take_piece;
+use crate::tell::tell;
+use crate::{Live, State, TOO_MANY};
+use sm_model::NoMemory;
+use sm_origin::law::fewer_images_stand;
+use sm_site::{Event, LinkError, Site};
+
+/// The place of a connection.
+fn find(lives: &[Live], number: u64) -> Option<usize>
+    ensures found { IfSome result (λ i. (i < length lives.now) × (slice_index (numbers_of lives.now) i ≡ number)) }
+    ensures missing { IfNone result ((k : ℕ) → k < length lives.now → slice_index (numbers_of lives.now) k ≢ number) }
+{
+    for (i, live) in lives.iter().enumerate() {
+        if live.number == number {
+            return Some(i);
+        }
+    }
+    None
+}
+
+/// Takes a piece. That of a connection that isn't live is passed over.
+fn take<S: Site>(site: &mut S, state: &mut State, number: u64, piece: &[u8])
+    requires stands { (m : Machine) × StandsOn S.Disk.view S.Disk.may_leave m state.old.origin site.old }
+    requires live { is_among number (numbers_of state.old.lives.items) ≡ true → IfSome (S.Disk.view site.old).transcript (IsLive number) }
+    ensures goes_on { (h : History) (m : ℕ) → Pending S.Disk.view S.Disk.may_leave S.Disk.left_at h m (Came number piece.now) site.old
+        → IsAtRest S.Disk.view S.Disk.may_leave h state.old site.old → Turns S.Disk.view S.Disk.may_leave S.Disk.left_at h 1 state.new site.new }
+    ensures stands { (m : Machine) × StandsOn S.Disk.view S.Disk.may_leave m state.new.origin site.new }
+    ensures told { is_some (S.Disk.view site.new).transcript ≡ is_some (S.Disk.view site.old).transcript }
+    ensures link_faults { (S.Disk.view site.new).link_faults ≡ (S.Disk.view site.old).link_faults }
+{
+    match find(&state.lives, number) {
+        Some(i) => {
+            let open = take_piece(
+                state.alloc,
+                site,
+                &mut state.origin,
+                &mut state.lives[i],
+                piece,
+            );
+            if !open {
+                state.lives.remove(i);
+            }
+        }
+        None => {}
+    }
+}
+
+/// Takes a connection in, or refuses it where 64 are live.
+fn open<S: Site>(site: &mut S, state: &mut State, number: u64)
+    requires stands { (m : Machine) × StandsOn S.Disk.view S.Disk.may_leave m state.old.origin site.old }
+    requires live { IfSome (S.Disk.view site.old).transcript (IsLive number) }
+    ensures goes_on { (h : History) (m : ℕ) → Pending S.Disk.view S.Disk.may_leave S.Disk.left_at h m (Began number) site.old
+        → IsAtRest S.Disk.view S.Disk.may_leave h state.old site.old → is_among number (live h.items) ≡ false → Turns S.Disk.view S.Disk.may_leave S.Disk.left_at h 1 state.new site.new }
+    ensures stands { (m : Machine) × StandsOn S.Disk.view S.Disk.may_leave m state.new.origin site.new }
+    ensures told { is_some (S.Disk.view site.new).transcript ≡ is_some (S.Disk.view site.old).transcript }
+    ensures link_faults { (S.Disk.view site.new).link_faults ≡ (S.Disk.view site.old).link_faults }
+{
+    if state.lives.len() >= 64 {
+        tell(site, number, TOO_MANY, true);
+        return;
+    }
+    match admit(state, number) {
+        Ok(()) => {}
+        Err(NoMemory) => {
+            starve(site, number);
+        }
+    }
+}
+
+/// Puts a new connection into the list.
+fn admit(state: &mut State, number: u64) -> Result<(), NoMemory>
+    ensures admitted { OnOk result ((new : Live) × IsNewborn number new × (state.new.lives.items ≡ state.old.lives.items ++ new ∷ [])) }
+    ensures refused { OnErr result (state.new.lives.items ≡ state.old.lives.items) }
+    ensures origin { state.new.origin ≡ state.old.origin }
+{
+    let live = Live::new(state.alloc, number)?;
+    state.lives.push(live)?;
+    Ok(())
+}
+
+/// Forgets a connection that the peer closed.
+fn forget(state: &mut State, number: u64)
+    ensures goes_on { (n : ℕ) → n ≡ number → Forgets n state.old state.new }
+{
+    match find(&state.lives, number) {
+        Some(i) => {
+            state.lives.remove(i);
+        }
+        None => {}
+    }
+}
+
+/// Handles an event that was taken.
+fn handle<S: Site>(site: &mut S, state: &mut State, event: Event) -> Turn
+    requires stands { (m : Machine) × StandsOn S.Disk.view S.Disk.may_leave m state.old.origin site.old }
+    requires may { MayHandle event state.old.lives.items (S.Disk.view site.old).transcript }
+    ensures goes_on { (h : History) (m : ℕ) → Pending S.Disk.view S.Disk.may_leave S.Disk.left_at h m (deal_of event) site.old
+        → IsAtRest S.Disk.view S.Disk.may_leave h state.old site.old → IsNew event h → Turns S.Disk.view S.Disk.may_leave S.Disk.left_at h 1 state.new site.new }
+    ensures stands { (m : Machine) × StandsOn S.Disk.view S.Disk.may_leave m state.new.origin site.new }
+    ensures told { is_some (S.Disk.view site.new).transcript ≡ is_some (S.Disk.view site.old).transcript }
+    ensures link_faults { (S.Disk.view site.new).link_faults ≡ (S.Disk.view site.old).link_faults }
+    ensures ended { result ≡ Turn.Ended ↔ event ≡ Event.Ended }
+    ensures still { event ≡ Event.Ended → site.new ≡ site.old }
+    ensures no_fault { result ≢ Turn.LinkFault }
+    ensures no_want { result ≢ Turn.NoMemory }
+{
+    match event {
+        Event::Opened(number) => {
+            open(site, state, number);
+            Turn::Went
+        }
+        Event::Piece(number, piece) => {
+            take(site, state, number, piece.as_slice());
+            Turn::Went
+        }
+        Event::Closed(number) => {
+            forget(state, number);
+            Turn::Went
+        }
+        Event::Ended => Turn::Ended,
+    }
+}
+
+/// Takes one event, handles all acts that it completes, and sends their replies in order. At `LinkFault` and `NoMemory`
+/// no event was taken. A failed send closes its connection, and the loop goes on.
+pub fn turn<S: Site>(site: &mut S, state: &mut State) -> Turn
+    requires stands { (m : Machine) × StandsOn S.Disk.view S.Disk.may_leave m state.old.origin site.old }
+    requires known { Known S.Disk.view S.Disk.may_leave S.Disk.left_at state.old site.old }
+    // Wherever a run had come, it goes on: from the same machine at the start, over the entries since, and what a crash may leave at
+    // each moment since fits it.
+    ensures runs { (h : History) → Serves S.Disk.view S.Disk.may_leave S.Disk.left_at h state.old site.old → Turns S.Disk.view S.Disk.may_leave S.Disk.left_at h (taken_by result) state.new site.new }
+    ensures stands { (m : Machine) × StandsOn S.Disk.view S.Disk.may_leave m state.new.origin site.new }
+    ensures told { is_some (S.Disk.view site.new).transcript ≡ is_some (S.Disk.view site.old).transcript }
+    // Exactly where the event says so.
+    ensures ended { result ≡ Turn.Ended → Adds Over (S.Link.view site.old) (S.Link.view site.new) }
+    ensures link_faults { (S.Disk.view site.old).link_faults ≤ (S.Disk.view site.new).link_faults }
+    ensures link_fault { result ≡ Turn.LinkFault → Rose (S.Disk.view site.old).link_faults (S.Disk.view site.new).link_faults }
+    ensures none_taken { (result ≡ Turn.LinkFault) ⊎ (result ≡ Turn.NoMemory) → (S.Disk.view site.new).transcript ≡ (S.Disk.view site.old).transcript }
+{
+    fewer_images_stand::<S>();
+    match site.next() {
+        Ok(event) => handle(site, state, event),
+        Err(LinkError::Failed) => Turn::LinkFault,
+        Err(LinkError::NoMemory) => Turn::NoMemory,
+    }
+}
+
+/// Serves until nothing more comes, or so many events were taken.
+pub fn serve<S: Site>(site: &mut S, state: &mut State, turns: u64) -> Served
+    requires stands { (m : Machine) × StandsOn S.Disk.view S.Disk.may_leave m state.old.origin site.old }
+    requires known { Known S.Disk.view S.Disk.may_leave S.Disk.left_at state.old site.old }
+    ensures runs { (h : History) → Serves S.Disk.view S.Disk.may_leave S.Disk.left_at h state.old site.old → HasServed S.Disk.view S.Disk.may_leave S.Disk.left_at h result turns state.new site.new }
+    ensures goes_on { (h : History) → Serves S.Disk.view S.Disk.may_leave S.Disk.left_at h state.old site.old → (n : ℕ) × Turns S.Disk.view S.Disk.may_leave S.Disk.left_at h n state.new site.new }
+    ensures stands { (m : Machine) × StandsOn S.Disk.view S.Disk.may_leave m state.new.origin site.new }
+    ensures told { is_some (S.Disk.view site.new).transcript ≡ is_some (S.Disk.view site.old).transcript }
+    ensures link_faults { (S.Disk.view site.old).link_faults ≤ (S.Disk.view site.new).link_faults }
+    ensures link_fault { result ≡ Served.LinkFault → Rose (S.Disk.view site.old).link_faults (S.Disk.view site.new).link_faults }
+{
+    for taken in 0..turns {
+        match turn(site, state) {
+            Turn::Went => {}
+            Turn::Ended => return Served::Done {
+                turns: taken,
+                behind: 0,
+                short: 0,
+            },
+            Turn::LinkFault => return Served::LinkFault,
+            Turn::NoMemory => return Served::NoMemory,
+        }
+    }
+    Served::Done {
+        turns,
+        behind: 0,
+        short: 0,
+    }
+}

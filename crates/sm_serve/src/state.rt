@@ -1,0 +1,84 @@
+//! What the loop keeps.
+ghost use Rattle.std.specs.Prelude.{◌≡◌, ◌<◌, ◌≤◌, ◌^◌, ℕ, List, None, IfOk, IfSome, IsSome, IsErrOf, is_some};
+ghost use Rattle.sm_model.specs.Channels.{IsChannel};
+ghost use Rattle.sm_model.specs.declared.entry.Entry.{Entry};
+ghost use Rattle.sm_site.specs.Clauses.{Rose, Throughout};
+ghost use Rattle.sm_site.specs.Meanings.{SameLink};
+ghost use Rattle.sm_archive.specs.declared.opened.OpenFault.TheVariants as open_fault;
+ghost use Rattle.sm_archive.specs.Store.{IsStore};
+ghost use Rattle.sm_archive.specs.Opening.{NotAStore};
+ghost use Rattle.sm_origin.specs.Machine.{Machine};
+ghost use Rattle.sm_origin.specs.Opening.{HasOneStore};
+ghost use Rattle.sm_serve.specs.Standing.{History, StandsOn};
+
+use crate::Live;
+use sm_archive::{Archive, Declared, Limits, OpenFault};
+use sm_model::Channel;
+use sm_origin::Origin;
+use sm_origin::law::an_image_fits;
+use sm_site::Site;
+use std::alloc::Global;
+
+/// What the loop keeps: the origin, and the live connections in the order in which they were opened.
+#[derive(Drop)]
+pub struct State {
+    pub alloc: Global,
+    pub origin: Origin,
+    pub lives: Vec<Live>,
+}
+
+impl State {
+    ghost use Rattle.sm_serve.specs.Serving.{Begins, Serves, Known, DeclaresIn};
+
+    /// Opens the store of a site under these limits, with no connection. A file that is fresh is made; nothing else is written.
+    pub fn start<S: Site>(alloc: Global, site: &mut S, limits: Limits) -> Result<State, OpenFault>
+        requires bytes { limits.store_bytes ≤ 2 ^ 62 }
+        requires entries { limits.entries < 2 ^ 32 }
+        // The origin stands for some log without a doubt, which is the store's where the disk tells its contents.
+        ensures opened { IfOk result (λ state. (m : Machine) × (m.doubt ≡ None) × StandsOn S.Disk.view S.Disk.may_leave m state.origin site.new) }
+        ensures store { IfOk result (λ state. IfSome (S.Disk.view site.old).contents (λ c. (m : Machine) × IsStore m.log c × (m.doubt ≡ None)
+            × StandsOn S.Disk.view S.Disk.may_leave m state.origin site.new)) }
+        ensures limits { IfOk result (λ state. state.origin.archive.limits ≡ limits) }
+        // A run begins here.
+        ensures begins { IfOk result (λ state. Begins S.Disk.view S.Disk.may_leave S.Disk.left_at state site.new) }
+        ensures refused { (at : ℕ) → IsErrOf result (open_fault.NotAStore at) → IfSome (S.Disk.view site.old).contents (NotAStore at) }
+        // Where every image is one store, it stays that at each moment.
+        ensures any_moment { (log : List Entry) → HasOneStore log (S.Disk.may_leave site.old)
+            → Throughout S.Disk.view S.Disk.left_at site.old site.new (λ t c. IsStore log c) }
+        ensures stays { (log : List Entry) → HasOneStore log (S.Disk.may_leave site.old) → HasOneStore log (S.Disk.may_leave site.new) }
+        ensures fault { IsErrOf result open_fault.DiskFault → Rose (S.Disk.view site.old).disk_faults (S.Disk.view site.new).disk_faults }
+        ensures no_fewer { (S.Disk.view site.old).disk_faults ≤ (S.Disk.view site.new).disk_faults }
+        ensures link { SameLink (S.Disk.view site.old) (S.Disk.view site.new) }
+    {
+        an_image_fits::<S>();
+        let origin = Origin::open_origin(alloc, site, limits)?;
+        Ok(State {
+            alloc,
+            origin,
+            lives: Vec::new(alloc),
+        })
+    }
+
+    /// Declares the channel of a ladder, or compares it with the one that stands.
+    pub fn declare<S: Site>(&mut self, site: &mut S, channel: &Channel) -> Declared
+        requires valid { IsChannel channel.now }
+        requires stands { (m : Machine) × StandsOn S.Disk.view S.Disk.may_leave m self.old.origin site.old }
+        // Wherever a run had come, it goes on by one step, whose reply is the answer's.
+        ensures runs { (h : History) → Serves S.Disk.view S.Disk.may_leave S.Disk.left_at h self.old site.old
+            → DeclaresIn S.Disk.view S.Disk.may_leave S.Disk.left_at h channel.now result self.new site.new }
+        ensures stands { (m : Machine) × StandsOn S.Disk.view S.Disk.may_leave m self.new.origin site.new }
+        ensures lives { self.new.lives ≡ self.old.lives }
+        ensures no_fewer { (S.Disk.view site.old).disk_faults ≤ (S.Disk.view site.new).disk_faults }
+        ensures link { SameLink (S.Disk.view site.old) (S.Disk.view site.new) }
+    {
+        an_image_fits::<S>();
+        self.origin.declare(self.alloc, site, channel)
+    }
+
+    /// The archive of the store.
+    pub fn archive(&self) -> &Archive
+        ensures { result.now ≡ self.now.origin.archive }
+    {
+        self.origin.archive()
+    }
+}
