@@ -46,8 +46,11 @@ returns-in-Ok-settle-clause-step g c = λ log doubt s.
     let m = e.settled log doubt (stands_reserved c.args.self.now c.header.new.self (g.D.Disk.may_leave c.args.disk.now) c.in-Ok.ensures.reserved log doubt s) in
     let r = still_ready c.args.self.now c.header.new.self c.settle.new.self (g.D.Disk.may_leave c.args.disk.now) c.args.channel.now log doubt m.0 c.in-Ok.header s (clears_settles _ log doubt m.0 m.1)
     (λ is. c.in-Ok.ensures.unneeded (made_ok _ _ is)) (λ own is. c.in-Ok.ensures.ready own (made_ok _ _ is)) e.reserved.0 e.reserved.1 in
-    let clears = clears_as (Acted (g.D.Disk.view c.args.disk.now) (g.D.Disk.view c.settle.new.disk)) (Acted (g.D.Disk.view c.args.disk.now) (g.D.Disk.view c.declare_settled.new.disk)) log doubt m.0 (λ did. acted_first (g.D.Disk.view c.args.disk.now) (g.D.Disk.view c.settle.new.disk) (g.D.Disk.view c.declare_settled.new.disk) did c.declare_settled.ensures.recorded) m.1 in
-    step_from (Acted (g.D.Disk.view c.args.disk.now) (g.D.Disk.view c.declare_settled.new.disk)) (Acted (g.D.Disk.view c.settle.new.disk) (g.D.Disk.view c.declare_settled.new.disk)) (λ did. acted_then (g.D.Disk.view c.args.disk.now) (g.D.Disk.view c.settle.new.disk) (g.D.Disk.view c.declare_settled.new.disk) c.settle.ensures.recorded did) (g.D.Disk.may_leave c.declare_settled.new.disk) c.declare_settled.new.self log doubt m.0 c.args.channel.now clears
+    let v0 = g.D.Disk.view c.args.disk.now in
+    let v1 = g.D.Disk.view c.settle.new.disk in
+    let v2 = g.D.Disk.view c.declare_settled.new.disk in
+    let clears = clears_as (Acted v0 v1) (Acted v0 v2) log doubt m.0 (λ did. acted_first v0 v1 v2 did c.declare_settled.ensures.recorded) m.1 in
+    step_from (Acted v0 v2) (Acted v1 v2) (λ did. acted_then v0 v1 v2 c.settle.ensures.recorded did) (g.D.Disk.may_leave c.declare_settled.new.disk) c.declare_settled.new.self log doubt m.0 c.args.channel.now clears
     c.declare_settled.result (c.declare_settled.ensures.step m.0 m.2 r)
 
 pub returns-in-Ok-settle-clause-any_moment : goal.returns-in-Ok-settle-clause-any_moment
@@ -61,7 +64,8 @@ returns-in-Ok-settle-clause-any_moment g c = λ log doubt s told.
     let first : Throughout g.D.Disk.view g.D.Disk.left_at c.args.disk.now c.settle.new.disk P =
     weakened g.D.Disk.view g.D.Disk.left_at _ _ _ _ (c.settle.ensures.any_moment log doubt s1) (λ t x h. (h.0, h.1, inl h.2)) in
     let second : Throughout g.D.Disk.view g.D.Disk.left_at c.settle.new.disk c.declare_settled.new.disk P =
-    weakened g.D.Disk.view g.D.Disk.left_at _ _ _ _ (c.declare_settled.ensures.any_moment m.0 m.2 r (subst (λ (o : Option Image). IsSome o) (sym e.contents) told)) (λ t x h. grown log doubt m.0 c.args.channel.now x (clears_settles _ log doubt m.0 m.1) h) in
+    weakened g.D.Disk.view g.D.Disk.left_at _ _ _ _ (c.declare_settled.ensures.any_moment m.0 m.2 r (subst (λ (o : Option Image). IsSome o) (sym e.contents) told))
+    (λ t x h. grown log doubt m.0 c.args.channel.now x (clears_settles _ log doubt m.0 m.1) h) in
     and_then g.D.Disk.view g.D.Disk.left_at _ _ _ P first second
 
 pub returns-in-Ok-settle-clause-recorded : goal.returns-in-Ok-settle-clause-recorded

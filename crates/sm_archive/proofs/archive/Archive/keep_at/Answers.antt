@@ -72,8 +72,11 @@ returns-in-Some-clause-step g c = λ log doubt s.
     let m = e.settled log doubt (stands_reserved c.args.self.now c.ready.new.self (g.D.Disk.may_leave c.args.disk.now) c.in-Ok.ensures.reserved log doubt s) in
     let p : IsPrepared 2 c.ready.new.self c.in-Some.ready c.args.fragment.now = subst (λ (o : Option Ready). Prepared o c.ready.new.self c.args.fragment.now) c.in-Some.is c.in-Ok.ensures.prepared in
     let q = still_prepared c.ready.new.self c.settle.new.self c.in-Some.ready c.args.fragment.now p e.channel e.space e.reserved.0 e.reserved.1 in
-    let clears = clears_as (Acted (g.D.Disk.view c.args.disk.now) (g.D.Disk.view c.settle.new.disk)) (Acted (g.D.Disk.view c.args.disk.now) (g.D.Disk.view c.keep_ready.new.disk)) log doubt m.0 (λ did. acted_first (g.D.Disk.view c.args.disk.now) (g.D.Disk.view c.settle.new.disk) (g.D.Disk.view c.keep_ready.new.disk) did c.keep_ready.ensures.recorded) m.1 in
-    step_from (Acted (g.D.Disk.view c.args.disk.now) (g.D.Disk.view c.keep_ready.new.disk)) (Acted (g.D.Disk.view c.settle.new.disk) (g.D.Disk.view c.keep_ready.new.disk)) (λ did. acted_then (g.D.Disk.view c.args.disk.now) (g.D.Disk.view c.settle.new.disk) (g.D.Disk.view c.keep_ready.new.disk) c.settle.ensures.recorded did) (g.D.Disk.may_leave c.keep_ready.new.disk) c.keep_ready.new.self log doubt m.0 clears
+    let v0 = g.D.Disk.view c.args.disk.now in
+    let v1 = g.D.Disk.view c.settle.new.disk in
+    let v2 = g.D.Disk.view c.keep_ready.new.disk in
+    let clears = clears_as (Acted v0 v1) (Acted v0 v2) log doubt m.0 (λ did. acted_first v0 v1 v2 did c.keep_ready.ensures.recorded) m.1 in
+    step_from (Acted v0 v2) (Acted v1 v2) (λ did. acted_then v0 v1 v2 c.settle.ensures.recorded did) (g.D.Disk.may_leave c.keep_ready.new.disk) c.keep_ready.new.self log doubt m.0 clears
     c.args.fragment.now c.keep_ready.result (c.keep_ready.ensures.step m.0 c.args.fragment.now m.2 q c.requires.valid)
 
 pub returns-in-Some-clause-any_moment : goal.returns-in-Some-clause-any_moment
@@ -87,7 +90,8 @@ returns-in-Some-clause-any_moment g c = λ log doubt s told.
     let first : Throughout g.D.Disk.view g.D.Disk.left_at c.args.disk.now c.settle.new.disk P =
     weakened g.D.Disk.view g.D.Disk.left_at _ _ _ _ (c.settle.ensures.any_moment log doubt s1) (λ t x h. (h.0, h.1, inl h.2)) in
     let second : Throughout g.D.Disk.view g.D.Disk.left_at c.settle.new.disk c.keep_ready.new.disk P =
-    weakened g.D.Disk.view g.D.Disk.left_at _ _ _ _ (c.keep_ready.ensures.any_moment m.0 c.args.fragment.now m.2 q c.requires.valid (subst (λ (o : Option Image). IsSome o) (sym e.contents) told)) (λ t x h. grown log doubt m.0 (clears_settles _ log doubt m.0 m.1) c.args.fragment.now x h) in
+    weakened g.D.Disk.view g.D.Disk.left_at _ _ _ _ (c.keep_ready.ensures.any_moment m.0 c.args.fragment.now m.2 q c.requires.valid (subst (λ (o : Option Image). IsSome o) (sym e.contents) told))
+    (λ t x h. grown log doubt m.0 (clears_settles _ log doubt m.0 m.1) c.args.fragment.now x h) in
     and_then g.D.Disk.view g.D.Disk.left_at _ _ _ P first second
 
 pub returns-in-Some-clause-fault : goal.returns-in-Some-clause-fault
