@@ -64,7 +64,13 @@ fn fragment(alloc: Global, time: u64, bytes: &[u8]) -> Result<Fragment> {
     })
 }
 
-fn keep_all(alloc: Global, archive: &mut Archive, disk: &mut MemorySite, count: u32, bytes: &[u8]) -> Result<u64>
+fn keep_all(
+    alloc: Global,
+    archive: &mut Archive,
+    disk: &mut MemorySite,
+    count: u32,
+    bytes: &[u8],
+) -> Result<u64>
     requires { (log : List Entry) × (doubt : Option Entry) × Stands archive.old log doubt (site_may_leave disk.old) }
 {
     let mut kept = 0u64;

@@ -1,5 +1,5 @@
 -- Taking in the bodies of a store, one by one.
-use Rattle.std.proofs.Common.{◌≡◌, ℕ, ◌+◌, ◌≤◌, ◌<◌, ◌^◌, min, ◌-◌, Bool, true, List, [], ◌∷◌, ◌++◌, length, Option, None, Some, Result, Ok, Err, refl, sym, ap, subst, ◌∙◌, arith, rules}
+use Rattle.std.proofs.Common.{◌≡◌, ℕ, ◌+◌, ◌<◌, ◌^◌, min, ◌-◌, List, [], ◌∷◌, ◌++◌, length, Option, None, Some, sym, ap, subst, ◌∙◌, arith}
 use Rattle.std.proofs.lemmas.List.Sums.{sum_by_push}
 use Rattle.sm_model.specs.declared.track.Track.{Track}
 use Rattle.sm_model.specs.declared.fragment.Fragment.{Fragment}
@@ -8,14 +8,13 @@ use Rattle.sm_model.specs.declared.entry.Entry.{Entry}
 use Rattle.sm_model.specs.declared.entry.Entry.TheVariants.{Declare, Keep}
 use Rattle.sm_model.specs.Entries.{address_of}
 use Rattle.sm_log.specs.Adds.{Add, verdict}
-use Rattle.sm_log.specs.declared.verdict.Judged.TheVariants.{NotDeclared, New}
+use Rattle.sm_log.specs.declared.verdict.Judged.TheVariants.{New}
 use Rattle.sm_log.specs.Logs.{channel_of, verdict_on, FitsBehind}
 use Rattle.sm_record.specs.Bodies.{IsBody}
 use Rattle.sm_record.specs.Metas.{IsMetaOf}
 use Rattle.sm_record.specs.declared.meta.Meta.{Meta}
 use Rattle.sm_archive.specs.declared.index.Index.{Index}
 use Rattle.sm_archive.specs.Index.{HasSpace, Reserved, Added}
-use Rattle.sm_archive.specs.Store.{Spell}
 use Rattle.sm_archive.specs.Stands.{IsIndex, IndexIs, used_by}
 use Rattle.sm_archive.specs.Opening.{IsMisfit, IsWalked}
 use Rattle.sm_archive.proofs.Lists.{all_zip_len}

@@ -1,5 +1,5 @@
 -- What appending a fragment leaves.
-use Rattle.std.proofs.Common.{◌≡◌, ℕ, ◌+◌, ◌≤◌, ◌<◌, true, false, List, [], ◌∷◌, ◌++◌, length, Option, None, Some, refl, sym, ap, subst, ◌∙◌, ◌⊎◌, inl, inr, arith}
+use Rattle.std.proofs.Common.{◌≡◌, ℕ, ◌+◌, ◌≤◌, ◌<◌, true, List, [], ◌∷◌, ◌++◌, length, Option, None, Some, refl, sym, ap, subst, ◌∙◌, ◌⊎◌, inl, inr, arith}
 use Rattle.std.proofs.lemmas.List.Sums.{sum_by_push}
 use Rattle.sm_model.specs.declared.track.Track.{Track}
 use Rattle.sm_model.specs.declared.fragment.Fragment.{Fragment}
@@ -9,7 +9,7 @@ use Rattle.sm_model.specs.declared.entry.Entry.TheVariants.{Keep}
 use Rattle.sm_model.specs.Fragments.{IsValid}
 use Rattle.sm_model.specs.Entries.{address_of}
 use Rattle.sm_log.specs.declared.verdict.Judged.TheVariants.{New, NotDeclared}
-use Rattle.sm_log.specs.Adds.{verdict, times_of}
+use Rattle.sm_log.specs.Adds.{times_of}
 use Rattle.sm_log.specs.Logs.{channel_of, adds_of, verdict_on}
 use Rattle.sm_record.specs.declared.meta.Meta.{Meta}
 use Rattle.sm_record.specs.Bodies.{IsBody, body_len}
@@ -40,7 +40,6 @@ use Rattle.sm_archive.proofs.Indexes.{can_take, index_taken}
 use Rattle.sm_archive.proofs.Settling.{archive}
 use Rattle.sm_archive.proofs.Words.{sure_of}
 use Rattle.sm_seglog.specs.Segments.{count_of}
-use Rattle.std.proofs.Common.{is_some}
 
 pub no_channel : (f : Fragment) → verdict_on [] f ≡ NotDeclared
 no_channel f = refl
@@ -132,21 +131,24 @@ module _ (a : Archive) (p : Pending) (body : List ℕ) (log : List Entry) (e : E
       let k = s.keeps in
       let d : Doubt = record { entry = p; bytes = bytes } in (
         unused v (Some d) stay,
-        inr (did, record {
-          bodies = s.bodies;
-          body = Some body;
-          stands = so s.bodies seg_stands;
-          keeps = record {
-            count = (so s.bodies seg_stands).count;
-            spell = k.spell;
-            sound = k.sound;
-            index = k.index;
-            used = k.used;
-            few = k.few;
-            low = k.low;
-            doubted = record { fits = can.fits; few = can.few; spelled = can.spelled; bytes = bytes_is; spare = stay.spare; pends = can.pends };
-          };
-        }),
+        inr (
+          did,
+          record {
+            bodies = s.bodies;
+            body = Some body;
+            stands = so s.bodies seg_stands;
+            keeps = record {
+              count = (so s.bodies seg_stands).count;
+              spell = k.spell;
+              sound = k.sound;
+              index = k.index;
+              used = k.used;
+              few = k.few;
+              low = k.low;
+              doubted = record { fits = can.fits; few = can.few; spelled = can.spelled; bytes = bytes_is; spare = stay.spare; pends = can.pends };
+            };
+          },
+        ),
       )
 
 -- ---- a fragment

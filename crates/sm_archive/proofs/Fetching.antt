@@ -4,7 +4,6 @@ use Rattle.std.specs.Prelude.{IsSome, IfSome, Result, Ok, Err, IfOk, OnErr}
 use Rattle.sm_record.specs.declared.fault.RecordFault.{RecordFault}
 use Rattle.sm_record.specs.declared.fault.RecordFault.TheVariants as faults
 use Rattle.std.specs.List.{AllZip, slice_get}
-use Rattle.std.specs.Str.{bytes_eq}
 use Rattle.std.specs.Cmp.Lexicographic.{same_text}
 use Rattle.std.proofs.lemmas.Bool.{eqb-true}
 use Rattle.std.proofs.lemmas.Option.{slice_get_within}

@@ -6,7 +6,7 @@ use Rattle.sm_model.specs.declared.entry.Entry.{Entry}
 use Rattle.sm_model.specs.declared.entry.Entry.TheVariants.{Keep}
 use Rattle.sm_model.specs.Entries.{address_of}
 use Rattle.sm_log.specs.declared.verdict.Judged.TheVariants.{NotDeclared}
-use Rattle.sm_log.specs.Adds.{verdict, is_declared}
+use Rattle.sm_log.specs.Adds.{is_declared}
 use Rattle.sm_log.specs.Logs.{channel_of, verdict_on}
 use Rattle.sm_archive.specs.Steps.{Clears, Settles, Grows}
 use Rattle.sm_site.specs.Image.{Image}

@@ -16,7 +16,7 @@ use Rattle.sm_archive.specs.declared.archive.Pending.TheVariants as pending
 use Rattle.sm_archive.specs.declared.archive.Doubt.{Doubt}
 use Rattle.sm_archive.specs.declared.archive.Archive.{Archive}
 use Rattle.sm_archive.specs.Index.{HasSpace}
-use Rattle.sm_archive.specs.Stands.{Doubted, Stands, used_by}
+use Rattle.sm_archive.specs.Stands.{Stands, used_by}
 use Rattle.sm_archive.specs.Taking.{CanTake, Taken}
 use Rattle.sm_archive.specs.Keeping.{HasChannel, SpaceIn}
 use Rattle.sm_archive.proofs.Lists.{all_zip_len}

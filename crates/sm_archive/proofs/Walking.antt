@@ -1,13 +1,11 @@
 -- The walk over the bodies of a store.
-use Rattle.std.proofs.Common.{◌≡◌, ◌⊎◌, ℕ, zero, suc, ◌+◌, ◌-◌, ◌≤◌, ◌<◌, ◌^◌, min, true, List, [], ◌∷◌, ◌++◌, length, take, replicate, slice_get, Option, None, Some, is_some, IsSome, IfSome, Result, Ok, Err, refl, sym, ap, subst, ◌∙◌, inl, inr, arith, rules}
-use Rattle.std.specs.Prelude.{IfOk}
+use Rattle.std.proofs.Common.{◌≡◌, ℕ, zero, suc, ◌+◌, ◌≤◌, ◌<◌, ◌^◌, List, [], ◌∷◌, ◌++◌, length, take, replicate, slice_get, Option, None, Some, is_some, IsSome, IfSome, Result, Err, refl, sym, ap, subst, ◌∙◌, inl, inr, arith}
 use Rattle.sm_archive.specs.declared.opened.OpenFault.{OpenFault}
 use Rattle.sm_archive.specs.declared.opened.OpenFault.TheVariants as open_fault
 use Rattle.std.proofs.lemmas.List.{take_all, length_push}
 use Rattle.sm_model.specs.declared.entry.Entry.{Entry}
 use Rattle.sm_log.specs.Logs.{IsSound}
 use Rattle.sm_site.specs.Image.{Image}
-use Rattle.sm_site.specs.Meanings.{View}
 use Rattle.sm_seglog.specs.Stores.{HasStore, slots_in, NotAStore as NoLog}
 use Rattle.sm_seglog.specs.Segments.{Segments, SegStands, IsOpened, slots_of}
 use Rattle.sm_gatelog.specs.declared.slot.Slot.{Slot}
@@ -19,7 +17,7 @@ use Rattle.sm_archive.specs.declared.archive.Archive.{Archive}
 use Rattle.sm_archive.specs.declared.limits.Limits.{Limits}
 use Rattle.sm_archive.specs.Store.{Spell, IsStore}
 use Rattle.sm_archive.specs.Stands.{Stands}
-use Rattle.sm_archive.specs.Opening.{IsMisfit, FailsAt, IsNoEntry, NotAStore, IsWalked, IsRead}
+use Rattle.sm_archive.specs.Opening.{IsMisfit, FailsAt, NotAStore, IsWalked, IsRead}
 use Rattle.sm_archive.proofs.Lists.{no_tail}
 use Rattle.sm_archive.proofs.Fetching.{told}
 use Rattle.sm_seglog.specs.Segments.{count_of}

@@ -1,5 +1,5 @@
 -- What the log's words say in the archive's.
-use Rattle.std.proofs.Common.{◌≡◌, ◌≢◌, ⊎_elim, ℕ, ◌+◌, ◌-◌, ◌≤◌, ◌<◌, ◌^◌, min, Bool, true, false, cond, nat_le, nat_lt, leb, List, [], ◌∷◌, ◌++◌, length, get_or, slice_get, take, Option, None, Some, is_some, IsSome, IfSome, refl, sym, ap, subst, ◌∙◌, ◌⊎◌, inl, inr, arith}
+use Rattle.std.proofs.Common.{◌≡◌, ◌≢◌, ⊎_elim, ℕ, ◌+◌, ◌-◌, ◌≤◌, ◌<◌, ◌^◌, min, Bool, true, false, cond, nat_le, nat_lt, List, [], ◌∷◌, ◌++◌, length, get_or, slice_get, Option, None, Some, is_some, IsSome, IfSome, refl, sym, ap, subst, ◌∙◌, ◌⊎◌, inl, inr, arith}
 use Rattle.std.proofs.lemmas.Bool.{le-leb, leb-true, lt-ltb, ltb-true}
 use Rattle.std.proofs.lemmas.List.{length_push, length-append}
 use Rattle.sm_site.specs.Image.{Image}
@@ -14,9 +14,7 @@ use Rattle.std.proofs.lemmas.Option.{slice_get-get_or}
 use Rattle.sm_seglog.proofs.Opening.{each_fewer}
 use Rattle.sm_gatelog.specs.declared.answer.Appended.{Appended}
 use Rattle.sm_gatelog.specs.declared.answer.Appended.TheVariants as appended
-use Rattle.sm_gatelog.specs.declared.answer.Settled.{Settled}
-use Rattle.sm_gatelog.specs.declared.answer.Settled.TheVariants as settled
-use Rattle.sm_seglog.specs.Segments.{Segments, SegStands, GoesOn, IsNextReady, IsReady, IsBlank, NextGrows, OnlyReserved, SegAfter, advanced, count_of, slots_of, with_last}
+use Rattle.sm_seglog.specs.Segments.{Segments, SegStands, GoesOn, IsReady, IsBlank, NextGrows, OnlyReserved, SegAfter, advanced, count_of, slots_of, with_last}
 use Rattle.sm_archive.specs.Bodies.{next_room, room_of, EndsWithin, Fits, Stands, Stays, IsFault}
 
 -- ---- what is reserved

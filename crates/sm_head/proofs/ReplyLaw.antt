@@ -124,7 +124,7 @@ number_is_length n low =
     rw (some, few, digits_all (decimal n) numeral.1) refl
 
 -- a status has three digits
-three_digits : (n : ℕ) → IsStatusCode n → length (decimal n) ≡ 3
+pub three_digits : (n : ℕ) → IsStatusCode n → length (decimal n) ≡ 3
 three_digits n is =
     let last = decimal_step n (omega (arith, is.0)) (omega (arith, is.1)) in
     let middle = decimal_step (n / 10) (omega (arith, is.0)) (omega (arith, is.1)) in
@@ -133,7 +133,7 @@ three_digits n is =
 
 -- ---- phrases
 
-abbrev is_fit : ℕ → Bool
+abbrev pub is_fit : ℕ → Bool
 is_fit n = list_all is_value_byte (phrase n) && nat_le (length (phrase n)) 64
 
 abbrev fit_below : ℕ → Bool
@@ -141,7 +141,7 @@ fit_below zero = true
 fit_below (suc n) = is_fit n && fit_below n
 
 -- each phrase may stand in a status line, and is short
-phrase_fits : (n : ℕ) → n < 1000 → is_fit n ≡ true
+pub phrase_fits : (n : ℕ) → n < 1000 → is_fit n ≡ true
 unfolding phrase
 phrase_fits n low = (Decides-below_and is_fit (λ k. is_fit k ≡ true) fit_below (λ k. (λ x. x, λ x. x)) refl (λ _. refl) 1000).0 refl n low
 

@@ -5,3 +5,4 @@ pub mod Judged
 pub mod Requests
 pub mod Responses
 pub mod Replies
+pub mod Shown

@@ -3,6 +3,7 @@ ghost use Rattle.std.specs.Prelude.{◌≡◌, ◌<◌, ◌^◌, ◌⊎◌, ℕ,
 ghost use Rattle.http.specs.StatusCode.{IsStatusCode};
 ghost use Rattle.sm_head.specs.Replies.{crlf, status_line, reply_head, reply_text};
 ghost use Rattle.sm_head.specs.Responses.{IsRespAnswer, IsButForMemory, written_framing};
+ghost use Rattle.sm_head.specs.Shown.{shows_status, body_of};
 ghost use Rattle.sm_head.specs.declared.reply.Content.{Content};
 ghost use Rattle.sm_head.specs.declared.reply.Content.TheVariants.{Plain};
 ghost use Rattle.sm_head.specs.declared.reply.TheConstants.{NO_MEMORY, CONTINUE};
@@ -40,3 +41,29 @@ pub fn written_reply_is_read()
         → IsStatusCode status → count < 10 ^ 18 → reply_head status kind count close ≡ front ++ rest → 0 < length rest
         → IsRespAnswer front answer → IsButForMemory answer (Ok Partial) }
 {}
+
+/// Each part of a written reply shows as its body a front of the reply's body, perhaps nothing of it.
+pub fn part_shows_front_of_body()
+    ensures { (status : ℕ) (kind : Content) (body : List ℕ) (close : Bool) (part more : List ℕ) → IsStatusCode status
+        → part ++ more ≡ reply_text status kind body close → (rest : List ℕ) × (body_of part ++ rest ≡ body) }
+{}
+
+/// Each part of a written reply shows no status but the reply's own, and the whole reply shows that.
+pub fn part_shows_its_status()
+    ensures own { (status other : ℕ) (kind : Content) (body : List ℕ) (close : Bool) (part more : List ℕ) → IsStatusCode status → IsStatusCode other
+        → part ++ more ≡ reply_text status kind body close → shows_status other part ≡ true → other ≡ status }
+    ensures whole { (status : ℕ) (kind : Content) (body : List ℕ) (close : Bool) → shows_status status (reply_text status kind body close) ≡ true }
+{}
+
+/// The texts that stand ready show theirs: what lets a client go on 100, of which no part has a body, and what tells want of
+/// memory 500.
+pub fn ready_texts_show_their_status()
+    ensures goes_on { (other : ℕ) (part more : List ℕ) → IsStatusCode other → part ++ more ≡ CONTINUE.now → shows_status other part ≡ true → other ≡ 100 }
+    ensures empty { (part more : List ℕ) → part ++ more ≡ CONTINUE.now → body_of part ≡ [] }
+    ensures no_memory { (other : ℕ) (part more : List ℕ) → IsStatusCode other → part ++ more ≡ NO_MEMORY.now → shows_status other part ≡ true → other ≡ 500 }
+    ensures whole { (shows_status 100 CONTINUE.now ≡ true) × (shows_status 500 NO_MEMORY.now ≡ true) }
+{
+    continue_is_told();
+    no_memory_is_told();
+    part_shows_its_status();
+}

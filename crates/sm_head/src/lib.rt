@@ -6,6 +6,7 @@ mod fields;
 mod heads;
 pub mod law;
 mod length;
+pub mod plain;
 mod reply;
 mod request;
 mod response;

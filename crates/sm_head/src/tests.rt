@@ -1,6 +1,6 @@
 use crate::{
-    Content, HeadFault, ReqHead, RespFault, RespHead, Verb, put_response, read_request,
-    read_response,
+    CONTINUE, Content, HeadFault, NO_MEMORY, ReqHead, RespFault, RespHead, Verb, plain,
+    put_response, read_request, read_response,
 };
 use sm_model::{Framing, Target};
 use std::test::Fail;
@@ -325,5 +325,28 @@ fn replies_are_written(rt: HostRuntime) -> Result<(), Fail> {
         text.as_slice(),
         b"HTTP/1.1 507 Insufficient Storage\r\nContent-Type: text/xml\r\nContent-Length: 0\r\n\r\n".as_slice()
     );
+    Ok(())
+}
+
+// Status, part, whether the part shows the status, and what it shows of the body.
+#[test]
+fn parts_of_replies_show_their_own(rt: HostRuntime) -> Result<(), Fail> {
+    let whole: &[u8] =
+        b"HTTP/1.1 200 OK\r\nContent-Type: text/plain\r\nContent-Length: 6\r\n\r\na\r\n\r\nb";
+    let table: [(u16, &[u8], bool, &[u8]); 9] = [
+        (200, whole, true, b"a\r\n\r\nb"),
+        (200, &whole[..whole.len() - 2], true, b"a\r\n\r"),
+        (200, &whole[..whole.len() - 6], true, b""),
+        (200, &whole[..whole.len() - 7], true, b""),
+        (200, b"HTTP/1.1 200", true, b""),
+        (200, b"HTTP/1.1 20", false, b""),
+        (404, whole, false, b"a\r\n\r\nb"),
+        (100, CONTINUE, true, b""),
+        (500, NO_MEMORY, true, b"33 NoMemory\n"),
+    ];
+    for (status, part, shows, body) in table {
+        assert_eq!(rt; plain::shows_status(rt.alloc(), status, part)?, shows);
+        assert_eq!(rt; plain::body_of(part), body);
+    }
     Ok(())
 }

@@ -76,7 +76,7 @@ times_stay s t d ts (a ∷ more) sorted e =
     by_test true = refl
     by_test false = refl
 
-filter_entry : (p : ℕ × ℕ → Bool) (t d : ℕ) (ts : List (ℕ × ℕ)) → AreSorted ts → entry_at t (filter p ts) ≡ Some d → (entry_at t ts ≡ Some d) × (p (t, d) ≡ true)
+pub filter_entry : (p : ℕ × ℕ → Bool) (t d : ℕ) (ts : List (ℕ × ℕ)) → AreSorted ts → entry_at t (filter p ts) ≡ Some d → (entry_at t ts ≡ Some d) × (p (t, d) ≡ true)
 filter_entry p t d [] sorted e = absurd cc
 filter_entry p t d (x ∷ ts) sorted e = by_test (p x) (eqb x.0 t) refl refl e (λ k. filter_entry p t d ts sorted.1 k)
   where

@@ -9,3 +9,4 @@ pub mod OlderAdds
 pub mod Lists
 pub mod AllLogs
 pub mod PlainLemmas
+pub mod ListedKept

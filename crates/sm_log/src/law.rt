@@ -1,15 +1,17 @@
 //! Laws of logs. Each is the contract of a function that does nothing.
-ghost use Rattle.std.specs.Prelude.{◌≡◌, ◌++◌, ◌∷◌, ◌<◌, ◌^◌, ◌+◌, [], ℕ, false, List, Some, AllPairs, length, slice_get};
-ghost use Rattle.std.specs.Option.{option_map};
+ghost use Rattle.std.specs.Prelude.{◌≡◌, ◌++◌, ◌∷◌, ◌<◌, ◌≤◌, ◌^◌, ◌+◌, [], ℕ, true, false, List, Some, All, AllPairs, is_some, length, slice_get};
+ghost use Rattle.std.specs.Option.{option_map, IsSome};
 ghost use Rattle.sm_model.specs.declared.address.Address.{Address};
 ghost use Rattle.sm_model.specs.declared.entry.Entry.{Entry};
 ghost use Rattle.sm_model.specs.declared.entry.Entry.TheVariants.{Keep};
 ghost use Rattle.sm_model.specs.declared.fragment.Fragment.{Fragment};
 ghost use Rattle.sm_model.specs.declared.track.Track.{Track};
-ghost use Rattle.sm_log.specs.Times.{entry_at, do_overlap, AreTimes};
-ghost use Rattle.sm_log.specs.Adds.{Add, listed, place_of};
+ghost use Rattle.sm_log.specs.Times.{entry_at, do_overlap, AreTimes, IsSpan};
+ghost use Rattle.sm_log.specs.Adds.{Add, is_declared, listed, place_of};
+ghost use Rattle.sm_model.specs.Channels.{IsChannel};
 ghost use Rattle.sm_model.specs.Entries.{address_of};
-ghost use Rattle.sm_log.specs.Logs.{adds_of, kept_at, times_in, listed_in, FitsBehind, IsSound};
+ghost use Rattle.sm_model.specs.Fragments.{IsValid, IsWide};
+ghost use Rattle.sm_log.specs.Logs.{channel_of, adds_of, kept_at, times_in, listed_in, ahead_in, FitsBehind, IsSound};
 ghost use Rattle.sm_log.specs.Older.{IsOlderSound};
 ghost use Rattle.sm_log.specs.Digests.{Digest, digest_of, Extends};
 
@@ -50,6 +52,34 @@ pub fn kept_is_added()
         → place_of address (adds_of log) ≡ option_map (λ (k : ℕ × Fragment). k.0) (kept_at log address) }
     ensures one { (front back : List Entry) (f : Fragment) → IsSound (front ++ Keep f ∷ back)
         → kept_at (front ++ Keep f ∷ back) (address_of f) ≡ Some (length front, f) }
+{}
+
+/// At an address of a declared track whose time is listed a fragment is kept.
+pub fn what_is_listed_is_kept()
+    ensures { (log : List Entry) (channel : List Track) (address : Address) → channel_of log ≡ Some channel → is_declared channel address ≡ true
+        → is_some (entry_at address.time (listed_in log address.stream)) ≡ true → IsSome (kept_at log address) }
+{}
+
+/// A sound log has what is asked of a manifest's channel and times: a valid channel, and times that are spans and can be
+/// counted.
+pub fn sound_logs_can_be_listed()
+    ensures channel { (log : List Entry) (channel : List Track) → IsSound log → channel_of log ≡ Some channel → IsChannel channel }
+    ensures spans { (log : List Entry) (stream : List ℕ) → IsSound log → All IsSpan (listed_in log stream) }
+    ensures few { (log : List Entry) (stream : List ℕ) → IsSound log → length (listed_in log stream) < 2 ^ 64 }
+{}
+
+/// The times ahead are listed ones, at most two, and in a sound log they have 64 bits.
+pub fn what_is_ahead_is_listed()
+    ensures listed { (log : List Entry) (stream : List ℕ) (start index time duration : ℕ) → slice_get (ahead_in log stream start) index ≡ Some (time, duration)
+        → entry_at time (listed_in log stream) ≡ Some duration }
+    ensures few { (log : List Entry) (stream : List ℕ) (start : ℕ) → length (ahead_in log stream start) ≤ 2 }
+    ensures wide { (log : List Entry) (stream : List ℕ) (start : ℕ) → IsSound log → All IsWide (ahead_in log stream start) }
+{}
+
+/// What is kept at an address has that address, and in a sound log it is valid.
+pub fn what_is_kept_is_valid()
+    ensures address { (log : List Entry) (address : Address) (place : ℕ) (f : Fragment) → kept_at log address ≡ Some (place, f) → address_of f ≡ address }
+    ensures valid { (log : List Entry) (address : Address) (place : ℕ) (f : Fragment) → IsSound log → kept_at log address ≡ Some (place, f) → IsValid f }
 {}
 
 /// A digest extends itself and what one that it extends extends, and a log's digest extends that of each front of it.

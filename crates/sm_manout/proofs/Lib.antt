@@ -8,3 +8,13 @@ pub mod ReadLevels
 pub mod ReadStreams
 pub mod ReadManifest
 pub mod FewestRuns
+pub mod ShownPieces
+pub mod ShownLines
+pub mod ShownRuns
+pub mod ShownLevels
+pub mod ShownOpening
+pub mod ShownLevelsRead
+pub mod ShownTimes
+pub mod ShownDeclared
+pub mod ShownStream
+pub mod ShownManifest

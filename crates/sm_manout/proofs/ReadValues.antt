@@ -20,7 +20,7 @@ use Rattle.sm_tag.proofs.WrittenTags.{not_of}
 
 -- ---- numbers
 
-own : IsNumeralModel (λ ds. list_all is_digit ds ≡ true) (decimal_from 0)
+pub own : IsNumeralModel (λ ds. list_all is_digit ds ≡ true) (decimal_from 0)
 own = numerals_by_fold _ (search rules) decimal_from (search rules)
 
 digits_plain : (b : List ℕ) → list_all is_digit b ≡ true → list_all tag.is_plain b ≡ true

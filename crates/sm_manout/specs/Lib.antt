@@ -1,2 +1,4 @@
 pub mod ManifestText
 pub mod ReadAgain
+pub mod Shown
+pub mod Plain

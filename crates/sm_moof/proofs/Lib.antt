@@ -3,3 +3,4 @@ pub mod JoinLemmas
 pub mod WholeLemmas
 pub mod CutLemmas
 pub mod TrackLemmas
+pub mod ShownLemmas

@@ -8,7 +8,7 @@ mod read;
 mod track;
 mod whole;
 
-pub use law::{canonical_texts_are_no_prefixes, joins_are_cut_once};
+pub use law::{canonical_texts_are_no_prefixes, fragments_show_themselves, joins_are_cut_once};
 pub use put::put_fragment;
 pub use read::{MoofFault, finish, read_fragment, read_moof};
 pub use track::track_of;

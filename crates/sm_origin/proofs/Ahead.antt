@@ -1,5 +1,5 @@
 -- Of what stands ahead of a fragment there are at most two.
-use Rattle.std.proofs.Common.{arith, ◌≡◌, ◌≤◌, ◌+◌, ℕ, zero, suc, List, [], ◌∷◌, length, Option, None, Some, slice_get, refl, ap, sym}
+use Rattle.std.proofs.Common.{arith, ◌≡◌, ◌≤◌, ◌+◌, ℕ, suc, List, [], ◌∷◌, length, Option, None, Some, slice_get, refl}
 use Rattle.sm_model.specs.declared.track.Track.{Track}
 use Rattle.sm_log.specs.Times.{entry_at}
 use Rattle.sm_log.specs.Adds.{Add, starting, two_from, behind, ahead, listed, times_of}

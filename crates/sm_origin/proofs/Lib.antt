@@ -2,3 +2,9 @@ pub mod Ahead
 pub mod Places
 pub mod Steps
 pub mod Acts
+pub mod Asked
+pub mod Fronts
+pub mod Telling
+pub mod KeptNow
+pub mod Real
+pub mod Showing

@@ -1,5 +1,5 @@
 -- What an archive answers to an act that adds an entry, as a step.
-use Rattle.std.proofs.Common.{◌≡◌, ◌⊎◌, inl, inr, ⊎_elim, ℕ, Bool, true, false, List, [], ◌∷◌, ◌++◌, Option, None, Some, IsSome, is_some, option_map, slice_get, refl, ap, sym, subst, ◌∙◌}
+use Rattle.std.proofs.Common.{◌≡◌, ◌⊎◌, inl, inr, ℕ, true, List, [], ◌∷◌, ◌++◌, Option, None, Some, IsSome, option_map, slice_get, refl, ap, sym, subst, ◌∙◌}
 use Rattle.std.proofs.lemmas.List.{append-nil}
 use Rattle.std.proofs.Common.{append_assoc}
 use Rattle.sm_model.specs.declared.track.Track.{Track}
@@ -25,14 +25,14 @@ use Rattle.sm_archive.specs.declared.answers.Declared.TheVariants as declared
 use Rattle.sm_archive.specs.Stands.{Stands}
 use Rattle.sm_archive.specs.Steps.{Settles, Clears}
 use Rattle.sm_archive.specs.Keeping.{KeepStep, refusal_of}
-use Rattle.sm_archive.specs.Declaring.{DeclareStep, DeclaredNew, refusal_in}
+use Rattle.sm_archive.specs.Declaring.{DeclareStep, refusal_in}
 use Rattle.sm_origin.specs.declared.reply.Reply.{Reply}
 use Rattle.sm_origin.specs.declared.reply.Counted.{Counted}
 use Rattle.sm_origin.specs.declared.reply.Counted.TheVariants as counted
 use Rattle.sm_origin.specs.Replies.{closes, unplaced, silent, no_memory}
 use Rattle.sm_origin.specs.Answers.{IsTold, ToldHeader, ToldFragment, reply_to_header}
-use Rattle.sm_origin.specs.Machine.{Machine, SameLog, Judged, Fresh, There, Not, by_verdict, by_check, by_channel, judged, MeetsLimit, IsWithin, IsWithinNow}
-use Rattle.sm_origin.specs.Machine.{Writes, refused, there, full, kept, unwritten, Settled, Clear, Row, unsettled, wrote, Step, row, wants, untold, entry_of}
+use Rattle.sm_origin.specs.Machine.{Machine, SameLog, Fresh, There, Not, by_verdict, by_check, by_channel, judged, MeetsLimit, IsWithin, IsWithinNow}
+use Rattle.sm_origin.specs.Machine.{refused, there, full, kept, unwritten, Clear, Row, unsettled, wrote, Step, row, wants, untold, entry_of}
 
 -- a step of a machine to what an archive stands for now
 pub record Stepped (failed acted : Type 0) (outcomes : Image → Type 0) (m : Machine) (new : Archive) (act : Act) (reply : Reply) : Type 0 where
@@ -87,7 +87,7 @@ cleared acted m a mid (inr settled) = settles settled.1
 
 -- ---- telling
 
-told_row : (failed : Type 0) (m n : Machine) (act : Act) (why : Cause) (reply : Reply) → closes why ≡ true → ((r : Reply) → r ≡ unplaced why → Row failed m act n r)
+pub told_row : (failed : Type 0) (m n : Machine) (act : Act) (why : Cause) (reply : Reply) → closes why ≡ true → ((r : Reply) → r ≡ unplaced why → Row failed m act n r)
     → IsTold why reply → Step failed m act n reply
 told_row failed m n act why reply close made (inl told) = row (made reply told)
 told_row failed m n act why reply close made (inr none) = untold (unplaced why) (made (unplaced why) refl) close none
@@ -209,6 +209,13 @@ fragment_step failed acted outcomes m a f keeping.DiskFault reply fails (inl (so
 fragment_step failed acted outcomes m a f keeping.DiskFault reply fails (inr (mid, clears, new, within, stands)) told =
     as_unwritten failed acted outcomes m a (Frag f) (Keep f) reply refl mid clears counted.Kept (ap (by_verdict f) new) within (fails refl) stands told
 fragment_step failed acted outcomes m a f keeping.NoMemory reply fails stands told = as_wants failed acted outcomes m a (Frag f) reply stands told
+
+-- the log behind a fragment that was kept
+pub kept_log : (failed acted : Type 0) (outcomes : Image → Type 0) (m : Machine) (a : Archive) (f : Fragment) (place : ℕ) (reply : Reply)
+    (fails : keeping.Kept place ≡ keeping.DiskFault → failed) (step : KeepStep acted outcomes a m.log m.doubt f (keeping.Kept place)) (told : reply ≡ silent counted.Kept)
+    → (fragment_step failed acted outcomes m a f (keeping.Kept place) reply fails step told).after.log ≡ step.0 ++ Keep f ∷ []
+unfolding fragment_step as_kept
+kept_log failed acted outcomes m a f place reply fails (mid, clears, new, at, within, did, stands) told = refl
 
 -- ---- headers
 

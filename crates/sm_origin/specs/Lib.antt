@@ -6,3 +6,4 @@ pub mod Acting
 pub mod Opening
 pub mod Caching
 pub mod Giving
+pub mod Shown

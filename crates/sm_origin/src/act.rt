@@ -13,6 +13,7 @@ use crate::origin::Origin;
 use crate::refusal::{tell, tell_at, tell_counts};
 use crate::reply::Reply;
 use crate::told::or_starved;
+use sm_archive::an_image_fits;
 use sm_model::{Act, Cause};
 use sm_site::Site;
 use std::alloc::Global;
@@ -36,6 +37,7 @@ impl Origin {
         ensures no_fewer { (S.Disk.view site.old).disk_faults ≤ (S.Disk.view site.new).disk_faults }
         ensures link { SameLink (S.Disk.view site.old) (S.Disk.view site.new) }
     {
+        an_image_fits::<S>();
         match act {
             Act::Manifest => or_starved(alloc, list(alloc, &self.archive)),
             Act::Fragment(address) => self.fragment(alloc, site, address),

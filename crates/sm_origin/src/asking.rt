@@ -15,7 +15,8 @@ use crate::origin::Origin;
 use crate::refusal::tell;
 use crate::reply::{Reply, starved};
 use crate::told::{or_starved, refuse};
-use sm_archive::{Archive, Fetched};
+use sm_archive::{Archive, Fetched, an_image_fits};
+use sm_log::law::kept_is_added;
 use sm_model::{Address, Cause, Fragment, NoMemory};
 use sm_site::Disk;
 use std::alloc::Global;
@@ -82,6 +83,8 @@ impl Origin {
         ensures no_fewer { (D.view disk.old).disk_faults ≤ (D.view disk.new).disk_faults }
         ensures link { SameLink (D.view disk.old) (D.view disk.new) }
     {
+        an_image_fits::<D>();
+        kept_is_added();
         match self.archive.fetch(alloc, disk, address) {
             Fetched::Found { place, fragment } => {
                 or_starved(alloc, self.give_read(alloc, address, place, fragment))
@@ -111,6 +114,8 @@ impl Origin {
         ensures no_fewer { (D.view disk.old).disk_faults ≤ (D.view disk.new).disk_faults }
         ensures link { SameLink (D.view disk.old) (D.view disk.new) }
     {
+        an_image_fits::<D>();
+        kept_is_added();
         match self.cache.get(address) {
             Some(kept) => or_starved(
                 alloc,

@@ -9,6 +9,7 @@ mod listing;
 mod origin;
 mod refusal;
 mod reply;
+pub mod shown;
 mod told;
 mod writing;
 

@@ -11,9 +11,10 @@ ghost use Rattle.sm_origin.specs.Acting.{StandsFor, ActGives};
 ghost use Rattle.sm_origin.specs.Caching.{Remembers, with_kept};
 
 use crate::origin::Origin;
-use crate::reply::Reply;
+use crate::reply::{Counted, Reply, silent};
 use crate::told::{tell_declared, tell_kept};
-use sm_archive::{Declared, Keeping};
+use sm_archive::{Declared, Keeping, an_image_fits};
+use sm_log::law::{kept_is_added, listed_times_stay};
 use sm_model::{Channel, Fragment, NoMemory};
 use sm_site::{Disk, Site};
 use std::alloc::Global;
@@ -51,11 +52,16 @@ impl Origin {
         ensures no_fewer { (D.view disk.old).disk_faults ≤ (D.view disk.new).disk_faults }
         ensures link { SameLink (D.view disk.old) (D.view disk.new) }
     {
-        let answer = self.archive.keep(alloc, disk, fragment);
-        if let Keeping::Kept { place } = &answer {
-            self.remember(alloc, *place, fragment);
+        an_image_fits::<D>();
+        kept_is_added();
+        listed_times_stay();
+        match self.archive.keep(alloc, disk, fragment) {
+            Keeping::Kept { place } => {
+                self.remember(alloc, place, fragment);
+                silent(alloc, Counted::Kept)
+            }
+            answer => tell_kept(alloc, answer),
         }
-        tell_kept(alloc, answer)
     }
 
     /// Declares a channel in an empty log, or compares it with the one that stands: what a header of a push does, without a reply. An
@@ -73,28 +79,34 @@ impl Origin {
         ensures no_fewer { (S.Disk.view site.old).disk_faults ≤ (S.Disk.view site.new).disk_faults }
         ensures link { SameLink (S.Disk.view site.old) (S.Disk.view site.new) }
     {
+        an_image_fits::<S>();
+        kept_is_added();
+        listed_times_stay();
         self.archive.declare(alloc, site, channel)
     }
 
     // Takes the header of a push.
-    pub(crate) fn header<S: Site>(
+    pub(crate) fn header<D: Disk>(
         &mut self,
         alloc: Global,
-        site: &mut S,
+        disk: &mut D,
         channel: &Channel,
     ) -> Reply
         requires valid { IsChannel channel.now }
-        requires stands { (m : Machine) × StandsFor (IsSome (S.Disk.view site.old).contents) m self.old (S.Disk.may_leave site.old) }
+        requires stands { (m : Machine) × StandsFor (IsSome (D.view disk.old).contents) m self.old (D.may_leave disk.old) }
         // It stands for some machine again, whichever it stood for.
-        ensures stands { (m : Machine) × StandsFor (IsSome (S.Disk.view site.new).contents) m self.new (S.Disk.may_leave site.new) }
-        ensures step { IsSome (S.Disk.view site.old).contents → (m : Machine) → StandsFor (IsSome (S.Disk.view site.old).contents) m self.old (S.Disk.may_leave site.old)
-            → ActGives S.Disk.view S.Disk.may_leave S.Disk.left_at site.old site.new m self.new (Header channel.now) result }
+        ensures stands { (m : Machine) × StandsFor (IsSome (D.view disk.new).contents) m self.new (D.may_leave disk.new) }
+        ensures step { IsSome (D.view disk.old).contents → (m : Machine) → StandsFor (IsSome (D.view disk.old).contents) m self.old (D.may_leave disk.old)
+            → ActGives D.view D.may_leave D.left_at disk.old disk.new m self.new (Header channel.now) result }
         ensures remembers { Remembers (Header channel.now) result self.old.cache self.new.cache }
-        ensures told { is_some (S.Disk.view site.new).contents ≡ is_some (S.Disk.view site.old).contents }
-        ensures no_fewer { (S.Disk.view site.old).disk_faults ≤ (S.Disk.view site.new).disk_faults }
-        ensures link { SameLink (S.Disk.view site.old) (S.Disk.view site.new) }
+        ensures told { is_some (D.view disk.new).contents ≡ is_some (D.view disk.old).contents }
+        ensures no_fewer { (D.view disk.old).disk_faults ≤ (D.view disk.new).disk_faults }
+        ensures link { SameLink (D.view disk.old) (D.view disk.new) }
     {
-        let answer = self.declare(alloc, site, channel);
+        an_image_fits::<D>();
+        kept_is_added();
+        listed_times_stay();
+        let answer = self.archive.declare(alloc, disk, channel);
         tell_declared(alloc, answer)
     }
 }

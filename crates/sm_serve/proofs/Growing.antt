@@ -11,17 +11,17 @@ use Rattle.sm_serve.specs.Moments.{machine_at}
 use Rattle.sm_serve.proofs.Going.{machine_push}
 use Rattle.sm_serve.proofs.Adding.{Extends, and_then, step_adds}
 
-itself : (m : Machine) → Extends m m
+pub itself : (m : Machine) → Extends m m
 itself m = ([], sym (append-nil m.log))
 
 -- a move makes no step, or one from the machine of its point
-abbrev Stays : Point → List Stepped → Point → Type 0
+abbrev pub Stays : Point → List Stepped → Point → Type 0
 Stays p xs q = (xs ≡ []) × (q.machine ≡ p.machine)
 
-abbrev StepsOn : Point → List Stepped → Point → Type 0
+abbrev pub StepsOn : Point → List Stepped → Point → Type 0
 StepsOn p xs q = (x : Stepped) × (xs ≡ x ∷ []) × (x.before ≡ p.machine) × Step (Rose x.faults x.faults_after) x.before x.act x.after x.reply × (q.machine ≡ x.after)
 
-kind_of : (items : List Item) (p : Point) (es : List Item) (xs : List Stepped) (q : Point) → Moves true items p es xs q → Stays p xs q ⊎ StepsOn p xs q
+pub kind_of : (items : List Item) (p : Point) (es : List Item) (xs : List Stepped) (q : Point) → Moves true items p es xs q → Stays p xs q ⊎ StepsOn p xs q
 kind_of items p es xs q (opened m n phase few e none is) = inl (none, ap (λ (r : Point). r.machine) is)
 kind_of items p es xs q (crowded m n phase many e none is) = inl (none, ap (λ (r : Point). r.machine) is)
 kind_of items p es xs q (came m n bytes given more phase live e none one two is) = inl (none, ap (λ (r : Point). r.machine) is)
@@ -39,14 +39,14 @@ kind_of items p es xs q (unsent n bytes close more phase e none is) = inl (none,
 kind_of items p es xs q (shut m n phase e none is) = inl (none, ap (λ (r : Point). r.machine) is)
 kind_of items p es xs q (declared act x phase conn step e one is) = inr (x, one, step.before_is, (step.machine refl).step, ap (λ (r : Point). r.machine) is)
 
-reached_by : (m n : Machine) (e t : ℕ) → e ≤ t → (if nat_le e t then m else n) ≡ m
+pub reached_by : (m n : Machine) (e t : ℕ) → e ≤ t → (if nat_le e t then m else n) ≡ m
 reached_by m n e t le = grind (arith, nat_tests)
 
-not_reached : (m n : Machine) (e t : ℕ) → t < e → (if nat_le e t then m else n) ≡ n
+pub not_reached : (m n : Machine) (e t : ℕ) → t < e → (if nat_le e t then m else n) ≡ n
 not_reached m n e t lt = grind (arith, nat_tests)
 
 -- the log at a moment is a front of the last one
-below : (first : Machine) (begin : ℕ) (items : List Item) (steps : List Stepped) (p : Point) → Run true first begin items steps p → (t : ℕ) → Extends (machine_at first steps t) p.machine
+pub below : (first : Machine) (begin : ℕ) (items : List Item) (steps : List Stepped) (p : Point) → Run true first begin items steps p → (t : ℕ) → Extends (machine_at first steps t) p.machine
 below first begin [] [] p begins t = itself first
 below first begin items steps q (goes_on was es items' ss xs steps' p q' run move now all) t = go (below first begin was ss p run t) (kind_of was p es xs q move)
   where

@@ -11,3 +11,14 @@ pub mod Taking
 pub mod Events
 pub mod Adding
 pub mod Growing
+pub mod Answering
+pub mod Requests
+pub mod Fronts
+pub mod Onward
+pub mod Quiet
+pub mod Moving
+pub mod Stepping
+pub mod Along
+pub mod Laws
+pub mod Replying
+pub mod Crashing

@@ -7,3 +7,4 @@ pub mod Resting
 pub mod Items
 pub mod Giving
 pub mod Serving
+pub mod Shown

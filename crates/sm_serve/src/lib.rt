@@ -11,6 +11,7 @@ mod part;
 mod piece;
 mod push;
 mod serving;
+pub mod shown;
 mod state;
 mod tell;
 mod texts;

@@ -1,5 +1,5 @@
 -- What a run of calls puts down.
-use Rattle.std.proofs.Common.{◌≡◌, ◌≢◌, ◌⊎◌, inl, inr, ℕ, Bool, true, false, List, [], ◌∷◌, ◌++◌, refl, sym, ◌∙◌, ap, subst, Option, None, Some, Result, Ok, Err, OnOk, OnErr, append_assoc}
+use Rattle.std.proofs.Common.{◌≡◌, inl, inr, ℕ, true, false, List, [], ◌∷◌, ◌++◌, refl, sym, ◌∙◌, ap, Option, None, Some, Result, Ok, Err, OnOk, OnErr, append_assoc}
 use Rattle.std.proofs.lemmas.List.{append-nil}
 use Rattle.sm_site.specs.Meanings.{Deed, DiskCall, View}
 use Rattle.sm_site.specs.Clauses.{Both, Notes, NotesFault, Recorded, Acted, last_moment}

@@ -1,5 +1,4 @@
-use Rattle.std.proofs.Common.{rules, arith, ◌≡◌, ◌∙◌, ℕ, Bool, true, List, Option, None, Some, IsSome, IfSome, Result, Ok, Err, refl, sym, ap, subst}
-use Rattle.std.specs.Prelude.{IfOk}
+use Rattle.std.proofs.Common.{rules, ◌∙◌, ℕ, List, None, IsSome, refl, sym}
 use Rattle.sm_model.specs.declared.entry.Entry.{Entry}
 use Rattle.sm_site.specs.Image.{Image}
 use Rattle.sm_site.proofs.Moments.{weakened, and_then}
@@ -7,10 +6,9 @@ use Rattle.sm_site.proofs.Recording.{recorded_then}
 use Rattle.sm_seglog.specs.Segments.{count_of}
 use Rattle.sm_archive.specs.Bodies as seg
 use Rattle.sm_archive.specs.declared.archive.Archive.{Archive}
-use Rattle.sm_archive.specs.Store.{Spell, IsStore}
+use Rattle.sm_archive.specs.Store.{Spell}
 use Rattle.sm_archive.specs.Stands.{Stands}
-use Rattle.sm_archive.specs.Opening.{FailsAt, IsRead}
-use Rattle.sm_archive.proofs.Walking.{stands_read, spelled_read, opened_has, opened_store, opened_no_entry, opened_no_log, opened_stands, some_one, same_told, left_told}
+use Rattle.sm_archive.proofs.Walking.{stands_read, spelled_read, opened_has, opened_store, opened_no_entry, opened_no_log, opened_stands, some_one}
 use Rattle.sm_archive.proofs.opened.open_store.Goals as goal
 
 pub returns-in-Ok-walk-clause-opened : goal.returns-in-Ok-walk-clause-opened

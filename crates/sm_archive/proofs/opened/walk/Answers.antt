@@ -1,14 +1,11 @@
-use Rattle.std.proofs.Common.{rules, arith, ◌≡◌, ◌∙◌, ◌+◌, ℕ, List, [], ◌∷◌, ◌++◌, length, slice_get, get_or, Option, None, Some, IsSome, refl, sym, ap, subst}
+use Rattle.std.proofs.Common.{rules, arith, ◌≡◌, ◌∙◌, ℕ, List, [], ◌∷◌, ◌++◌, length, get_or, Option, IsSome, refl, sym, subst}
 use Rattle.sm_model.specs.declared.entry.Entry.{Entry}
-use Rattle.sm_site.specs.Image.{Image}
-use Rattle.sm_site.specs.Clauses.{Throughout}
 use Rattle.sm_site.proofs.Moments.{no_call, weakened, and_then}
-use Rattle.sm_archive.specs.Bodies as seg
 use Rattle.sm_seglog.specs.Segments.{slots_of}
 use Rattle.sm_archive.specs.Opening.{IsRead, IsWalked, IsMisfit}
 use Rattle.sm_archive.specs.declared.index.Index.{Index}
 use Rattle.sm_archive.proofs.Words.{outcome, slot_there}
-use Rattle.sm_archive.proofs.Walking.{read_none, read_next, stands_read, spelled_read, body_read, left_told, fails_at, place_is}
+use Rattle.sm_archive.proofs.Walking.{read_none, read_next, body_read, fails_at, place_is}
 use Rattle.sm_archive.proofs.opened.walk.Goals as goal
 use Rattle.sm_seglog.specs.Segments.{count_of}
 

@@ -1,4 +1,4 @@
-use Rattle.std.proofs.Common.{◌≡◌, ◌≤◌, ℕ, IsSome}
+use Rattle.std.proofs.Common.{◌≡◌, ◌≤◌, IsSome}
 use Rattle.sm_site.specs.Image.{Image}
 use Rattle.sm_site.specs.Meanings.{SameLink}
 use Rattle.sm_site.specs.Clauses.{Throughout}

@@ -10,8 +10,7 @@ append-requires g c =
 pub returns-in-Some-clause-step : goal.returns-in-Some-clause-step
 returns-in-Some-clause-step g c = λ log f s p valid new within.
     let can = can_append c.args.self.now c.args.ready f log (g.D.Disk.may_leave c.args.disk.now) s p valid new within in
-    let e = c.append.ensures.stored c.in-Some.place c.in-Some.is log (Keep f) s can in
-    (
+    let e = c.append.ensures.stored c.in-Some.place c.in-Some.is log (Keep f) s can in (
       new,
       e.0,
       within_now c.args.self.now c.args.ready f log (g.D.Disk.may_leave c.args.disk.now) s p valid new within c.append.new.self c.append.ensures.limits

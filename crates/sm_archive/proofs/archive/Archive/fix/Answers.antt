@@ -11,8 +11,7 @@ append-requires g c =
 
 pub returns-in-Some-clause-step : goal.returns-in-Some-clause-step
 returns-in-Some-clause-step g c = λ channel s h valid.
-    let can = header_can c.args.self.now c.args.header channel h valid (c.is_full_for.ensures.within channel h.len c.if-is_full_for.false) in
-    (
+    let can = header_can c.args.self.now c.args.header channel h valid (c.is_full_for.ensures.within channel h.len c.if-is_full_for.false) in (
       refl,
       within_now c.args.self.now c.append.new.self c.args.header channel h (c.is_full_for.ensures.within channel h.len c.if-is_full_for.false) c.append.ensures.limits
           (c.append.ensures.used c.in-Some.field-0 c.in-Some.is) (c.append.ensures.ends c.in-Some.field-0 c.in-Some.is),

@@ -1,4 +1,4 @@
-use Rattle.std.proofs.Common.{◌≡◌, List, ℕ, arith}
+use Rattle.std.proofs.Common.{arith}
 use Rattle.sm_log.specs.Logs.{channel_of}
 use Rattle.sm_record.specs.Bodies.{IsBody}
 use Rattle.sm_archive.proofs.Lists.{all_zip_len}
