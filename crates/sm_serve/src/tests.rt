@@ -4,9 +4,12 @@ mod texts;
 
 use crate::Served;
 use play::{play, send, sent};
+use sm_head::CONTINUE;
 use std::alloc::Global;
 use std::test::Fail;
-use texts::{GET_MANIFEST, M1, MFRA, fragment, given, header, joined, push, reply, served};
+use texts::{
+    EMPTY_PUSH, GET_MANIFEST, M1, MFRA, fragment, given, header, joined, push, reply, served,
+};
 
 // The sizes of pieces: whole, and small.
 const SIZES: [usize; 5] = [65_536, 1, 2, 3, 7];
@@ -51,7 +54,6 @@ fn pushes_are_counted_and_clashes_refused(rt: HostRuntime) -> Result<(), Fail> {
     let over = fragment(alloc, 1, 10_000_000, 20_000_000, 0x44)?;
     let clash = push(alloc, &[&head, &short])?;
     let overlap = push(alloc, &[&head, &over])?;
-    let empty = b"POST /live.isml/Streams(a) HTTP/1.1\r\nContent-Length: 0\r\n\r\n";
     let kept = reply(alloc, "200 OK", "kept 3 known 0\n", false)?;
     let known = reply(alloc, "200 OK", "kept 0 known 3\n", false)?;
     let nothing = reply(alloc, "200 OK", "kept 0 known 0\n", false)?;
@@ -67,7 +69,7 @@ fn pushes_are_counted_and_clashes_refused(rt: HostRuntime) -> Result<(), Fail> {
         (&pushed, &kept),
         (GET_MANIFEST, &manifest),
         (&pushed, &known),
-        (empty, &nothing),
+        (EMPTY_PUSH, &nothing),
         (&clash, &clashes),
         (GET_MANIFEST, &manifest),
         (&overlap, &overlaps),
@@ -136,13 +138,8 @@ fn what_is_no_push_is_refused(rt: HostRuntime) -> Result<(), Fail> {
     let chunk = reply(alloc, "400 Bad Request", "45 BadChunk\n", true)?;
     let target = reply(alloc, "404 Not Found", "42 NoTarget\n", false)?;
     let channel = reply(alloc, "404 Not Found", "48 NoChannel\n", false)?;
-    let told = joined(
-        alloc,
-        &[
-            b"HTTP/1.1 100 Continue\r\n\r\n",
-            &reply(alloc, "200 OK", "kept 0 known 0\n", false)?,
-        ],
-    )?;
+    let nothing = reply(alloc, "200 OK", "kept 0 known 0\n", false)?;
+    let told = joined(alloc, &[CONTINUE, &nothing])?;
     let rows: [(&[u8], &[u8]); 9] = [
         (GET_MANIFEST, &channel),
         (b"GET /x HTTP/1.1\r\n\r\n", &target),
