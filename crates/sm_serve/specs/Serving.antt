@@ -19,6 +19,7 @@ use Rattle.sm_serve.specs.declared.outcome.Served.TheVariants as served
 use Rattle.sm_serve.specs.Connections.{received, live, without, is_among, AreDistinct, events_in}
 use Rattle.sm_serve.specs.Run.{Stepped, idle, at, Run}
 use Rattle.sm_serve.specs.Moments.{FitsAt}
+use Rattle.sm_serve.specs.Surviving.{Survives}
 use Rattle.sm_serve.specs.Standing.{History, StandsOn, is_told, Keeps, calls_of}
 use Rattle.sm_serve.specs.Resting.{Rests, counts_of}
 
@@ -95,7 +96,7 @@ EndsAs turns served.NoMemory told before now = Unit {0}
 
 -- The loop served: from wherever a run had come it goes on, over the entries since; and at every moment since its start, each image that a
 -- crash may leave is the store of the last step that ended by then, or of that with the doubt, or of one of these with the entry that
--- is being written.
+-- is being written. So it holds whatever had been shown by then.
 pub record Served {D : Type 0} (view : D → View) (leave : D → Image → Type 0) (left_at : D → ℕ → Image → Type 0) (h : History) (result : Outcome) (turns : ℕ) (state : State) (d : D) : Type 0 where
   pub later : History
   pub since : Since h later
@@ -107,6 +108,7 @@ pub record Served {D : Type 0} (view : D → View) (leave : D → Image → Type
   pub recorded : IfSome (view d).calls (λ cs. (before : List DiskCall) × (cs ≡ before ++ calls_of later.steps))
   pub blamed : (view d).send_faults < 2 ^ 64 - 1 → later.point.failed ≤ (view d).send_faults
   pub crash : (t : ℕ) (image : Image) → later.begin ≤ t → left_at d t image → FitsAt later.first later.steps t image
+  pub survives : (t : ℕ) (image : Image) → later.begin ≤ t → left_at d t image → Survives later.first later.items t image
 
 -- A new state is where a run begins, whatever the machine that its origin stands for and the transcript before it.
 abbrev pub Begins : {D : Type 0} (view : D → View) (leave : D → Image → Type 0) (left_at : D → ℕ → Image → Type 0) → State → D → Type 0

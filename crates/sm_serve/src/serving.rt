@@ -15,6 +15,7 @@ ghost use Rattle.sm_serve.specs.Serving.{Served as HasServed, taken_by};
 use crate::item::starve;
 use crate::outcome::{Served, Turn};
 use crate::piece::take_piece;
+use crate::shown::crashes_hold_what_was_shown;
 use crate::tell::tell;
 use crate::{Live, State, TOO_MANY};
 use sm_model::NoMemory;
@@ -172,6 +173,7 @@ pub fn serve<S: Site>(site: &mut S, state: &mut State, turns: u64) -> Served
     ensures link_faults { (S.Disk.view site.old).link_faults ≤ (S.Disk.view site.new).link_faults }
     ensures link_fault { result ≡ Served.LinkFault → Rose (S.Disk.view site.old).link_faults (S.Disk.view site.new).link_faults }
 {
+    crashes_hold_what_was_shown();
     for taken in 0..turns {
         match turn(site, state) {
             Turn::Went => {}
