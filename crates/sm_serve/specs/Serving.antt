@@ -53,7 +53,8 @@ pub record Since (h k : History) : Type 0 where
   pub base : k.base ≡ h.base
 
 -- the run goes on by so many events
-pub record Turns {D : Type 0} (view : D → View) (leave : D → Image → Type 0) (left_at : D → ℕ → Image → Type 0) (h : History) (events : ℕ) (state : State) (d : D) : Type 0 where
+pub record Turns {D : Type 0} (view : D → View) (leave : D → Image → Type 0) (left_at : D → ℕ → Image → Type 0) (h : History) (events : ℕ) (state : State)
+    (d : D) : Type 0 where
   pub later : History
   pub serves : Serves view leave left_at later state d
   pub since : Since h later
@@ -66,7 +67,8 @@ Known view leave left_at state d = IsSome (view d).transcript → (h : History) 
 -- a connection is out of the list
 pub record Forgets (n : ℕ) (old new : State) : Type 0 where
   pub origin : new.origin ≡ old.origin
-  pub resting : (h k : History) → ((l : Live) → (l.number ≡ n → ⊥) → IsResting h l → IsResting k l) → AreDistinct (numbers_of old.lives.items) → AreResting h old.lives.items → AreResting k new.lives.items
+  pub resting : (h k : History) → ((l : Live) → (l.number ≡ n → ⊥) → IsResting h l → IsResting k l) → AreDistinct (numbers_of old.lives.items)
+      → AreResting h old.lives.items → AreResting k new.lives.items
   pub numbers : AreDistinct (numbers_of old.lives.items) → numbers_of new.lives.items ≡ without n (numbers_of old.lives.items)
 
 -- an event that was just taken may be handled: its connection is open, if the transcript is told
@@ -97,7 +99,8 @@ EndsAs turns served.NoMemory told before now = Unit {0}
 -- The loop served: from wherever a run had come it goes on, over the entries since; and at every moment since its start, each image that a
 -- crash may leave is the store of the last step that ended by then, or of that with the doubt, or of one of these with the entry that
 -- is being written. So it holds whatever had been shown by then.
-pub record Served {D : Type 0} (view : D → View) (leave : D → Image → Type 0) (left_at : D → ℕ → Image → Type 0) (h : History) (result : Outcome) (turns : ℕ) (state : State) (d : D) : Type 0 where
+pub record Served {D : Type 0} (view : D → View) (leave : D → Image → Type 0) (left_at : D → ℕ → Image → Type 0) (h : History) (result : Outcome) (turns : ℕ)
+    (state : State) (d : D) : Type 0 where
   pub later : History
   pub since : Since h later
   pub ended : EndsAs turns result (view d).transcript (events_in h.items) (events_in later.items)
@@ -123,7 +126,8 @@ taken_by turned.LinkFault = 0
 taken_by turned.NoMemory = 0
 
 -- A ladder is one step more, without a connection and without an entry.
-pub record DeclaresIn {D : Type 0} (view : D → View) (leave : D → Image → Type 0) (left_at : D → ℕ → Image → Type 0) (h : History) (channel : List Track) (result : Declared)
+pub record DeclaresIn {D : Type 0} (view : D → View) (leave : D → Image → Type 0) (left_at : D → ℕ → Image → Type 0) (h : History) (channel : List Track)
+    (result : Declared)
     (state : State) (d : D) : Type 0 where
   pub later : History
   pub serves : Serves view leave left_at later state d

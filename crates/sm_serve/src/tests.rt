@@ -2,9 +2,11 @@
 mod play;
 mod texts;
 
-use crate::Served;
-use play::{play, send, sent};
+use crate::{Served, Turn};
+use play::{declare, play, send, sent};
+use sm_archive::Declared;
 use sm_head::CONTINUE;
+use sm_model::{Bytes, Channel, Kind, Name, Params, Track};
 use std::alloc::Global;
 use std::test::Fail;
 use texts::{
@@ -201,5 +203,43 @@ fn a_connection_too_many_is_refused(rt: HostRuntime) -> Result<(), Fail> {
 fn send_more(alloc: Global, events: &mut Vec<sm_site::Event>) -> Result<(), Fail> {
     let bytes = b"GET /x HTTP/1.1\r\n\r\n".to_vec(alloc)?;
     events.push(sm_site::Event::Piece(63, sm_site::Piece::from_vec(bytes)))?;
+    Ok(())
+}
+
+fn video(alloc: Global) -> Result<Track, Fail> {
+    let name = match Name::read(alloc, b"video") {
+        Ok(name) => name,
+        Err(_) => return Err("no name".into()),
+    };
+    Ok(Track {
+        kind: Kind::Video,
+        name,
+        bitrate: 350_000,
+        timescale: 10_000_000,
+        fourcc: Bytes::from_slice(alloc, b"H264")?,
+        private: Bytes::from_slice(alloc, b"\x01\x42")?,
+        numbers: Params {
+            width: Some(640),
+            height: Some(360),
+            tag: None,
+            channels: None,
+            rate: None,
+            bits: None,
+            packet: None,
+        },
+    })
+}
+
+#[test]
+fn a_ladder_stands_before_the_first_event(rt: HostRuntime) -> Result<(), Fail> {
+    let alloc = rt.alloc();
+    let channel = Channel::from_vec(vec![in alloc; video(alloc)?]?);
+    if !channel.is_valid() {
+        return Err("no channel".into());
+    }
+    let (answer, count, last) = declare(alloc, &channel)?;
+    assert_eq!(rt; answer, Declared::Fixed);
+    assert_eq!(rt; count, 1);
+    assert_eq!(rt; last, Turn::Ended);
     Ok(())
 }
