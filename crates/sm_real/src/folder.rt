@@ -5,6 +5,7 @@ ghost use Rattle.sm_real.specs.AtRest.{IsAtRest, IsPending, IsSynced};
 use std::alloc::{AllocError, Global};
 use std::fs::{self, File, OpenOptions};
 use std::io::{self, ErrorKind};
+use std::os::fd::AsRawFd;
 use std::os::unix::fs::FileExt;
 use std::path::Path;
 use std::rt::Files;
@@ -72,7 +73,16 @@ impl Folder {
         }
     }
 
-    /// Fills the buffer from this place of a file on, with 0 past its end.
+    /// Drops the system's copy of a file that was synced, so that what is read of it from now on is what the disk has. A sync
+    // that failed in an earlier process may have left the copy with bytes that never reached it.
+    fn forget(handle: &File) -> io::Result<()> {
+        match libc::posix_fadvise(handle.as_raw_fd(), 0, 0, libc::POSIX_FADV_DONTNEED) {
+            0 => Ok(()),
+            error => Err(io::Error::from_raw_os_error(error)),
+        }
+    }
+
+    // Fills the buffer from this place of a file on, with 0 past its end.
     pub fn read_at(
         &self,
         files: &impl Files<File = File>,
@@ -223,7 +233,10 @@ impl Folder {
             writing => {
                 self.writing = writing;
                 match self.look(files, alloc, file)? {
-                    Some(handle) => self.note(handle.sync_all()),
+                    Some(handle) => {
+                        self.note(handle.sync_all())?;
+                        forget(&handle)
+                    }
                     None => Ok(()),
                 }
             }
@@ -255,6 +268,15 @@ fn make(files: &impl Files<File = File>, path: &str) -> io::Result<()> {
         Some(parent) if parent.as_str().is_empty() => File::open(files, ".")?.sync_all(),
         Some(parent) => File::open(files, parent)?.sync_all(),
         None => Ok(()),
+    }
+}
+
+// Drops the system's copy of a file that was synced, so that what is read of it from now on is what the disk has. A sync
+// that failed in an earlier process may have left the copy with bytes that never reached it.
+fn forget(handle: &File) -> io::Result<()> {
+    match libc::posix_fadvise(handle.as_raw_fd(), 0, 0, libc::POSIX_FADV_DONTNEED) {
+        0 => Ok(()),
+        error => Err(io::Error::from_raw_os_error(error)),
     }
 }
 
