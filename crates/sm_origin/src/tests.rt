@@ -1,8 +1,8 @@
 //! What acts are answered, one behind another on one store.
-ghost use Rattle.std.specs.Prelude.{IsSome};
+ghost use Rattle.std.specs.Prelude.{IsSome, IsTrue};
 ghost use Rattle.sm_site.specs.Memory.{site_view, site_may_leave};
 ghost use Rattle.sm_origin.specs.Machine.{Machine};
-ghost use Rattle.sm_origin.specs.Acting.{StandsFor};
+ghost use Rattle.sm_origin.specs.Acting.{StandsFor, IsValidAct};
 
 use crate::{Counted, Origin};
 use sm_archive::{Declared, Limits};
@@ -91,11 +91,17 @@ fn ask(alloc: Global, bitrate: u32) -> Result<Act, Fail> {
     }))
 }
 
-fn is_valid(act: &Act) -> bool {
+fn is_valid(act: &Act) -> bool
+    ensures { IsTrue result → IsValidAct act.now }
+{
     match act {
+        Act::Manifest => true,
+        Act::Fragment(_) => true,
+        Act::Unknown => true,
         Act::Header(channel) => channel.is_valid(),
         Act::Frag(fragment) => fragment.is_valid(),
-        _ => true,
+        Act::End { kept: _, known: _ } => true,
+        Act::Refuse(_) => true,
     }
 }
 
@@ -217,7 +223,8 @@ fn acts_are_answered_by_the_log(rt: HostRuntime) -> Result<(), Fail> {
             b"HTTP/1.1 400 Bad Request\r\nContent-Type: text/plain\r\nContent-Length: 12\r\nConnection: close\r\n\r\n45 BadChunk\n",
         ),
     ];
-    for (act, status, counted, close, bytes) in &rows {
+    for row in &rows {
+        let (act, status, counted, close, bytes) = row;
         let (is, counts, closes, sent) = told(alloc, &mut origin, &mut site, act)?;
         assert_eq!(rt; is, *status);
         assert_eq!(rt; counts, *counted, "{status}");
