@@ -1,5 +1,5 @@
 // The disk in a folder.
-ghost use Rattle.std.specs.Prelude.{◌≡◌, ◌≤◌, refl, IsErrOf};
+ghost use Rattle.std.specs.Prelude.{◌≡◌, ◌≤◌, refl, IsErrOf, is_ok, is_some};
 ghost use Rattle.sm_site.specs.Clauses.{Rose};
 ghost use Rattle.sm_real.specs.Telling.{counts_alone};
 
@@ -34,7 +34,9 @@ impl<R: Files<File = File> + Drop> FileDisk<R> {
     }
 
     /// Takes a folder in place of the one before. It is made where it isn't there; one that another disk has is refused.
+    /// After a refusal there is none.
     pub fn choose(&mut self, store: &str) -> Result<(), OpenFault>
+        ensures chosen { is_some self.new.folder ≡ is_ok result }
         ensures failed { IsErrOf result OpenFault.Failed → Rose self.old.faults self.new.faults }
         ensures faults { self.old.faults ≤ self.new.faults }
         ensures reads { self.new.reads ≡ self.old.reads }
@@ -59,6 +61,7 @@ impl<R: Files<File = File> + Drop> FileDisk<R> {
     fn fail(&mut self) -> Failed
         ensures rose { Rose self.old.faults self.new.faults }
         ensures reads { self.new.reads ≡ self.old.reads }
+        ensures folder { self.new.folder ≡ self.old.folder }
     {
         self.faults = self.faults.saturating_add(1);
         Failed

@@ -1,5 +1,5 @@
 // The link over sockets.
-ghost use Rattle.std.specs.Prelude.{◌≡◌, ◌≤◌, IsErrOf};
+ghost use Rattle.std.specs.Prelude.{◌≡◌, ◌≢◌, ◌≤◌, IsErrOf, is_ok, is_some, false};
 ghost use Rattle.sm_site.specs.Clauses.{Rose};
 ghost use Rattle.sm_real.specs.Telling.{counts_alone};
 
@@ -41,6 +41,7 @@ impl<R: Net + Clock + Drop> TcpLink<R> {
 
     /// Listens at this address. The connections from before are dropped.
     pub fn listen_at(&mut self, address: SocketAddr) -> io::Result<()>
+        ensures listens { is_some self.new.sockets ≡ is_ok result }
         ensures faults { self.new.faults ≡ self.old.faults }
         ensures send_faults { self.new.send_faults ≡ self.old.send_faults }
         ensures numbers { self.new.next_number ≡ self.old.next_number }
@@ -52,6 +53,8 @@ impl<R: Net + Clock + Drop> TcpLink<R> {
 
     /// Listens at this port of all addresses of the machine, those of IPv4 alone where it has no others. Port 0 listens nowhere.
     pub fn listen(&mut self, port: u16) -> Result<(), OpenFault>
+        ensures listens { port ≢ 0 → is_some self.new.sockets ≡ is_ok result }
+        ensures nowhere { port ≡ 0 → is_some self.new.sockets ≡ false }
         ensures failed { IsErrOf result OpenFault.Failed → Rose self.old.faults self.new.faults }
         ensures faults { self.old.faults ≤ self.new.faults }
         ensures send_faults { self.new.send_faults ≡ self.old.send_faults }
@@ -74,6 +77,7 @@ impl<R: Net + Clock + Drop> TcpLink<R> {
     }
 
     fn listen_everywhere(&mut self, port: u16) -> io::Result<()>
+        ensures listens { is_some self.new.sockets ≡ is_ok result }
         ensures faults { self.new.faults ≡ self.old.faults }
         ensures send_faults { self.new.send_faults ≡ self.old.send_faults }
         ensures numbers { self.new.next_number ≡ self.old.next_number }
