@@ -15,3 +15,6 @@ mod writing;
 
 pub use origin::Origin;
 pub use reply::{Counted, Reply};
+
+#[cfg(test)]
+mod tests;
