@@ -1,0 +1,4 @@
+pub mod Found
+pub mod Sends
+pub mod AtRest
+pub mod Telling

@@ -1,0 +1,24 @@
+// Why a folder or a port can't be had.
+use std::io::{Error as IoError, ErrorKind};
+use thiserror::Error;
+
+/// Why a folder or a port can't be had.
+#[derive(Clone, Copy, Debug, Error, PartialEq, Eq)]
+pub enum OpenFault {
+    /// The system refused it, and the count of that end rose.
+    #[error("refused by the system")]
+    Failed,
+    /// There was no memory for it.
+    #[error("out of memory")]
+    NoMemory,
+}
+
+impl OpenFault {
+    /// What an error of the system comes to.
+    pub fn of(error: &IoError) -> OpenFault {
+        match error.kind() {
+            ErrorKind::OutOfMemory => OpenFault::NoMemory,
+            _ => OpenFault::Failed,
+        }
+    }
+}

@@ -1,0 +1,267 @@
+// A folder of files with numbers, locked against all others.
+ghost use Rattle.std.specs.Prelude.{◌≡◌, ◌≢◌, ◌<◌, ◌^◌, [], true, IfOk, OnOk, IsErr};
+ghost use Rattle.sm_real.specs.AtRest.{IsAtRest, IsPending, IsSynced};
+
+use std::alloc::{AllocError, Global};
+use std::fs::{self, File, OpenOptions};
+use std::io::{self, ErrorKind};
+use std::os::unix::fs::FileExt;
+use std::path::Path;
+use std::rt::Files;
+
+/// Every size is below this.
+const SIZES: u64 = 1 << 63;
+
+// The file that was written last.
+#[derive(Drop)]
+struct Writing {
+    file: u32,
+    handle: File,
+    // Nothing was written to it since it was last synced.
+    synced: bool,
+}
+
+/// An open folder. File k is named by k in eight digits, and `.seg`.
+///
+/// All files but the one that was written last are at rest: before another one is written, that one is synced. Once a sync has
+/// failed nothing is written or synced any more, since the system may have dropped what it could not bring to rest.
+#[derive(Drop)]
+pub struct Folder {
+    path: String,
+    // It holds the lock for as long as it is open.
+    handle: File,
+    writing: Option<Writing>,
+    // No name came since the folder was last synced.
+    named: bool,
+    broken: bool,
+}
+
+impl Folder {
+    /// Opens a folder, which is made where it isn't there, and locks it. It fails where another one has it open.
+    pub fn open(files: &impl Files<File = File>, alloc: Global, path: &str) -> io::Result<Folder> {
+        make(files, path)?;
+        let handle = File::open(files, path)?;
+        if !handle.metadata()?.is_dir() {
+            return Err(ErrorKind::NotADirectory.into());
+        }
+        handle.try_lock()?;
+        handle.sync_all()?;
+        Ok(Folder {
+            path: String::from_str(alloc, path)?,
+            handle,
+            writing: None,
+            named: true,
+            broken: false,
+        })
+    }
+
+    fn name(&self, alloc: Global, file: u32) -> Result<String, AllocError> {
+        format!(in alloc; "{}/{:08}.seg", self.path.as_str(), file)
+    }
+
+    /// How many bytes a file has; none where it isn't there.
+    pub fn size(&self, files: &impl Files<File = File>, alloc: Global, file: u32) -> io::Result<u64>
+        ensures { IfOk result (λ n. n < 2 ^ 63) }
+    {
+        let name = self.name(alloc, file)?;
+        match fs::metadata(files, name.as_str()) {
+            Ok(found) if found.len() < SIZES => Ok(found.len()),
+            Ok(_) => Err(ErrorKind::FileTooLarge.into()),
+            Err(e) if e.kind() == ErrorKind::NotFound => Ok(0),
+            Err(e) => Err(e),
+        }
+    }
+
+    /// Fills the buffer from this place of a file on, with 0 past its end.
+    pub fn read_at(
+        &self,
+        files: &impl Files<File = File>,
+        alloc: Global,
+        file: u32,
+        at: u64,
+        into: &mut [u8],
+    ) -> io::Result<()> {
+        if let Some(writing) = &self.writing
+            && writing.file == file
+        {
+            return fill(&writing.handle, at, into);
+        }
+        match self.look(files, alloc, file)? {
+            Some(handle) => fill(&handle, at, into),
+            None => {
+                into.fill(0);
+                Ok(())
+            }
+        }
+    }
+
+    // A file opened for reading, if it is there.
+    fn look(
+        &self,
+        files: &impl Files<File = File>,
+        alloc: Global,
+        file: u32,
+    ) -> io::Result<Option<File>> {
+        let name = self.name(alloc, file)?;
+        match File::open(files, name.as_str()) {
+            Ok(handle) => Ok(Some(handle)),
+            Err(e) if e.kind() == ErrorKind::NotFound => Ok(None),
+            Err(e) => Err(e),
+        }
+    }
+
+    /// Writes these bytes from a place on.
+    pub fn write_at(
+        &mut self,
+        files: &impl Files<File = File>,
+        alloc: Global,
+        file: u32,
+        at: u64,
+        bytes: &[u8],
+    ) -> io::Result<()>
+        ensures pending { OnOk result (bytes.now ≢ [] → IsPending file self.new) }
+        ensures broken { self.old.broken ≡ true → bytes.now ≢ [] → IsErr result }
+    {
+        if bytes.is_empty() {
+            return Ok(());
+        }
+        let mut writing = self.turn_to(files, alloc, file)?;
+        writing.synced = false;
+        let written = writing.handle.write_all_at(bytes, at);
+        self.writing = Some(writing);
+        written
+    }
+
+    // The file that is to be written, open for it. It is made where it isn't there.
+    fn turn_to(
+        &mut self,
+        files: &impl Files<File = File>,
+        alloc: Global,
+        file: u32,
+    ) -> io::Result<Writing>
+        ensures file { IfOk result (λ writing. writing.file ≡ file) }
+        ensures broken { self.old.broken ≡ true → IsErr result }
+    {
+        self.test()?;
+        if let Some(writing) = self.writing.take() {
+            if writing.file == file {
+                return Ok(writing);
+            }
+            if !writing.synced {
+                self.note(writing.handle.sync_all())?;
+            }
+        }
+        let name = self.name(alloc, file)?;
+        let mut how = OpenOptions::new();
+        how.read(true).write(true);
+        let opened = match how.open(files, name.as_str()) {
+            Err(e) if e.kind() == ErrorKind::NotFound => {
+                self.named = false;
+                how.create(true).open(files, name.as_str())
+            }
+            opened => opened,
+        };
+        Ok(Writing {
+            file,
+            handle: opened?,
+            synced: true,
+        })
+    }
+
+    // Whether anything may still be brought to rest.
+    fn test(&self) -> io::Result<()>
+        ensures { self.now.broken ≡ true → IsErr result }
+    {
+        if self.broken {
+            return Err(ErrorKind::Other.into());
+        }
+        Ok(())
+    }
+
+    // Takes note of what a sync answered.
+    fn note(&mut self, synced: io::Result<()>) -> io::Result<()>
+        ensures result { result ≡ synced }
+        ensures broken { IsErr synced → self.new.broken ≡ true }
+        ensures writing { self.new.writing ≡ self.old.writing }
+    {
+        if synced.is_err() {
+            self.broken = true;
+        }
+        synced
+    }
+
+    /// Brings a file to rest, and its name.
+    pub fn sync(
+        &mut self,
+        files: &impl Files<File = File>,
+        alloc: Global,
+        file: u32,
+    ) -> io::Result<()>
+        ensures at_rest { OnOk result (IsAtRest file self.new) }
+        ensures broken { self.old.broken ≡ true → IsErr result }
+    {
+        self.test()?;
+        self.sync_bytes(files, alloc, file)?;
+        self.sync_names()
+    }
+
+    fn sync_bytes(
+        &mut self,
+        files: &impl Files<File = File>,
+        alloc: Global,
+        file: u32,
+    ) -> io::Result<()>
+        ensures synced { OnOk result (IsSynced file self.new) }
+    {
+        match self.writing.take() {
+            Some(mut writing) if writing.file == file => {
+                self.note(writing.handle.sync_all())?;
+                writing.synced = true;
+                self.writing = Some(writing);
+                Ok(())
+            }
+            writing => {
+                self.writing = writing;
+                match self.look(files, alloc, file)? {
+                    Some(handle) => self.note(handle.sync_all()),
+                    None => Ok(()),
+                }
+            }
+        }
+    }
+
+    // Brings the names of the files to rest.
+    fn sync_names(&mut self) -> io::Result<()>
+        ensures named { OnOk result (self.new.named ≡ true) }
+        ensures writing { self.new.writing ≡ self.old.writing }
+    {
+        if !self.named {
+            let synced = self.handle.sync_all();
+            self.note(synced)?;
+            self.named = true;
+        }
+        Ok(())
+    }
+}
+
+// Makes a folder where it isn't there, and brings its own name to rest.
+fn make(files: &impl Files<File = File>, path: &str) -> io::Result<()> {
+    match fs::create_dir(files, path) {
+        Ok(()) => {}
+        Err(e) if e.kind() == ErrorKind::AlreadyExists => {}
+        Err(e) => return Err(e),
+    }
+    match Path::new(path).parent() {
+        Some(parent) if parent.as_str().is_empty() => File::open(files, ".")?.sync_all(),
+        Some(parent) => File::open(files, parent)?.sync_all(),
+        None => Ok(()),
+    }
+}
+
+// Fills the buffer from this place of a file on, with 0 past its end.
+fn fill(handle: &File, at: u64, into: &mut [u8]) -> io::Result<()> {
+    let size = handle.metadata()?.len();
+    let there = size.saturating_sub(at).min(into.len() as u64) as usize;
+    into[there..].fill(0);
+    handle.read_exact_at(&mut into[..there], at)
+}

@@ -1,0 +1,253 @@
+// Sockets, asked in turn.
+ghost use Rattle.std.specs.Prelude.{◌≡◌, ◌≤◌, ◌<◌, length, IfOk};
+ghost use Rattle.sm_real.specs.Found.{IsPiece};
+
+use crate::peer::{Found, Peer};
+use mio::net::TcpListener;
+use mio::{Events, Interest, Poll, Token};
+use sm_site::{Failed, Piece};
+use std::alloc::{AllocError, Global};
+use std::io;
+use std::net::{Net, SocketAddr};
+use std::time::{Clock, Duration, Instant};
+
+/// The most bytes of a piece.
+const PIECE: usize = 65_536;
+
+/// The most sockets at once. Beyond that, new ones wait until some are gone.
+const PEERS: usize = 256;
+
+/// The most reports of one wait.
+const REPORTS: usize = 256;
+
+/// The rest after a round without an event.
+const REST: u64 = 1;
+
+const LISTENER: Token = Token(0);
+
+/// What asking comes to.
+#[derive(Drop)]
+pub enum Asked {
+    Nothing,
+    Opened,
+    Piece(u64, Piece),
+    Left(u64),
+    NoMemory,
+}
+
+/// A listener and its peers.
+#[derive(Drop)]
+pub struct Sockets {
+    alloc: Global,
+    poll: Poll,
+    events: Events,
+    listener: TcpListener,
+    // A connection may wait to be taken.
+    waiting: bool,
+    // Their numbers rise.
+    peers: Vec<Peer>,
+    // The place of the next one to ask.
+    turn: usize,
+    // This round has given an event.
+    busy: bool,
+    now: Instant,
+    buffer: Box<[u8; PIECE]>,
+    // Bytes of the buffer that are still to be given, and whose they are.
+    held: usize,
+    holder: u64,
+}
+
+impl Sockets {
+    pub fn open(
+        rt: &(impl Net + Clock),
+        alloc: Global,
+        address: SocketAddr,
+    ) -> io::Result<Sockets> {
+        let poll = Poll::new(rt)?;
+        let mut listener = TcpListener::bind(rt, address)?;
+        poll.registry()
+            .register(&mut listener, LISTENER, Interest::READABLE)?;
+        let now = Instant::now(rt)?;
+        Ok(Sockets {
+            poll,
+            events: Events::with_capacity(alloc, REPORTS)?,
+            listener,
+            waiting: true,
+            peers: Vec::with_capacity(alloc, PEERS)?,
+            turn: 0,
+            busy: false,
+            now,
+            buffer: Box::new(alloc, [0; PIECE])?,
+            held: 0,
+            holder: 0,
+            alloc,
+        })
+    }
+
+    pub fn local_addr(&self) -> io::Result<SocketAddr> {
+        self.listener.local_addr()
+    }
+
+    fn find(&mut self, number: u64) -> Option<&mut Peer> {
+        match self.peers.binary_search_by_key(&number, |peer| peer.number) {
+            Ok(place) => self.peers.get_mut(place),
+            Err(_) => None,
+        }
+    }
+
+    /// Goes on in rounds up to the next event. Where no round has one, or the system fails, this comes to nothing.
+    pub fn next(&mut self, rt: &impl Clock, number: u64) -> Asked
+        ensures piece { IsPiece result }
+    {
+        for _ in 0..u32::MAX {
+            match self.ask(number) {
+                Asked::Nothing => {}
+                asked => return asked,
+            }
+            if self.gather(rt).is_err() {
+                break;
+            }
+        }
+        Asked::Nothing
+    }
+
+    // Begins a round: what the system reports is noted, after a rest where the last round gave no event.
+    fn gather(&mut self, rt: &impl Clock) -> io::Result<()> {
+        let rest = if self.busy { 0 } else { REST };
+        self.busy = false;
+        self.turn = 0;
+        self.poll
+            .poll(&mut self.events, Some(Duration::from_millis(rest)))?;
+        self.now = Instant::now(rt)?;
+        for readiness in &self.events {
+            let token = readiness.token();
+            if token == LISTENER {
+                self.waiting = true;
+                continue;
+            }
+            let number = token.0 as u64;
+            let found = self.peers.binary_search_by_key(&number, |peer| peer.number);
+            if let Ok(place) = found
+                && let Some(peer) = self.peers.get_mut(place)
+            {
+                peer.note(readiness);
+            }
+        }
+        Ok(())
+    }
+
+    // Asks those that this round has not asked, up to the first event. A connection that is taken gets this number.
+    fn ask(&mut self, number: u64) -> Asked
+        ensures piece { IsPiece result }
+    {
+        if self.held > 0 {
+            return self.give();
+        }
+        for _ in 0..self.peers.len() {
+            let place = self.turn;
+            let Some(peer) = self.peers.get_mut(place) else {
+                break;
+            };
+            self.turn = place + 1;
+            if !peer.is_due(self.now) {
+                continue;
+            }
+            let holder = peer.number;
+            match peer.visit(self.alloc, self.buffer.as_mut_slice(), self.now) {
+                Found::Nothing => {}
+                Found::Bytes(n) => {
+                    self.busy = true;
+                    self.held = n;
+                    self.holder = holder;
+                    return self.give();
+                }
+                Found::Left => {
+                    self.busy = true;
+                    return Asked::Left(holder);
+                }
+                Found::Gone => {
+                    self.turn = place;
+                    if place < self.peers.len() {
+                        let _gone = self.peers.remove(place);
+                    }
+                }
+            }
+        }
+        self.accept(number)
+    }
+
+    // Gives the bytes that the buffer holds.
+    fn give(&mut self) -> Asked
+        ensures piece { IsPiece result }
+    {
+        let held = self.held.min(PIECE);
+        if held == 0 {
+            return Asked::Nothing;
+        }
+        match copy(self.alloc, &self.buffer[..held]) {
+            Ok(bytes) => {
+                self.held = 0;
+                Asked::Piece(self.holder, Piece::from_vec(bytes))
+            }
+            Err(AllocError) => Asked::NoMemory,
+        }
+    }
+
+    // Takes the next connection that waits.
+    fn accept(&mut self, number: u64) -> Asked
+        ensures piece { IsPiece result }
+    {
+        if !self.waiting || self.peers.len() >= PEERS {
+            return Asked::Nothing;
+        }
+        let mut stream = match self.listener.accept() {
+            Ok((stream, _)) => stream,
+            Err(e) => {
+                if e.kind() == io::ErrorKind::WouldBlock {
+                    self.waiting = false;
+                }
+                return Asked::Nothing;
+            }
+        };
+        let _ = stream.set_nodelay(true);
+        let both = Interest::READABLE | Interest::WRITABLE;
+        let token = Token(number as usize);
+        if self
+            .poll
+            .registry()
+            .register(&mut stream, token, both)
+            .is_err()
+        {
+            return Asked::Nothing;
+        }
+        let peer = Peer::new(self.alloc, number, stream, self.now);
+        if self.peers.push(peer).is_err() {
+            return Asked::NoMemory;
+        }
+        self.busy = true;
+        Asked::Opened
+    }
+
+    pub fn send(&mut self, number: u64, bytes: &[u8]) -> Result<(), Failed> {
+        let (alloc, now) = (self.alloc, self.now);
+        match self.find(number) {
+            Some(peer) => peer.send(alloc, bytes, now),
+            None => Err(Failed),
+        }
+    }
+
+    pub fn close(&mut self, number: u64) {
+        if let Some(peer) = self.find(number) {
+            peer.close();
+        }
+    }
+}
+
+// `to_vec` clones one by one; this is one move of memory.
+fn copy(alloc: Global, bytes: &[u8]) -> Result<Vec<u8>, AllocError>
+    ensures { IfOk result (λ copied. copied.items ≡ bytes.now) }
+{
+    let mut copied = Vec::with_capacity(alloc, bytes.len())?;
+    copied.extend_from_slice(bytes)?;
+    Ok(copied)
+}

@@ -1,0 +1,143 @@
+// The link over sockets.
+ghost use Rattle.std.specs.Prelude.{◌≡◌, ◌≤◌, IsErrOf};
+ghost use Rattle.sm_site.specs.Clauses.{Rose};
+ghost use Rattle.sm_real.specs.Telling.{counts_alone};
+
+use crate::OpenFault;
+use crate::sockets::{Asked, Sockets};
+use sm_site::{Event, Failed, Link, LinkError};
+use std::alloc::Global;
+use std::io::{self, ErrorKind};
+use std::net::{Ipv4Addr, Ipv6Addr, Net, SocketAddr};
+use std::time::Clock;
+
+/// A link over sockets, which are asked in turn. It tells nothing of what goes over them. Until it listens each call fails.
+///
+/// `send` never waits: what a peer does not take at once is kept for it, one send whole, and further ones behind it up to
+/// 33,554,432 bytes in all. While something is kept the peer is not read. One that takes nothing for 30 seconds is given up.
+#[derive(Drop)]
+pub struct TcpLink<R: Net + Clock + Drop> {
+    rt: R,
+    alloc: Global,
+    sockets: Option<Sockets>,
+    // Above all numbers that were given.
+    next_number: u64,
+    faults: u64,
+    send_faults: u64,
+}
+
+impl<R: Net + Clock + Drop> TcpLink<R> {
+    /// Listening nowhere.
+    pub fn new(rt: R, alloc: Global) -> TcpLink<R> {
+        TcpLink {
+            rt,
+            alloc,
+            sockets: None,
+            next_number: 1,
+            faults: 0,
+            send_faults: 0,
+        }
+    }
+
+    /// Listens at this address. The connections from before are dropped.
+    pub fn listen_at(&mut self, address: SocketAddr) -> io::Result<()>
+        ensures faults { self.new.faults ≡ self.old.faults }
+        ensures send_faults { self.new.send_faults ≡ self.old.send_faults }
+        ensures numbers { self.new.next_number ≡ self.old.next_number }
+    {
+        self.sockets = None;
+        self.sockets = Some(Sockets::open(&self.rt, self.alloc, address)?);
+        Ok(())
+    }
+
+    /// Listens at this port of all addresses of the machine, those of IPv4 alone where it has no others. Port 0 listens nowhere.
+    pub fn listen(&mut self, port: u16) -> Result<(), OpenFault>
+        ensures failed { IsErrOf result OpenFault.Failed → Rose self.old.faults self.new.faults }
+        ensures faults { self.old.faults ≤ self.new.faults }
+        ensures send_faults { self.new.send_faults ≡ self.old.send_faults }
+        ensures numbers { self.new.next_number ≡ self.old.next_number }
+    {
+        if port == 0 {
+            self.sockets = None;
+            return Ok(());
+        }
+        match self.listen_everywhere(port) {
+            Ok(()) => Ok(()),
+            Err(e) => {
+                let fault = OpenFault::of(&e);
+                if fault == OpenFault::Failed {
+                    self.faults = self.faults.saturating_add(1);
+                }
+                Err(fault)
+            }
+        }
+    }
+
+    fn listen_everywhere(&mut self, port: u16) -> io::Result<()>
+        ensures faults { self.new.faults ≡ self.old.faults }
+        ensures send_faults { self.new.send_faults ≡ self.old.send_faults }
+        ensures numbers { self.new.next_number ≡ self.old.next_number }
+    {
+        match self.listen_at(SocketAddr::from((Ipv6Addr::UNSPECIFIED, port))) {
+            Ok(()) => Ok(()),
+            Err(e) if e.kind() == ErrorKind::AddrInUse => Err(e),
+            Err(_) => self.listen_at(SocketAddr::from((Ipv4Addr::UNSPECIFIED, port))),
+        }
+    }
+
+    /// Where it listens.
+    pub fn local_addr(&self) -> io::Result<SocketAddr> {
+        match &self.sockets {
+            Some(sockets) => sockets.local_addr(),
+            None => Err(ErrorKind::NotConnected.into()),
+        }
+    }
+}
+
+impl<R: Net + Clock + Drop> Link for TcpLink<R> {
+    ghost view = { λ l. counts_alone 0 0 l.faults l.send_faults };
+
+    ghost may_leave = { λ l c. ⊥ };
+
+    ghost left_at = { λ l t c. ⊥ };
+
+    ghost numbers = { λ l. l.next_number };
+
+    ghost no_entry_later = { λ l. tt };
+
+    fn next(&mut self) -> Result<Event, LinkError> {
+        let number = self.next_number;
+        if number < u64::MAX
+            && let Some(sockets) = &mut self.sockets
+        {
+            match sockets.next(&self.rt, number) {
+                Asked::Opened => {
+                    self.next_number = number + 1;
+                    return Ok(Event::Opened(number));
+                }
+                Asked::Piece(number, piece) => return Ok(Event::Piece(number, piece)),
+                Asked::Left(number) => return Ok(Event::Closed(number)),
+                Asked::NoMemory => return Err(LinkError::NoMemory),
+                Asked::Nothing => {}
+            }
+        }
+        self.faults = self.faults.saturating_add(1);
+        Err(LinkError::Failed)
+    }
+
+    fn send(&mut self, conn: u64, bytes: &[u8]) -> Result<(), Failed> {
+        if let Some(sockets) = &mut self.sockets
+            && sockets.send(conn, bytes).is_ok()
+        {
+            return Ok(());
+        }
+        self.send_faults = self.send_faults.saturating_add(1);
+        Err(Failed)
+    }
+
+    fn close(&mut self, conn: u64) {
+        if let Some(sockets) = &mut self.sockets {
+            sockets.close(conn);
+        }
+    }
+}

@@ -1,0 +1,131 @@
+// A folder in the system's own for such, and peers in the same thread.
+use super::*;
+use sm_site::{Disk, Event, Failed, Link, Site, SiteError};
+use std::io::{Read, Write};
+use std::net::{Ipv4Addr, Shutdown, SocketAddr, TcpListener, TcpStream};
+use std::test::Fail;
+use std::{fs, process};
+
+// A path that no other run of the tests has.
+fn store(rt: &HostRuntime, name: &str) -> Result<String, Fail> {
+    let own = process::id(rt.process());
+    Ok(format!(in rt.alloc(); "/tmp/sm_real_{name}_{own}")?)
+}
+
+fn any_port() -> SocketAddr {
+    SocketAddr::from((Ipv4Addr::LOCALHOST, 0))
+}
+
+fn opens(link: &mut impl Link, number: u64) -> bool {
+    matches!(link.next(), Ok(Event::Opened(n)) if n == number)
+}
+
+fn closes(link: &mut impl Link, number: u64) -> bool {
+    matches!(link.next(), Ok(Event::Closed(n)) if n == number)
+}
+
+fn brings(link: &mut impl Link, number: u64, bytes: &[u8]) -> bool {
+    match link.next() {
+        Ok(Event::Piece(n, piece)) => n == number && piece.as_slice() == bytes,
+        _ => false,
+    }
+}
+
+#[test]
+fn files_have_what_was_written(rt: HostRuntime) -> Result<(), Fail> {
+    let store = store(&rt, "files")?;
+    let mut disk = FileDisk::new(&rt, rt.alloc());
+    assert_eq!(rt; disk.size(7), Err(Failed));
+    disk.choose(&store)?;
+    assert_eq!(rt; disk.size(7), Ok(0));
+    assert_eq!(rt; disk.sync(7), Ok(()));
+    assert_eq!(rt; disk.write_at(7, 0, b"0123"), Ok(()));
+    assert_eq!(rt; disk.write_at(7, 2, b"four"), Ok(()));
+    assert_eq!(rt; disk.write_at(12, 0, b"twelve"), Ok(()));
+    assert_eq!(rt; disk.sync(7), Ok(()));
+    assert_eq!(rt; disk.sync(12), Ok(()));
+    assert_eq!(rt; disk.size(7), Ok(6));
+    let mut taken = [1u8; 8];
+    assert_eq!(rt; disk.read_at(7, 1, &mut taken), Ok(()));
+    assert_eq!(rt; taken.as_slice(), b"1four\0\0\0".as_slice());
+    assert_eq!(rt; disk.read_at(12, 4, &mut taken[..2]), Ok(()));
+    assert_eq!(rt; taken.as_slice(), b"veour\0\0\0".as_slice());
+    assert_eq!(rt; disk.read_at(12, u64::MAX, &mut taken), Ok(()));
+    assert_eq!(rt; disk.read_at(3, 0, &mut taken[..1]), Ok(()));
+    assert_eq!(rt; taken.as_slice(), b"\0\0\0\0\0\0\0\0".as_slice());
+    let path = format!(in rt.alloc(); "{store}/00000007.seg")?;
+    let held = fs::read(&rt, &path)?;
+    assert_eq!(rt; held.as_slice(), b"01four".as_slice());
+    fs::remove_dir_all(&rt, &store)?;
+    Ok(())
+}
+
+#[test]
+fn a_store_is_had_by_one(rt: HostRuntime) -> Result<(), Fail> {
+    let store = store(&rt, "one")?;
+    let mut first = RealSite::new(&rt, rt.alloc());
+    assert_eq!(rt; first.select(&store, 0), Ok(()));
+    let mut second = RealSite::new(&rt, rt.alloc());
+    assert_eq!(rt; second.select(&store, 0), Err(SiteError::Disk));
+    assert_eq!(rt; second.write_at(0, 0, b"x"), Err(Failed));
+    assert_eq!(rt; first.write_at(0, 0, b"x"), Ok(()));
+    drop(first);
+    assert_eq!(rt; second.select(&store, 0), Ok(()));
+    assert_eq!(rt; second.size(0), Ok(1));
+    fs::remove_dir_all(&rt, &store)?;
+    Ok(())
+}
+
+#[test]
+fn a_site_is_reached_at_its_port(rt: HostRuntime) -> Result<(), Fail> {
+    let store = store(&rt, "port")?;
+    let free = TcpListener::bind(&rt, any_port())?;
+    let port = free.local_addr()?.port();
+    let mut site = RealSite::new(&rt, rt.alloc());
+    assert_eq!(rt; site.select(&store, port), Err(SiteError::Link));
+    drop(free);
+    assert_eq!(rt; site.select(&store, port), Ok(()));
+    let _peer = TcpStream::connect(&rt, SocketAddr::from((Ipv4Addr::LOCALHOST, port)))?;
+    assert!(rt; opens(&mut site, 1));
+    fs::remove_dir_all(&rt, &store)?;
+    Ok(())
+}
+
+#[test]
+fn a_peer_asks_and_is_answered(rt: HostRuntime) -> Result<(), Fail> {
+    let mut link = TcpLink::new(&rt, rt.alloc());
+    link.listen_at(any_port())?;
+    let mut peer = TcpStream::connect(&rt, link.local_addr()?)?;
+    assert!(rt; opens(&mut link, 1));
+    peer.write_all(b"ask")?;
+    assert!(rt; brings(&mut link, 1, b"ask"));
+    assert_eq!(rt; link.send(1, b"answer"), Ok(()));
+    assert_eq!(rt; link.send(2, b"answer"), Err(Failed));
+    let mut taken = [0u8; 6];
+    peer.read_exact(&mut taken)?;
+    assert_eq!(rt; taken.as_slice(), b"answer".as_slice());
+    peer.shutdown(Shutdown::Write)?;
+    assert!(rt; closes(&mut link, 1));
+    assert_eq!(rt; link.send(1, b"late"), Err(Failed));
+    let _again = TcpStream::connect(&rt, link.local_addr()?)?;
+    assert!(rt; opens(&mut link, 2));
+    Ok(())
+}
+
+#[test]
+fn a_closed_peer_reads_what_was_sent(rt: HostRuntime) -> Result<(), Fail> {
+    let mut link = TcpLink::new(&rt, rt.alloc());
+    link.listen_at(any_port())?;
+    let mut first = TcpStream::connect(&rt, link.local_addr()?)?;
+    assert!(rt; opens(&mut link, 1));
+    first.write_all(b"not read any more")?;
+    assert_eq!(rt; link.send(1, b"answer"), Ok(()));
+    link.close(1);
+    assert_eq!(rt; link.send(1, b"more"), Err(Failed));
+    let _second = TcpStream::connect(&rt, link.local_addr()?)?;
+    assert!(rt; opens(&mut link, 2));
+    let mut taken = Vec::new(rt.alloc());
+    first.read_to_end(&mut taken)?;
+    assert_eq!(rt; taken.as_slice(), b"answer".as_slice());
+    Ok(())
+}
