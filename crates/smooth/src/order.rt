@@ -48,7 +48,7 @@ fn is_told_by(word: &[u8], name: &[u8]) -> bool
     ensures result { result ≡ is_told_by name.now word.now }
     ensures long { IfTrue result (length name.now ≤ length word.now) }
 {
-    word.len() >= name.len() && word[..name.len()] == *name
+    word.len() >= name.len() && &word[..name.len()] == name
 }
 
 fn with_store(said: Said, at: usize, word: &[u8]) -> Option<Said>
@@ -106,45 +106,45 @@ fn with_ladder(said: Said) -> Option<Said>
 }
 
 // A word that begins with `-`, in front of `--`.
-fn option_word(said: Said, word: &[u8]) -> Option<Said>
+fn option_word(said: Said, word: &str) -> Option<Said>
     ensures { result ≡ option_word said word.now }
 {
-    if word == b"--" {
+    if word == "--" {
         Some(Said {
             plain: true,
             ..said
         })
-    } else if word == b"--ladder" {
+    } else if word == "--ladder" {
         with_ladder(said)
-    } else if word == b"--port" {
+    } else if word == "--port" {
         Some(Said {
             next: Next::Port,
             ..said
         })
-    } else if word == b"--turns" {
+    } else if word == "--turns" {
         Some(Said {
             next: Next::Turns,
             ..said
         })
-    } else if is_told_by(word, b"--port=") {
-        with_port(said, &word[7..])
-    } else if is_told_by(word, b"--turns=") {
-        with_turns(said, &word[8..])
+    } else if is_told_by(word.as_bytes(), b"--port=") {
+        with_port(said, &word.as_bytes()[7..])
+    } else if is_told_by(word.as_bytes(), b"--turns=") {
+        with_turns(said, &word.as_bytes()[8..])
     } else {
         None
     }
 }
 
 // One word more, which stands at this place.
-fn step(said: Said, at: usize, word: &[u8]) -> Option<Said>
+fn step(said: Said, at: usize, word: &str) -> Option<Said>
     ensures { result ≡ step at said word.now }
 {
     match said.next {
-        Next::Port => with_port(said, word),
-        Next::Turns => with_turns(said, word),
+        Next::Port => with_port(said, word.as_bytes()),
+        Next::Turns => with_turns(said, word.as_bytes()),
         Next::Nothing => {
-            if said.plain || is_plain(word) {
-                with_store(said, at, word)
+            if said.plain || is_plain(word.as_bytes()) {
+                with_store(said, at, word.as_bytes())
             } else {
                 option_word(said, word)
             }
@@ -189,7 +189,7 @@ pub fn order_of(words: &[String]) -> Option<Order>
     }
     let mut said = nothing_said();
     for at in 1..words.len() {
-        said = step(said, at, words[at].as_bytes())?;
+        said = step(said, at, words[at].as_str())?;
     }
     finish(said)
 }
