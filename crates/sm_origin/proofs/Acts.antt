@@ -52,7 +52,7 @@ record Calls (a b : Option (List DiskCall)) (t u : ℕ) : Type 0 where
 
 never : (xs ys made : List DiskCall) (call : DiskCall) (calls : List DiskCall) → made ≡ [] → ys ≡ xs ++ made → ys ≡ xs ++ call ∷ calls → ⊥
 never xs ys made call calls none same more =
-    absurd (omega (arith, ap length (sym more ∙ same) , ap length none, length-append xs made, length-append xs (call ∷ calls)))
+    absurd (omega (arith, ap length (sym more ∙ same), ap length none, length-append xs made, length-append xs (call ∷ calls)))
 
 calls_of : (a b : Option (List DiskCall)) (t u : ℕ) → IsSome a → Both a b (λ before now. (made : List DiskCall) × (now ≡ before ++ made) × (u ≡ last_moment t made)) → Calls a b t u
 calls_of None b t u some both = absurd (cc)
@@ -102,7 +102,10 @@ fits_of m c (inr (d, is, store)) = record { doubt = d ∷ []; of_doubt = inr (d,
 -- with nothing written
 pub inside_of : (m : Machine) (e : Option Entry) (c : Image) → Fits m c → FitsInside m e c
 inside_of m e c fits = record {
-  doubt = fits.doubt; of_doubt = fits.of_doubt; written = []; of_entry = inl refl;
+  doubt = fits.doubt;
+  of_doubt = fits.of_doubt;
+  written = [];
+  of_entry = inl refl;
   store = subst (λ (l : List Entry). IsStore l c) (sym (append-nil (m.log ++ fits.doubt))) fits.store;
 }
 
@@ -114,13 +117,19 @@ pub inside_grown : (m : Machine) (e : Entry) (c : Image) → ((after : List Entr
 inside_grown m e c (after, store, inl settles) =
     let p = settled_part m.log m.doubt after settles in
     record {
-      doubt = p.0; of_doubt = p.1; written = []; of_entry = inl refl;
+      doubt = p.0;
+      of_doubt = p.1;
+      written = [];
+      of_entry = inl refl;
       store = subst (λ (l : List Entry). IsStore l c) (p.2 ∙ sym (append-nil (m.log ++ p.0))) store;
     }
 inside_grown m e c (after, store, inr (mid, settles, more)) =
     let p = settled_part m.log m.doubt mid settles in
     record {
-      doubt = p.0; of_doubt = p.1; written = e ∷ []; of_entry = inr (e, refl, refl);
+      doubt = p.0;
+      of_doubt = p.1;
+      written = e ∷ [];
+      of_entry = inr (e, refl, refl);
       store = subst (λ (l : List Entry). IsStore l c) (more ∙ ap (λ (l : List Entry). l ++ e ∷ []) p.2) store;
     }
 
@@ -137,9 +146,13 @@ module _ {D : Type 0} (view : D → View) (may_leave : D → Image → Type 0) (
   act_gives old new m after o act reply told was is no_later at_now fits step stands limits through still =
       let calls = calls_of (view old).calls (view new).calls (view old).moment (view new).moment (is_one (view old).calls (view old).contents was told) through.recorded in
       record {
-        after = after; calls = calls.made; step = step;
+        after = after;
+        calls = calls.made;
+        step = step;
         has_told = still_told (view old) (view new) was is through.recorded told;
-        stands = stands; limits = limits; noted = calls.noted;
+        stands = stands;
+        limits = limits;
+        noted = calls.noted;
         still = λ none. still (calls.idle none);
         later = through.later;
         ended = calls.moment;
@@ -188,7 +201,8 @@ pub held_more : Places → Stays → (was now : Type 0) → (now → was) → (l
 held_more places stay was now told log more pairs held pair there =
     let h = held pair there in
     record {
-      address = h.address; valid = h.valid;
+      address = h.address;
+      valid = h.valid;
       place = place_stays places stay log more pair.0 pair.1.place h.place;
       same = λ t. stays log more pair.1.place (Keep pair.1.fragment) (h.same (told t));
     }
@@ -288,7 +302,10 @@ of_archive failed acted outcomes m a b act reply same s = record {
   after = s.after;
   archive = s.archive ∙ same;
   stands = subst (λ (x : Archive). Stands x s.after.log s.after.doubt outcomes) same s.stands;
-  step = s.step; still = s.still; more = s.more; grows = s.grows;
+  step = s.step;
+  still = s.still;
+  more = s.more;
+  grows = s.grows;
 }
 
 -- an empty cache holds nothing
@@ -309,7 +326,7 @@ if_some (Some c) P Q so is = so c is
 module _ {D : Type 0} (view : D → View) (may_leave : D → Image → Type 0) (left_at : D → ℕ → Image → Type 0) where
   -- the law of images, for a machine
   pub images : (Law : (a : Archive) (log : List Entry) (doubt : Option Entry) (d : D) (c : Image) → Stands a log doubt (may_leave d) → may_leave d c
-          → IsStore log c ⊎ ((x : Entry) × (doubt ≡ Some x) × IsStore (log ++ x ∷ []) c))
+      → IsStore log c ⊎ ((x : Entry) × (doubt ≡ Some x) × IsStore (log ++ x ∷ []) c))
       → (m : Machine) (a : Archive) (d : D) → Stands a m.log m.doubt (may_leave d) → (c : Image) → may_leave d c → Fits m c
   images law m a d stands c left = fits_of m c (law a m.log m.doubt d c stands left)
 
@@ -318,7 +335,7 @@ module _ {D : Type 0} (view : D → View) (may_leave : D → Image → Type 0) (
       → is_some (view old).calls ≡ is_some (view old).contents → is_some (view new).calls ≡ is_some (view new).contents
       → ((t : ℕ) (c : Image) → left_at new t c → t ≤ (view new).moment) → ((c : Image) → left_at new (view new).moment c → may_leave new c)
       → ((a : Archive) (log : List Entry) (doubt : Option Entry) (d : D) (c : Image) → Stands a log doubt (may_leave d) → may_leave d c
-          → IsStore log c ⊎ ((x : Entry) × (doubt ≡ Some x) × IsStore (log ++ x ∷ []) c))
+      → IsStore log c ⊎ ((x : Entry) × (doubt ≡ Some x) × IsStore (log ++ x ∷ []) c))
       → entry_of act ≡ Some e
       → (s : Stepped (Rose (view old).disk_faults (view new).disk_faults) (Acted (view old) (view new)) (may_leave new) m o.archive act reply)
       → o.archive.limits ≡ m.archive.limits
@@ -331,7 +348,7 @@ module _ {D : Type 0} (view : D → View) (may_leave : D → Image → Type 0) (
       (record { archive = s.archive; stands = s.stands; cached = held })
       (ap (λ (a : Archive). a.limits) s.archive ∙ limits)
       (weakened view left_at old new _ (λ t c. FitsInside m (entry_of act) c) through
-        (λ t c has. subst (λ (x : Option Entry). FitsInside m x c) (sym entry) (inside_grown m e c has)))
+      (λ t c has. subst (λ (x : Option Entry). FitsInside m x c) (sym entry) (inside_grown m e c has)))
       s.still
 
   -- an act that only reads
@@ -339,7 +356,7 @@ module _ {D : Type 0} (view : D → View) (may_leave : D → Image → Type 0) (
       → is_some (view old).calls ≡ is_some (view old).contents → is_some (view new).calls ≡ is_some (view new).contents
       → ((t : ℕ) (c : Image) → left_at new t c → t ≤ (view new).moment) → ((c : Image) → left_at new (view new).moment c → may_leave new c)
       → ((a : Archive) (log : List Entry) (doubt : Option Entry) (d : D) (c : Image) → Stands a log doubt (may_leave d) → may_leave d c
-          → IsStore log c ⊎ ((x : Entry) × (doubt ≡ Some x) × IsStore (log ++ x ∷ []) c))
+      → IsStore log c ⊎ ((x : Entry) × (doubt ≡ Some x) × IsStore (log ++ x ∷ []) c))
       → StandsFor (IsSome (view old).contents) m was_o (may_leave old)
       → Step (Rose (view old).disk_faults (view new).disk_faults) m act m reply
       → Throughout view left_at old new (λ t c. may_leave old c)
@@ -349,5 +366,5 @@ module _ {D : Type 0} (view : D → View) (may_leave : D → Image → Type 0) (
       act_gives view may_leave left_at old new m m o act reply told was is no_later at_now
       (images law m o.archive new stands.stands) step stands refl
       (weakened view left_at old new _ (λ t c. FitsInside m (entry_of act) c) through
-        (λ t c left. inside_of m (entry_of act) c (images law m was_o.archive old stood.stands c left)))
+      (λ t c left. inside_of m (entry_of act) c (images law m was_o.archive old stood.stands c left)))
       (λ no. record { log = refl; doubt = refl })

@@ -107,20 +107,35 @@ module _ (failed acted : Type 0) (outcomes : Image → Type 0) (m : Machine) (a 
 
   as_refused : (why : Cause) → judged mid e ≡ Not why → closes why ≡ true → Stands a mid None outcomes → IsTold why reply → Stepped failed acted outcomes m a act reply
   as_refused why not close stands told = record {
-    after = machine a mid None; archive = refl; stands = stands; still = c.still; more = c.more; grows = c.grows;
+    after = machine a mid None;
+    archive = refl;
+    stands = stands;
+    still = c.still;
+    more = c.more;
+    grows = c.grows;
     step = told_row failed m (machine a mid None) act why reply close
         (λ r is_told. wrote e (machine a mid None) is c.clear (refused why not same is_told)) told;
   }
 
   as_there : (n : Counted) → judged mid e ≡ There n → Stands a mid None outcomes → reply ≡ silent n → Stepped failed acted outcomes m a act reply
   as_there n is_there stands told = record {
-    after = machine a mid None; archive = refl; stands = stands; still = c.still; more = c.more; grows = c.grows;
+    after = machine a mid None;
+    archive = refl;
+    stands = stands;
+    still = c.still;
+    more = c.more;
+    grows = c.grows;
     step = row (wrote e (machine a mid None) is c.clear (there n is_there same told));
   }
 
   as_full : (n : Counted) → judged mid e ≡ Fresh n → MeetsLimit a mid e → Stands a mid None outcomes → IsTold cause.Full reply → Stepped failed acted outcomes m a act reply
   as_full n fresh meets stands told = record {
-    after = machine a mid None; archive = refl; stands = stands; still = c.still; more = c.more; grows = c.grows;
+    after = machine a mid None;
+    archive = refl;
+    stands = stands;
+    still = c.still;
+    more = c.more;
+    grows = c.grows;
     step = told_row failed m (machine a mid None) act cause.Full reply refl
         (λ r is_told. wrote e (machine a mid None) is c.clear (full n fresh meets same is_told)) told;
   }
@@ -128,7 +143,9 @@ module _ (failed acted : Type 0) (outcomes : Image → Type 0) (m : Machine) (a 
   as_kept : (n : Counted) → judged mid e ≡ Fresh n → IsWithinNow a mid e → acted → Stands a (mid ++ e ∷ []) None outcomes → reply ≡ silent n
       → Stepped failed acted outcomes m a act reply
   as_kept n fresh within did stands told = record {
-    after = machine a (mid ++ e ∷ []) None; archive = refl; stands = stands;
+    after = machine a (mid ++ e ∷ []) None;
+    archive = refl;
+    stands = stands;
     still = λ no. absurd (no did);
     more = c.more ++ e ∷ [];
     grows = ap (λ (l : List Entry). l ++ e ∷ []) c.grows ∙ append_assoc m.log c.more (e ∷ []);
@@ -138,12 +155,19 @@ module _ (failed acted : Type 0) (outcomes : Image → Type 0) (m : Machine) (a 
   as_unwritten : (n : Counted) → judged mid e ≡ Fresh n → IsWithin a mid e → failed → (Stands a mid None outcomes ⊎ (acted × Stands a mid (Some e) outcomes))
       → IsTold cause.DiskFault reply → Stepped failed acted outcomes m a act reply
   as_unwritten n fresh within fails (inl stands) told = record {
-    after = machine a mid None; archive = refl; stands = stands; still = c.still; more = c.more; grows = c.grows;
+    after = machine a mid None;
+    archive = refl;
+    stands = stands;
+    still = c.still;
+    more = c.more;
+    grows = c.grows;
     step = told_row failed m (machine a mid None) act cause.DiskFault reply refl
         (λ r is_told. wrote e (machine a mid None) is c.clear (unwritten n fresh within refl (inl refl) fails is_told)) told;
   }
   as_unwritten n fresh within fails (inr (did, stands)) told = record {
-    after = machine a mid (Some e); archive = refl; stands = stands;
+    after = machine a mid (Some e);
+    archive = refl;
+    stands = stands;
     still = λ no. absurd (no did);
     more = c.more;
     grows = c.grows;
@@ -156,19 +180,23 @@ module _ (failed acted : Type 0) (outcomes : Image → Type 0) (m : Machine) (a 
 module _ (failed acted : Type 0) (outcomes : Image → Type 0) (m : Machine) (a : Archive) (act : Act) (reply : Reply) (stands : Stands a m.log m.doubt outcomes) where
   as_unsettled : (e : Entry) → entry_of act ≡ Some e → IsSome m.doubt → failed → IsTold cause.DiskFault reply → Stepped failed acted outcomes m a act reply
   as_unsettled e is some fails told =
-    let d = some_of m.doubt some in
-    record {
-      after = machine a m.log m.doubt; archive = refl; stands = stands;
-      still = λ no. record { log = refl; doubt = refl };
-      more = [];
-      grows = sym (append-nil m.log);
-      step = told_row failed m (machine a m.log m.doubt) act cause.DiskFault reply refl
-          (λ r is_told. unsettled e d.0 is d.1 (record { log = refl; doubt = refl }) fails is_told) told;
-    }
+      let d = some_of m.doubt some in
+      record {
+        after = machine a m.log m.doubt;
+        archive = refl;
+        stands = stands;
+        still = λ no. record { log = refl; doubt = refl };
+        more = [];
+        grows = sym (append-nil m.log);
+        step = told_row failed m (machine a m.log m.doubt) act cause.DiskFault reply refl
+            (λ r is_told. unsettled e d.0 is d.1 (record { log = refl; doubt = refl }) fails is_told) told;
+      }
 
   as_wants : reply ≡ no_memory → Stepped failed acted outcomes m a act reply
   as_wants none = record {
-    after = machine a m.log m.doubt; archive = refl; stands = stands;
+    after = machine a m.log m.doubt;
+    archive = refl;
+    stands = stands;
     still = λ no. record { log = refl; doubt = refl };
     more = [];
     grows = sym (append-nil m.log);
@@ -222,16 +250,16 @@ kept_log failed acted outcomes m a f place reply fails (mid, clears, new, at, wi
 by_difference : (header : List Track) (v : Checked) (why : Cause) → refusal_in header v ≡ Some why → closes why ≡ true
 by_difference header checked.Agreed why e = absurd cc
 by_difference header (checked.NotDeclared index) why e = (elim (slice_get header index) as (λ o. option_map (λ (t : Track). cause.NotDeclared t.name t.bitrate) o ≡ Some why → closes why ≡ true) [
-    | None ↦ λ none. absurd cc
-    | Some t ↦ λ some. subst (λ (x : Cause). closes x ≡ true) (some_is (cause.NotDeclared t.name t.bitrate) why some) refl
-  ]) e
+  | None ↦ λ none. absurd cc
+  | Some t ↦ λ some. subst (λ (x : Cause). closes x ≡ true) (some_is (cause.NotDeclared t.name t.bitrate) why some) refl
+]) e
   where
     some_is : (x y : Cause) → (let found : Cause → Option Cause = λ z. Some z in found x ≡ found y) → x ≡ y
     some_is x y e = cc
 by_difference header (checked.Clash index) why e = (elim (slice_get header index) as (λ o. option_map (λ (t : Track). cause.DeclClash t.name t.bitrate) o ≡ Some why → closes why ≡ true) [
-    | None ↦ λ none. absurd cc
-    | Some t ↦ λ some. subst (λ (x : Cause). closes x ≡ true) (some_is (cause.DeclClash t.name t.bitrate) why some) refl
-  ]) e
+  | None ↦ λ none. absurd cc
+  | Some t ↦ λ some. subst (λ (x : Cause). closes x ≡ true) (some_is (cause.DeclClash t.name t.bitrate) why some) refl
+]) e
   where
     some_is : (x y : Cause) → (let found : Cause → Option Cause = λ z. Some z in found x ≡ found y) → x ≡ y
     some_is x y e = cc

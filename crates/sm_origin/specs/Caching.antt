@@ -28,6 +28,6 @@ with_kept c place f = lru_cache (put_entries is_one_address c (address_of f) (re
 pub record Remembers (act : Act) (reply : Reply) (old new : LruCache Address Kept) : Type 0 where
   pub hit : (a : Address) (kept : Kept) → act ≡ Ask a → reply.status ≡ 200 → held_at a old ≡ Some kept → new ≡ with_front old a
   pub miss : (a : Address) → act ≡ Ask a → reply.status ≡ 200 → held_at a old ≡ None
-    → (place : ℕ) × (f : Fragment) × (address_of f ≡ a) × (new ≡ with_kept old place f)
+      → (place : ℕ) × (f : Fragment) × (address_of f ≡ a) × (new ≡ with_kept old place f)
   pub kept : (f : Fragment) → act ≡ Frag f → reply.counted ≡ counted.Kept → (new ≡ old) ⊎ ((place : ℕ) × (new ≡ with_kept old place f))
   pub same : ((a : Address) → act ≡ Ask a → reply.status ≢ 200) → reply.counted ≢ counted.Kept → reply.status ≢ 500 → new ≡ old

@@ -96,9 +96,9 @@ pub data Writes (failed : Type 0) (m : Machine) (e : Entry) (n : Machine) (r : R
   there : (counted : Counted) → judged m.log e ≡ There counted → SameLog m n → r ≡ silent counted → Writes failed m e n r
   full : (counted : Counted) → judged m.log e ≡ Fresh counted → MeetsLimit n.archive m.log e → SameLog m n → r ≡ unplaced cause.Full → Writes failed m e n r
   kept : (counted : Counted) → judged m.log e ≡ Fresh counted → IsWithinNow n.archive m.log e → n.log ≡ m.log ++ e ∷ [] → n.doubt ≡ None → r ≡ silent counted
-    → Writes failed m e n r
+      → Writes failed m e n r
   unwritten : (counted : Counted) → judged m.log e ≡ Fresh counted → IsWithin n.archive m.log e → n.log ≡ m.log → (n.doubt ≡ None) ⊎ (n.doubt ≡ Some e) → failed
-    → r ≡ unplaced cause.DiskFault → Writes failed m e n r
+      → r ≡ unplaced cause.DiskFault → Writes failed m e n r
 
 -- the doubt is settled: its entry is there, or it isn't
 pub record Settled (m n : Machine) : Type 0 where
@@ -115,7 +115,7 @@ Clear m n = ((m.doubt ≡ None) × SameLog m n) ⊎ Settled m n
 pub data Row (failed : Type 0) (m : Machine) (act : Act) (n : Machine) (r : Reply) : Type 0 where
   answered : entry_of act ≡ None → SameLog m n → r ≡ reply_of m.log act → Row failed m act n r
   unread : (a : Address) (place : ℕ) (f : Fragment) → act ≡ Ask a → kept_at m.log a ≡ Some (place, f) → SameLog m n → failed → r ≡ unplaced cause.DiskFault
-    → Row failed m act n r
+      → Row failed m act n r
   unsettled : (e d : Entry) → entry_of act ≡ Some e → m.doubt ≡ Some d → SameLog m n → failed → r ≡ unplaced cause.DiskFault → Row failed m act n r
   wrote : (e : Entry) (mid : Machine) → entry_of act ≡ Some e → Clear m mid → Writes failed mid e n r → Row failed m act n r
 

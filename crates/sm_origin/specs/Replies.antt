@@ -28,12 +28,12 @@ abbrev pub closes : Cause → Bool
 closes c = not (cause_status c == 404)
 
 abbrev pub told : Refusal → Reply
-told r = record
-  { status = cause_status r.cause
-  ; bytes = reply_text (cause_status r.cause) Plain (cause_line r.at r.cause) (closes r.cause)
-  ; close = closes r.cause
-  ; counted = Neither
-  }
+told r = record {
+  status = cause_status r.cause;
+  bytes = reply_text (cause_status r.cause) Plain (cause_line r.at r.cause) (closes r.cause);
+  close = closes r.cause;
+  counted = Neither;
+}
 
 -- a cause without a place
 abbrev pub unplaced : Cause → Reply

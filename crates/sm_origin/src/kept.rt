@@ -20,9 +20,7 @@ fn track_place(channel: &[Track], stream: &[u8], bitrate: u32) -> Option<usize>
     ensures place { result ≡ position (λ t. is_same t.name stream.now && t.bitrate == bitrate) channel.now }
     ensures short { (k : ℕ) → result ≡ Some k → k < length channel.now }
 {
-    channel
-        .iter()
-        .position(|track| track.name.as_bytes() == stream && track.bitrate == bitrate)
+    channel.iter().position(|track| track.name.as_bytes() == stream && track.bitrate == bitrate)
 }
 
 // The track_ID under which a stream and bitrate is served: the place of its track in the channel, from 1.

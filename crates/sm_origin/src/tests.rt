@@ -7,7 +7,8 @@ ghost use Rattle.sm_origin.specs.Acting.{StandsFor};
 use crate::{Counted, Origin};
 use sm_archive::{Declared, Limits};
 use sm_model::{
-    Act, Address, Bytes, Cause, Channel, Fragment, Kind, Name, Params, Refusal, Sample, Samples, Track,
+    Act, Address, Bytes, Cause, Channel, Fragment, Kind, Name, Params, Refusal, Sample, Samples,
+    Track,
 };
 use sm_site::{MemorySite, Numbers, Script};
 use std::alloc::Global;
@@ -133,22 +134,88 @@ fn acts_are_answered_by_the_log(rt: HostRuntime) -> Result<(), Fail> {
     });
     use Counted::{Kept, Known, Neither};
     let rows: [(Act, u16, Counted, bool, &[u8]); 16] = [
-        (Act::Manifest, 404, Neither, false, b"HTTP/1.1 404 Not Found\r\nContent-Type: text/plain\r\nContent-Length: 13\r\n\r\n48 NoChannel\n"),
-        (ask(alloc, 350_000)?, 404, Neither, false, b"HTTP/1.1 404 Not Found\r\nContent-Type: text/plain\r\nContent-Length: 13\r\n\r\n48 NoChannel\n"),
-        (frag(alloc, 0, 20_000_000, 0x41)?, 409, Neither, true, b"HTTP/1.1 409 Conflict\r\nContent-Type: text/plain\r\nContent-Length: 27\r\nConnection: close\r\n\r\n8 NotDeclared video 350000\n"),
+        (
+            Act::Manifest,
+            404,
+            Neither,
+            false,
+            b"HTTP/1.1 404 Not Found\r\nContent-Type: text/plain\r\nContent-Length: 13\r\n\r\n48 NoChannel\n",
+        ),
+        (
+            ask(alloc, 350_000)?,
+            404,
+            Neither,
+            false,
+            b"HTTP/1.1 404 Not Found\r\nContent-Type: text/plain\r\nContent-Length: 13\r\n\r\n48 NoChannel\n",
+        ),
+        (
+            frag(alloc, 0, 20_000_000, 0x41)?,
+            409,
+            Neither,
+            true,
+            b"HTTP/1.1 409 Conflict\r\nContent-Type: text/plain\r\nContent-Length: 27\r\nConnection: close\r\n\r\n8 NotDeclared video 350000\n",
+        ),
         (header(alloc, 640, Some(700_000))?, 0, Neither, false, b""),
         (header(alloc, 640, None)?, 0, Neither, false, b""),
-        (header(alloc, 640, Some(1_400_000))?, 409, Neither, true, b"HTTP/1.1 409 Conflict\r\nContent-Type: text/plain\r\nContent-Length: 28\r\nConnection: close\r\n\r\n8 NotDeclared video 1400000\n"),
-        (header(alloc, 320, None)?, 409, Neither, true, b"HTTP/1.1 409 Conflict\r\nContent-Type: text/plain\r\nContent-Length: 25\r\nConnection: close\r\n\r\n9 DeclClash video 350000\n"),
-        (ask(alloc, 350_000)?, 404, Neither, false, b"HTTP/1.1 404 Not Found\r\nContent-Type: text/plain\r\nContent-Length: 11\r\n\r\n47 NotKept\n"),
+        (
+            header(alloc, 640, Some(1_400_000))?,
+            409,
+            Neither,
+            true,
+            b"HTTP/1.1 409 Conflict\r\nContent-Type: text/plain\r\nContent-Length: 28\r\nConnection: close\r\n\r\n8 NotDeclared video 1400000\n",
+        ),
+        (
+            header(alloc, 320, None)?,
+            409,
+            Neither,
+            true,
+            b"HTTP/1.1 409 Conflict\r\nContent-Type: text/plain\r\nContent-Length: 25\r\nConnection: close\r\n\r\n9 DeclClash video 350000\n",
+        ),
+        (
+            ask(alloc, 350_000)?,
+            404,
+            Neither,
+            false,
+            b"HTTP/1.1 404 Not Found\r\nContent-Type: text/plain\r\nContent-Length: 11\r\n\r\n47 NotKept\n",
+        ),
         (frag(alloc, 0, 20_000_000, 0x41)?, 0, Kept, false, b""),
         (frag(alloc, 0, 20_000_000, 0x44)?, 0, Known, false, b""),
-        (frag(alloc, 10_000_000, 20_000_000, 0x44)?, 409, Neither, true, b"HTTP/1.1 409 Conflict\r\nContent-Type: text/plain\r\nContent-Length: 24\r\nConnection: close\r\n\r\n20 Overlap end 20000000\n"),
+        (
+            frag(alloc, 10_000_000, 20_000_000, 0x44)?,
+            409,
+            Neither,
+            true,
+            b"HTTP/1.1 409 Conflict\r\nContent-Type: text/plain\r\nContent-Length: 24\r\nConnection: close\r\n\r\n20 Overlap end 20000000\n",
+        ),
         (ask(alloc, 350_000)?, 200, Neither, false, &first),
-        (ask(alloc, 700_000)?, 404, Neither, false, b"HTTP/1.1 404 Not Found\r\nContent-Type: text/plain\r\nContent-Length: 11\r\n\r\n47 NotKept\n"),
-        (Act::Unknown, 404, Neither, false, b"HTTP/1.1 404 Not Found\r\nContent-Type: text/plain\r\nContent-Length: 12\r\n\r\n42 NoTarget\n"),
-        (Act::End { kept: 1, known: 1 }, 200, Neither, false, b"HTTP/1.1 200 OK\r\nContent-Type: text/plain\r\nContent-Length: 15\r\n\r\nkept 1 known 1\n"),
-        (refuse, 400, Neither, true, b"HTTP/1.1 400 Bad Request\r\nContent-Type: text/plain\r\nContent-Length: 12\r\nConnection: close\r\n\r\n45 BadChunk\n"),
+        (
+            ask(alloc, 700_000)?,
+            404,
+            Neither,
+            false,
+            b"HTTP/1.1 404 Not Found\r\nContent-Type: text/plain\r\nContent-Length: 11\r\n\r\n47 NotKept\n",
+        ),
+        (
+            Act::Unknown,
+            404,
+            Neither,
+            false,
+            b"HTTP/1.1 404 Not Found\r\nContent-Type: text/plain\r\nContent-Length: 12\r\n\r\n42 NoTarget\n",
+        ),
+        (
+            Act::End { kept: 1, known: 1 },
+            200,
+            Neither,
+            false,
+            b"HTTP/1.1 200 OK\r\nContent-Type: text/plain\r\nContent-Length: 15\r\n\r\nkept 1 known 1\n",
+        ),
+        (
+            refuse,
+            400,
+            Neither,
+            true,
+            b"HTTP/1.1 400 Bad Request\r\nContent-Type: text/plain\r\nContent-Length: 12\r\nConnection: close\r\n\r\n45 BadChunk\n",
+        ),
     ];
     for (act, status, counted, close, bytes) in &rows {
         let (is, counts, closes, sent) = told(alloc, &mut origin, &mut site, act)?;

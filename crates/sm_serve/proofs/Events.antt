@@ -26,7 +26,13 @@ use Rattle.sm_serve.specs.Connections.{without, is_among, live_after, live_from,
 use Rattle.std.proofs.lemmas.List.{append-nil}
 use Rattle.sm_origin.specs.declared.origin.Origin.{Origin}
 use Rattle.sm_serve.specs.Standing.{StandsOn}
-use Rattle.sm_serve.specs.Run.{Point, idle, declared, at, start, begins}
+use Rattle.sm_model.specs.declared.entry.Entry.{Entry}
+use Rattle.sm_archive.specs.Store.{IsStore}
+use Rattle.sm_origin.specs.Shown.{Claim, Holds}
+use Rattle.sm_serve.specs.Shown.{Shown}
+use Rattle.sm_serve.specs.Surviving.{Survives}
+use Rattle.sm_serve.specs.Moments.{FitsAt}
+use Rattle.sm_serve.specs.Run.{Stepped, Run, Point, idle, declared, at, start, begins}
 use Rattle.sm_serve.specs.Standing.{History, is_told, Keeps, Pending, calls_of}
 use Rattle.sm_serve.specs.Serving.{numbers_of, AreResting, Serves, Known, Turns, Served, EndsAs, MayHandle, IsNew, Begins, DeclaresIn}
 use Rattle.sm_serve.proofs.Transcripts.{told_adds, open_push, stays_live}
@@ -215,10 +221,33 @@ module _ {D : Type 0} (view : D → View) (leave : D → Image → Type 0) (left
   pub turns_here : (h : History) (state : State) (d : D) → Serves view leave left_at h state d → Turns view leave left_at h 0 state d
   turns_here h state d serves = record { later = h; serves = serves; since = record { first = refl; begin = refl; base = refl }; taken = omega arith }
 
-  pub has_served : (h : History) (n turns : ℕ) (result : Outcome) (state : State) (d : D) → (all : Turns view leave left_at h n state d) → EndsAs turns result (view d).transcript (events_in h.items) (events_in all.later.items) → Served view leave left_at h result turns state d
-  has_served h n turns result state d all ends =
-      let k = all.serves.keeps in
-      record { later = all.later; since = all.since; ended = ends; run = k.run; awaits = all.serves.rest.phase_is; told = k.told; stands = all.serves.rest.stands; recorded = k.recorded; blamed = k.blamed; crash = k.images }
+  module _ (left_told : (s : D) (t : ℕ) (image : Image) → left_at s t image → IsSome (view s).contents)
+      (crashes : (first : Machine) (begin : ℕ) (items : List Item) (steps : List Stepped) (point : Point) → Run true first begin items steps point → (t : ℕ) (image : Image)
+      → FitsAt first steps t image
+      → (log : List Entry) × IsStore log image × ((more : List Entry) × (log ≡ first.log ++ more)) × ((claim : Claim) → Shown items t claim → Holds log claim)) where
+    survives : (h : History) (d : D) → Keeps view leave left_at h d → (t : ℕ) (image : Image) → h.begin ≤ t → left_at d t image → Survives h.first h.items t image
+    survives h d keeps t image from left =
+        let run = run_as (is_told (view d)) true h.first h.begin h.items h.steps h.point (sym (left_told d t image left)) keeps.run in
+        let s = crashes h.first h.begin h.items h.steps h.point run t image (keeps.images t image from left) in
+        record { log = s.0; store = s.1; more = s.2.0; extends = s.2.1; holds = s.3 }
+
+    pub has_served : (h : History) (n turns : ℕ) (result : Outcome) (state : State) (d : D) → (all : Turns view leave left_at h n state d)
+        → EndsAs turns result (view d).transcript (events_in h.items) (events_in all.later.items) → Served view leave left_at h result turns state d
+    has_served h n turns result state d all ends =
+        let k = all.serves.keeps in
+        record {
+          later = all.later;
+          since = all.since;
+          ended = ends;
+          run = k.run;
+          awaits = all.serves.rest.phase_is;
+          told = k.told;
+          stands = all.serves.rest.stands;
+          recorded = k.recorded;
+          blamed = k.blamed;
+          crash = k.images;
+          survives = survives all.later d k;
+        }
 
 recorded_first : (o : Option (List DiskCall)) → IfSome o (λ cs. (before : List DiskCall) × (cs ≡ before ++ []))
 recorded_first None = tt

@@ -70,6 +70,11 @@ module _ {D : Type 0} (view : D → View) (leave : D → Image → Type 0) (left
   closed_gives h n true push counts before parts more left origin d is reaches = absurd (cc)
   closed_gives h n false push counts before parts more left origin d is reaches = reaches
 
+  pub starved_gives : (h : History) (n : ℕ) (r : Bool) (push : Option Standing) (counts : Counts) (before : Option (List ℕ)) (parts more : List PartItem) (origin : Origin) (d : D)
+      → r ≡ false → Reaches view leave left_at h n false idle counts origin d → PartGives view leave left_at h n r push counts before parts more origin d
+  starved_gives h n true push counts before parts more origin d is reaches = absurd (cc)
+  starved_gives h n false push counts before parts more origin d is reaches = reaches
+
   -- an end of a push
   pub end_gives : (h : History) (n : ℕ) (close r : Bool) (push : Option Standing) (counts : Counts) (b : List ℕ) (more : List PartItem) (origin : Origin) (d : D) → body_end false b ≡ None
       → (close ≡ true → r ≡ false) → (r ≡ true → push ≡ None) → Reaches view leave left_at h n r (if r then acting n (if close then [] else wire None more) else idle) counts origin d

@@ -24,7 +24,8 @@ abbrev pub EndedPush : List ℕ → Result (Unit {0}) PushFault → Type 0
 EndedPush b result = Ends false b result
 
 -- Behind these parts the connection is still open. Whatever parts follow, they give behind what was given what they give with the push that is open now.
-pub record StaysOpen {D : Type 0} (view : D → View) (leave : D → Image → Type 0) (left_at : D → ℕ → Image → Type 0) (h : History) (n : ℕ) (push : Option Standing) (counts : Counts)
+pub record StaysOpen {D : Type 0} (view : D → View) (leave : D → Image → Type 0) (left_at : D → ℕ → Image → Type 0) (h : History) (n : ℕ) (push : Option Standing)
+    (counts : Counts)
     (before : Option (List ℕ)) (parts more : List PartItem) (origin : Origin) (d : D) : Type 0 where
   pub after : Option (List ℕ)
   pub after_is : PlaceIs push after
@@ -40,7 +41,8 @@ PartGives view leave left_at h n true push counts before parts more origin d = S
 PartGives view leave left_at h n false push counts before parts more origin d = Reaches view leave left_at h n false idle counts origin d
 
 -- A piece was taken: the run goes on from its event to the next one, and an open connection rests with the piece.
-pub record PieceGives {D : Type 0} (view : D → View) (leave : D → Image → Type 0) (left_at : D → ℕ → Image → Type 0) (h : History) (m : ℕ) (piece : List ℕ) (n : ℕ) (is_open : Bool) (live : Live)
+pub record PieceGives {D : Type 0} (view : D → View) (leave : D → Image → Type 0) (left_at : D → ℕ → Image → Type 0) (h : History) (m : ℕ) (piece : List ℕ) (n : ℕ)
+    (is_open : Bool) (live : Live)
     (origin : Origin) (d : D) : Type 0 where
   pub from : Point
   pub from_counts : from.counts ≡ h.point.counts

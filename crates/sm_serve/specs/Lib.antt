@@ -8,3 +8,4 @@ pub mod Items
 pub mod Giving
 pub mod Serving
 pub mod Shown
+pub mod Surviving

@@ -19,6 +19,7 @@ use Rattle.sm_serve.specs.declared.outcome.Served.TheVariants as served
 use Rattle.sm_serve.specs.Connections.{received, live, without, is_among, AreDistinct, events_in}
 use Rattle.sm_serve.specs.Run.{Stepped, idle, at, Run}
 use Rattle.sm_serve.specs.Moments.{FitsAt}
+use Rattle.sm_serve.specs.Surviving.{Survives}
 use Rattle.sm_serve.specs.Standing.{History, StandsOn, is_told, Keeps, calls_of}
 use Rattle.sm_serve.specs.Resting.{Rests, counts_of}
 
@@ -52,7 +53,8 @@ pub record Since (h k : History) : Type 0 where
   pub base : k.base ≡ h.base
 
 -- the run goes on by so many events
-pub record Turns {D : Type 0} (view : D → View) (leave : D → Image → Type 0) (left_at : D → ℕ → Image → Type 0) (h : History) (events : ℕ) (state : State) (d : D) : Type 0 where
+pub record Turns {D : Type 0} (view : D → View) (leave : D → Image → Type 0) (left_at : D → ℕ → Image → Type 0) (h : History) (events : ℕ) (state : State)
+    (d : D) : Type 0 where
   pub later : History
   pub serves : Serves view leave left_at later state d
   pub since : Since h later
@@ -65,7 +67,8 @@ Known view leave left_at state d = IsSome (view d).transcript → (h : History) 
 -- a connection is out of the list
 pub record Forgets (n : ℕ) (old new : State) : Type 0 where
   pub origin : new.origin ≡ old.origin
-  pub resting : (h k : History) → ((l : Live) → (l.number ≡ n → ⊥) → IsResting h l → IsResting k l) → AreDistinct (numbers_of old.lives.items) → AreResting h old.lives.items → AreResting k new.lives.items
+  pub resting : (h k : History) → ((l : Live) → (l.number ≡ n → ⊥) → IsResting h l → IsResting k l) → AreDistinct (numbers_of old.lives.items)
+      → AreResting h old.lives.items → AreResting k new.lives.items
   pub numbers : AreDistinct (numbers_of old.lives.items) → numbers_of new.lives.items ≡ without n (numbers_of old.lives.items)
 
 -- an event that was just taken may be handled: its connection is open, if the transcript is told
@@ -95,8 +98,9 @@ EndsAs turns served.NoMemory told before now = Unit {0}
 
 -- The loop served: from wherever a run had come it goes on, over the entries since; and at every moment since its start, each image that a
 -- crash may leave is the store of the last step that ended by then, or of that with the doubt, or of one of these with the entry that
--- is being written.
-pub record Served {D : Type 0} (view : D → View) (leave : D → Image → Type 0) (left_at : D → ℕ → Image → Type 0) (h : History) (result : Outcome) (turns : ℕ) (state : State) (d : D) : Type 0 where
+-- is being written. So it holds whatever had been shown by then.
+pub record Served {D : Type 0} (view : D → View) (leave : D → Image → Type 0) (left_at : D → ℕ → Image → Type 0) (h : History) (result : Outcome) (turns : ℕ)
+    (state : State) (d : D) : Type 0 where
   pub later : History
   pub since : Since h later
   pub ended : EndsAs turns result (view d).transcript (events_in h.items) (events_in later.items)
@@ -107,6 +111,7 @@ pub record Served {D : Type 0} (view : D → View) (leave : D → Image → Type
   pub recorded : IfSome (view d).calls (λ cs. (before : List DiskCall) × (cs ≡ before ++ calls_of later.steps))
   pub blamed : (view d).send_faults < 2 ^ 64 - 1 → later.point.failed ≤ (view d).send_faults
   pub crash : (t : ℕ) (image : Image) → later.begin ≤ t → left_at d t image → FitsAt later.first later.steps t image
+  pub survives : (t : ℕ) (image : Image) → later.begin ≤ t → left_at d t image → Survives later.first later.items t image
 
 -- A new state is where a run begins, whatever the machine that its origin stands for and the transcript before it.
 abbrev pub Begins : {D : Type 0} (view : D → View) (leave : D → Image → Type 0) (left_at : D → ℕ → Image → Type 0) → State → D → Type 0
@@ -121,7 +126,8 @@ taken_by turned.LinkFault = 0
 taken_by turned.NoMemory = 0
 
 -- A ladder is one step more, without a connection and without an entry.
-pub record DeclaresIn {D : Type 0} (view : D → View) (leave : D → Image → Type 0) (left_at : D → ℕ → Image → Type 0) (h : History) (channel : List Track) (result : Declared)
+pub record DeclaresIn {D : Type 0} (view : D → View) (leave : D → Image → Type 0) (left_at : D → ℕ → Image → Type 0) (h : History) (channel : List Track)
+    (result : Declared)
     (state : State) (d : D) : Type 0 where
   pub later : History
   pub serves : Serves view leave left_at later state d

@@ -68,7 +68,8 @@ pub record Follows (n : ℕ) (is_open : Bool) (h k : History) : Type 0 where
   pub counts : (j : ℕ) → j ≢ n → k.point.counts j ≡ h.point.counts j
 
 -- The run reaches this phase, with these counts of the connection if it is open.
-pub record Reaches {D : Type 0} (view : D → View) (leave : D → Image → Type 0) (left_at : D → ℕ → Image → Type 0) (h : History) (n : ℕ) (is_open : Bool) (phase : Phase) (counts : Counts)
+pub record Reaches {D : Type 0} (view : D → View) (leave : D → Image → Type 0) (left_at : D → ℕ → Image → Type 0) (h : History) (n : ℕ) (is_open : Bool)
+    (phase : Phase) (counts : Counts)
     (origin : Origin) (d : D) : Type 0 where
   pub later : History
   pub keeps : Keeps view leave left_at later d

@@ -70,7 +70,8 @@ fn take_chunk<S: Site>(
     requires open { is_some live.old.push ≡ true }
     requires live { IfSome (S.Disk.view site.old).transcript (IsLive live.old.number) }
     ensures goes_on { (h : History) (b : List ℕ) (more : List PartItem) (items : List WireItem) → Keeps S.Disk.view S.Disk.may_leave S.Disk.left_at h site.old
-        → StandsOn S.Disk.view S.Disk.may_leave h.point.machine origin.old site.old → PlaceIs live.old.push (Some b) → Left (Some b) (map (λ x. byte x) bytes.now ++ more) items
+        → StandsOn S.Disk.view S.Disk.may_leave h.point.machine origin.old site.old → PlaceIs live.old.push (Some b)
+        → Left (Some b) (map (λ x. byte x) bytes.now ++ more) items
         → h.point.phase ≡ acting live.old.number items → h.point.counts live.old.number ≡ counts_of live.old
         → PartGives S.Disk.view S.Disk.may_leave S.Disk.left_at h live.old.number result live.new.push (counts_of live.new) (Some b) (map (λ x. byte x) bytes.now) more origin.new site.new }
     ensures stands { (m : Machine) × StandsOn S.Disk.view S.Disk.may_leave m origin.new site.new }
@@ -107,7 +108,8 @@ pub(crate) fn take_body<S: Site>(
     requires open { is_some live.old.push ≡ true }
     requires live { IfSome (S.Disk.view site.old).transcript (IsLive live.old.number) }
     ensures goes_on { (h : History) (b : List ℕ) (more : List PartItem) (items : List WireItem) → Keeps S.Disk.view S.Disk.may_leave S.Disk.left_at h site.old
-        → StandsOn S.Disk.view S.Disk.may_leave h.point.machine origin.old site.old → PlaceIs live.old.push (Some b) → Left (Some b) (map (λ x. byte x) bytes.now ++ more) items
+        → StandsOn S.Disk.view S.Disk.may_leave h.point.machine origin.old site.old → PlaceIs live.old.push (Some b)
+        → Left (Some b) (map (λ x. byte x) bytes.now ++ more) items
         → h.point.phase ≡ acting live.old.number items → h.point.counts live.old.number ≡ counts_of live.old
         → PartGives S.Disk.view S.Disk.may_leave S.Disk.left_at h live.old.number result live.new.push (counts_of live.new) (Some b) (map (λ x. byte x) bytes.now) more origin.new site.new }
     ensures stands { (m : Machine) × StandsOn S.Disk.view S.Disk.may_leave m origin.new site.new }
@@ -175,7 +177,8 @@ fn end_push<S: Site>(
     requires stands { (m : Machine) × StandsOn S.Disk.view S.Disk.may_leave m origin.old site.old }
     requires live { IfSome (S.Disk.view site.old).transcript (IsLive live.old.number) }
     ensures goes_on { (h : History) (more : List WireItem) → Keeps S.Disk.view S.Disk.may_leave S.Disk.left_at h site.old
-        → StandsOn S.Disk.view S.Disk.may_leave h.point.machine origin.old site.old → h.point.phase ≡ acting live.old.number (End close ∷ more) → h.point.counts live.old.number ≡ counts_of live.old
+        → StandsOn S.Disk.view S.Disk.may_leave h.point.machine origin.old site.old → h.point.phase ≡ acting live.old.number (End close ∷ more)
+        → h.point.counts live.old.number ≡ counts_of live.old
         → Reaches S.Disk.view S.Disk.may_leave S.Disk.left_at h live.old.number result (if result then acting live.old.number more else idle) (counts_of live.new) origin.new site.new }
     ensures closed { IsTrue close → result ≡ false }
     ensures stands { (m : Machine) × StandsOn S.Disk.view S.Disk.may_leave m origin.new site.new }

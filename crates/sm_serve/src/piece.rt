@@ -34,7 +34,8 @@ fn take_parts<S: Site>(
 ) -> bool
     requires stands { (m : Machine) × StandsOn S.Disk.view S.Disk.may_leave m origin.old site.old }
     requires live { IfSome (S.Disk.view site.old).transcript (IsLive live.old.number) }
-    ensures goes_on { (h : History) (place : Option (List ℕ)) (more : List PartItem) (items : List WireItem) → Keeps S.Disk.view S.Disk.may_leave S.Disk.left_at h site.old
+    ensures goes_on { (h : History) (place : Option (List ℕ)) (more : List PartItem) (items : List WireItem)
+        → Keeps S.Disk.view S.Disk.may_leave S.Disk.left_at h site.old
         → StandsOn S.Disk.view S.Disk.may_leave h.point.machine origin.old site.old → PlaceIs live.old.push place → Left place (joined parts.items ++ more) items
         → h.point.phase ≡ acting live.old.number items → h.point.counts live.old.number ≡ counts_of live.old
         → PartGives S.Disk.view S.Disk.may_leave S.Disk.left_at h live.old.number result live.new.push (counts_of live.new) place (joined parts.items) more origin.new site.new }
@@ -63,7 +64,8 @@ pub(crate) fn take_piece<S: Site>(
     requires stands { (m : Machine) × StandsOn S.Disk.view S.Disk.may_leave m origin.old site.old }
     requires live { IfSome (S.Disk.view site.old).transcript (IsLive live.old.number) }
     ensures goes_on { (h : History) (m : ℕ) → Pending S.Disk.view S.Disk.may_leave S.Disk.left_at h m (Came live.old.number piece.now) site.old
-        → StandsOn S.Disk.view S.Disk.may_leave h.point.machine origin.old site.old → h.point.phase ≡ idle → is_open live.old.number h.items ≡ true → h.point.counts live.old.number ≡ counts_of live.old
+        → StandsOn S.Disk.view S.Disk.may_leave h.point.machine origin.old site.old → h.point.phase ≡ idle → is_open live.old.number h.items ≡ true
+        → h.point.counts live.old.number ≡ counts_of live.old
         → Rests live.old (received live.old.number h.items)
         → PieceGives S.Disk.view S.Disk.may_leave S.Disk.left_at h m piece.now live.old.number result live.new origin.new site.new }
     ensures stands { (m : Machine) × StandsOn S.Disk.view S.Disk.may_leave m origin.new site.new }

@@ -15,6 +15,7 @@ ghost use Rattle.sm_serve.specs.Serving.{Served as HasServed, taken_by};
 use crate::item::starve;
 use crate::outcome::{Served, Turn};
 use crate::piece::take_piece;
+use crate::shown::crashes_hold_what_was_shown;
 use crate::tell::tell;
 use crate::{Live, State, TOO_MANY};
 use sm_model::NoMemory;
@@ -66,7 +67,8 @@ fn open<S: Site>(site: &mut S, state: &mut State, number: u64)
     requires stands { (m : Machine) × StandsOn S.Disk.view S.Disk.may_leave m state.old.origin site.old }
     requires live { IfSome (S.Disk.view site.old).transcript (IsLive number) }
     ensures goes_on { (h : History) (m : ℕ) → Pending S.Disk.view S.Disk.may_leave S.Disk.left_at h m (Began number) site.old
-        → IsAtRest S.Disk.view S.Disk.may_leave h state.old site.old → is_among number (live h.items) ≡ false → Turns S.Disk.view S.Disk.may_leave S.Disk.left_at h 1 state.new site.new }
+        → IsAtRest S.Disk.view S.Disk.may_leave h state.old site.old → is_among number (live h.items) ≡ false
+        → Turns S.Disk.view S.Disk.may_leave S.Disk.left_at h 1 state.new site.new }
     ensures stands { (m : Machine) × StandsOn S.Disk.view S.Disk.may_leave m state.new.origin site.new }
     ensures told { is_some (S.Disk.view site.new).transcript ≡ is_some (S.Disk.view site.old).transcript }
     ensures link_faults { (S.Disk.view site.new).link_faults ≡ (S.Disk.view site.old).link_faults }
@@ -144,7 +146,8 @@ pub fn turn<S: Site>(site: &mut S, state: &mut State) -> Turn
     requires known { Known S.Disk.view S.Disk.may_leave S.Disk.left_at state.old site.old }
     // Wherever a run had come, it goes on: from the same machine at the start, over the entries since, and what a crash may leave at
     // each moment since fits it.
-    ensures runs { (h : History) → Serves S.Disk.view S.Disk.may_leave S.Disk.left_at h state.old site.old → Turns S.Disk.view S.Disk.may_leave S.Disk.left_at h (taken_by result) state.new site.new }
+    ensures runs { (h : History) → Serves S.Disk.view S.Disk.may_leave S.Disk.left_at h state.old site.old
+        → Turns S.Disk.view S.Disk.may_leave S.Disk.left_at h (taken_by result) state.new site.new }
     ensures stands { (m : Machine) × StandsOn S.Disk.view S.Disk.may_leave m state.new.origin site.new }
     ensures told { is_some (S.Disk.view site.new).transcript ≡ is_some (S.Disk.view site.old).transcript }
     // Exactly where the event says so.
@@ -165,13 +168,16 @@ pub fn turn<S: Site>(site: &mut S, state: &mut State) -> Turn
 pub fn serve<S: Site>(site: &mut S, state: &mut State, turns: u64) -> Served
     requires stands { (m : Machine) × StandsOn S.Disk.view S.Disk.may_leave m state.old.origin site.old }
     requires known { Known S.Disk.view S.Disk.may_leave S.Disk.left_at state.old site.old }
-    ensures runs { (h : History) → Serves S.Disk.view S.Disk.may_leave S.Disk.left_at h state.old site.old → HasServed S.Disk.view S.Disk.may_leave S.Disk.left_at h result turns state.new site.new }
-    ensures goes_on { (h : History) → Serves S.Disk.view S.Disk.may_leave S.Disk.left_at h state.old site.old → (n : ℕ) × Turns S.Disk.view S.Disk.may_leave S.Disk.left_at h n state.new site.new }
+    ensures runs { (h : History) → Serves S.Disk.view S.Disk.may_leave S.Disk.left_at h state.old site.old
+        → HasServed S.Disk.view S.Disk.may_leave S.Disk.left_at h result turns state.new site.new }
+    ensures goes_on { (h : History) → Serves S.Disk.view S.Disk.may_leave S.Disk.left_at h state.old site.old → (n : ℕ)
+        × Turns S.Disk.view S.Disk.may_leave S.Disk.left_at h n state.new site.new }
     ensures stands { (m : Machine) × StandsOn S.Disk.view S.Disk.may_leave m state.new.origin site.new }
     ensures told { is_some (S.Disk.view site.new).transcript ≡ is_some (S.Disk.view site.old).transcript }
     ensures link_faults { (S.Disk.view site.old).link_faults ≤ (S.Disk.view site.new).link_faults }
     ensures link_fault { result ≡ Served.LinkFault → Rose (S.Disk.view site.old).link_faults (S.Disk.view site.new).link_faults }
 {
+    crashes_hold_what_was_shown();
     for taken in 0..turns {
         match turn(site, state) {
             Turn::Went => {}

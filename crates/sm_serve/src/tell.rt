@@ -4,6 +4,7 @@ ghost use Rattle.sm_site.specs.Meanings.{IsLive};
 ghost use Rattle.sm_site.specs.Clauses.{SameOutcomes};
 ghost use Rattle.sm_wire.specs.declared.item.WireItem.{WireItem};
 ghost use Rattle.sm_origin.specs.declared.origin.Origin.{Origin};
+ghost use Rattle.sm_origin.specs.Machine.{Machine};
 ghost use Rattle.sm_serve.specs.Run.{idle, acting, sending};
 ghost use Rattle.sm_serve.specs.Standing.{History, StandsOn, Keeps, Reaches};
 
@@ -17,6 +18,7 @@ pub(crate) fn tell<S: Site>(site: &mut S, number: u64, bytes: &[u8], close: bool
         → StandsOn S.Disk.view S.Disk.may_leave h.point.machine origin site.old → h.point.phase ≡ sending number bytes.now close more
         → Reaches S.Disk.view S.Disk.may_leave S.Disk.left_at h number result (if result then acting number more else idle) (h.point.counts number) origin site.new }
     ensures closed { IsTrue close → result ≡ false }
+    ensures stands { (m : Machine) (origin : Origin) → StandsOn S.Disk.view S.Disk.may_leave m origin site.old → StandsOn S.Disk.view S.Disk.may_leave m origin site.new }
     ensures same { SameOutcomes (S.Disk.may_leave site.old) (S.Disk.may_leave site.new) }
     ensures contents { (S.Disk.view site.new).contents ≡ (S.Disk.view site.old).contents }
     ensures open { IsTrue result → IfSome (S.Disk.view site.new).transcript (IsLive number) }

@@ -2,14 +2,27 @@
 mod play;
 mod texts;
 
-use crate::Served;
-use play::{play, send, sent};
+use crate::{Served, Turn};
+use play::{declare, play, send, sent};
+use sm_archive::Declared;
+use sm_head::CONTINUE;
+use sm_model::{Bytes, Channel, Kind, Name, Params, Track};
 use std::alloc::Global;
 use std::test::Fail;
-use texts::{GET_MANIFEST, M1, MFRA, fragment, given, header, joined, push, reply, served};
+use texts::{
+    EMPTY_PUSH, GET_MANIFEST, M1, MFRA, fragment, given, header, joined, push, reply, served,
+};
 
 // The sizes of pieces: whole, and small.
 const SIZES: [usize; 5] = [65_536, 1, 2, 3, 7];
+
+// These of the bytes.
+fn part(alloc: Global, bytes: &[u8], from: usize, to: usize) -> Result<Vec<u8>, Fail> {
+    match bytes.get(from..to) {
+        Some(part) => Ok(part.to_vec(alloc)?),
+        None => Err("no such part".into()),
+    }
+}
 
 // Each connection sends its bytes, one behind the other, in pieces of that size. The first on which other bytes go out than these.
 fn first_wrong(alloc: Global, rows: &[(&[u8], &[u8])], size: usize) -> Result<Option<u64>, Fail> {
@@ -35,14 +48,14 @@ fn pushes_are_counted_and_clashes_refused(rt: HostRuntime) -> Result<(), Fail> {
     let p3 = fragment(alloc, 3, 0, 20_000_000, 0x43)?;
     let body = joined(alloc, &[&head, &p1, &p2, &p3, MFRA])?;
     // the first chunk ends inside the size of the moov
-    let (first, rest) = body.split_at(1_611.min(body.len()));
-    let (second, third) = rest.split_at(800.min(rest.len()));
-    let pushed = push(alloc, &[first, second, third])?;
+    let first = part(alloc, &body, 0, 1_635)?;
+    let second = part(alloc, &body, 1_635, 2_435)?;
+    let third = part(alloc, &body, 2_435, body.len())?;
+    let pushed = push(alloc, &[&first, &second, &third])?;
     let short = fragment(alloc, 1, 0, 10_000_000, 0x44)?;
     let over = fragment(alloc, 1, 10_000_000, 20_000_000, 0x44)?;
     let clash = push(alloc, &[&head, &short])?;
     let overlap = push(alloc, &[&head, &over])?;
-    let empty = b"POST /live.isml/Streams(a) HTTP/1.1\r\nContent-Length: 0\r\n\r\n";
     let kept = reply(alloc, "200 OK", "kept 3 known 0\n", false)?;
     let known = reply(alloc, "200 OK", "kept 0 known 3\n", false)?;
     let nothing = reply(alloc, "200 OK", "kept 0 known 0\n", false)?;
@@ -58,7 +71,7 @@ fn pushes_are_counted_and_clashes_refused(rt: HostRuntime) -> Result<(), Fail> {
         (&pushed, &kept),
         (GET_MANIFEST, &manifest),
         (&pushed, &known),
-        (empty, &nothing),
+        (EMPTY_PUSH, &nothing),
         (&clash, &clashes),
         (GET_MANIFEST, &manifest),
         (&overlap, &overlaps),
@@ -113,8 +126,8 @@ fn what_is_no_push_is_refused(rt: HostRuntime) -> Result<(), Fail> {
     let p9 = fragment(alloc, 9, 0, 20_000_000, 0x41)?;
     let early = push(alloc, &[&p1])?;
     let stray = push(alloc, &[&head, &p9])?;
-    let (moof, _) = p1.split_at(128.min(p1.len()));
-    let cut = push(alloc, &[&head, moof])?;
+    let moof = part(alloc, &p1, 0, 128)?;
+    let cut = push(alloc, &[&head, &moof])?;
     let at = head.len();
     let end = at + 128;
     let early_reply = reply(alloc, "400 Bad Request", "4 NoHeader at 0\n", true)?;
@@ -127,13 +140,8 @@ fn what_is_no_push_is_refused(rt: HostRuntime) -> Result<(), Fail> {
     let chunk = reply(alloc, "400 Bad Request", "45 BadChunk\n", true)?;
     let target = reply(alloc, "404 Not Found", "42 NoTarget\n", false)?;
     let channel = reply(alloc, "404 Not Found", "48 NoChannel\n", false)?;
-    let told = joined(
-        alloc,
-        &[
-            b"HTTP/1.1 100 Continue\r\n\r\n",
-            &reply(alloc, "200 OK", "kept 0 known 0\n", false)?,
-        ],
-    )?;
+    let nothing = reply(alloc, "200 OK", "kept 0 known 0\n", false)?;
+    let told = joined(alloc, &[CONTINUE, &nothing])?;
     let rows: [(&[u8], &[u8]); 9] = [
         (GET_MANIFEST, &channel),
         (b"GET /x HTTP/1.1\r\n\r\n", &target),
@@ -195,5 +203,43 @@ fn a_connection_too_many_is_refused(rt: HostRuntime) -> Result<(), Fail> {
 fn send_more(alloc: Global, events: &mut Vec<sm_site::Event>) -> Result<(), Fail> {
     let bytes = b"GET /x HTTP/1.1\r\n\r\n".to_vec(alloc)?;
     events.push(sm_site::Event::Piece(63, sm_site::Piece::from_vec(bytes)))?;
+    Ok(())
+}
+
+fn video(alloc: Global) -> Result<Track, Fail> {
+    let name = match Name::read(alloc, b"video") {
+        Ok(name) => name,
+        Err(_) => return Err("no name".into()),
+    };
+    Ok(Track {
+        kind: Kind::Video,
+        name,
+        bitrate: 350_000,
+        timescale: 10_000_000,
+        fourcc: Bytes::from_slice(alloc, b"H264")?,
+        private: Bytes::from_slice(alloc, b"\x01\x42")?,
+        numbers: Params {
+            width: Some(640),
+            height: Some(360),
+            tag: None,
+            channels: None,
+            rate: None,
+            bits: None,
+            packet: None,
+        },
+    })
+}
+
+#[test]
+fn a_ladder_stands_before_the_first_event(rt: HostRuntime) -> Result<(), Fail> {
+    let alloc = rt.alloc();
+    let channel = Channel::from_vec(vec![in alloc; video(alloc)?]?);
+    if !channel.is_valid() {
+        return Err("no channel".into());
+    }
+    let (answer, count, last) = declare(alloc, &channel)?;
+    assert_eq!(rt; answer, Declared::Fixed);
+    assert_eq!(rt; count, 1);
+    assert_eq!(rt; last, Turn::Ended);
     Ok(())
 }

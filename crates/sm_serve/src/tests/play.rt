@@ -1,10 +1,12 @@
 //! Connections played through the loop on a site in memory.
 ghost use Rattle.std.specs.Prelude.{◌∷◌, List, IfSome, IsTrue};
+ghost use Rattle.sm_model.specs.Channels.{IsChannel};
 ghost use Rattle.sm_site.specs.declared.event.Event.{Event};
 ghost use Rattle.sm_site.specs.Scripts.{is_script};
 
-use crate::{Served, State, serve};
-use sm_archive::Limits;
+use crate::{Served, State, Turn, serve, turn};
+use sm_archive::{Declared, Limits};
+use sm_model::Channel;
 use sm_site::{Crashing, Event, MemorySite, Numbers, Piece, Script};
 use std::alloc::Global;
 use std::test::Fail;
@@ -81,4 +83,25 @@ pub fn play(alloc: Global, events: Vec<Event>, turns: u64) -> Result<(MemorySite
 // What went out on each connection, from number 1 on.
 pub fn sent(site: &MemorySite, number: u64) -> Result<Piece, Fail> {
     Ok(site.sent(number)?)
+}
+
+// What a ladder is answered, how many entries there are then, and what the next turn says, of a site that brings nothing.
+pub fn declare(alloc: Global, channel: &Channel) -> Result<(Declared, u64, Turn), Fail>
+    requires { IsChannel channel.now }
+{
+    let mut site = MemorySite::new(
+        alloc,
+        Script::from_vec(Vec::new(alloc)),
+        none(alloc),
+        none(alloc),
+    );
+    match State::start(alloc, &mut site, Limits::standard()) {
+        Err(_) => Err("no store".into()),
+        Ok(mut state) => {
+            let answer = state.declare(&mut site, channel);
+            let count = state.archive().len();
+            let last = turn(&mut site, &mut state);
+            Ok((answer, count, last))
+        }
+    }
 }

@@ -121,6 +121,8 @@ pub fn fragment(
 
 pub const GET_MANIFEST: &[u8] = b"GET /live.isml/Manifest HTTP/1.1\r\n\r\n";
 
+pub const EMPTY_PUSH: &[u8] = b"POST /live.isml/Streams(a) HTTP/1.1\r\nContent-Length: 0\r\n\r\n";
+
 // A push whose body comes in these chunks.
 pub fn push(alloc: Global, chunks: &[&[u8]]) -> Result<Vec<u8>, Fail> {
     let mut out = joined(

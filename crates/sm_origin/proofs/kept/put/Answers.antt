@@ -17,6 +17,6 @@ returns-in-Some-Some c =
     let xs = ahead c.args.catalog.now.channel c.args.catalog.now.adds c.args.address.now.stream c.args.address.now.time in
     let few = ahead_few c.args.catalog.now.channel c.args.catalog.now.adds c.args.address.now.stream c.args.address.now.time in
     let is : xs ≡ c.in-Some-Some.first ∷ c.in-Some-Some.second ∷ [] =
-        two_are xs c.in-Some-Some.first c.in-Some-Some.second (sym c.in-Some-Some.is-0 ∙ c.ahead-first.ensures) (sym c.in-Some-Some.is-1 ∙ c.ahead-second.ensures) few in
+    two_are xs c.in-Some-Some.first c.in-Some-Some.second (sym c.in-Some-Some.is-0 ∙ c.ahead-first.ensures) (sym c.in-Some-Some.is-1 ∙ c.ahead-second.ensures) few in
     subst (λ (l : List (ℕ × ℕ)). IfOk c.put_fragment-in-Some-Some.result (λ text. text ≡ frag_text c.args.place (id_in c.args.catalog.now.channel c.args.address.now) c.args.fragment.now l))
     (sym is) (search rules)

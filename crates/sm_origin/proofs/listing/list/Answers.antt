@@ -11,4 +11,4 @@ returns-in_ok-text-in-Some c = λ bodies body log doubt k.
     let channel = c.in-Some.catalog.now.channel in
     subst (λ x. IfOk c.ok.result (λ reply. reply ≡ manifest_reply x log)) (sym shows.0)
     (subst (λ (l : List ℕ). IfOk c.ok.result (λ reply. reply ≡ ok Xml l))
-      (c.as_slice.ensures ∙ (c.in_ok-text-in-Some.ensures ∙ ap (λ (adds : List Add). manifest channel (listed channel adds)) shows.1)) c.ok.ensures)
+    (c.as_slice.ensures ∙ (c.in_ok-text-in-Some.ensures ∙ ap (λ (adds : List Add). manifest channel (listed channel adds)) shows.1)) c.ok.ensures)

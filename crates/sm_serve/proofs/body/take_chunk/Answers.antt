@@ -8,7 +8,7 @@ use Rattle.sm_wire.specs.Wire.{Left, shown}
 use Rattle.sm_wire.proofs.WireLaw.{left_unique, bytes_left}
 use Rattle.sm_serve.specs.Run.{idle, acting}
 use Rattle.sm_serve.specs.Resting.{PlaceIs, counts_of}
-use Rattle.sm_serve.proofs.Giving.{fed_place, fed_refused, shown_vec, valid_vec, open_gives, closed_gives}
+use Rattle.sm_serve.proofs.Giving.{starved_gives, fed_place, fed_refused, shown_vec, valid_vec, open_gives, closed_gives}
 use Rattle.sm_serve.proofs.Reaching.{goes_then, go_from}
 use Rattle.sm_serve.proofs.body.take_chunk.Goals as goal
 
@@ -65,3 +65,19 @@ take_items-requires-clause-valid g c = valid_vec c.into_vec.result.items c.in-Ok
 pub take_items-requires-in-Err-Refused-clause-valid : goal.take_items-requires-in-Err-Refused-clause-valid
 take_items-requires-in-Err-Refused-clause-valid g c =
     valid_vec c.into_vec-in-Err-Refused.result.items c.in-Err-Refused.before c.into_vec-in-Err-Refused.ensures (rw c.in-Err-Refused.field-0-is at c.in-Err-Refused.ensures.valid)
+
+pub returns-in-Err-Failed-clause-stands : goal.returns-in-Err-Failed-clause-stands
+returns-in-Err-Failed-clause-stands g c =
+    let m = c.requires.stands in
+    (m.0, c.starve.ensures.stands m.0 c.args.origin.now m.1)
+
+pub returns-in-Err-NoMemory-clause-stands : goal.returns-in-Err-NoMemory-clause-stands
+returns-in-Err-NoMemory-clause-stands g c =
+    let m = c.requires.stands in
+    (m.0, c.starve-in-Err-NoMemory.ensures.stands m.0 c.args.origin.now m.1)
+
+pub returns-in-Err-NoMemory-clause-goes_on : goal.returns-in-Err-NoMemory-clause-goes_on
+returns-in-Err-NoMemory-clause-goes_on g c h b more items keeps stands place left phase counts =
+    starved_gives g.S.Disk.view g.S.Disk.may_leave g.S.Disk.left_at h c.args.live.now.number c.starve-in-Err-NoMemory.result c.feed.new.push (counts_of c.args.live.now) (Some b) (map byte c.args.bytes.now) more
+    c.args.origin.now c.starve-in-Err-NoMemory.new.site
+    c.starve-in-Err-NoMemory.ensures.closed (c.starve-in-Err-NoMemory.ensures.goes_on h items (counts_of c.args.live.now) c.args.origin.now keeps stands phase)

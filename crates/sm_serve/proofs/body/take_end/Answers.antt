@@ -25,3 +25,13 @@ returns-in-Err-Refused-clause-goes_on g c h b more items keeps stands place left
     let is : items ≡ Refuse r ∷ [] = left_unique (Some b) (ended c.args.close ∷ more) items _ left (ended_refused b more c.args.close r ends.1) in
     closed_gives g.S.Disk.view g.S.Disk.may_leave g.S.Disk.left_at h n c.act_on.result c.act_on.new.live.push (counts_of c.act_on.new.live) (Some b) (ended c.args.close ∷ []) more [] c.act_on.new.origin c.act_on.new.site (c.act_on.ensures.closed refl)
     (c.act_on.ensures.goes_on h (Refuse r) [] keeps stands (phase ∙ ap (acting n) is) counts refl refl (λ counted all. refl))
+
+pub returns-in-Err-Failed-clause-stands : goal.returns-in-Err-Failed-clause-stands
+returns-in-Err-Failed-clause-stands g c =
+    let m = c.requires.stands in
+    (m.0, c.starve.ensures.stands m.0 c.args.origin.now m.1)
+
+pub returns-clause-stands : goal.returns-clause-stands
+returns-clause-stands g c =
+    let m = c.requires.stands in
+    (m.0, c.starve-in-Err-NoMemory.ensures.stands m.0 c.args.origin.now m.1)

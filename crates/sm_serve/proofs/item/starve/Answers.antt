@@ -19,3 +19,6 @@ returns-clause-goes_on g c h more counts origin keeps stands phase =
     closed_counts V A L h n idle (h.point.counts n) counts origin c.tell.new.site
     (reach_then V A L h k n false idle (h.point.counts n) (h.point.counts n) origin c.tell.new.site (paused_follows V A L h n (sending n NO_MEMORY.now true []))
     (subst (λ (b : Bool). Reaches V A L k n b (if b then acting n [] else idle) (h.point.counts n) origin c.tell.new.site) shut told) (λ t. refl))
+
+pub returns-clause-stands : goal.returns-clause-stands
+returns-clause-stands g c m origin stands = c.tell.ensures.stands m origin stands

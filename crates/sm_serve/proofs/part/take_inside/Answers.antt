@@ -9,7 +9,7 @@ use Rattle.sm_conn.specs.Stands.{items_of}
 use Rattle.sm_serve.specs.Run.{acting}
 use Rattle.sm_serve.specs.Resting.{counts_of}
 use Rattle.sm_serve.specs.Giving.{PartGives}
-use Rattle.sm_serve.proofs.Giving.{place_clear, closed_gives}
+use Rattle.sm_serve.proofs.Giving.{starved_gives, place_clear, closed_gives}
 use Rattle.sm_serve.proofs.part.take_inside.Goals as goal
 
 pub returns-in-Body-clause-goes_on : goal.returns-in-Body-clause-goes_on
@@ -35,3 +35,13 @@ returns-in-Bad-clause-goes_on g c h b more items keeps stands place left phase c
     let is : items ≡ Refuse r ∷ [] = left_unique (Some b) (bad c.in-Bad.cause ∷ more) items _ here (bad_inside b c.in-Bad.cause more (place_clear c.args.live.now.push b place)) in
     closed_gives g.S.Disk.view g.S.Disk.may_leave g.S.Disk.left_at h c.args.live.now.number c.act_on.result c.act_on.new.live.push (counts_of c.act_on.new.live) (Some b) (items_of c.args.part) more [] c.act_on.new.origin c.act_on.new.site (c.act_on.ensures.closed refl)
     (c.act_on.ensures.goes_on h (Refuse r) [] keeps stands (phase ∙ ap (acting c.args.live.now.number) is) counts refl refl (λ counted all. refl))
+
+pub returns-clause-stands : goal.returns-clause-stands
+returns-clause-stands g c =
+    let m = c.requires.stands in
+    (m.0, c.starve.ensures.stands m.0 c.args.origin.now m.1)
+
+pub returns-clause-goes_on : goal.returns-clause-goes_on
+returns-clause-goes_on g c h b more items keeps stands place left phase counts =
+    starved_gives g.S.Disk.view g.S.Disk.may_leave g.S.Disk.left_at h c.args.live.now.number c.starve.result c.args.live.now.push (counts_of c.args.live.now) (Some b) (items_of c.args.part) more c.args.origin.now c.starve.new.site
+    c.starve.ensures.closed (c.starve.ensures.goes_on h items (counts_of c.args.live.now) c.args.origin.now keeps stands phase)

@@ -13,7 +13,7 @@ use Rattle.sm_serve.specs.Resting.{PlaceIs, counts_of}
 use Rattle.sm_serve.specs.Giving.{PartGives, StaysOpen}
 use Rattle.sm_serve.proofs.Going.{paused}
 use Rattle.sm_serve.proofs.Reaching.{reach_then, reaches_here, continuing, paused_follows}
-use Rattle.sm_serve.proofs.Giving.{get_gives, get_items, continue_gives, closed_gives}
+use Rattle.sm_serve.proofs.Giving.{starved_gives, get_gives, get_items, continue_gives, closed_gives}
 use Rattle.sm_serve.proofs.part.take_outside.Goals as goal
 
 pub returns-in-Get-clause-goes_on : goal.returns-in-Get-clause-goes_on
@@ -72,3 +72,18 @@ returns-in-Bad-clause-goes_on g c h more items keeps stands place left phase cou
     let is : items ≡ Refuse r ∷ [] = left_unique None (bad c.in-Bad.cause ∷ more) items _ here (bad_left c.in-Bad.cause more) in
     closed_gives g.S.Disk.view g.S.Disk.may_leave g.S.Disk.left_at h c.args.live.now.number c.act_on-in-Bad.result c.act_on-in-Bad.new.live.push (counts_of c.act_on-in-Bad.new.live) None (items_of c.args.part) more [] c.act_on-in-Bad.new.origin c.act_on-in-Bad.new.site (c.act_on-in-Bad.ensures.closed refl)
     (c.act_on-in-Bad.ensures.goes_on h (Refuse r) [] keeps stands (phase ∙ ap (acting c.args.live.now.number) is) counts refl refl (λ counted all. refl))
+
+pub returns-in-Continue-clause-stands : goal.returns-in-Continue-clause-stands
+returns-in-Continue-clause-stands g c =
+    let m = c.requires.stands in
+    (m.0, c.tell.ensures.stands m.0 c.args.origin.now m.1)
+
+pub returns-clause-stands : goal.returns-clause-stands
+returns-clause-stands g c =
+    let m = c.requires.stands in
+    (m.0, c.starve.ensures.stands m.0 c.args.origin.now m.1)
+
+pub returns-clause-goes_on : goal.returns-clause-goes_on
+returns-clause-goes_on g c h more items keeps stands place left phase counts =
+    starved_gives g.S.Disk.view g.S.Disk.may_leave g.S.Disk.left_at h c.args.live.now.number c.starve.result c.args.live.now.push (counts_of c.args.live.now) None (items_of c.args.part) more c.args.origin.now c.starve.new.site
+    c.starve.ensures.closed (c.starve.ensures.goes_on h items (counts_of c.args.live.now) c.args.origin.now keeps stands phase)

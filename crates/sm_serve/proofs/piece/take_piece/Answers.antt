@@ -48,3 +48,8 @@ returns-in-Err-clause-goes_on g c h m pending stands phase is_live counts rests 
           (subst (λ (b : Bool). Reaches V A L k n b (if b then acting n [] else idle) (k.point.counts n) c.args.origin.now c.tell.new.site) shut told));
       rests = λ t. absurd (let both : false ≡ true = sym shut ∙ t in cc);
     }
+
+pub returns-in-Err-clause-stands : goal.returns-in-Err-clause-stands
+returns-in-Err-clause-stands g c =
+    let m = c.requires.stands in
+    (m.0, c.tell.ensures.stands m.0 c.args.origin.now m.1)

@@ -160,3 +160,39 @@ returns-then-close-clause-link_faults g c =
 pub returns-in-Err-clause-link_faults : goal.returns-in-Err-clause-link_faults
 returns-in-Err-clause-link_faults g c =
     faults_here g.S.Disk.view g.S.Link.view g.met.S.Site.one_view c.args.site.now c.close-in-Err.new.self (c.close-in-Err.ensures.link_faults ∙ c.send.ensures.link_faults)
+
+pub returns-else-close-clause-stands : goal.returns-else-close-clause-stands
+returns-else-close-clause-stands g c m origin stands =
+    let V = g.S.Disk.view in
+    let W = g.S.Link.view in
+    let d = c.args.site.now in
+    let e = c.send.new.self in
+    let call : LinkCall V W g.S.Disk.may_leave g.S.Link.may_leave g.S.Disk.left_at g.S.Link.left_at g.met.S.Site.one_view g.met.S.Site.one_disk g.met.S.Site.one_past g.met.S.Disk.told d e = record { time = c.send.ensures.time; same = c.send.ensures.crash; disk = c.send.ensures.disk } in
+    let same = same_here V W g.S.Disk.may_leave g.S.Link.may_leave g.S.Disk.left_at g.S.Link.left_at g.met.S.Site.one_view g.met.S.Site.one_disk g.met.S.Site.one_past d e c.send.ensures.crash in
+    c.fewer_images_stand.ensures m origin d e stands (contents_here V W g.S.Disk.may_leave g.S.Link.may_leave g.S.Disk.left_at g.S.Link.left_at g.met.S.Site.one_view g.met.S.Site.one_disk g.met.S.Site.one_past g.met.S.Disk.told d e call) (λ image left. (same image).0 left)
+
+pub returns-then-close-clause-stands : goal.returns-then-close-clause-stands
+returns-then-close-clause-stands g c m origin stands =
+    let V = g.S.Disk.view in
+    let W = g.S.Link.view in
+    let d = c.args.site.now in
+    let e = c.send.new.self in
+    let f = c.close.new.self in
+    let call : LinkCall V W g.S.Disk.may_leave g.S.Link.may_leave g.S.Disk.left_at g.S.Link.left_at g.met.S.Site.one_view g.met.S.Site.one_disk g.met.S.Site.one_past g.met.S.Disk.told d e = record { time = c.send.ensures.time; same = c.send.ensures.crash; disk = c.send.ensures.disk } in
+    let same = same_here V W g.S.Disk.may_leave g.S.Link.may_leave g.S.Disk.left_at g.S.Link.left_at g.met.S.Site.one_view g.met.S.Site.one_disk g.met.S.Site.one_past d e c.send.ensures.crash in
+    let call2 : LinkCall V W g.S.Disk.may_leave g.S.Link.may_leave g.S.Disk.left_at g.S.Link.left_at g.met.S.Site.one_view g.met.S.Site.one_disk g.met.S.Site.one_past g.met.S.Disk.told e f = record { time = c.close.ensures.time; same = c.close.ensures.crash; disk = c.close.ensures.disk } in
+    let same2 = same_here V W g.S.Disk.may_leave g.S.Link.may_leave g.S.Disk.left_at g.S.Link.left_at g.met.S.Site.one_view g.met.S.Site.one_disk g.met.S.Site.one_past e f c.close.ensures.crash in
+    c.fewer_images_stand.ensures m origin d f stands (contents_here V W g.S.Disk.may_leave g.S.Link.may_leave g.S.Disk.left_at g.S.Link.left_at g.met.S.Site.one_view g.met.S.Site.one_disk g.met.S.Site.one_past g.met.S.Disk.told e f call2 ∙ contents_here V W g.S.Disk.may_leave g.S.Link.may_leave g.S.Disk.left_at g.S.Link.left_at g.met.S.Site.one_view g.met.S.Site.one_disk g.met.S.Site.one_past g.met.S.Disk.told d e call) (λ image left. (same image).0 ((same2 image).0 left))
+
+pub returns-in-Err-clause-stands : goal.returns-in-Err-clause-stands
+returns-in-Err-clause-stands g c m origin stands =
+    let V = g.S.Disk.view in
+    let W = g.S.Link.view in
+    let d = c.args.site.now in
+    let e = c.send.new.self in
+    let f = c.close-in-Err.new.self in
+    let call : LinkCall V W g.S.Disk.may_leave g.S.Link.may_leave g.S.Disk.left_at g.S.Link.left_at g.met.S.Site.one_view g.met.S.Site.one_disk g.met.S.Site.one_past g.met.S.Disk.told d e = record { time = c.send.ensures.time; same = c.send.ensures.crash; disk = c.send.ensures.disk } in
+    let same = same_here V W g.S.Disk.may_leave g.S.Link.may_leave g.S.Disk.left_at g.S.Link.left_at g.met.S.Site.one_view g.met.S.Site.one_disk g.met.S.Site.one_past d e c.send.ensures.crash in
+    let call2 : LinkCall V W g.S.Disk.may_leave g.S.Link.may_leave g.S.Disk.left_at g.S.Link.left_at g.met.S.Site.one_view g.met.S.Site.one_disk g.met.S.Site.one_past g.met.S.Disk.told e f = record { time = c.close-in-Err.ensures.time; same = c.close-in-Err.ensures.crash; disk = c.close-in-Err.ensures.disk } in
+    let same2 = same_here V W g.S.Disk.may_leave g.S.Link.may_leave g.S.Disk.left_at g.S.Link.left_at g.met.S.Site.one_view g.met.S.Site.one_disk g.met.S.Site.one_past e f c.close-in-Err.ensures.crash in
+    c.fewer_images_stand.ensures m origin d f stands (contents_here V W g.S.Disk.may_leave g.S.Link.may_leave g.S.Disk.left_at g.S.Link.left_at g.met.S.Site.one_view g.met.S.Site.one_disk g.met.S.Site.one_past g.met.S.Disk.told e f call2 ∙ contents_here V W g.S.Disk.may_leave g.S.Link.may_leave g.S.Disk.left_at g.S.Link.left_at g.met.S.Site.one_view g.met.S.Site.one_disk g.met.S.Site.one_past g.met.S.Disk.told d e call) (λ image left. (same image).0 ((same2 image).0 left))

@@ -15,7 +15,7 @@ returns-in-Manifest-clause-step g c = λ has_told m s.
     (g.met.S.Disk.calls_told d) (g.met.S.Disk.calls_told d) (λ t x left. g.met.S.Disk.no_later d t x left) (λ x left. g.met.S.Disk.at_now d x left)
     c.an_image_fits.ensures s
     (made_step _ m m Manifest c.list.result c.or_starved.result refl (record { log = refl; doubt = refl })
-      (c.list.ensures s.stands.bodies s.stands.body m.log m.doubt s.stands.keeps) c.or_starved.ensures)
+    (c.list.ensures s.stands.bodies s.stands.body m.log m.doubt s.stands.keeps) c.or_starved.ensures)
     (no_call v g.S.Disk.left_at d _ (λ t x left. g.met.S.Disk.no_later d t x left)) s)
 
 pub returns-in-Unknown-clause-step : goal.returns-in-Unknown-clause-step
@@ -38,7 +38,7 @@ returns-in-End-clause-step g c = λ has_told m s.
     (g.met.S.Disk.calls_told d) (g.met.S.Disk.calls_told d) (λ t x left. g.met.S.Disk.no_later d t x left) (λ x left. g.met.S.Disk.at_now d x left)
     c.an_image_fits.ensures s
     (made_step _ m m (End c.in-End.kept c.in-End.known) c.tell_counts.result c.or_starved-in-End.result refl (record { log = refl; doubt = refl }) c.tell_counts.ensures
-      c.or_starved-in-End.ensures)
+    c.or_starved-in-End.ensures)
     (no_call v g.S.Disk.left_at d _ (λ t x left. g.met.S.Disk.no_later d t x left)) s)
 
 pub returns-in-Refuse-clause-step : goal.returns-in-Refuse-clause-step
@@ -50,5 +50,5 @@ returns-in-Refuse-clause-step g c = λ has_told m s.
     (g.met.S.Disk.calls_told d) (g.met.S.Disk.calls_told d) (λ t x left. g.met.S.Disk.no_later d t x left) (λ x left. g.met.S.Disk.at_now d x left)
     c.an_image_fits.ensures s
     (made_step _ m m (Refuse c.in-Refuse.refusal) c.tell_at.result c.or_starved-in-Refuse.result refl (record { log = refl; doubt = refl }) c.tell_at.ensures
-      c.or_starved-in-Refuse.ensures)
+    c.or_starved-in-Refuse.ensures)
     (no_call v g.S.Disk.left_at d _ (λ t x left. g.met.S.Disk.no_later d t x left)) s)

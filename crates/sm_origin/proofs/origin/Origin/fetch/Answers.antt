@@ -30,14 +30,16 @@ returns-in-Found-clause-stands g c =
     let f = c.in-Found.fragment in
     let found = c.in-Found.ensures.found c.in-Found.place f refl in
     let log = found.1 m.log m.doubt s.stands in
-    let told = told_before (v old) (v new) (g.met.D.Disk.calls_told old) (g.met.D.Disk.calls_told new) c.fetch.ensures.recorded in
-    (m, record {
-      archive = s.archive ∙ sym c.give_read.ensures.archive;
-      stands = subst (λ (a : Archive). Stands a m.log m.doubt (g.D.Disk.may_leave new)) (sym c.give_read.ensures.archive) (c.in-Found.ensures.stands m.log m.doubt s.stands);
-      cached = held_read c.args.self.now.cache c.give_read.new.self.cache c.in-Found.place f c.give_read.result c.give_read.ensures.put c.give_read.ensures.none (IsSome (v new).contents) m.log
-          (c.in-Found.ensures.valid c.in-Found.place f refl) c.args.address.now found.0 log.0 (λ t. log.1 (told t))
-          (held_told _ _ m.log c.args.self.now.cache.entries told s.cached);
-    })
+    let told = told_before (v old) (v new) (g.met.D.Disk.calls_told old) (g.met.D.Disk.calls_told new) c.fetch.ensures.recorded in (
+      m,
+      record {
+        archive = s.archive ∙ sym c.give_read.ensures.archive;
+        stands = subst (λ (a : Archive). Stands a m.log m.doubt (g.D.Disk.may_leave new)) (sym c.give_read.ensures.archive) (c.in-Found.ensures.stands m.log m.doubt s.stands);
+        cached = held_read c.args.self.now.cache c.give_read.new.self.cache c.in-Found.place f c.give_read.result c.give_read.ensures.put c.give_read.ensures.none (IsSome (v new).contents) m.log
+            (c.in-Found.ensures.valid c.in-Found.place f refl) c.args.address.now found.0 log.0 (λ t. log.1 (told t))
+            (held_told _ _ m.log c.args.self.now.cache.entries told s.cached);
+      },
+    )
 
 pub returns-in-Found-clause-step : goal.returns-in-Found-clause-step
 returns-in-Found-clause-step g c = λ has_told m s.
@@ -57,7 +59,7 @@ returns-in-Found-clause-step g c = λ has_told m s.
     (g.met.D.Disk.calls_told old) (g.met.D.Disk.calls_told new) (λ t x left. g.met.D.Disk.no_later new t x left) (λ x left. g.met.D.Disk.at_now new x left)
     c.an_image_fits.ensures s
     (made_step _ m m (Ask a) c.give_read.result c.or_starved.result refl (record { log = refl; doubt = refl })
-      (subst (λ x. IfOk c.give_read.result (λ r. r ≡ x)) (sym is) given) c.or_starved.ensures)
+    (subst (λ x. IfOk c.give_read.result (λ r. r ≡ x)) (sym is) given) c.or_starved.ensures)
     c.in-Found.ensures.any_moment
     (record {
       archive = s.archive ∙ sym c.give_read.ensures.archive;
@@ -89,12 +91,14 @@ returns-in-Absent-clause-stands g c =
     let new = c.fetch.new.disk in
     let m = c.requires.stands.0 in
     let s = c.requires.stands.1 in
-    let told = told_before (v old) (v new) (g.met.D.Disk.calls_told old) (g.met.D.Disk.calls_told new) c.fetch.ensures.recorded in
-    (m, record {
-      archive = s.archive;
-      stands = c.in-Absent.ensures.stands m.log m.doubt s.stands;
-      cached = held_told _ _ m.log c.args.self.now.cache.entries told s.cached;
-    })
+    let told = told_before (v old) (v new) (g.met.D.Disk.calls_told old) (g.met.D.Disk.calls_told new) c.fetch.ensures.recorded in (
+      m,
+      record {
+        archive = s.archive;
+        stands = c.in-Absent.ensures.stands m.log m.doubt s.stands;
+        cached = held_told _ _ m.log c.args.self.now.cache.entries told s.cached;
+      },
+    )
 
 pub returns-in-Absent-clause-step : goal.returns-in-Absent-clause-step
 returns-in-Absent-clause-step g c = λ has_told m s.
@@ -109,7 +113,7 @@ returns-in-Absent-clause-step g c = λ has_told m s.
     (g.met.D.Disk.calls_told old) (g.met.D.Disk.calls_told new) (λ t x left. g.met.D.Disk.no_later new t x left) (λ x left. g.met.D.Disk.at_now new x left)
     c.an_image_fits.ensures s
     (made_step _ m m (Ask a) c.tell_missing.result c.or_starved-in-Absent.result refl (record { log = refl; doubt = refl })
-      (subst (λ x. IfOk c.tell_missing.result (λ r. r ≡ x)) (sym (absent_is m.log a none)) given) c.or_starved-in-Absent.ensures)
+    (subst (λ x. IfOk c.tell_missing.result (λ r. r ≡ x)) (sym (absent_is m.log a none)) given) c.or_starved-in-Absent.ensures)
     c.in-Absent.ensures.any_moment
     (record {
       archive = s.archive;
@@ -134,12 +138,14 @@ returns-in-DiskFault-clause-stands g c =
     let new = c.fetch.new.disk in
     let m = c.requires.stands.0 in
     let s = c.requires.stands.1 in
-    let told = told_before (v old) (v new) (g.met.D.Disk.calls_told old) (g.met.D.Disk.calls_told new) c.fetch.ensures.recorded in
-    (m, record {
-      archive = s.archive;
-      stands = c.in-DiskFault.ensures.stands m.log m.doubt s.stands;
-      cached = held_told _ _ m.log c.args.self.now.cache.entries told s.cached;
-    })
+    let told = told_before (v old) (v new) (g.met.D.Disk.calls_told old) (g.met.D.Disk.calls_told new) c.fetch.ensures.recorded in (
+      m,
+      record {
+        archive = s.archive;
+        stands = c.in-DiskFault.ensures.stands m.log m.doubt s.stands;
+        cached = held_told _ _ m.log c.args.self.now.cache.entries told s.cached;
+      },
+    )
 
 pub returns-in-DiskFault-clause-step : goal.returns-in-DiskFault-clause-step
 returns-in-DiskFault-clause-step g c = λ has_told m s.
@@ -153,7 +159,7 @@ returns-in-DiskFault-clause-step g c = λ has_told m s.
     (g.met.D.Disk.calls_told old) (g.met.D.Disk.calls_told new) (λ t x left. g.met.D.Disk.no_later new t x left) (λ x left. g.met.D.Disk.at_now new x left)
     c.an_image_fits.ensures s
     (told_row _ m m (Ask a) cause.DiskFault c.refuse.result refl
-      (λ r is. unread a kept.0 kept.1 refl kept.2 (record { log = refl; doubt = refl }) (c.in-DiskFault.ensures.fault refl) is) c.refuse.ensures)
+    (λ r is. unread a kept.0 kept.1 refl kept.2 (record { log = refl; doubt = refl }) (c.in-DiskFault.ensures.fault refl) is) c.refuse.ensures)
     c.in-DiskFault.ensures.any_moment
     (record {
       archive = s.archive;
@@ -173,12 +179,14 @@ returns-in-Damaged-clause-stands g c =
     let new = c.fetch.new.disk in
     let m = c.requires.stands.0 in
     let s = c.requires.stands.1 in
-    let told = told_before (v old) (v new) (g.met.D.Disk.calls_told old) (g.met.D.Disk.calls_told new) c.fetch.ensures.recorded in
-    (m, record {
-      archive = s.archive;
-      stands = c.in-Damaged.ensures.stands m.log m.doubt s.stands;
-      cached = held_told _ _ m.log c.args.self.now.cache.entries told s.cached;
-    })
+    let told = told_before (v old) (v new) (g.met.D.Disk.calls_told old) (g.met.D.Disk.calls_told new) c.fetch.ensures.recorded in (
+      m,
+      record {
+        archive = s.archive;
+        stands = c.in-Damaged.ensures.stands m.log m.doubt s.stands;
+        cached = held_told _ _ m.log c.args.self.now.cache.entries told s.cached;
+      },
+    )
 
 pub returns-in-Damaged-clause-step : goal.returns-in-Damaged-clause-step
 returns-in-Damaged-clause-step g c = λ has_told m s. absurd (c.in-Damaged.ensures.damaged refl m.log m.doubt s.stands has_told)
@@ -192,12 +200,14 @@ returns-in-NoMemory-clause-stands g c =
     let new = c.fetch.new.disk in
     let m = c.requires.stands.0 in
     let s = c.requires.stands.1 in
-    let told = told_before (v old) (v new) (g.met.D.Disk.calls_told old) (g.met.D.Disk.calls_told new) c.fetch.ensures.recorded in
-    (m, record {
-      archive = s.archive;
-      stands = c.in-NoMemory.ensures.stands m.log m.doubt s.stands;
-      cached = held_told _ _ m.log c.args.self.now.cache.entries told s.cached;
-    })
+    let told = told_before (v old) (v new) (g.met.D.Disk.calls_told old) (g.met.D.Disk.calls_told new) c.fetch.ensures.recorded in (
+      m,
+      record {
+        archive = s.archive;
+        stands = c.in-NoMemory.ensures.stands m.log m.doubt s.stands;
+        cached = held_told _ _ m.log c.args.self.now.cache.entries told s.cached;
+      },
+    )
 
 pub returns-in-NoMemory-clause-step : goal.returns-in-NoMemory-clause-step
 returns-in-NoMemory-clause-step g c = λ has_told m s.

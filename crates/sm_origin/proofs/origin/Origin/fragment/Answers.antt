@@ -35,12 +35,14 @@ fetch-requires-clause-absent g c =
 pub fetch-requires-clause-stands : goal.fetch-requires-clause-stands
 fetch-requires-clause-stands g c =
     let m = c.requires.stands.0 in
-    let s = c.requires.stands.1 in
-    (m, record {
-      archive = s.archive;
-      stands = s.stands;
-      cached = front_held _ m.log c.args.address.now c.args.self.now.cache c.get.follows.lender-at-none c.get.follows.holds-at-none s.cached;
-    })
+    let s = c.requires.stands.1 in (
+      m,
+      record {
+        archive = s.archive;
+        stands = s.stands;
+        cached = front_held _ m.log c.args.address.now c.args.self.now.cache c.get.follows.lender-at-none c.get.follows.holds-at-none s.cached;
+      },
+    )
 
 pub returns-in-None-clause-step : goal.returns-in-None-clause-step
 returns-in-None-clause-step g c = λ has_told m s.
@@ -61,12 +63,14 @@ returns-in-None-clause-remembers g c =
 pub returns-in-Some-clause-stands : goal.returns-in-Some-clause-stands
 returns-in-Some-clause-stands g c =
     let m = c.requires.stands.0 in
-    let s = c.requires.stands.1 in
-    (m, record {
-      archive = s.archive;
-      stands = s.stands;
-      cached = front_held _ m.log c.args.address.now c.args.self.now.cache c.get.follows.lender-at-none c.get.follows.holds-at-none s.cached;
-    })
+    let s = c.requires.stands.1 in (
+      m,
+      record {
+        archive = s.archive;
+        stands = s.stands;
+        cached = front_held _ m.log c.args.address.now c.args.self.now.cache c.get.follows.lender-at-none c.get.follows.holds-at-none s.cached;
+      },
+    )
 
 pub returns-in-Some-clause-step : goal.returns-in-Some-clause-step
 returns-in-Some-clause-step g c = λ has_told m s.
@@ -77,13 +81,13 @@ returns-in-Some-clause-step g c = λ has_told m s.
     let h = hit_held _ m.log a c.args.self.now.cache kept (sym c.in-Some.ensures.value) s.cached in
     let channel = has_channel m.log a kept.place s.stands.keeps.sound h.place in
     let is = asked_is m.log channel.0 a kept.place kept.fragment channel.1
-        (kept_there c.kept_is_added.ensures.one m.log a kept.place kept.fragment s.stands.keeps.sound (h.same has_told) h.address) in
+    (kept_there c.kept_is_added.ensures.one m.log a kept.place kept.fragment s.stands.keeps.sound (h.same has_told) h.address) in
     let given = c.give_kept.ensures s.stands.bodies s.stands.body m.log m.doubt s.stands.keeps channel.0 channel.1 in
     read_gives v g.D.Disk.may_leave g.D.Disk.left_at d d m c.args.self.now _ (Ask a) c.or_starved.result has_told
     (g.met.D.Disk.calls_told d) (g.met.D.Disk.calls_told d) (λ t x left. g.met.D.Disk.no_later d t x left) (λ x left. g.met.D.Disk.at_now d x left)
     c.an_image_fits.ensures s
     (made_step _ m m (Ask a) c.give_kept.result c.or_starved.result refl (record { log = refl; doubt = refl })
-      (subst (λ x. IfOk c.give_kept.result (λ r. r ≡ x)) (sym is) given) c.or_starved.ensures)
+    (subst (λ x. IfOk c.give_kept.result (λ r. r ≡ x)) (sym is) given) c.or_starved.ensures)
     (no_call v g.D.Disk.left_at d _ (λ t x left. g.met.D.Disk.no_later d t x left))
     (record {
       archive = s.archive;

@@ -29,12 +29,14 @@ returns-in-Kept-clause-stands g c =
     let st = fragment_step failed acted (g.D.Disk.may_leave new) m c.keep.new.self f (keeping.Kept place) c.silent.result fails step c.silent.ensures in
     let there = kept_there_now c.kept_is_added.ensures.place c.kept_is_added.ensures.one failed acted (g.D.Disk.may_leave new) m c.keep.new.self f place c.silent.result fails step c.silent.ensures in
     let told = told_before (v old) (v new) (g.met.D.Disk.calls_told old) (g.met.D.Disk.calls_told new) c.keep.ensures.recorded in
-    let held = held_after c.kept_is_added.ensures.place c.listed_times_stay.ensures.kept _ _ _ _ _ m c.keep.new.self _ _ told st c.args.self.now.cache.entries s.cached in
-    (st.after, record {
-      archive = st.archive ∙ sym c.remember.ensures.archive;
-      stands = subst (λ (a : Archive). Stands a st.after.log st.after.doubt (g.D.Disk.may_leave new)) (sym c.remember.ensures.archive) st.stands;
-      cached = put_or_same c.args.self.now.cache c.remember.new.self.cache place f c.remember.ensures.cache (IsSome (v new).contents) st.after.log c.requires.valid there.place_is (λ t. there.there) held;
-    })
+    let held = held_after c.kept_is_added.ensures.place c.listed_times_stay.ensures.kept _ _ _ _ _ m c.keep.new.self _ _ told st c.args.self.now.cache.entries s.cached in (
+      st.after,
+      record {
+        archive = st.archive ∙ sym c.remember.ensures.archive;
+        stands = subst (λ (a : Archive). Stands a st.after.log st.after.doubt (g.D.Disk.may_leave new)) (sym c.remember.ensures.archive) st.stands;
+        cached = put_or_same c.args.self.now.cache c.remember.new.self.cache place f c.remember.ensures.cache (IsSome (v new).contents) st.after.log c.requires.valid there.place_is (λ t. there.there) held;
+      },
+    )
 
 pub returns-in-Kept-clause-step : goal.returns-in-Kept-clause-step
 returns-in-Kept-clause-step g c = λ has_told m s.
@@ -68,19 +70,21 @@ returns-in_default g c = record {
       let m = c.requires.stands.0 in
       let s = c.requires.stands.1 in
       let st = fragment_step (Rose (v old).disk_faults (v new).disk_faults) (Acted (v old) (v new)) (g.D.Disk.may_leave new) m c.keep.new.self c.args.fragment.now c.keep.result
-          c.tell_kept.result c.keep.ensures.fault (c.keep.ensures.step m.log m.doubt s.stands) c.tell_kept.ensures in
-      let told = told_before (v old) (v new) (g.met.D.Disk.calls_told old) (g.met.D.Disk.calls_told new) c.keep.ensures.recorded in
-      (st.after, record {
-        archive = st.archive;
-        stands = st.stands;
-        cached = held_after c.kept_is_added.ensures.place c.listed_times_stay.ensures.kept _ _ _ _ _ m c.keep.new.self _ _ told st c.args.self.now.cache.entries s.cached;
-      });
+      c.tell_kept.result c.keep.ensures.fault (c.keep.ensures.step m.log m.doubt s.stands) c.tell_kept.ensures in
+      let told = told_before (v old) (v new) (g.met.D.Disk.calls_told old) (g.met.D.Disk.calls_told new) c.keep.ensures.recorded in (
+        st.after,
+        record {
+          archive = st.archive;
+          stands = st.stands;
+          cached = held_after c.kept_is_added.ensures.place c.listed_times_stay.ensures.kept _ _ _ _ _ m c.keep.new.self _ _ told st c.args.self.now.cache.entries s.cached;
+        },
+      );
   step = λ has_told m s.
       let v = g.D.Disk.view in
       let old = c.args.disk.now in
       let new = c.keep.new.disk in
       let st = fragment_step (Rose (v old).disk_faults (v new).disk_faults) (Acted (v old) (v new)) (g.D.Disk.may_leave new) m c.keep.new.self c.args.fragment.now c.keep.result
-          c.tell_kept.result c.keep.ensures.fault (c.keep.ensures.step m.log m.doubt s.stands) c.tell_kept.ensures in
+      c.tell_kept.result c.keep.ensures.fault (c.keep.ensures.step m.log m.doubt s.stands) c.tell_kept.ensures in
       let told = told_before (v old) (v new) (g.met.D.Disk.calls_told old) (g.met.D.Disk.calls_told new) c.keep.ensures.recorded in
       write_gives v g.D.Disk.may_leave g.D.Disk.left_at old new m _ (Frag c.args.fragment.now) (Keep c.args.fragment.now) c.tell_kept.result has_told
       (g.met.D.Disk.calls_told old) (g.met.D.Disk.calls_told new) (λ t x left. g.met.D.Disk.no_later new t x left) (λ x left. g.met.D.Disk.at_now new x left)

@@ -8,8 +8,7 @@ use Rattle.sm_origin.proofs.origin.Origin.open_origin.Goals as goal
 
 pub returns-in-Ok-open_store-clause-opened : goal.returns-in-Ok-open_store-clause-opened
 returns-in-Ok-open_store-clause-opened g c =
-    let o = c.in-Ok-open_store.ensures.opened in
-    (
+    let o = c.in-Ok-open_store.ensures.opened in (
       record { archive = c.in-Ok-open_store.archive; log = o.0; doubt = None },
       refl,
       record { archive = refl; stands = o.1; cached = none_held _ o.0 c.in-Ok.cache c.in-Ok.ensures },
@@ -26,7 +25,7 @@ returns-in-Ok-open_store-clause-store g c =
       record { archive = refl; stands = is.2; cached = none_held _ is.0 c.in-Ok.cache c.in-Ok.ensures },
     ))
     (a_store told (λ log x. IsStore log x) (λ log. Stands c.in-Ok-open_store.archive log None (g.S.Disk.may_leave c.open_store.new.disk))
-      c.in-Ok-open_store.ensures.has c.in-Ok-open_store.ensures.store)
+    c.in-Ok-open_store.ensures.has c.in-Ok-open_store.ensures.store)
 
 pub returns-in-Ok-open_store-clause-any_moment : goal.returns-in-Ok-open_store-clause-any_moment
 returns-in-Ok-open_store-clause-any_moment g c = λ log one.
