@@ -11,11 +11,16 @@ use Rattle.sm_archive.specs.Opening.{NotAStore}
 use Rattle.sm_store.specs.declared.fault.StoreFault.{StoreFault}
 use Rattle.sm_store.specs.declared.fault.StoreFault.TheVariants as fault
 
--- the place in the log, the name of the stream, the bitrate, the start, the duration, and how many samples there are
+-- the place in the log, the name of the stream and the bitrate
+abbrev pub place_text : ℕ → Fragment → List ℕ
+place_text place f = codes "keep " ++ (decimal place ++ (codes " " ++ (f.stream ++ (codes " " ++ decimal f.bitrate))))
+
+-- the start, the duration, and how many samples there are
+abbrev pub span_text : Fragment → List ℕ
+span_text f = codes " " ++ (decimal f.time ++ (codes " " ++ (decimal f.duration ++ (codes " " ++ (decimal (length f.samples) ++ codes "\n")))))
+
 abbrev pub kept_line : ℕ → Fragment → List ℕ
-kept_line place f =
-    codes "keep " ++ (decimal place ++ (codes " " ++ (f.stream ++ (codes " " ++ (decimal f.bitrate ++ (codes " " ++ (decimal f.time
-    ++ (codes " " ++ (decimal f.duration ++ (codes " " ++ (decimal (length f.samples) ++ codes "\n")))))))))))
+kept_line place f = place_text place f ++ span_text f
 
 abbrev pub line_at : ℕ → Entry → List ℕ
 line_at place (Declare tracks) = []

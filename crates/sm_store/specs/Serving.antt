@@ -84,6 +84,28 @@ abbrev pub DeclaresTo : {D : Type 0} (view : D → View) (leave : D → Image �
     → Result (Unit {0}) StoreFault → Type 0
 DeclaresTo view leave left_at told told' state d state' d' result = (answer : Declared) × (result ≡ outcome_of answer) × Declares view leave left_at told told' state d state' d' answer
 
+abbrev pub NotRead : Input → Input → Result (Unit {0}) StoreFault → Type 0
+NotRead old new (Ok x) = ⊥
+NotRead old new (Err why) = WhyUnread old new why
+
+-- a ladder was read and declared, or none was read
+abbrev pub LadderMeans : {D : Type 0} (view : D → View) (leave : D → Image → Type 0) (left_at : D → ℕ → Image → Type 0) → Input → Input → State → D → State → D
+    → Result (Unit {0}) StoreFault → Type 0
+LadderMeans view leave left_at input input' state d state' d' result =
+    DeclaresTo view leave left_at input.told input'.told state d state' d' result ⊎ NotRead input input' result
+
+-- without a ladder nothing is done
+pub record IsSame {D : Type 0} (input input' : Input) (state : State) (d : D) (state' : State) (d' : D) (result : Result (Unit {0}) StoreFault) : Type 0 where
+  pub done : result ≡ Ok tt
+  pub input_is : input' ≡ input
+  pub state_is : state' ≡ state
+  pub site_is : d' ≡ d
+
+abbrev pub PrepareMeans : {D : Type 0} (view : D → View) (leave : D → Image → Type 0) (left_at : D → ℕ → Image → Type 0) → Bool → Input → Input → State → D → State → D
+    → Result (Unit {0}) StoreFault → Type 0
+PrepareMeans view leave left_at true input input' state d state' d' result = LadderMeans view leave left_at input input' state d state' d' result
+PrepareMeans view leave left_at false input input' state d state' d' result = IsSame input input' state d state' d' result
+
 -- ---- the start
 
 -- the state stands for a log without a doubt, which is the store's where the disk tells its contents
@@ -136,18 +158,19 @@ pub record IsBegun (machine : Machine) (channel : Option (List Track)) (base : L
   pub items : h.items ≡ []
   pub steps : LadderSteps channel h.steps
 
--- the state is where such a run is, if the transcript is told
-pub record IsReady {D : Type 0} (view : D → View) (leave : D → Image → Type 0) (left_at : D → ℕ → Image → Type 0) (ladder : Bool) (told told' : Option (List ℕ)) (old new : D)
-    (state : State) : Type 0 where
-  pub machine : Machine
-  pub settled : machine.doubt ≡ None
-  pub store : IfSome (view old).contents (IsStore machine.log)
+-- from a state that was opened the loop ran to the end that it tells, with the ladder's step in front
+pub record RunsFrom {D : Type 0} (view : D → View) (leave : D → Image → Type 0) (left_at : D → ℕ → Image → Type 0) (ladder : Bool) (told told' : Option (List ℕ)) (turns : ℕ) (state : State)
+    (d d' : D) (end : Outcome) : Type 0 where
   pub channel : Option (List Track)
   pub input : ReadsLadder ladder told told' channel
-  pub stands : (m : Machine) × StandsOn view leave m state.origin new
-  pub transcript : (view new).transcript ≡ (view old).transcript
-  pub link_faults : (view old).link_faults ≤ (view new).link_faults
-  pub begun : (base : List Item) → (view old).transcript ≡ Some base → (h : History) × IsBegun machine channel base h × Serves view leave left_at h state new
+  pub blamed : end ≡ served.LinkFault → site.Rose (view d).link_faults (view d').link_faults
+  pub run : (m : Machine) (base : List Item) → StandsOn view leave m state.origin d → (view d).transcript ≡ Some base
+      → (h : History) × IsBegun m channel base h × ((after : State) × Served view leave left_at h end turns after d')
+
+-- the ladder that was asked for was not read, or this was answered to it
+abbrev pub StopsFrom : {D : Type 0} (view : D → View) (leave : D → Image → Type 0) (left_at : D → ℕ → Image → Type 0) → Bool → Input → Input → State → D → D → StoreFault → Type 0
+StopsFrom view leave left_at ladder input input' state d d' why =
+    IsTrue ladder × (WhyUnread input input' why ⊎ ((after : State) × DeclaresTo view leave left_at input.told input'.told state d after d' (Err why)))
 
 -- The loop ran from the log that was found, with the ladder's step in front, to the end that it tells; where the transcript is told, that
 -- is its run, and what a crash may leave at each moment fits it.

@@ -3,7 +3,7 @@ ghost use Rattle.std.specs.Prelude.{◌≡◌, ◌≤◌, ◌++◌, ℕ, List, O
 ghost use Rattle.sm_model.specs.declared.entry.Entry.{Entry};
 ghost use Rattle.sm_archive.specs.Stands.{Keeps, Stands};
 ghost use Rattle.sm_archive.specs.Store.{IsStore};
-ghost use Rattle.sm_store.specs.Listing.{kept_line, line_in, lines_of, AddressIs, WhyUnlisted, WhyUnput};
+ghost use Rattle.sm_store.specs.Listing.{kept_line, line_in, place_text, span_text, lines_of, AddressIs, WhyUnlisted, WhyUnput};
 
 use crate::StoreFault;
 use sm_archive::{Archive, Fetched, Limits, OpenFault, open_store};
@@ -12,16 +12,39 @@ use sm_model::{Address, Bytes, Fragment, NoMemory};
 use sm_site::{Disk, Site, SiteError};
 use std::alloc::Global;
 
+fn put_place(alloc: Global, place: u64, fragment: &Fragment) -> Result<String, NoMemory>
+    ensures { IfOk result (λ text. string_bytes text ≡ place_text place fragment.now) }
+{
+    let stream = fragment.stream.as_str();
+    let bitrate = fragment.bitrate;
+    Ok(format!(in alloc; "keep {place} {stream} {bitrate}")?)
+}
+
+fn put_span(alloc: Global, fragment: &Fragment) -> Result<String, NoMemory>
+    ensures { IfOk result (λ text. string_bytes text ≡ span_text fragment.now) }
+{
+    let time = fragment.time;
+    let duration = fragment.duration;
+    let samples = fragment.samples.len();
+    Ok(format!(in alloc; " {time} {duration} {samples}\n")?)
+}
+
+// Puts a text behind another.
+fn put_behind(text: &mut String, more: &str) -> Result<(), NoMemory>
+    ensures { OnOk result (string_bytes text.new ≡ string_bytes text.old ++ more.now) }
+{
+    text.push_str(more)?;
+    Ok(())
+}
+
 // The line of a fragment that is kept at a place.
 fn put_line(alloc: Global, place: u64, fragment: &Fragment) -> Result<String, NoMemory>
     ensures { IfOk result (λ line. string_bytes line ≡ kept_line place fragment.now) }
 {
-    let stream = fragment.stream.as_str();
-    let bitrate = fragment.bitrate;
-    let time = fragment.time;
-    let duration = fragment.duration;
-    let samples = fragment.samples.len();
-    Ok(format!(in alloc; "keep {place} {stream} {bitrate} {time} {duration} {samples}\n")?)
+    let mut line = put_place(alloc, place, fragment)?;
+    let span = put_span(alloc, fragment)?;
+    put_behind(&mut line, &span)?;
+    Ok(line)
 }
 
 // The address of the fragment at a place, if one stands there.
@@ -81,19 +104,17 @@ fn line_of<D: Disk>(
     }
 }
 
-// Puts a line behind the text.
-fn put_behind(text: &mut String, line: &str) -> Result<(), NoMemory>
-    ensures { OnOk result (string_bytes text.new ≡ string_bytes text.old ++ line.now) }
+fn bytes_of(text: String) -> Bytes
+    ensures { result ≡ string_bytes text }
 {
-    text.push_str(line)?;
-    Ok(())
+    Bytes::from_vec(text.into_bytes())
 }
 
 // The lines of all places.
-fn lines<D: Disk>(alloc: Global, disk: &mut D, archive: &Archive) -> Result<String, StoreFault>
+fn lines<D: Disk>(alloc: Global, disk: &mut D, archive: &Archive) -> Result<Bytes, StoreFault>
     requires stands { (log : List Entry) × Stands archive.now log None (D.may_leave disk.old) }
     ensures lines { IfOk result (λ text. (log : List Entry) → Stands archive.now log None (D.may_leave disk.old) → IsSome (D.view disk.old).contents
-        → string_bytes text ≡ lines_of log) }
+        → text ≡ lines_of log) }
     ensures why { IfErr result (λ why. WhyUnput (D.view disk.old) (D.view disk.new) why) }
 {
     let mut text = String::new(alloc);
@@ -104,7 +125,7 @@ fn lines<D: Disk>(alloc: Global, disk: &mut D, archive: &Archive) -> Result<Stri
             Err(NoMemory) => return Err(StoreFault::NoMemory),
         }
     }
-    Ok(text)
+    Ok(bytes_of(text))
 }
 
 // The list of a store whose folder was chosen.
@@ -112,14 +133,12 @@ fn list_disk<D: Disk>(alloc: Global, disk: &mut D) -> Result<Bytes, StoreFault>
     ensures listed { IfOk result (λ text. IfSome (D.view disk.old).contents (λ c. (log : List Entry) × IsStore log c × (text ≡ lines_of log))) }
     ensures why { IfErr result (λ why. WhyUnlisted (D.view disk.old) (D.view disk.new) why) }
 {
-    let archive = match open_store(alloc, disk, Limits::standard()) {
-        Ok(archive) => archive,
-        Err(OpenFault::DiskFault) => return Err(StoreFault::DiskFault),
-        Err(OpenFault::NotAStore { at }) => return Err(StoreFault::NotAStore { at }),
-        Err(OpenFault::NoMemory) => return Err(StoreFault::NoMemory),
-    };
-    let text = lines(alloc, disk, &archive)?;
-    Ok(Bytes::from_vec(text.into_bytes()))
+    match open_store(alloc, disk, Limits::standard()) {
+        Ok(archive) => lines(alloc, disk, &archive),
+        Err(OpenFault::DiskFault) => Err(StoreFault::DiskFault),
+        Err(OpenFault::NotAStore { at }) => Err(StoreFault::NotAStore { at }),
+        Err(OpenFault::NoMemory) => Err(StoreFault::NoMemory),
+    }
 }
 
 /// The list of what is kept in the store in that folder: for each fragment, in the order of the log, a line with its place, its

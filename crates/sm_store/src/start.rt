@@ -1,10 +1,10 @@
 //! Opening a store to be served, with its ladder.
-ghost use Rattle.std.specs.Prelude.{◌≡◌, ◌≤◌, ℕ, Ok, IfOk, IfErr};
+ghost use Rattle.std.specs.Prelude.{◌≡◌, ◌≤◌, ℕ, List, Option, Ok, IfOk, IfErr};
 ghost use Rattle.sm_model.specs.Channels.{IsChannel};
 ghost use Rattle.sm_origin.specs.Machine.{Machine};
 ghost use Rattle.sm_serve.specs.Serving.{Begins};
 ghost use Rattle.sm_serve.specs.Standing.{StandsOn};
-ghost use Rattle.sm_store.specs.Serving.{Found, IsLadderInput, IsReady, DeclaresTo, WhyUnopened, WhyUnread, WhyUnready, outcome_of};
+ghost use Rattle.sm_store.specs.Serving.{Found, IsLadderInput, DeclaresTo, LadderMeans, PrepareMeans, WhyUnopened, WhyUnread, outcome_of};
 
 use crate::StoreFault;
 use sm_archive::{Declared, Limits, OpenFault};
@@ -104,24 +104,43 @@ fn declare<S: Site>(site: &mut S, state: &mut State, channel: &Channel) -> Resul
     outcome_of(answer)
 }
 
-/// A state that is ready for its first event: the store is open, and the ladder is declared, if one is asked for.
-pub(crate) fn ready<I: Source, S: Site>(
+// Reads a ladder and declares it.
+fn declare_ladder<I: Source, S: Site>(
     alloc: Global,
     input: &mut I,
     site: &mut S,
-    store: &str,
-    port: u16,
-    ladder: bool,
-) -> Result<State, StoreFault>
-    ensures ready { IfOk result (λ state. IsReady S.Disk.view S.Disk.may_leave S.Disk.left_at ladder (I.left input.old) (I.left input.new) site.old site.new state) }
-    ensures why { IfErr result (λ why. WhyUnready S.Disk.view S.Disk.may_leave S.Disk.left_at ladder
-        (record { told = I.left input.old; faults = I.faults input.old })
-        (record { told = I.left input.new; faults = I.faults input.new }) site.old site.new why) }
+    state: &mut State,
+) -> Result<(), StoreFault>
+    requires stands { (m : Machine) × StandsOn S.Disk.view S.Disk.may_leave m state.old.origin site.old }
+    ensures means { LadderMeans S.Disk.view S.Disk.may_leave S.Disk.left_at (record { told = I.left input.old; faults = I.faults input.old })
+        (record { told = I.left input.new; faults = I.faults input.new }) state.old site.old state.new site.new result }
+    ensures stands { (m : Machine) × StandsOn S.Disk.view S.Disk.may_leave m state.new.origin site.new }
+    ensures transcript { (S.Disk.view site.new).transcript ≡ (S.Disk.view site.old).transcript }
+    ensures link_faults { (S.Disk.view site.new).link_faults ≡ (S.Disk.view site.old).link_faults }
 {
-    let mut state = open_state(alloc, site, store, port)?;
-    if ladder {
-        let channel = ladder_of(alloc, input)?;
-        declare(site, &mut state, &channel)?;
+    match ladder_of(alloc, input) {
+        Ok(channel) => declare(site, state, &channel),
+        Err(fault) => Err(fault),
     }
-    Ok(state)
+}
+
+/// Declares the ladder that the input is, if one is asked for.
+pub(crate) fn prepare<I: Source, S: Site>(
+    alloc: Global,
+    input: &mut I,
+    site: &mut S,
+    state: &mut State,
+    ladder: bool,
+) -> Result<(), StoreFault>
+    requires stands { (m : Machine) × StandsOn S.Disk.view S.Disk.may_leave m state.old.origin site.old }
+    ensures means { PrepareMeans S.Disk.view S.Disk.may_leave S.Disk.left_at ladder (record { told = I.left input.old; faults = I.faults input.old })
+        (record { told = I.left input.new; faults = I.faults input.new }) state.old site.old state.new site.new result }
+    ensures stands { (m : Machine) × StandsOn S.Disk.view S.Disk.may_leave m state.new.origin site.new }
+    ensures transcript { (S.Disk.view site.new).transcript ≡ (S.Disk.view site.old).transcript }
+    ensures link_faults { (S.Disk.view site.new).link_faults ≡ (S.Disk.view site.old).link_faults }
+{
+    if ladder {
+        return declare_ladder(alloc, input, site, state);
+    }
+    Ok(())
 }
