@@ -75,7 +75,7 @@ pub place_there : ((log : List Entry) (address : Address) → place_of address (
 place_there added one log p f sound h =
     let at = placed log p (Keep f) h in
     let kept : kept_at log (address_of f) ≡ Some (length at.front, f) =
-        subst (λ (l : List Entry). IsSound l → kept_at l (address_of f) ≡ Some (length at.front, f)) (sym at.whole) (one at.front at.back f) sound in
+    subst (λ (l : List Entry). IsSound l → kept_at l (address_of f) ≡ Some (length at.front, f)) (sym at.whole) (one at.front at.back f) sound in
     added log (address_of f) ∙ ap (λ (k : Option (ℕ × Fragment)). option_map (λ (k : ℕ × Fragment). k.0) k) kept ∙ ap (λ (n : ℕ). Some n) at.place
 
 some_number : (x y : ℕ) → Some x ≡ Some y → x ≡ y

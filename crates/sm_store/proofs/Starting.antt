@@ -65,8 +65,7 @@ with_ladder view leave left_at told told' state d state' d' begins declares = re
   input = declares.2.input;
   begun = λ m base stands e.
       let b = begins m base stands e in
-      let k = declares.2.runs b.0 b.6 in
-      (
+      let k = declares.2.runs b.0 b.6 in (
         k.later,
         record {
           first = k.since.first ∙ b.1;
@@ -93,9 +92,9 @@ prepared view leave left_at true input input' state d state' d' begins (inl decl
 prepared view leave left_at true input input' state d state' d' begins (inr bad) = absurd bad
 prepared {D} view leave left_at false input input' state d state' d' begins same =
     subst (λ (x : D). IsPrepared view leave left_at false input.told input'.told state d state' x) (sym same.site_is) (
-      subst (λ (s : State). IsPrepared view leave left_at false input.told input'.told state d s d) (sym same.state_is) (
-        subst (λ (i : Input). IsPrepared view leave left_at false input.told i.told state d state d) (sym same.input_is) (without view leave left_at input.told state d begins)
-      )
+    subst (λ (s : State). IsPrepared view leave left_at false input.told input'.told state d s d) (sym same.state_is) (
+    subst (λ (i : Input). IsPrepared view leave left_at false input.told i.told state d state d) (sym same.input_is) (without view leave left_at input.told state d begins)
+    )
     )
 
 pub stops : {D : Type 0} (view : D → View) (leave : D → Image → Type 0) (left_at : D → ℕ → Image → Type 0) (ladder : Bool) (input input' : Input) (state : State) (d : D) (state' : State)

@@ -63,7 +63,7 @@ abbrev pub ServeMeans : {D : Type 0} (view : D → View) (leave : D → Image �
 ServeMeans view leave left_at order input input' old new answer =
     ((end : Outcome) × HasRun view leave left_at order.ladder input.told input'.told order.turns old new end × TellsEnd end answer)
     ⊎ ((why : StoreFault) × WhyUnready view leave left_at order.ladder (record { told = input.told; faults = input.faults })
-        (record { told = input'.told; faults = input'.faults }) old new why × TellsFault why answer)
+    (record { told = input'.told; faults = input'.faults }) old new why × TellsFault why answer)
 
 -- where the disk tells its contents these are a store, and the text has a line for each fragment of its log
 abbrev pub Lists : View → List ℕ → Type 0

@@ -46,13 +46,18 @@ fn told(alloc: Global, fault: StoreFault) -> Result<Answer, NoMemory>
     match fault {
         StoreFault::DiskFault => Ok(Answer::Stopped(Stop::DiskFault)),
         StoreFault::LinkFault => Ok(Answer::Stopped(Stop::LinkFault)),
-        StoreFault::NotAStore { at } => Ok(Answer::Stopped(Stop::NotAStore(no_store_line(alloc, at)?))),
+        StoreFault::NotAStore { at } => Ok(Answer::Stopped(Stop::NotAStore(no_store_line(
+            alloc, at,
+        )?))),
         StoreFault::Unread => Ok(Answer::Unread),
         StoreFault::LongLadder => Ok(Answer::Stopped(Stop::LongLadder)),
         StoreFault::BadLadder { at } => Ok(Answer::Refused(bad_ladder_line(alloc, at)?)),
         StoreFault::Refused(cause) => Ok(Answer::Stopped(Stop::Denied(denied_line(alloc, cause)?))),
         StoreFault::Full => Ok(Answer::Stopped(Stop::Full)),
-        StoreFault::Damaged => Ok(Answer::Stopped(Stop::Denied(denied_line(alloc, Cause::Damaged)?))),
+        StoreFault::Damaged => Ok(Answer::Stopped(Stop::Denied(denied_line(
+            alloc,
+            Cause::Damaged,
+        )?))),
         StoreFault::NoMemory => Ok(Answer::Starved),
     }
 }
@@ -81,7 +86,11 @@ pub fn ended(alloc: Global, end: Served) -> Answer
     ensures { TellsEnd end result }
 {
     match end {
-        Served::Done { turns, behind: _, short: _ } => counted(alloc, turns),
+        Served::Done {
+            turns,
+            behind: _,
+            short: _,
+        } => counted(alloc, turns),
         Served::LinkFault => Answer::Stopped(Stop::LinkFault),
         Served::NoMemory => Answer::Starved,
     }

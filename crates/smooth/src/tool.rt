@@ -42,7 +42,15 @@ fn served<I: Source, S: Site>(
         (record { told = I.left input.old; faults = I.faults input.old })
         (record { told = I.left input.new; faults = I.faults input.new }) site.old site.new result }
 {
-    match serve_store(alloc, input, site, store, order.port, order.ladder, order.turns) {
+    match serve_store(
+        alloc,
+        input,
+        site,
+        store,
+        order.port,
+        order.ladder,
+        order.turns,
+    ) {
         Ok(end) => ended(alloc, end),
         Err(fault) => stopped(alloc, fault),
     }

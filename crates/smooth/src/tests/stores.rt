@@ -1,7 +1,7 @@
 //! Commands on a store, over a site in memory.
 
-use crate::tool::tool;
 use super::words_of;
+use crate::tool::tool;
 use sm_ends::{Calls, MemorySink, MemorySource};
 use sm_model::Bytes;
 use sm_site::{Event, MemorySite, Numbers, Script};
@@ -50,7 +50,15 @@ fn a_store_is_served_with_a_ladder(rt: HostRuntime) -> Result<(), Fail> {
     let lines: [&[&str]; 4] = [
         &["serve", "s", "--port", "8080", "--ladder", "--turns", "1"],
         &["serve", "--ladder", "--turns=1", "--port=8080", "s"],
-        &["serve", "--port=08080", "--ladder", "--turns", "1", "--", "-s"],
+        &[
+            "serve",
+            "--port=08080",
+            "--ladder",
+            "--turns",
+            "1",
+            "--",
+            "-s",
+        ],
         &["serve", "s", "--turns", "1", "--port", "65535"],
     ];
     for words in lines {
@@ -104,13 +112,19 @@ fn ladders_that_are_none(rt: HostRuntime) -> Result<(), Fail> {
     let words = ["serve", "s", "--port", "1", "--ladder"];
     let mut site = site_of_one(alloc)?;
     let (status, printed) = run_on(alloc, &mut site, &words, b"")?;
-    assert_eq!(rt; printed.as_slice(), b"error: input at 0: 5 BadLiveManifest\n".as_slice());
+    assert_eq!(rt;
+        printed.as_slice(),
+        b"error: input at 0: 5 BadLiveManifest\n".as_slice()
+    );
     assert_eq!(rt; status, 3);
     let mut zeros = Vec::new(alloc);
     zeros.resize(1_048_577, 0)?;
     let mut other = site_of_one(alloc)?;
     let (status, printed) = run_on(alloc, &mut other, &words, &zeros)?;
-    assert_eq!(rt; printed.as_slice(), b"error: input at 1048576: too long\n".as_slice());
+    assert_eq!(rt;
+        printed.as_slice(),
+        b"error: input at 1048576: too long\n".as_slice()
+    );
     assert_eq!(rt; status, 3);
     Ok(())
 }
