@@ -2,3 +2,4 @@ pub mod Searching
 pub mod Looking
 pub mod Picking
 pub mod OneAnswer
+pub mod Ordering

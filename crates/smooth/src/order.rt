@@ -106,6 +106,7 @@ fn with_ladder(said: Said) -> Option<Said>
 }
 
 // A word that begins with `-`, in front of `--`.
+#[tactic(auto, unfolding(crate::specs::Order::option_word))]
 fn option_word(said: Said, word: &str) -> Option<Said>
     ensures { result ≡ option_word said word.now }
 {
