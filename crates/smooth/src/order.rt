@@ -1,5 +1,5 @@
 //! The words of `serve`.
-ghost use Rattle.std.specs.Prelude.{◌≡◌, ◌<◌, ◌≤◌, ◌^◌, map, string_bytes, length, IfSome, IfTrue};
+ghost use Rattle.std.specs.Prelude.{◌≡◌, ◌<◌, ◌≤◌, ◌^◌, map, string_bytes, length, IfSome, true};
 ghost use Rattle.smooth.specs.Order.{is_plain, is_told_by, with_ladder, with_port, with_store, with_turns, option_word, step, finish, nothing_said, order_in};
 
 use crate::words::number;
@@ -46,7 +46,7 @@ pub fn is_plain(word: &[u8]) -> bool
 // Whether the word is the name of an option and its value, joined.
 fn is_told_by(word: &[u8], name: &[u8]) -> bool
     ensures result { result ≡ is_told_by name.now word.now }
-    ensures long { IfTrue result (length name.now ≤ length word.now) }
+    ensures long { result ≡ true → length name.now ≤ length word.now }
 {
     word.len() >= name.len() && &word[..name.len()] == name
 }
