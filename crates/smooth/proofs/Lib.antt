@@ -2,4 +2,3 @@ pub mod Searching
 pub mod Looking
 pub mod Picking
 pub mod OneAnswer
-pub mod Ordering

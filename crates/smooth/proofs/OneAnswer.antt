@@ -5,7 +5,7 @@ use Rattle.sm_model.specs.declared.fragment.Fragment.{Fragment}
 use Rattle.sm_model.specs.FragText.{frag_text}
 use Rattle.sm_model.specs.Body.{body_end}
 use Rattle.smooth.specs.declared.answer.Answer.{Answer}
-use Rattle.smooth.specs.declared.answer.Answer.TheVariants.{Found, Words, Unread, TooLong, Refused, NotKept, Starved, Stopped}
+use Rattle.smooth.specs.declared.answer.Answer.TheVariants.{Found, Words, Unread, TooLong, Refused, NotKept, Starved}
 use Rattle.smooth.specs.Answers.{IsPicked, IsAbsent, IsRefused, IsDue, refusal_line}
 
 -- an input isn't whole and refused at once
@@ -44,7 +44,6 @@ one_answer track time input (Found s) Words p q = absurd q
 one_answer track time input (Found s) Unread p q = absurd q
 one_answer track time input (Found s) TooLong p q = absurd q
 one_answer track time input (Found s) Starved p q = absurd q
-one_answer track time input (Found s) (Stopped why) p q = absurd q
 one_answer track time input (Refused l) (Found t) p q = absurd (not_both input p.refusal q.whole p.refused)
 one_answer track time input (Refused l) (Refused m) p q = ap (λ (x : List ℕ). Refused x) (same_line input l m p q)
 one_answer track time input (Refused l) NotKept p q = absurd (not_both input p.refusal q.whole p.refused)
@@ -52,7 +51,6 @@ one_answer track time input (Refused l) Words p q = absurd q
 one_answer track time input (Refused l) Unread p q = absurd q
 one_answer track time input (Refused l) TooLong p q = absurd q
 one_answer track time input (Refused l) Starved p q = absurd q
-one_answer track time input (Refused l) (Stopped why) p q = absurd q
 one_answer track time input NotKept (Found t) p q = absurd (not_absent input track time t q p)
 one_answer track time input NotKept (Refused m) p q = absurd (not_both input q.refusal p.whole q.refused)
 one_answer track time input NotKept NotKept p q = refl
@@ -60,9 +58,7 @@ one_answer track time input NotKept Words p q = absurd q
 one_answer track time input NotKept Unread p q = absurd q
 one_answer track time input NotKept TooLong p q = absurd q
 one_answer track time input NotKept Starved p q = absurd q
-one_answer track time input NotKept (Stopped why) p q = absurd q
 one_answer track time input Words b p q = absurd p
 one_answer track time input Unread b p q = absurd p
 one_answer track time input TooLong b p q = absurd p
 one_answer track time input Starved b p q = absurd p
-one_answer track time input (Stopped why) b p q = absurd p

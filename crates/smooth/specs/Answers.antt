@@ -8,27 +8,9 @@ use Rattle.sm_model.specs.FragText.{frag_text}
 use Rattle.sm_model.specs.Items.{first_of}
 use Rattle.sm_model.specs.Body.{body, body_end}
 use Rattle.smooth.specs.declared.answer.Answer.{Answer}
-use Rattle.smooth.specs.declared.answer.Answer.TheVariants.{Found, Words, Unread, TooLong, Refused, NotKept, Starved, Stopped}
-use Rattle.smooth.specs.declared.answer.Stop.{Stop}
-use Rattle.smooth.specs.declared.answer.Stop.TheVariants.{LongLadder, Denied, DiskFault, LinkFault, Full, NotAStore}
+use Rattle.smooth.specs.declared.answer.Answer.TheVariants.{Found, Words, Unread, TooLong, Refused, NotKept, Starved}
 
 -- ---- the statuses and the lines
-
-abbrev pub stop_status : Stop → ℕ
-stop_status LongLadder = 3
-stop_status (Denied line) = 4
-stop_status DiskFault = 5
-stop_status LinkFault = 8
-stop_status Full = 10
-stop_status (NotAStore line) = 11
-
-abbrev pub stop_line : Stop → List ℕ
-stop_line LongLadder = codes "error: input at 1048576: too long\n"
-stop_line (Denied line) = line
-stop_line DiskFault = codes "error: disk\n"
-stop_line LinkFault = codes "error: link\n"
-stop_line Full = codes "error: full\n"
-stop_line (NotAStore line) = line
 
 abbrev pub status_of : Answer → ℕ
 status_of (Found text) = 0
@@ -38,7 +20,6 @@ status_of (Refused line) = 3
 status_of NotKept = 4
 status_of Unread = 6
 status_of Starved = 9
-status_of (Stopped why) = stop_status why
 
 abbrev pub line_of : Answer → List ℕ
 line_of (Found text) = text
@@ -48,7 +29,6 @@ line_of (Refused line) = line
 line_of NotKept = codes "error: 47 NotKept\n"
 line_of Unread = codes "error: read\n"
 line_of Starved = codes "error: memory\n"
-line_of (Stopped why) = stop_line why
 
 -- where what was found can't be written the status is 7; a failure keeps its own
 abbrev pub unwritten_status_of : Answer → ℕ
@@ -59,7 +39,6 @@ unwritten_status_of (Refused line) = 3
 unwritten_status_of NotKept = 4
 unwritten_status_of Unread = 6
 unwritten_status_of Starved = 9
-unwritten_status_of (Stopped why) = stop_status why
 
 -- ---- the answer that is due to an input
 
@@ -100,7 +79,6 @@ IsDue track time input Words = ⊥
 IsDue track time input TooLong = ⊥
 IsDue track time input Unread = ⊥
 IsDue track time input Starved = ⊥
-IsDue track time input (Stopped why) = ⊥
 
 -- an input within the limit was read to its end, and the answer is due to it
 pub record IsAnswered (track time : ℕ) (old new : Option (List ℕ)) (answer : Answer) : Type 0 where

@@ -4,15 +4,14 @@ use Rattle.std.specs.Io.KnownBytes.{Appends, Keeps}
 use Rattle.sm_ends.specs.Faults.{Rose}
 use Rattle.sm_ends.specs.Moves.{TakesCount, TakesAtMost, AppendsFront}
 use Rattle.smooth.specs.declared.answer.Answer.{Answer}
-use Rattle.smooth.specs.declared.answer.Answer.TheVariants.{Found, Words, Unread, TooLong, Refused, NotKept, Starved, Stopped}
-use Rattle.sm_site.specs.Image.{Image}
-use Rattle.sm_site.specs.Meanings.{View}
-use Rattle.smooth.specs.declared.order.Order.{Order}
-use Rattle.smooth.specs.Ends.{End}
-use Rattle.smooth.specs.Order.{order_in}
-use Rattle.smooth.specs.Stores.{ListMeans, ServeMeans}
-use Rattle.smooth.specs.Words.{asked, listed}
+use Rattle.smooth.specs.declared.answer.Answer.TheVariants.{Found, Words, Unread, TooLong, Refused, NotKept, Starved}
+use Rattle.smooth.specs.Words.{asked}
 use Rattle.smooth.specs.Answers.{IsAnswered, limit, status_of, unwritten_status_of, line_of}
+
+-- an end before a call and after it: what it tells, and its count of faults
+pub record End : Type 0 where
+  pub told : Option (List ℕ)
+  pub faults : ℕ
 
 -- the words ask for a fragment, the input was read to its end, and the answer is due to it
 pub record IsRead (words : List (List ℕ)) (old new : End) (answer : Answer) : Type 0 where
@@ -43,23 +42,15 @@ pub record IsStarved (words : List (List ℕ)) (old new : End) : Type 0 where
   pub asked_is : (track : ℕ) × (time : ℕ) × (asked words ≡ Some (track, time))
   pub taken : TakesAtMost old.told new.told limit
 
--- the answer that the words of `pick`, or of no command, and the input have
-abbrev pub Picks : List (List ℕ) → End → End → Answer → Type 0
-Picks words old new (Found text) = IsRead words old new (Found text)
-Picks words old new (Refused line) = IsRead words old new (Refused line)
-Picks words old new NotKept = IsRead words old new NotKept
-Picks words old new Words = IsUnasked words old new
-Picks words old new TooLong = IsTooLong words old new
-Picks words old new Unread = IsUnread words old new
-Picks words old new Starved = IsStarved words old new
-Picks words old new (Stopped why) = ⊥
-
--- the words ask for a store to be served, or to be listed, or for neither, and then the site is left alone
-abbrev pub Means : {D : Type 0} (view : D → View) (leave : D → Image → Type 0) (left_at : D → ℕ → Image → Type 0) → List (List ℕ) → End → End → D → D → Answer → Type 0
-Means view leave left_at words old new site site' answer =
-    ((order : Order) × (order_in words ≡ Some order) × ServeMeans view leave left_at order old new site site' answer)
-    ⊎ (((store : List ℕ) × (order_in words ≡ None) × (listed words ≡ Some store) × (new ≡ old) × ListMeans (view site) (view site') answer)
-    ⊎ ((order_in words ≡ None) × (listed words ≡ None) × (site' ≡ site) × Picks words old new answer))
+-- the answer that words and input have
+abbrev pub Means : List (List ℕ) → End → End → Answer → Type 0
+Means words old new (Found text) = IsRead words old new (Found text)
+Means words old new (Refused line) = IsRead words old new (Refused line)
+Means words old new NotKept = IsRead words old new NotKept
+Means words old new Words = IsUnasked words old new
+Means words old new TooLong = IsTooLong words old new
+Means words old new Unread = IsUnread words old new
+Means words old new Starved = IsStarved words old new
 
 -- the whole line went out, or a front of it where the sink failed
 abbrev pub Prints : Answer → End → End → ℕ → Type 0
@@ -68,8 +59,7 @@ Prints answer old new status =
     ⊎ ((status ≡ unwritten_status_of answer) × AppendsFront old.told new.told (line_of answer) × Rose old.faults new.faults)
 
 -- the words and the input have an answer, its line was printed, and the status tells it
-pub record IsRun {D : Type 0} (view : D → View) (leave : D → Image → Type 0) (left_at : D → ℕ → Image → Type 0) (words : List (List ℕ)) (input input' output output' : End) (site site' : D)
-    (status : ℕ) : Type 0 where
+pub record IsRun (words : List (List ℕ)) (input input' output output' : End) (status : ℕ) : Type 0 where
   pub answer : Answer
-  pub means : Means view leave left_at words input input' site site' answer
+  pub means : Means words input input' answer
   pub prints : Prints answer output output' status

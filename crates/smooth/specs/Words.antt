@@ -1,5 +1,5 @@
 -- The words of a command.
-use Rattle.std.specs.Prelude.{◌-◌, ◌^◌, ℕ, Bool, ◌&&◌, not, ◌==◌, slice_index, nat_le, nat_eq, List, [], ◌∷◌, length, codes, Option, Some, None, if◌then◌else◌}
+use Rattle.std.specs.Prelude.{◌-◌, ◌^◌, ℕ, Bool, ◌&&◌, nat_le, nat_eq, List, [], ◌∷◌, length, codes, Option, Some, None, if◌then◌else◌}
 use Rattle.std.specs.List.{list_all}
 use Rattle.std.specs.Cmp.Lexicographic.{pointwise}
 use Rattle.std.specs.Option.{option_and_then, option_map}
@@ -25,14 +25,3 @@ asked (command ∷ []) = None
 asked (command ∷ track ∷ []) = None
 asked (command ∷ track ∷ time ∷ []) = if pointwise nat_eq command (codes "pick") then asked_by track time else None
 asked (command ∷ track ∷ time ∷ word ∷ words) = None
-
--- it is there, and doesn't begin with `-`
-abbrev pub is_store : List ℕ → Bool
-is_store word = not (length word == 0) && not (slice_index word 0 == 45)
-
--- the store of `list STORE`
-unfoldable pub listed : List (List ℕ) → Option (List ℕ)
-listed [] = None
-listed (command ∷ []) = None
-listed (command ∷ store ∷ []) = if pointwise nat_eq command (codes "list") && is_store store then Some store else None
-listed (command ∷ store ∷ word ∷ words) = None

@@ -3,27 +3,11 @@ ghost use Rattle.std.specs.Prelude.{◌≡◌, OnOk, OnErr};
 ghost use Rattle.std.specs.Io.KnownBytes.{Appends};
 ghost use Rattle.sm_ends.specs.Faults.{HasCause};
 ghost use Rattle.sm_ends.specs.Moves.{AppendsFront};
-ghost use Rattle.smooth.specs.Answers.{line_of, status_of, stop_line, stop_status, unwritten_status_of};
+ghost use Rattle.smooth.specs.Answers.{line_of, status_of, unwritten_status_of};
 ghost use Rattle.smooth.specs.Ran.{Prints};
 
-use crate::answer::{Answer, Stop};
+use crate::answer::Answer;
 use sm_ends::{Failed, Sink, write_all};
-
-// Writes the line that says why a command stopped, or a front of it and fails.
-fn write_stop<O: Sink>(sink: &mut O, why: &Stop) -> Result<(), Failed>
-    ensures ok { OnOk result (Appends (O.held sink.old) (O.held sink.new) (stop_line why.now)) }
-    ensures err { OnErr result (AppendsFront (O.held sink.old) (O.held sink.new) (stop_line why.now)) }
-    ensures cause { HasCause (O.faults sink.old) (O.faults sink.new) result }
-{
-    match why {
-        Stop::LongLadder => write_all(sink, b"error: input at 1048576: too long\n"),
-        Stop::Denied(line) => write_all(sink, line.as_slice()),
-        Stop::DiskFault => write_all(sink, b"error: disk\n"),
-        Stop::LinkFault => write_all(sink, b"error: link\n"),
-        Stop::Full => write_all(sink, b"error: full\n"),
-        Stop::NotAStore(line) => write_all(sink, line.as_slice()),
-    }
-}
 
 // Writes the line of an answer, or a front of it and fails.
 fn write_line<O: Sink>(sink: &mut O, answer: &Answer) -> Result<(), Failed>
@@ -39,20 +23,6 @@ fn write_line<O: Sink>(sink: &mut O, answer: &Answer) -> Result<(), Failed>
         Answer::Refused(line) => write_all(sink, line.as_slice()),
         Answer::NotKept => write_all(sink, b"error: 47 NotKept\n"),
         Answer::Starved => write_all(sink, b"error: memory\n"),
-        Answer::Stopped(why) => write_stop(sink, why),
-    }
-}
-
-fn stop_status(why: &Stop) -> u8
-    ensures { result ≡ stop_status why.now }
-{
-    match why {
-        Stop::LongLadder => 3,
-        Stop::Denied(_) => 4,
-        Stop::DiskFault => 5,
-        Stop::LinkFault => 8,
-        Stop::Full => 10,
-        Stop::NotAStore(_) => 11,
     }
 }
 
@@ -66,7 +36,6 @@ fn status(answer: &Answer) -> u8
         Answer::NotKept => 4,
         Answer::Unread => 6,
         Answer::Starved => 9,
-        Answer::Stopped(why) => stop_status(why),
     }
 }
 

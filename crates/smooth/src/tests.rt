@@ -5,13 +5,11 @@ mod ends;
 mod fixtures;
 mod limits;
 mod picks;
-mod stores;
 mod words;
 
 use crate::tool::tool;
 use sm_ends::{Calls, MemorySink, MemorySource};
 use sm_model::Bytes;
-use sm_site::{MemorySite, Numbers, Script};
 use std::alloc::Global;
 use std::process::Abort;
 use std::test::Fail;
@@ -22,16 +20,6 @@ fn words_of(alloc: Global, words: &[&str]) -> Result<Vec<String>, Fail> {
         list.push(String::from_str(alloc, word)?)?;
     }
     Ok(list)
-}
-
-// A site of which nothing comes.
-fn no_site(alloc: Global) -> MemorySite {
-    MemorySite::new(
-        alloc,
-        Script::from_vec(Vec::new(alloc)),
-        Numbers::from_vec(Vec::new(alloc)),
-        Numbers::from_vec(Vec::new(alloc)),
-    )
 }
 
 // What a command prints, and its status, where these calls of its ends fail.
@@ -48,8 +36,7 @@ fn run_failing(
         Calls::from_vec(reads.to_vec(alloc)?),
     );
     let mut sink = MemorySink::new(alloc, Calls::from_vec(writes.to_vec(alloc)?));
-    let mut site = no_site(alloc);
-    let status = tool(alloc, &words, &mut source, &mut sink, &mut site);
+    let status = tool(alloc, &words, &mut source, &mut sink);
     Ok((status, Bytes::from_slice(alloc, sink.held())?))
 }
 

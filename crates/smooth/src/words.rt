@@ -2,10 +2,8 @@
 ghost use Rattle.std.specs.Prelude.{◌≡◌, ◌<◌, ◌≤◌, ◌^◌, map, string_bytes, IfSome};
 ghost use Rattle.std.specs.List.{list_all};
 ghost use Rattle.sm_model.specs.Digits.{is_digit};
-ghost use Rattle.std.specs.Option.{option_map};
-ghost use Rattle.smooth.specs.Words.{numeral, asked, listed};
+ghost use Rattle.smooth.specs.Words.{numeral, asked};
 
-use crate::order::is_plain;
 use sm_model::decimal_up_to;
 
 fn are_digits(text: &[u8]) -> bool
@@ -14,13 +12,14 @@ fn are_digits(text: &[u8]) -> bool
     text.iter().all(|c| 48 <= *c && *c <= 57)
 }
 
-/// The number that a word writes, if it writes one in these bounds.
+// The number that a word writes, if it writes one in these bounds.
 #[tactic(auto, unfolding(crate::specs::Words::numeral))]
-pub fn number(digits: &[u8], low: u64, high: u64) -> Option<u64>
+fn number(word: &str, low: u64, high: u64) -> Option<u64>
     requires { high < 2 ^ 63 }
-    ensures value { result ≡ numeral low high digits.now }
+    ensures value { result ≡ numeral low high word.now }
     ensures below { IfSome result (λ n. n ≤ high) }
 {
+    let digits = word.as_bytes();
     if digits.is_empty() || digits.len() > 19 || !are_digits(digits) {
         return None;
     }
@@ -43,21 +42,7 @@ pub fn asked_of(words: &[String]) -> Option<(u32, u64)>
     if command.as_str() != "pick" {
         return None;
     }
-    let track = number(track.as_bytes(), 1, 4294967295)?;
-    let time = number(time.as_bytes(), 0, 9223372036854775807)?;
+    let track = number(track.as_str(), 1, 4294967295)?;
+    let time = number(time.as_str(), 0, 9223372036854775807)?;
     Some((track as u32, time))
-}
-
-/// The store that the words ask for, if they are `list STORE`.
-#[tactic(auto, unfolding(crate::specs::Words::listed))]
-pub fn listed_of(words: &[String]) -> Option<&str>
-    ensures { option_map (λ s. s.now) result ≡ listed (map string_bytes words.now) }
-{
-    let [command, store] = words else {
-        return None;
-    };
-    if command.as_str() != "list" || store.is_empty() || !is_plain(store.as_bytes()) {
-        return None;
-    }
-    Some(store.as_str())
 }

@@ -1,7 +1,7 @@
 //! Fragments and inputs at their limits, and one beyond.
 
 use super::fixtures::{TEXT, joined};
-use super::{expect, no_site, run, words_of};
+use super::{expect, run, words_of};
 use crate::tool::tool;
 use sm_ends::{Calls, CountedSource, MemorySink};
 use std::alloc::Global;
@@ -145,9 +145,8 @@ fn inputs_at_the_limit(rt: HostRuntime) -> Result<(), Fail> {
     for (left, line) in table {
         let mut source = CountedSource { byte: 0, left };
         let mut sink = MemorySink::new(alloc, Calls::from_vec(Vec::new(alloc)));
-        let mut site = no_site(alloc);
         assert_eq!(rt;
-            tool(alloc, &words, &mut source, &mut sink, &mut site),
+            tool(alloc, &words, &mut source, &mut sink),
             3,
             "{left} bytes"
         );
