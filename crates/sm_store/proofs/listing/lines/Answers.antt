@@ -1,0 +1,29 @@
+use Rattle.std.proofs.Common.{◌≡◌, ℕ, List, None, ◌++◌, string_bytes, ap, ◌∙◌, arith}
+use Rattle.sm_store.proofs.Lines.{all_lines, text_next}
+use Rattle.sm_store.proofs.listing.lines.Goals as goal
+
+pub loop-place-preserved : goal.loop-place-preserved
+loop-place-preserved g c =
+    let inv = c.loop-place.invariant in
+    let fewer = inv.no_fewer in
+    let fewer_yet = c.line_of.ensures.no_fewer in
+    record {
+      some = (inv.some.0, c.line_of.ensures.stands inv.some.0 inv.some.1);
+      stands = λ log s. c.line_of.ensures.stands log (inv.stands log s);
+      told = c.line_of.ensures.told ∙ inv.told;
+      no_fewer = omega (arith, fewer, fewer_yet);
+      text = λ log s told.
+          let count = c.len-place-end.ensures s.bodies s.body log None s.keeps in
+          let inside = c.loop-place-test.true in
+          text_next c.loop-place.place log (string_bytes c.loop-place.text) (string_bytes c.in_ok-line.line) (string_bytes c.put_behind.new.text) (omega (arith, count, inside))
+          (inv.text log s told)
+          (c.in_ok-line.ensures.line log (inv.stands log s) (inv.told ∙ told))
+          (c.in-Ok.ensures ∙ ap (λ (t : List ℕ). string_bytes c.loop-place.text ++ t) c.deref.ensures);
+    }
+
+pub returns-clause-lines : goal.returns-clause-lines
+returns-clause-lines g c log s told =
+    let count = c.len-place-end.ensures s.bodies s.body log None s.keeps in
+    let outside = c.loop-place-test.false in
+    let within = c.loop-place.auto.place-end in
+    c.bytes_of.ensures ∙ all_lines c.loop-place.place log (string_bytes c.loop-place.text) (omega (arith, count, outside, within)) (c.loop-place.invariant.text log s told)

@@ -1,0 +1,60 @@
+//! Serving a store.
+ghost use Rattle.std.specs.Prelude.{◌≡◌, IfOk, IfErr, Ok};
+ghost use Rattle.sm_serve.specs.declared.outcome.Served.TheVariants as served;
+ghost use Rattle.sm_origin.specs.Machine.{Machine};
+ghost use Rattle.sm_serve.specs.Serving.{Begins};
+ghost use Rattle.sm_serve.specs.Standing.{StandsOn};
+ghost use Rattle.sm_store.specs.Serving.{Found, HasRun, RunsFrom, StopsFrom, WhyUnready};
+
+use crate::StoreFault;
+use crate::start::{open_state, prepare};
+use sm_ends::Source;
+use sm_serve::{Served, State, serve};
+use sm_site::Site;
+use std::alloc::Global;
+
+// Serves from a state that was just opened.
+fn serve_state<I: Source, S: Site>(
+    alloc: Global,
+    input: &mut I,
+    site: &mut S,
+    state: &mut State,
+    ladder: bool,
+    turns: u64,
+) -> Result<Served, StoreFault>
+    requires begins { Begins S.Disk.view S.Disk.may_leave S.Disk.left_at state.old site.old }
+    requires stands { (m : Machine) × StandsOn S.Disk.view S.Disk.may_leave m state.old.origin site.old }
+    ensures run { IfOk result (λ end. RunsFrom S.Disk.view S.Disk.may_leave S.Disk.left_at ladder (I.left input.old) (I.left input.new) turns state.old site.old site.new end) }
+    ensures why { IfErr result (λ why. StopsFrom S.Disk.view S.Disk.may_leave S.Disk.left_at ladder
+        (record { told = I.left input.old; faults = I.faults input.old })
+        (record { told = I.left input.new; faults = I.faults input.new }) state.old site.old site.new why) }
+{
+    match prepare(alloc, input, site, state, ladder) {
+        Ok(()) => Ok(serve(site, state, turns)),
+        Err(fault) => Err(fault),
+    }
+}
+
+/// Serves the store in that folder at that port, until nothing more comes or so many events were taken.
+///
+/// With a ladder the input is read to its end, at most 1,048,576 bytes, and its channel is declared before the first event. A
+/// fault says that no event was waited for; from the first event on the loop says how it ended.
+pub fn serve_store<I: Source, S: Site>(
+    alloc: Global,
+    input: &mut I,
+    site: &mut S,
+    store: &str,
+    port: u16,
+    ladder: bool,
+    turns: u64,
+) -> Result<Served, StoreFault>
+    ensures run { IfOk result (λ end. HasRun S.Disk.view S.Disk.may_leave S.Disk.left_at ladder (I.left input.old) (I.left input.new) turns site.old site.new end) }
+    ensures why { IfErr result (λ why. WhyUnready S.Disk.view S.Disk.may_leave S.Disk.left_at ladder
+        (record { told = I.left input.old; faults = I.faults input.old })
+        (record { told = I.left input.new; faults = I.faults input.new }) site.old site.new why) }
+{
+    match open_state(alloc, site, store, port) {
+        Ok(mut state) => serve_state(alloc, input, site, &mut state, ladder, turns),
+        Err(fault) => Err(fault),
+    }
+}

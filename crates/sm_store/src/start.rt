@@ -1,0 +1,146 @@
+//! Opening a store to be served, with its ladder.
+ghost use Rattle.std.specs.Prelude.{◌≡◌, ◌≤◌, ℕ, List, Option, Ok, IfOk, IfErr};
+ghost use Rattle.sm_model.specs.Channels.{IsChannel};
+ghost use Rattle.sm_origin.specs.Machine.{Machine};
+ghost use Rattle.sm_serve.specs.Serving.{Begins};
+ghost use Rattle.sm_serve.specs.Standing.{StandsOn};
+ghost use Rattle.sm_store.specs.Serving.{Found, IsLadderInput, DeclaresTo, LadderMeans, PrepareMeans, WhyUnopened, WhyUnread, outcome_of};
+
+use crate::StoreFault;
+use sm_archive::{Declared, Limits, OpenFault};
+use sm_ends::{InputFault, Source, read_input};
+use sm_model::Channel;
+use sm_serve::State;
+use sm_site::{Site, SiteError};
+use sm_smil::{SmilFault, read_ladder};
+use std::alloc::Global;
+
+// The most bytes that a ladder may have.
+const LADDER: u64 = 1_048_576;
+
+// Opens the store of a site that was selected.
+fn start<S: Site>(alloc: Global, site: &mut S) -> Result<State, StoreFault>
+    ensures found { IfOk result (λ state. Found S.Disk.view S.Disk.may_leave state site.old site.new) }
+    ensures begins { IfOk result (λ state. Begins S.Disk.view S.Disk.may_leave S.Disk.left_at state site.new) }
+    ensures transcript { (S.Disk.view site.new).transcript ≡ (S.Disk.view site.old).transcript }
+    ensures why { IfErr result (λ why. WhyUnopened (S.Disk.view site.old) (S.Disk.view site.new) why) }
+    ensures disk_faults { (S.Disk.view site.old).disk_faults ≤ (S.Disk.view site.new).disk_faults }
+    ensures link_faults { (S.Disk.view site.old).link_faults ≤ (S.Disk.view site.new).link_faults }
+{
+    match State::start(alloc, site, Limits::standard()) {
+        Ok(state) => Ok(state),
+        Err(OpenFault::DiskFault) => Err(StoreFault::DiskFault),
+        Err(OpenFault::NotAStore { at }) => Err(StoreFault::NotAStore { at }),
+        Err(OpenFault::NoMemory) => Err(StoreFault::NoMemory),
+    }
+}
+
+/// Chooses the folder and the port, and opens the store there.
+pub(crate) fn open_state<S: Site>(
+    alloc: Global,
+    site: &mut S,
+    store: &str,
+    port: u16,
+) -> Result<State, StoreFault>
+    ensures found { IfOk result (λ state. Found S.Disk.view S.Disk.may_leave state site.old site.new) }
+    ensures begins { IfOk result (λ state. Begins S.Disk.view S.Disk.may_leave S.Disk.left_at state site.new) }
+    ensures transcript { (S.Disk.view site.new).transcript ≡ (S.Disk.view site.old).transcript }
+    ensures why { IfErr result (λ why. WhyUnopened (S.Disk.view site.old) (S.Disk.view site.new) why) }
+    ensures disk_faults { (S.Disk.view site.old).disk_faults ≤ (S.Disk.view site.new).disk_faults }
+    ensures link_faults { (S.Disk.view site.old).link_faults ≤ (S.Disk.view site.new).link_faults }
+{
+    match site.select(store, port) {
+        Ok(()) => start(alloc, site),
+        Err(SiteError::Disk) => Err(StoreFault::DiskFault),
+        Err(SiteError::Link) => Err(StoreFault::LinkFault),
+        Err(SiteError::NoMemory) => Err(StoreFault::NoMemory),
+    }
+}
+
+// The channel of the ladder that the input is.
+fn ladder_of<I: Source>(alloc: Global, input: &mut I) -> Result<Channel, StoreFault>
+    ensures read { IfOk result (λ channel. IsLadderInput (I.left input.old) (I.left input.new) (Ok channel)) }
+    ensures valid { IfOk result IsChannel }
+    ensures why { IfErr result (λ why. WhyUnread (record { told = I.left input.old; faults = I.faults input.old })
+        (record { told = I.left input.new; faults = I.faults input.new }) why) }
+{
+    let text = match read_input(alloc, input, LADDER) {
+        Ok(text) => text,
+        Err(InputFault::Failed) => return Err(StoreFault::Unread),
+        Err(InputFault::TooLong) => return Err(StoreFault::LongLadder),
+        Err(InputFault::NoMemory) => return Err(StoreFault::NoMemory),
+    };
+    match read_ladder(alloc, text.as_slice()) {
+        Ok(channel) => Ok(channel),
+        Err(SmilFault::Bad { at }) => Err(StoreFault::BadLadder { at }),
+        Err(SmilFault::NoMemory) => Err(StoreFault::NoMemory),
+    }
+}
+
+// What an answer to a ladder comes to.
+fn outcome_of(answer: Declared) -> Result<(), StoreFault>
+    ensures { result ≡ outcome_of answer }
+{
+    match answer {
+        Declared::Fixed | Declared::Agreed => Ok(()),
+        Declared::Refused(cause) => Err(StoreFault::Refused(cause)),
+        Declared::Full => Err(StoreFault::Full),
+        Declared::DiskFault => Err(StoreFault::DiskFault),
+        Declared::NoMemory => Err(StoreFault::NoMemory),
+    }
+}
+
+// Declares the channel of a ladder.
+fn declare<S: Site>(site: &mut S, state: &mut State, channel: &Channel) -> Result<(), StoreFault>
+    requires valid { IsChannel channel.now }
+    requires stands { (m : Machine) × StandsOn S.Disk.view S.Disk.may_leave m state.old.origin site.old }
+    ensures declares { (told told' : Option (List ℕ)) → IsLadderInput told told' (Ok channel.now)
+        → DeclaresTo S.Disk.view S.Disk.may_leave S.Disk.left_at told told' state.old site.old state.new site.new result }
+    ensures stands { (m : Machine) × StandsOn S.Disk.view S.Disk.may_leave m state.new.origin site.new }
+    ensures transcript { (S.Disk.view site.new).transcript ≡ (S.Disk.view site.old).transcript }
+    ensures link_faults { (S.Disk.view site.new).link_faults ≡ (S.Disk.view site.old).link_faults }
+{
+    let answer = state.declare(site, channel);
+    outcome_of(answer)
+}
+
+// Reads a ladder and declares it.
+fn declare_ladder<I: Source, S: Site>(
+    alloc: Global,
+    input: &mut I,
+    site: &mut S,
+    state: &mut State,
+) -> Result<(), StoreFault>
+    requires stands { (m : Machine) × StandsOn S.Disk.view S.Disk.may_leave m state.old.origin site.old }
+    ensures means { LadderMeans S.Disk.view S.Disk.may_leave S.Disk.left_at (record { told = I.left input.old; faults = I.faults input.old })
+        (record { told = I.left input.new; faults = I.faults input.new }) state.old site.old state.new site.new result }
+    ensures stands { (m : Machine) × StandsOn S.Disk.view S.Disk.may_leave m state.new.origin site.new }
+    ensures transcript { (S.Disk.view site.new).transcript ≡ (S.Disk.view site.old).transcript }
+    ensures link_faults { (S.Disk.view site.new).link_faults ≡ (S.Disk.view site.old).link_faults }
+{
+    match ladder_of(alloc, input) {
+        Ok(channel) => declare(site, state, &channel),
+        Err(fault) => Err(fault),
+    }
+}
+
+/// Declares the ladder that the input is, if one is asked for.
+pub(crate) fn prepare<I: Source, S: Site>(
+    alloc: Global,
+    input: &mut I,
+    site: &mut S,
+    state: &mut State,
+    ladder: bool,
+) -> Result<(), StoreFault>
+    requires stands { (m : Machine) × StandsOn S.Disk.view S.Disk.may_leave m state.old.origin site.old }
+    ensures means { PrepareMeans S.Disk.view S.Disk.may_leave S.Disk.left_at ladder (record { told = I.left input.old; faults = I.faults input.old })
+        (record { told = I.left input.new; faults = I.faults input.new }) state.old site.old state.new site.new result }
+    ensures stands { (m : Machine) × StandsOn S.Disk.view S.Disk.may_leave m state.new.origin site.new }
+    ensures transcript { (S.Disk.view site.new).transcript ≡ (S.Disk.view site.old).transcript }
+    ensures link_faults { (S.Disk.view site.new).link_faults ≡ (S.Disk.view site.old).link_faults }
+{
+    if ladder {
+        return declare_ladder(alloc, input, site, state);
+    }
+    Ok(())
+}
