@@ -1,11 +1,11 @@
 -- The lines of a log, one entry after the other, and where its entries stand.
 use Rattle.std.proofs.Common.{◌≡◌, ◌<◌, ◌≤◌, ◌+◌, ℕ, zero, suc, List, [], ◌∷◌, ◌++◌, length, take, Option, Some, None, Result, Ok, Err, refl, sym, ap, subst, ◌∙◌, arith}
-use Rattle.std.specs.Prelude.{is_some, true, slice_get, IfSome, IsSome, IfOk, IfErr}
+use Rattle.std.specs.Prelude.{is_some, slice_get, IfSome, IsSome, IfOk, IfErr}
 use Rattle.std.specs.Option.{option_map}
 use Rattle.std.proofs.lemmas.List.{append-nil, append_assoc, take_all}
 use Rattle.sm_model.specs.declared.address.Address.{Address}
 use Rattle.sm_model.specs.declared.entry.Entry.{Entry}
-use Rattle.sm_model.specs.declared.entry.Entry.TheVariants.{Declare, Keep}
+use Rattle.sm_model.specs.declared.entry.Entry.TheVariants.{Keep}
 use Rattle.sm_model.specs.declared.fragment.Fragment.{Fragment}
 use Rattle.sm_model.specs.Entries.{address_of}
 use Rattle.sm_log.specs.Adds.{place_of}

@@ -1,6 +1,6 @@
 -- How a store comes to be served.
 use Rattle.std.proofs.Common.{inl, inr, ◌≡◌, ℕ, Bool, true, false, List, [], ◌∷◌, ◌++◌, Option, Some, None, Result, Ok, Err, ◌≤◌, refl, sym, ap, subst, ◌∙◌, arith}
-use Rattle.std.specs.Prelude.{IfSome, IsSome, IfOk, IfErr, IsTrue, ◌⊎◌}
+use Rattle.std.specs.Prelude.{IfSome, IsSome, IfOk, IfErr, ◌⊎◌}
 use Rattle.sm_model.specs.declared.track.Track.{Track}
 use Rattle.sm_site.specs.Clauses.{Rose}
 use Rattle.sm_site.specs.Image.{Image}
@@ -19,7 +19,7 @@ use Rattle.sm_serve.specs.Run.{Stepped}
 use Rattle.sm_serve.specs.Standing.{History, StandsOn}
 use Rattle.sm_serve.specs.Serving.{Begins, Serves, Served, Known}
 use Rattle.sm_store.specs.declared.fault.StoreFault.{StoreFault}
-use Rattle.sm_store.specs.Serving.{Input, Found, DeclaresTo, HasRun, IsBegun, IsSame, LadderMeans, LadderSteps, NotRead, PrepareMeans, ReadsLadder, RunsFrom, StopsFrom, TriesLadder, WhyUnopened, WhyUnread, WhyUnready, outcome_of}
+use Rattle.sm_store.specs.Serving.{Input, Found, DeclaresTo, HasRun, IsBegun, PrepareMeans, ReadsLadder, RunsFrom, StopsFrom, TriesLadder, WhyUnread, WhyUnready, outcome_of}
 
 pub found : {D : Type 0} (view : D → View) (leave : D → Image → Type 0) (state : State) (old new : D)
     → ((m : Machine) × (m.doubt ≡ None) × StandsOn view leave m state.origin new)

@@ -1,4 +1,4 @@
-use Rattle.std.proofs.Common.{◌≡◌, None, refl, sym, ◌∙◌}
+use Rattle.std.proofs.Common.{None, refl, ◌∙◌}
 use Rattle.sm_store.proofs.Lines.{line_there, not_absent}
 use Rattle.sm_store.proofs.listing.line_of.Goals as goal
 

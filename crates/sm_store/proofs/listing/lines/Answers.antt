@@ -1,4 +1,4 @@
-use Rattle.std.proofs.Common.{◌≡◌, ℕ, List, None, ◌++◌, string_bytes, ap, ◌∙◌, arith}
+use Rattle.std.proofs.Common.{ℕ, List, None, ◌++◌, string_bytes, ap, ◌∙◌, arith}
 use Rattle.sm_store.proofs.Lines.{all_lines, text_next}
 use Rattle.sm_store.proofs.listing.lines.Goals as goal
 

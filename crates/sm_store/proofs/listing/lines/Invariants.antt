@@ -1,4 +1,4 @@
-use Rattle.std.proofs.Common.{◌≡◌, ◌≤◌, ℕ, List, None, take, string_bytes, is_some}
+use Rattle.std.proofs.Common.{◌≡◌, ◌≤◌, List, None, take, string_bytes, is_some}
 use Rattle.std.specs.Prelude.{IsSome}
 use Rattle.sm_model.specs.declared.entry.Entry.{Entry}
 use Rattle.sm_archive.specs.Stands.{Stands}

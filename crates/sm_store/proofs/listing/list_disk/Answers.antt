@@ -1,4 +1,3 @@
-use Rattle.std.proofs.Common.{◌≡◌}
 use Rattle.sm_store.proofs.Lines.{list_of, told_stays, why_of}
 use Rattle.sm_store.proofs.listing.list_disk.Goals as goal
 

@@ -1,4 +1,3 @@
-use Rattle.std.proofs.Common.{◌≡◌}
 use Rattle.sm_store.proofs.Starting.{known, prepared, runs_from, stops}
 use Rattle.sm_store.proofs.serving.serve_state.Goals as goal
 

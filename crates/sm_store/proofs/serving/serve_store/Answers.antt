@@ -1,4 +1,3 @@
-use Rattle.std.proofs.Common.{◌≡◌}
 use Rattle.sm_store.proofs.Starting.{has_run, why_stopped}
 use Rattle.sm_store.proofs.serving.serve_store.Goals as goal
 
