@@ -1,9 +1,12 @@
 //! The worked rows of connections: what goes out for what comes in, however it is cut.
+mod faults;
 mod play;
+mod refusals;
 mod texts;
+mod times;
 
 use crate::{Served, Turn};
-use play::{declare, play, send, sent};
+use play::{PLAIN, Stage, declare, play, play_on, send, sent};
 use sm_archive::Declared;
 use sm_head::CONTINUE;
 use sm_model::{Bytes, Channel, Kind, Name, Params, Track};
@@ -25,15 +28,39 @@ fn part(alloc: Global, bytes: &[u8], from: usize, to: usize) -> Result<Vec<u8>, 
 }
 
 // Each connection sends its bytes, one behind the other, in pieces of that size. The first on which other bytes go out than these.
-fn first_wrong(alloc: Global, rows: &[(&[u8], &[u8])], size: usize) -> Result<Option<u64>, Fail> {
+fn first_wrong_on(
+    alloc: Global,
+    stage: Stage,
+    rows: &[(&[u8], &[u8])],
+    size: usize,
+) -> Result<Option<u64>, Fail> {
     let mut events = Vec::new(alloc);
     for (number, (bytes, _)) in rows.iter().enumerate() {
         send(alloc, &mut events, number as u64, bytes, size)?;
     }
-    let (site, _) = play(alloc, events, 1_000_000)?;
+    let (site, _) = play_on(alloc, stage, events, 1_000_000)?;
     for (number, (_, wanted)) in rows.iter().enumerate() {
         if sent(&site, number as u64)?.as_slice() != *wanted {
             return Ok(Some(number as u64));
+        }
+    }
+    Ok(None)
+}
+
+// The same, of a store and a disk without such limits and faults.
+fn first_wrong(alloc: Global, rows: &[(&[u8], &[u8])], size: usize) -> Result<Option<u64>, Fail> {
+    first_wrong_on(alloc, PLAIN, rows, size)
+}
+
+// The first size of pieces, and the first connection, at which other bytes go out than these.
+fn wrong_in_pieces(
+    alloc: Global,
+    stage: Stage,
+    rows: &[(&[u8], &[u8])],
+) -> Result<Option<(usize, u64)>, Fail> {
+    for size in SIZES {
+        if let Some(number) = first_wrong_on(alloc, stage, rows, size)? {
+            return Ok(Some((size, number)));
         }
     }
     Ok(None)

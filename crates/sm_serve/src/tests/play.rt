@@ -67,17 +67,52 @@ pub fn send(
     Ok(())
 }
 
+// The limit of entries of a store, the number of the disk call that fails, from 1, and whether a write that fails reaches the disk.
+#[derive(Clone, Copy)]
+pub struct Stage {
+    pub entries: u32,
+    pub failing: Option<u64>,
+    pub reaches: bool,
+}
+
+// A store that holds as much as any, on a disk that never fails.
+pub const PLAIN: Stage = Stage {
+    entries: 1_000_000,
+    failing: None,
+    reaches: false,
+};
+
 // The site behind all of these events, and how the loop ended.
-pub fn play(alloc: Global, events: Vec<Event>, turns: u64) -> Result<(MemorySite, Served), Fail> {
+pub fn play_on(
+    alloc: Global,
+    stage: Stage,
+    events: Vec<Event>,
+    turns: u64,
+) -> Result<(MemorySite, Served), Fail> {
     let script = script_of(events).ok_or("no script")?;
-    let mut site = MemorySite::new(alloc, script, none(alloc), none(alloc));
-    match State::start(alloc, &mut site, Limits::standard()) {
+    let mut failing = Vec::new(alloc);
+    if let Some(number) = stage.failing {
+        failing.push(number)?;
+    }
+    let mut site = MemorySite::new(alloc, script, Numbers::from_vec(failing), none(alloc));
+    site.reach(stage.reaches);
+    let limits = Limits {
+        store_bytes: 1 << 36,
+        entries: u64::from(stage.entries),
+        times: 262_144,
+    };
+    match State::start(alloc, &mut site, limits) {
         Err(_) => Err("no store".into()),
         Ok(mut state) => {
             let served = serve(&mut site, &mut state, turns);
             Ok((site, served))
         }
     }
+}
+
+// The same, of a store and a disk without such limits and faults.
+pub fn play(alloc: Global, events: Vec<Event>, turns: u64) -> Result<(MemorySite, Served), Fail> {
+    play_on(alloc, PLAIN, events, turns)
 }
 
 // What went out on each connection, from number 1 on.

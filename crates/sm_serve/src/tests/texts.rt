@@ -2,9 +2,18 @@
 use std::alloc::Global;
 use std::test::Fail;
 
-// The live manifest of three tracks as an encoder writes it.
-pub const ENCODED: &[u8] =
-    b"<?xml version=\"1.0\" encoding=\"utf-8\"?>\n<smil xmlns=\"http://www.w3.org/2001/SMIL20/Language\">\n  <head>\n    <meta name=\"creator\" content=\"encoder\" />\n  </head>\n  <body>\n    <switch>\n      <video src=\"Streams\" systemBitrate=\"350000\">\n        <param name=\"trackID\" value=\"1\" valuetype=\"data\" />\n        <param name=\"FourCC\" value=\"H264\" valuetype=\"data\" />\n        <param name=\"CodecPrivateData\" value=\"000000016742\" valuetype=\"data\" />\n        <param name=\"MaxWidth\" value=\"640\" valuetype=\"data\" />\n        <param name=\"MaxHeight\" value=\"360\" valuetype=\"data\" />\n      </video>\n      <video src=\"Streams\" systemBitrate=\"700000\">\n        <param name=\"trackID\" value=\"2\" valuetype=\"data\" />\n        <param name=\"FourCC\" value=\"H264\" valuetype=\"data\" />\n        <param name=\"CodecPrivateData\" value=\"000000016742\" valuetype=\"data\" />\n        <param name=\"MaxWidth\" value=\"1280\" valuetype=\"data\" />\n        <param name=\"MaxHeight\" value=\"720\" valuetype=\"data\" />\n      </video>\n      <audio src=\"Streams\" systemBitrate=\"64000\">\n        <param name=\"trackID\" value=\"3\" valuetype=\"data\" />\n        <param name=\"FourCC\" value=\"AACL\" valuetype=\"data\" />\n        <param name=\"CodecPrivateData\" value=\"1210\" valuetype=\"data\" />\n        <param name=\"AudioTag\" value=\"255\" valuetype=\"data\" />\n        <param name=\"Channels\" value=\"2\" valuetype=\"data\" />\n        <param name=\"SamplingRate\" value=\"44100\" valuetype=\"data\" />\n        <param name=\"BitsPerSample\" value=\"16\" valuetype=\"data\" />\n        <param name=\"PacketSize\" value=\"4\" valuetype=\"data\" />\n      </audio>\n    </switch>\n  </body>\n</smil>\n";
+// The live manifest of three tracks as an encoder writes it: up to the width of the first, behind it, and its end.
+const ENCODED: &[u8] =
+    b"<?xml version=\"1.0\" encoding=\"utf-8\"?>\n<smil xmlns=\"http://www.w3.org/2001/SMIL20/Language\">\n  <head>\n    <meta name=\"creator\" content=\"encoder\" />\n  </head>\n  <body>\n    <switch>\n      <video src=\"Streams\" systemBitrate=\"350000\">\n        <param name=\"trackID\" value=\"1\" valuetype=\"data\" />\n        <param name=\"FourCC\" value=\"H264\" valuetype=\"data\" />\n        <param name=\"CodecPrivateData\" value=\"000000016742\" valuetype=\"data\" />\n        <param name=\"MaxWidth\" value=\"";
+
+const ENCODED_MORE: &[u8] =
+    b"\" valuetype=\"data\" />\n        <param name=\"MaxHeight\" value=\"360\" valuetype=\"data\" />\n      </video>\n      <video src=\"Streams\" systemBitrate=\"700000\">\n        <param name=\"trackID\" value=\"2\" valuetype=\"data\" />\n        <param name=\"FourCC\" value=\"H264\" valuetype=\"data\" />\n        <param name=\"CodecPrivateData\" value=\"000000016742\" valuetype=\"data\" />\n        <param name=\"MaxWidth\" value=\"1280\" valuetype=\"data\" />\n        <param name=\"MaxHeight\" value=\"720\" valuetype=\"data\" />\n      </video>\n      <audio src=\"Streams\" systemBitrate=\"64000\">\n        <param name=\"trackID\" value=\"3\" valuetype=\"data\" />\n        <param name=\"FourCC\" value=\"AACL\" valuetype=\"data\" />\n        <param name=\"CodecPrivateData\" value=\"1210\" valuetype=\"data\" />\n        <param name=\"AudioTag\" value=\"255\" valuetype=\"data\" />\n        <param name=\"Channels\" value=\"2\" valuetype=\"data\" />\n        <param name=\"SamplingRate\" value=\"44100\" valuetype=\"data\" />\n        <param name=\"BitsPerSample\" value=\"16\" valuetype=\"data\" />\n        <param name=\"PacketSize\" value=\"4\" valuetype=\"data\" />\n      </audio>\n";
+
+const ENCODED_END: &[u8] = b"    </switch>\n  </body>\n</smil>\n";
+
+// A third quality of video, as an encoder writes it.
+const ENCODED_HIGH: &[u8] =
+    b"      <video src=\"Streams\" systemBitrate=\"1400000\">\n        <param name=\"trackID\" value=\"4\" valuetype=\"data\" />\n        <param name=\"FourCC\" value=\"H264\" valuetype=\"data\" />\n        <param name=\"CodecPrivateData\" value=\"000000016742\" valuetype=\"data\" />\n        <param name=\"MaxWidth\" value=\"1920\" valuetype=\"data\" />\n        <param name=\"MaxHeight\" value=\"1080\" valuetype=\"data\" />\n      </video>\n";
 
 const FTYP: &[u8] = b"\0\0\0\x14ftypisml\0\0\0\x01isml";
 
@@ -16,11 +25,42 @@ const MFHD: &[u8] = b"\0\0\0\x10mfhd\0\0\0\0\0\0\0\x01";
 // The user type of the box of a fragment's time and duration, and version and flags.
 const TFXD: &[u8] = b"\x6d\x1d\x9b\x05\x42\xd5\x44\xe6\x80\xe2\x14\x1d\xaf\xf7\x57\xb2\x01\0\0\0";
 
+// The same of the box of the fragments behind it.
+const TFRF: &[u8] = b"\xd4\x80\x7e\xf2\xca\x39\x46\x95\x8e\x54\x26\xcb\x9e\x46\xa7\x9f\x01\0\0\0";
+
+// How no sample is encrypted.
+const SENC: &[u8] = b"\0\0\0\x10senc\0\0\0\0\0\0\0\0";
+
 pub const MFRA: &[u8] = b"\0\0\0\x08mfra";
 
 // The manifest once one fragment of each track is kept.
 pub const M1: &[u8] =
     b"<?xml version=\"1.0\" encoding=\"utf-8\"?>\n<SmoothStreamingMedia MajorVersion=\"2\" MinorVersion=\"2\" TimeScale=\"10000000\" Duration=\"0\" IsLive=\"TRUE\" LookAheadFragmentCount=\"2\" DVRWindowLength=\"0\">\n<StreamIndex Type=\"video\" Name=\"video\" TimeScale=\"10000000\" Chunks=\"1\" QualityLevels=\"2\" Url=\"QualityLevels({bitrate})/Fragments(video={start time})\">\n<QualityLevel Index=\"0\" Bitrate=\"350000\" FourCC=\"H264\" CodecPrivateData=\"000000016742\" MaxWidth=\"640\" MaxHeight=\"360\"/>\n<QualityLevel Index=\"1\" Bitrate=\"700000\" FourCC=\"H264\" CodecPrivateData=\"000000016742\" MaxWidth=\"1280\" MaxHeight=\"720\"/>\n<c t=\"0\" d=\"20000000\"/>\n</StreamIndex>\n<StreamIndex Type=\"audio\" Name=\"audio\" TimeScale=\"10000000\" Chunks=\"1\" QualityLevels=\"1\" Url=\"QualityLevels({bitrate})/Fragments(audio={start time})\">\n<QualityLevel Index=\"0\" Bitrate=\"64000\" FourCC=\"AACL\" CodecPrivateData=\"1210\" AudioTag=\"255\" Channels=\"2\" SamplingRate=\"44100\" BitsPerSample=\"16\" PacketSize=\"4\"/>\n<c t=\"0\" d=\"20000000\"/>\n</StreamIndex>\n</SmoothStreamingMedia>\n";
+
+// A manifest in parts: up to the number of times of the video, up to the times, up to the number of times of the audio, up to these,
+// and its end.
+const LISTED: [&[u8]; 5] = [
+    b"<?xml version=\"1.0\" encoding=\"utf-8\"?>\n<SmoothStreamingMedia MajorVersion=\"2\" MinorVersion=\"2\" TimeScale=\"10000000\" Duration=\"0\" IsLive=\"TRUE\" LookAheadFragmentCount=\"2\" DVRWindowLength=\"0\">\n<StreamIndex Type=\"video\" Name=\"video\" TimeScale=\"10000000\" Chunks=\"",
+    b"\" QualityLevels=\"2\" Url=\"QualityLevels({bitrate})/Fragments(video={start time})\">\n<QualityLevel Index=\"0\" Bitrate=\"350000\" FourCC=\"H264\" CodecPrivateData=\"000000016742\" MaxWidth=\"640\" MaxHeight=\"360\"/>\n<QualityLevel Index=\"1\" Bitrate=\"700000\" FourCC=\"H264\" CodecPrivateData=\"000000016742\" MaxWidth=\"1280\" MaxHeight=\"720\"/>\n",
+    b"</StreamIndex>\n<StreamIndex Type=\"audio\" Name=\"audio\" TimeScale=\"10000000\" Chunks=\"",
+    b"\" QualityLevels=\"1\" Url=\"QualityLevels({bitrate})/Fragments(audio={start time})\">\n<QualityLevel Index=\"0\" Bitrate=\"64000\" FourCC=\"AACL\" CodecPrivateData=\"1210\" AudioTag=\"255\" Channels=\"2\" SamplingRate=\"44100\" BitsPerSample=\"16\" PacketSize=\"4\"/>\n",
+    b"</StreamIndex>\n</SmoothStreamingMedia>\n",
+];
+
+// The manifest with that many times of the video and of the audio, and with these runs.
+pub fn manifest<'x>(
+    alloc: Global,
+    video: (&'x [u8], &'x [u8]),
+    audio: (&'x [u8], &'x [u8]),
+) -> Result<Vec<u8>, Fail> {
+    let [start, middle, next, last, end] = LISTED;
+    joined(
+        alloc,
+        &[
+            start, video.0, middle, video.1, next, audio.0, last, audio.1, end,
+        ],
+    )
+}
 
 pub fn joined(alloc: Global, parts: &[&[u8]]) -> Result<Vec<u8>, Fail> {
     let mut out = Vec::new(alloc);
@@ -62,26 +102,81 @@ fn trex(alloc: Global, id: u32) -> Result<Vec<u8>, Fail> {
     )
 }
 
-// The header of three tracks: two qualities of video and one of audio.
-pub fn header(alloc: Global) -> Result<Vec<u8>, Fail> {
+// The box of the tracks 1 to 3, and 4 where it is asked for.
+fn moov(alloc: Global, high: bool) -> Result<Vec<u8>, Fail> {
     let mvhd = boxed(alloc, b"mvhd", &[&[0; 100]])?;
-    let traks = [
-        trak(alloc, 1, b"avc1")?,
-        trak(alloc, 2, b"avc1")?,
-        trak(alloc, 3, b"mp4a")?,
-    ];
-    let mvex = boxed(
+    let mut traks = joined(
         alloc,
-        b"mvex",
+        &[
+            &trak(alloc, 1, b"avc1")?,
+            &trak(alloc, 2, b"avc1")?,
+            &trak(alloc, 3, b"mp4a")?,
+        ],
+    )?;
+    let mut trexs = joined(
+        alloc,
         &[&trex(alloc, 1)?, &trex(alloc, 2)?, &trex(alloc, 3)?],
     )?;
-    let [one, two, three] = &traks;
-    let moov = boxed(alloc, b"moov", &[&mvhd, one, two, three, &mvex])?;
-    let manifest = boxed(alloc, b"uuid", &[MANIFEST, ENCODED])?;
-    joined(alloc, &[FTYP, &manifest, &moov])
+    if high {
+        traks.extend_from_slice(&trak(alloc, 4, b"avc1")?)?;
+        trexs.extend_from_slice(&trex(alloc, 4)?)?;
+    }
+    let mvex = boxed(alloc, b"mvex", &[&trexs])?;
+    boxed(alloc, b"moov", &[&mvhd, &traks, &mvex])
 }
 
-// A fragment of a track with one sample of one byte, as it is served under that sequence number.
+// The header of three tracks, two qualities of video and one of audio, where the first has that width; and with a third quality of
+// video where it is asked for.
+pub fn header_of(alloc: Global, width: &[u8], high: bool) -> Result<Vec<u8>, Fail> {
+    let third = if high { ENCODED_HIGH } else { b"" };
+    let manifest = boxed(
+        alloc,
+        b"uuid",
+        &[MANIFEST, ENCODED, width, ENCODED_MORE, third, ENCODED_END],
+    )?;
+    joined(alloc, &[FTYP, &manifest, &moov(alloc, high)?])
+}
+
+// The header of three tracks.
+pub fn header(alloc: Global) -> Result<Vec<u8>, Fail> {
+    header_of(alloc, b"640", false)
+}
+
+// A fragment of a track at that time and of that duration, with one sample of one byte of two seconds, under that sequence number, and
+// with these boxes behind that of its time.
+fn framed(
+    alloc: Global,
+    seq: u32,
+    id: u32,
+    times: (u64, u64),
+    byte: u8,
+    last: &[u8],
+) -> Result<Vec<u8>, Fail> {
+    let (time, duration) = times;
+    let mfhd = boxed(alloc, b"mfhd", &[&[0; 4], &seq.to_be_bytes()])?;
+    let tfhd = boxed(alloc, b"tfhd", &[&[0; 4], &id.to_be_bytes()])?;
+    let offset = u32::try_from(last.len())?.checked_add(136).ok_or("long")?;
+    let trun = boxed(
+        alloc,
+        b"trun",
+        &[
+            b"\0\0\x0f\x01\0\0\0\x01",
+            &offset.to_be_bytes(),
+            b"\x01\x31\x2d\0\0\0\0\x01\0\0\0\0\0\0\0\0",
+        ],
+    )?;
+    let tfxd = boxed(
+        alloc,
+        b"uuid",
+        &[TFXD, &time.to_be_bytes(), &duration.to_be_bytes()],
+    )?;
+    let traf = boxed(alloc, b"traf", &[&tfhd, &trun, &tfxd, last])?;
+    let moof = boxed(alloc, b"moof", &[&mfhd, &traf])?;
+    let mdat = boxed(alloc, b"mdat", &[&[byte]])?;
+    joined(alloc, &[&moof, &mdat])
+}
+
+// A fragment of a track with one sample of one byte, as it is served under that sequence number where none is known behind it.
 pub fn served(
     alloc: Global,
     seq: u32,
@@ -90,22 +185,31 @@ pub fn served(
     duration: u64,
     byte: u8,
 ) -> Result<Vec<u8>, Fail> {
-    let mfhd = boxed(alloc, b"mfhd", &[&[0; 4], &seq.to_be_bytes()])?;
-    let tfhd = boxed(alloc, b"tfhd", &[&[0; 4], &id.to_be_bytes()])?;
-    let trun = boxed(
-        alloc,
-        b"trun",
-        &[b"\0\0\x0f\x01\0\0\0\x01\0\0\0\x88\x01\x31\x2d\0\0\0\0\x01\0\0\0\0\0\0\0\0"],
-    )?;
-    let tfxd = boxed(
-        alloc,
-        b"uuid",
-        &[TFXD, &time.to_be_bytes(), &duration.to_be_bytes()],
-    )?;
-    let traf = boxed(alloc, b"traf", &[&tfhd, &trun, &tfxd])?;
-    let moof = boxed(alloc, b"moof", &[&mfhd, &traf])?;
-    let mdat = boxed(alloc, b"mdat", &[&[byte]])?;
-    joined(alloc, &[&moof, &mdat])
+    framed(alloc, seq, id, (time, duration), byte, b"")
+}
+
+// The same of the first track and of two seconds, where those behind it begin at these times and have two seconds each.
+pub fn served_before(
+    alloc: Global,
+    seq: u32,
+    time: u64,
+    byte: u8,
+    ahead: &[u64],
+) -> Result<Vec<u8>, Fail> {
+    let count = u8::try_from(ahead.len())?;
+    let two_seconds: u64 = 20_000_000;
+    let mut entries = joined(alloc, &[TFRF, &[count]])?;
+    for next in ahead {
+        entries.extend_from_slice(&next.to_be_bytes())?;
+        entries.extend_from_slice(&two_seconds.to_be_bytes())?;
+    }
+    let tfrf = boxed(alloc, b"uuid", &[&entries])?;
+    framed(alloc, seq, 1, (time, two_seconds), byte, &tfrf)
+}
+
+// A fragment of the first track that says how its samples are encrypted.
+pub fn sealed(alloc: Global) -> Result<Vec<u8>, Fail> {
+    framed(alloc, 1, 1, (0, 20_000_000), 0x41, SENC)
 }
 
 // As it is pushed.

@@ -1,5 +1,5 @@
 use Rattle.std.proofs.Common.{refl}
-use Rattle.sm_serve.proofs.tests.play.play.Goals as goal
+use Rattle.sm_serve.proofs.tests.play.play_on.Goals as goal
 
 pub serve-served-requires-clause-known : goal.serve-served-requires-clause-known
 serve-served-requires-clause-known c some =
