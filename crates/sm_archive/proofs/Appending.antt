@@ -124,7 +124,8 @@ module _ (a : Archive) (p : Pending) (body : List ℕ) (log : List Entry) (e : E
       } in
       (unused v a.doubt stay, inl (subst (λ (d : Option Doubt). Stands (archive a v a.used a.index d) log None now) (sym u.0) made))
 
-  pub doubted : (acted : Type 0) → acted → (v : Segments) (bytes : ℕ) (now : Image → Type 0) → bytes ≡ 5 + length body → seg.Stays a.log v → ((bodies : List (List ℕ)) → seg.Stands a.log bodies None old → seg.Stands v bodies (Some body) now)
+  pub doubted : (acted : Type 0) → acted → (v : Segments) (bytes : ℕ) (now : Image → Type 0) → bytes ≡ 5 + length body → seg.Stays a.log v
+      → ((bodies : List (List ℕ)) → seg.Stands a.log bodies None old → seg.Stands v bodies (Some body) now)
       → IsUnused a (archive a v a.used a.index (Some (record { entry = p; bytes = bytes }))) × (Stands (archive a v a.used a.index (Some (record { entry = p; bytes = bytes }))) log None now
       ⊎ (acted × Stands (archive a v a.used a.index (Some (record { entry = p; bytes = bytes }))) log (Some e) now))
   doubted acted did v bytes now bytes_is stay so =

@@ -63,7 +63,8 @@ within_now a b h channel is within limits used ends = record {
 pub index_knows : (a : Archive) (i : Index) (log : List Entry) (outcomes : Image → Type 0) → Stands a log None outcomes → a.index ≡ Some i → channel_of log ≡ Some i.catalog.channel
 index_knows a i log outcomes s is = let x : IsIndex i log = subst (λ (o : Option Index). IndexIs o log) is s.keeps.index in ap (λ (l : List Entry). channel_of l) x.log_is
 
-pub compared : (acted : Type 0) (a : Archive) (i : Index) (log : List Entry) (outcomes : Image → Type 0) (channel : List Track) → Stands a log None outcomes → a.index ≡ Some i → (d : Declared) → Compares i.catalog.channel channel d
+pub compared : (acted : Type 0) (a : Archive) (i : Index) (log : List Entry) (outcomes : Image → Type 0) (channel : List Track) → Stands a log None outcomes → a.index ≡ Some i → (d : Declared)
+    → Compares i.catalog.channel channel d
     → DeclaredNew acted outcomes a log channel d
 compared acted a i log outcomes channel s is answer.Agreed h = (i.catalog.channel, index_knows a i log outcomes s is, h, s)
 compared acted a i log outcomes channel s is (answer.Refused k) h = (i.catalog.channel, index_knows a i log outcomes s is, h, s)
@@ -110,7 +111,8 @@ settled_some i log doubt mid is (inl same) = λ e. let x = sym is.log_is ∙ sym
 settled_some i log doubt mid is (inr more) = λ e. let x = ap (λ (l : List Entry). l ++ more.0 ∷ []) (sym is.log_is) ∙ sym more.2 ∙ e in cc
 
 pub still_ready : (a b c : Archive) (outcomes : Image → Type 0) (channel : List Track) (log : List Entry) (doubt : Option Entry) (mid : List Entry) (h : Option Header) → Stands a log doubt outcomes → Settles log doubt mid
-    → (h ≡ None → (i : Index) × (a.index ≡ Some i)) → ((own : Header) → h ≡ Some own → IsHeader own channel b.log × (2 ≤ b.log.last.spare)) → b.log.last.spare ≤ c.log.last.spare + 1 → (room_of b.log) ≤ (room_of c.log)
+    → (h ≡ None → (i : Index) × (a.index ≡ Some i)) → ((own : Header) → h ≡ Some own → IsHeader own channel b.log × (2 ≤ b.log.last.spare)) → b.log.last.spare ≤ c.log.last.spare + 1
+    → (room_of b.log) ≤ (room_of c.log)
     → ReadyHeader h channel c.log mid
 still_ready a b c outcomes channel log doubt mid None s settles unneeded ready spare room =
     let i = unneeded refl in
@@ -119,7 +121,8 @@ still_ready a b c outcomes channel log doubt mid (Some own) s settles unneeded r
     let h = ready own refl in
     record { index = h.0.index; body = h.0.body; len = h.0.len; short = h.0.short; room = omega (arith, h.0.room); spare = omega (arith, h.1) }
 
-pub grown : (log : List Entry) (doubt : Option Entry) (mid : List Entry) (channel : List Track) (c : Image) → Settles log doubt mid → (after : List Entry) × IsStore after c × ((after ≡ mid) ⊎ (after ≡ mid ++ Declare channel ∷ []))
+pub grown : (log : List Entry) (doubt : Option Entry) (mid : List Entry) (channel : List Track) (c : Image) → Settles log doubt mid → (after : List Entry) × IsStore after c
+    × ((after ≡ mid) ⊎ (after ≡ mid ++ Declare channel ∷ []))
     → (after : List Entry) × IsStore after c × Grows log doubt (Declare channel) after
 grown log doubt mid channel c settles h =
     elim h.2 [

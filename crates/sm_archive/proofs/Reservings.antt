@@ -97,7 +97,8 @@ header_valid i log e is fits = (subst (λ (x : Entry). FitsBehind log x) (head_i
 pub index_channel : (a : Archive) (log : List Entry) (doubt : Option Entry) (outcomes : Image → Type 0) → Stands a log doubt outcomes → (i : Index) → a.index ≡ Some i → IsChannel i.catalog.channel
 index_channel a log doubt outcomes s i is = channel_valid i log (subst (λ (x : Option Index). IndexIs x log) is s.keeps.index) s.keeps.sound
 
-pub pending_channel : (a : Archive) (log : List Entry) (doubt : Option Entry) (outcomes : Image → Type 0) → Stands a log doubt outcomes → (i : Index) (bytes : ℕ) → a.doubt ≡ Some (record { entry = pending.Declare i; bytes = bytes })
+pub pending_channel : (a : Archive) (log : List Entry) (doubt : Option Entry) (outcomes : Image → Type 0) → Stands a log doubt outcomes → (i : Index) (bytes : ℕ)
+    → a.doubt ≡ Some (record { entry = pending.Declare i; bytes = bytes })
     → IsChannel i.catalog.channel
 pending_channel a log doubt outcomes s i bytes is =
     let d = doubted_some a.index a.log log a.doubt s.body doubt (record { entry = pending.Declare i; bytes = bytes }) is s.keeps.doubted in

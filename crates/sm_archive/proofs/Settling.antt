@@ -52,7 +52,8 @@ entry_can_be_taken a x log doubt outcomes is s =
     let d = in_doubt a x log doubt outcomes is s in
     can_take a.index x.entry log d.entry s.keeps.index d.is.fits d.is.pends
 
-used_push : (used bytes n : ℕ) (bodies : List (List ℕ)) (body : List ℕ) → used ≡ min (used_by bodies) (2 ^ 64 - 1) → bytes ≡ 5 + length body → n ≡ min (used + bytes) (2 ^ 64 - 1) → n ≡ min (used_by (bodies ++ body ∷ [])) (2 ^ 64 - 1)
+used_push : (used bytes n : ℕ) (bodies : List (List ℕ)) (body : List ℕ) → used ≡ min (used_by bodies) (2 ^ 64 - 1) → bytes ≡ 5 + length body → n ≡ min (used + bytes) (2 ^ 64 - 1)
+    → n ≡ min (used_by (bodies ++ body ∷ [])) (2 ^ 64 - 1)
 used_push used bytes n bodies body is b_is n_is = let p = sum_by_push (λ (b : List ℕ). 5 + length b) bodies body in omega (arith, is, b_is, n_is, p)
 
 some_entry : (o : Option Entry) (e : Entry) → o ≡ Some e → IsSome o

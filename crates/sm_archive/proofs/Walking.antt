@@ -76,7 +76,8 @@ module _ (t : Type 0) (v : Segments) (old : Image → Type 0) (index : Option In
       r.same some bodies s ∙ take_all place bodies (omega (arith, end, s.count, small))
 
   -- what was read is what the archive stands for
-  pub stands_read : (limits : Limits) (now : Image → Type 0) → limits.store_bytes ≤ 2 ^ 62 → limits.entries < 2 ^ 32 → place ≡ count_of v → (bodies : List (List ℕ)) × seg.Stands v bodies None old → ((c : Image) → now c → t × old c)
+  pub stands_read : (limits : Limits) (now : Image → Type 0) → limits.store_bytes ≤ 2 ^ 62 → limits.entries < 2 ^ 32 → place ≡ count_of v → (bodies : List (List ℕ)) × seg.Stands v bodies None old
+      → ((c : Image) → now c → t × old c)
       → Stands (record { log = v; limits = limits; used = used; index = index; doubt = None }) r.log None now
   stands_read limits now low few end h from = record {
     bodies = r.seen;

@@ -12,7 +12,8 @@ use Rattle.sm_catalog.specs.Content.{Content}
 -- the track and span of the fragment at the place, and nothing where none stands
 abbrev pub ShowsMeta : Option Meta → List Entry → ℕ → Type 0
 ShowsMeta None log place = (f : Fragment) → slice_get log place ≡ Some (Keep f) → ⊥
-ShowsMeta (Some m) log place = (channel : List Track) × (f : Fragment) × (channel_of log ≡ Some channel) × (slice_get log place ≡ Some (Keep f)) × IsMetaOf channel f m
+ShowsMeta (Some m) log place = (channel : List Track) × (f : Fragment) × (channel_of log ≡ Some channel) × (slice_get log place ≡ Some (Keep f))
+    × IsMetaOf channel f m
 
 -- the catalog is of the log's channel and of what it keeps
 abbrev pub ShowsCatalog : Option Content → List Entry → Type 0

@@ -99,7 +99,8 @@ fn admit_entry(
     place: u64,
 ) -> Result<(), RecordFault>
     requires is { IsBody (Some index.old.catalog.channel) entry body.now }
-    ensures fits { OnOk result ((log : List Entry) → IsIndex index.old log → place ≡ length log → FitsBehind log entry × IsIndex index.new (log ++ entry ∷ [])) }
+    ensures fits { OnOk result ((log : List Entry) → IsIndex index.old log → place ≡ length log → FitsBehind log entry
+        × IsIndex index.new (log ++ entry ∷ [])) }
     ensures damaged { IsErrOf result Damaged → (log : List Entry) → IsIndex index.old log → FitsBehind log entry → ⊥ }
 {
     match entry {

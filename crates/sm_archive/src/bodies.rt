@@ -61,7 +61,8 @@ pub(crate) fn settle<D: Disk>(log: &mut SegLog, disk: &mut D) -> Settled
         × ((bodies : List (List ℕ)) (body : List ℕ) → Stands log.old bodies (Some body) (D.may_leave disk.old)
         → Stands log.new (bodies ++ body ∷ []) None (D.may_leave disk.new)) }
     ensures gone { result ≡ settled.Gone
-        → (bodies : List (List ℕ)) (body : List ℕ) → Stands log.old bodies (Some body) (D.may_leave disk.old) → Stands log.new bodies None (D.may_leave disk.new) }
+        → (bodies : List (List ℕ)) (body : List ℕ) → Stands log.old bodies (Some body) (D.may_leave disk.old)
+        → Stands log.new bodies None (D.may_leave disk.new) }
     ensures failed { result ≡ settled.DiskFault → (log.new ≡ log.old) × Rose (D.view disk.old).disk_faults (D.view disk.new).disk_faults }
     ensures acts { SettleActs result (D.view disk.old) (D.view disk.new) }
     ensures reserved { (log.old.last.spare ≤ log.new.last.spare + 1) × (room_of log.old ≤ room_of log.new) }

@@ -72,7 +72,8 @@ fn kept_at(
     address: &Address,
 ) -> Result<Fragment, RecordFault>
     ensures kept { IfOk result (λ f. IsBody (Some channel.now) (Keep f) body.now × (address_of f ≡ address.now) × IsValid f) }
-    ensures damaged { result ≡ Err record_fault.Damaged → (f : Fragment) → IsBody (Some channel.now) (Keep f) body.now → address_of f ≡ address.now → IsValid f → ⊥ }
+    ensures damaged { result ≡ Err record_fault.Damaged → (f : Fragment) → IsBody (Some channel.now) (Keep f) body.now → address_of f ≡ address.now
+        → IsValid f → ⊥ }
 {
     a_body_has_one_entry();
     match read_entry(alloc, body, Some(channel)) {
@@ -94,7 +95,8 @@ impl Archive {
         requires stands { (log : List Entry) × (doubt : Option Entry) × Stands self.now log doubt (D.may_leave disk.old) }
         requires index { self.now.index ≡ Some index.now }
         requires place { place_of address.now index.now.catalog.adds ≡ Some place }
-        ensures found { (at : ℕ) (f : Fragment) → result ≡ Found at f → (at ≡ place) × (address_of f ≡ address.now) × ((log : List Entry) (doubt : Option Entry)
+        ensures found { (at : ℕ) (f : Fragment) → result ≡ Found at f → (at ≡ place) × (address_of f ≡ address.now)
+            × ((log : List Entry) (doubt : Option Entry)
             → Stands self.now log doubt (D.may_leave disk.old) → IsSome (D.view disk.old).contents → slice_get log place ≡ Some (Keep f)) }
         ensures valid { (at : ℕ) (f : Fragment) → result ≡ Found at f → IsValid f }
         ensures present { result ≡ Absent → ⊥ }

@@ -137,7 +137,8 @@ impl Archive {
         requires short { length ready.now.body < 2 ^ 28 }
         ensures full { (log : List Entry) (f : Fragment) → IndexIs self.now.index log → (count_of self.now.log) ≡ length log → ready.now.address ≡ address_of f
             → length ready.now.body ≡ body_len (Keep f) → result ≡ true → MeetsLimit self.now log f }
-        ensures within { (log : List Entry) (f : Fragment) → IndexIs self.now.index log → (count_of self.now.log) ≡ length log → ready.now.address ≡ address_of f
+        ensures within { (log : List Entry) (f : Fragment) → IndexIs self.now.index log → (count_of self.now.log) ≡ length log
+            → ready.now.address ≡ address_of f
             → length ready.now.body ≡ body_len (Keep f) → result ≡ false → IsWithin self.now log f }
     {
         let bytes = 5 + ready.body.len();
@@ -164,7 +165,8 @@ impl Archive {
         requires can { (log : List Entry) × (f : Fragment) × Stands self.old log None (D.may_leave disk.old) × IsPrepared 1 self.old ready f × IsValid f
             × (verdict_on log f ≡ New) × IsWithin self.old log f }
         ensures step { (log : List Entry) (f : Fragment) → Stands self.old log None (D.may_leave disk.old) → IsPrepared 1 self.old ready f → IsValid f
-            → verdict_on log f ≡ New → IsWithin self.old log f → KeptNew (Acted (D.view disk.old) (D.view disk.new)) (D.may_leave disk.new) self.new log f result }
+            → verdict_on log f ≡ New → IsWithin self.old log f
+            → KeptNew (Acted (D.view disk.old) (D.view disk.new)) (D.may_leave disk.new) self.new log f result }
         ensures any_moment { (log : List Entry) (f : Fragment) → Stands self.old log None (D.may_leave disk.old) → IsPrepared 1 self.old ready f → IsValid f
             → verdict_on log f ≡ New → IsWithin self.old log f
             → IsSome (D.view disk.old).contents → Throughout D.view D.left_at disk.old disk.new (λ t c. (after : List Entry) × IsStore after c × ((after ≡ log)

@@ -48,7 +48,8 @@ fn walk<D: Disk>(
     ensures read { IfOk result (λ r. IsRead (IsSome (D.view disk.old).contents) log.now (D.may_leave disk.old) r.0 r.1 (count_of log.now)) }
     ensures refused { (at : ℕ) → IsErrOf result (open_fault.NotAStore at) → (bodies : List (List ℕ)) → seg.Stands log.now bodies None (D.may_leave disk.old)
         → IsSome (D.view disk.old).contents
-        → (place : ℕ) × (slot : Slot) × (slice_get (slots_of log.now.full ++ log.now.last.slots) place ≡ Some slot) × (at ≡ slot.gate) × FailsAt bodies place }
+        → (place : ℕ) × (slot : Slot) × (slice_get (slots_of log.now.full ++ log.now.last.slots) place ≡ Some slot) × (at ≡ slot.gate)
+        × FailsAt bodies place }
     ensures some { (at : ℕ) → IsErrOf result (open_fault.NotAStore at) → 1 ≤ count_of log.now }
     ensures contents { (D.view disk.new).contents ≡ (D.view disk.old).contents }
     ensures no_more { (c : Image) → D.may_leave disk.new c → D.may_leave disk.old c }

@@ -63,7 +63,8 @@ impl Cache {
     /// Puts a fragment in front of all others, in place of the one at its address or, where the cache is full, of the one
     /// that was used the longest time ago. Without memory the fragment is dropped and the cache stays as it is.
     pub fn put(&mut self, alloc: Global, place: u64, fragment: Fragment) -> Result<(), NoMemory>
-        ensures pairs { OnOk result (self.new ≡ lru_cache (put_entries is_one_address self.old (address_of fragment) (record { place = place; fragment = fragment })) self.old.cap) }
+        ensures pairs { OnOk result (self.new ≡ lru_cache
+            (put_entries is_one_address self.old (address_of fragment) (record { place = place; fragment = fragment })) self.old.cap) }
         ensures same { OnErr result (self.new ≡ self.old) }
     {
         let address = Address::of(alloc, &fragment)?;

@@ -187,7 +187,8 @@ other_address s r t (u ∷ us) (suc k) time h e = by_or (is_the s r u) e (λ k'.
     by_or true e rest = absurd cc
     by_or false e rest = rest e
 
-no_place_in : (x : Address) (channel : List Track) (added : List Added) → AllByRecursion (λ (a : Added). a.track < length channel) added → list_any (is_the x.stream x.bitrate) channel ≡ false → place_of x (adds_in channel added) ≡ None
+no_place_in : (x : Address) (channel : List Track) (added : List Added) → AllByRecursion (λ (a : Added). a.track < length channel) added → list_any (is_the x.stream x.bitrate) channel ≡ false
+    → place_of x (adds_in channel added) ≡ None
 no_place_in x channel [] all e = refl
 no_place_in x channel (a ∷ added) all e =
     let other = other_address x.stream x.bitrate x.time channel a.track a.time all.0 e in
@@ -232,14 +233,16 @@ found_lane s channel added kept lanes reserved capacity j l whole at is =
 pub undeclared : (channel : List Track) (adds : List Add) (x : Address) (d : ℕ) → is_some (track_at x.stream x.bitrate channel) ≡ false → judged.NotDeclared ≡ verdict channel adds x d
 undeclared channel adds x d e = rw e refl
 
-pub verdict_is : (channel : List Track) (adds : List Add) (x : Address) (d : ℕ) (ts : List (ℕ × ℕ)) (is : Decision) → is_some (track_at x.stream x.bitrate channel) ≡ true → ts ≡ times_of x.stream adds → is ≡ decision ts x.time d
+pub verdict_is : (channel : List Track) (adds : List Add) (x : Address) (d : ℕ) (ts : List (ℕ × ℕ)) (is : Decision) → is_some (track_at x.stream x.bitrate channel) ≡ true → ts ≡ times_of x.stream adds
+    → is ≡ decision ts x.time d
     → judged_by (place_of x adds) is ≡ verdict channel adds x d
 verdict_is channel adds x d ts is declared times e =
     rw declared (ap (judged_by (place_of x adds)) e ∙ ap (λ (l : List (ℕ × ℕ)). judged_by (place_of x adds) (decision l x.time d)) times)
 
 -- ---- the track of an address
 
-track_first : (s : List ℕ) (r : ℕ) (ts : List Track) (k : ℕ) (d : Track) → k < length ts → is_the s r (get_or ts k d) ≡ true → ((i : ℕ) → i < k → is_the s r (get_or ts i d) ≡ false) → track_at s r ts ≡ Some (get_or ts k d)
+track_first : (s : List ℕ) (r : ℕ) (ts : List Track) (k : ℕ) (d : Track) → k < length ts → is_the s r (get_or ts k d) ≡ true → ((i : ℕ) → i < k → is_the s r (get_or ts i d) ≡ false)
+    → track_at s r ts ≡ Some (get_or ts k d)
 track_first s r [] k d h is before = absurd (omega arith)
 track_first s r (t ∷ ts) zero d h is before = rw is refl
 track_first s r (t ∷ ts) (suc k) d h is before =
@@ -273,7 +276,8 @@ some_any : {X : Type 0} (p : X → Bool) (xs : List X) (k : ℕ) → position p 
 some_any p [] k e = absurd cc
 some_any p (x ∷ xs) k e = let h = position-Some p (x ∷ xs) k x e in any_at p (x ∷ xs) k x h.0 h.1
 
-pub name_there : (ls : List Lane) (t : Track) (ts : List Track) (k : ℕ) → position (λ (l : Lane). is_same l.name t.name) ls ≡ Some k → names_from (map (λ (l : Lane). l.name) ls) (t ∷ ts) ≡ names_from (map (λ (l : Lane). l.name) ls) ts
+pub name_there : (ls : List Lane) (t : Track) (ts : List Track) (k : ℕ) → position (λ (l : Lane). is_same l.name t.name) ls ≡ Some k
+    → names_from (map (λ (l : Lane). l.name) ls) (t ∷ ts) ≡ names_from (map (λ (l : Lane). l.name) ls) ts
 name_there ls t ts k e = rw (any_map t.name ls ∙ some_any (λ (l : Lane). is_same l.name t.name) ls k e) refl
 
 pub name_new : (ls : List Lane) (t : Track) (ts : List Track) → position (λ (l : Lane). is_same l.name t.name) ls ≡ None

@@ -9,7 +9,8 @@ use Rattle.sm_catalog.specs.Kept.{is_track, places_from}
 use Rattle.sm_log.proofs.Entries.{or_place}
 use Rattle.sm_log.proofs.Entries.{or_place, entry_with}
 
-pub places_snoc : (s : List ℕ) (r : ℕ) (ps : List (ℕ × ℕ)) (adds : List Add) (a : Add) → places_from s r ps (adds ++ a ∷ []) ≡ cond (is_track s r a) (with_entry a.address.time a.place (places_from s r ps adds)) (places_from s r ps adds)
+pub places_snoc : (s : List ℕ) (r : ℕ) (ps : List (ℕ × ℕ)) (adds : List Add) (a : Add)
+    → places_from s r ps (adds ++ a ∷ []) ≡ cond (is_track s r a) (with_entry a.address.time a.place (places_from s r ps adds)) (places_from s r ps adds)
 places_snoc s r ps [] a = refl
 places_snoc s r ps (b ∷ adds) a = places_snoc s r (cond (is_track s r b) (with_entry b.address.time b.place ps) ps) adds a
 

@@ -81,7 +81,8 @@ option_cases (Some x) = inr (x, refl)
 
 module _ (part_own : (status other : ℕ) (kind : Content) (body : List ℕ) (close : Bool) (part more : List ℕ) → IsCode status → IsCode other
     → part ++ more ≡ reply_text status kind body close → shows_status other part ≡ true → other ≡ status)
-    (part_body : (status : ℕ) (kind : Content) (body : List ℕ) (close : Bool) (part more : List ℕ) → IsCode status → part ++ more ≡ reply_text status kind body close → (rest : List ℕ) × (body_of part ++ rest ≡ body)) where
+    (part_body : (status : ℕ) (kind : Content) (body : List ℕ) (close : Bool) (part more : List ℕ) → IsCode status → part ++ more ≡ reply_text status kind body close → (rest : List ℕ)
+    × (body_of part ++ rest ≡ body)) where
   -- a part of a refusal doesn't say that all is well
   none_well : (why : Cause) (r : Reply) (part more : List ℕ) → r ≡ unplaced why → part ++ more ≡ r.bytes → shows_status 200 part ≡ true → ⊥
   none_well why r part more is whole well =
@@ -96,7 +97,8 @@ module _ (part_own : (status other : ℕ) (kind : Content) (body : List ℕ) (cl
 
   module _ (lists_kept : (log : List Entry) (channel : List Track) (part more : List ℕ) (a : Address) → IsSound log → channel_of log ≡ Some channel
       → All IsWritable channel → part ++ more ≡ manifest_of channel log → ListsIn part a → IsSome (kept_at log a)) where
-    manifest_lists : (log : List Entry) (r : Reply) (part more : List ℕ) (a : Address) → IsReal log → Answer log Manifest r → part ++ more ≡ r.bytes → shows_status 200 part ≡ true → ListsIn (body_of part) a → IsSome (kept_at log a)
+    manifest_lists : (log : List Entry) (r : Reply) (part more : List ℕ) (a : Address) → IsReal log → Answer log Manifest r → part ++ more ≡ r.bytes → shows_status 200 part ≡ true → ListsIn (body_of part) a
+        → IsSome (kept_at log a)
     manifest_lists log r part more a real (fails why is) whole well listed = absurd (none_well why r part more is whole well)
     manifest_lists log r part more a real (gives is) whole well listed =
         elim (option_cases (channel_of log)) [
@@ -166,7 +168,8 @@ module _ (part_own : (status other : ℕ) (kind : Content) (body : List ℕ) (cl
           ]
         ]
 
-    pub fragment_shows : (broken : Type 0) (m n : Machine) (a : Address) (r : Reply) → IsReal m.log → Step broken m (Ask a) n r → r.status ≢ 500 → (part more : List ℕ) → part ++ more ≡ r.bytes → shows_status 200 part ≡ true
+    pub fragment_shows : (broken : Type 0) (m n : Machine) (a : Address) (r : Reply) → IsReal m.log → Step broken m (Ask a) n r → r.status ≢ 500 → (part more : List ℕ) → part ++ more ≡ r.bytes
+        → shows_status 200 part ≡ true
         → (claim : Claim) → Shows (Asked (targets.Fragment a)) part claim → Holds m.log claim
     fragment_shows broken m n a r real step other part more whole well claim (lists b asks inside is) = absurd (cc)
     fragment_shows broken m n a r real step other part more whole well claim (names b time asks inside is) =

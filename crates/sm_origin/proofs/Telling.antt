@@ -272,7 +272,8 @@ step_written broken m n act r step some other =
       | inr (e, writes) ↦ closing_written r (step_closing broken m n act r e step writes) some other
     ]
 
-pub says_own : ((status other : ℕ) (kind : Content) (body : List ℕ) (close : Bool) (part more : List ℕ) → IsCode status → IsCode other → part ++ more ≡ reply_text status kind body close → shows_status other part ≡ true → other ≡ status)
+pub says_own : ((status other : ℕ) (kind : Content) (body : List ℕ) (close : Bool) (part more : List ℕ) → IsCode status → IsCode other → part ++ more ≡ reply_text status kind body close → shows_status other part ≡ true
+    → other ≡ status)
     → (broken : Type 0) (m n : Machine) (act : Act) (r : Reply) → Step broken m act n r → r.status ≢ 0 → r.status ≢ 500 → (part more : List ℕ) → part ++ more ≡ r.bytes
     → (other : ℕ) → IsCode other → shows_status other part ≡ true → other ≡ r.status
 says_own law broken m n act r step some differs part more whole other code shown =

@@ -95,9 +95,11 @@ pub data Writes (failed : Type 0) (m : Machine) (e : Entry) (n : Machine) (r : R
   refused : (why : Cause) → judged m.log e ≡ Not why → SameLog m n → r ≡ unplaced why → Writes failed m e n r
   there : (counted : Counted) → judged m.log e ≡ There counted → SameLog m n → r ≡ silent counted → Writes failed m e n r
   full : (counted : Counted) → judged m.log e ≡ Fresh counted → MeetsLimit n.archive m.log e → SameLog m n → r ≡ unplaced cause.Full → Writes failed m e n r
-  kept : (counted : Counted) → judged m.log e ≡ Fresh counted → IsWithinNow n.archive m.log e → n.log ≡ m.log ++ e ∷ [] → n.doubt ≡ None → r ≡ silent counted
+  kept : (counted : Counted) → judged m.log e ≡ Fresh counted → IsWithinNow n.archive m.log e → n.log ≡ m.log ++ e ∷ [] → n.doubt ≡ None
+      → r ≡ silent counted
       → Writes failed m e n r
-  unwritten : (counted : Counted) → judged m.log e ≡ Fresh counted → IsWithin n.archive m.log e → n.log ≡ m.log → (n.doubt ≡ None) ⊎ (n.doubt ≡ Some e) → failed
+  unwritten : (counted : Counted) → judged m.log e ≡ Fresh counted → IsWithin n.archive m.log e → n.log ≡ m.log
+      → (n.doubt ≡ None) ⊎ (n.doubt ≡ Some e) → failed
       → r ≡ unplaced cause.DiskFault → Writes failed m e n r
 
 -- the doubt is settled: its entry is there, or it isn't
@@ -114,7 +116,8 @@ Clear m n = ((m.doubt ≡ None) × SameLog m n) ⊎ Settled m n
 -- What may happen, where memory is there. `failed` says that the disk failed in this act.
 pub data Row (failed : Type 0) (m : Machine) (act : Act) (n : Machine) (r : Reply) : Type 0 where
   answered : entry_of act ≡ None → SameLog m n → r ≡ reply_of m.log act → Row failed m act n r
-  unread : (a : Address) (place : ℕ) (f : Fragment) → act ≡ Ask a → kept_at m.log a ≡ Some (place, f) → SameLog m n → failed → r ≡ unplaced cause.DiskFault
+  unread : (a : Address) (place : ℕ) (f : Fragment) → act ≡ Ask a → kept_at m.log a ≡ Some (place, f) → SameLog m n → failed
+      → r ≡ unplaced cause.DiskFault
       → Row failed m act n r
   unsettled : (e d : Entry) → entry_of act ≡ Some e → m.doubt ≡ Some d → SameLog m n → failed → r ≡ unplaced cause.DiskFault → Row failed m act n r
   wrote : (e : Entry) (mid : Machine) → entry_of act ≡ Some e → Clear m mid → Writes failed mid e n r → Row failed m act n r

@@ -65,7 +65,8 @@ pub data Request : Type 0 where
 -- what the part of a reply that went out shows to its request, where the reply says that all is well
 pub data Shows (request : Request) (part : List ℕ) (claim : Claim) : Type 0 where
   lists : (a : Address) → request ≡ Asked targets.Manifest → ListsIn (body_of part) a → claim ≡ Listed a → Shows request part claim
-  names : (a : Address) (time : ℕ) → request ≡ Asked (targets.Fragment a) → NamesIn (body_of part) time → claim ≡ Ahead a.stream time → Shows request part claim
+  names : (a : Address) (time : ℕ) → request ≡ Asked (targets.Fragment a) → NamesIn (body_of part) time → claim ≡ Ahead a.stream time
+      → Shows request part claim
   serves : (a : Address) (samples : List Sample) (duration : ℕ) → request ≡ Asked (targets.Fragment a) → ServesIn (body_of part) samples duration
       → claim ≡ Served a samples duration → Shows request part claim
   acknowledges : (fs : List Fragment) (place : ℕ) (f : Fragment) → request ≡ Pushed fs → slice_get fs place ≡ Some f → claim ≡ Acknowledged (address_of f)

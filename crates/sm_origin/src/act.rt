@@ -27,7 +27,8 @@ impl Origin {
         requires stands { (m : Machine) × StandsFor (IsSome (S.Disk.view site.old).contents) m self.old (S.Disk.may_leave site.old) }
         // It stands for some machine again, whichever it stood for.
         ensures stands { (m : Machine) × StandsFor (IsSome (S.Disk.view site.new).contents) m self.new (S.Disk.may_leave site.new) }
-        ensures step { IsSome (S.Disk.view site.old).contents → (m : Machine) → StandsFor (IsSome (S.Disk.view site.old).contents) m self.old (S.Disk.may_leave site.old)
+        ensures step { IsSome (S.Disk.view site.old).contents → (m : Machine)
+            → StandsFor (IsSome (S.Disk.view site.old).contents) m self.old (S.Disk.may_leave site.old)
             → ActGives S.Disk.view S.Disk.may_leave S.Disk.left_at site.old site.new m self.new act.now result }
         // A fragment in the cache is given without a read of the disk.
         ensures unread { (a : Address) (kept : Kept) → act.now ≡ Ask a → held_at a self.old.cache ≡ Some kept

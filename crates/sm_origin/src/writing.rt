@@ -5,6 +5,8 @@ ghost use Rattle.sm_model.specs.declared.act.Act.TheVariants.{Header, Frag};
 ghost use Rattle.sm_model.specs.Channels.{IsChannel};
 ghost use Rattle.sm_model.specs.Fragments.{IsValid};
 ghost use Rattle.sm_site.specs.Meanings.{SameLink};
+ghost use Rattle.sm_site.specs.Clauses.{Rose};
+ghost use Rattle.sm_archive.specs.declared.answers.Declared.TheVariants as answer;
 ghost use Rattle.sm_origin.specs.Answers.{reply_to_header};
 ghost use Rattle.sm_origin.specs.Machine.{Machine};
 ghost use Rattle.sm_origin.specs.Acting.{StandsFor, ActGives};
@@ -72,9 +74,11 @@ impl Origin {
         // It is one step, whose reply is the answer's.
         // It stands for some machine again, whichever it stood for.
         ensures stands { (m : Machine) × StandsFor (IsSome (S.Disk.view site.new).contents) m self.new (S.Disk.may_leave site.new) }
-        ensures step { IsSome (S.Disk.view site.old).contents → (m : Machine) → StandsFor (IsSome (S.Disk.view site.old).contents) m self.old (S.Disk.may_leave site.old)
+        ensures step { IsSome (S.Disk.view site.old).contents → (m : Machine)
+            → StandsFor (IsSome (S.Disk.view site.old).contents) m self.old (S.Disk.may_leave site.old)
             → ActGives S.Disk.view S.Disk.may_leave S.Disk.left_at site.old site.new m self.new (Header channel.now) (reply_to_header result) }
         ensures cache { self.new.cache ≡ self.old.cache }
+        ensures fault { result ≡ answer.DiskFault → Rose (S.Disk.view site.old).disk_faults (S.Disk.view site.new).disk_faults }
         ensures told { is_some (S.Disk.view site.new).contents ≡ is_some (S.Disk.view site.old).contents }
         ensures no_fewer { (S.Disk.view site.old).disk_faults ≤ (S.Disk.view site.new).disk_faults }
         ensures link { SameLink (S.Disk.view site.old) (S.Disk.view site.new) }

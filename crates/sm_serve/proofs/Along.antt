@@ -60,7 +60,8 @@ module _ (longer : (log more : List Entry) (claim : Claim) → HeldIn log claim 
       elsewhere : Stays p xs q ⊎ StepsOn p xs q → IsQuiet n items es → IsAway n p.phase → IsAway n q.phase → Stood first (items ++ es) (ss ++ xs) q n
       elsewhere kind quiet was now = elsewhere_stood longer first items es ss xs p q n s (steps_grow first begin items ss p run xs q kind) (on xs q kind) quiet.0 quiet.1 quiet.2 was now
 
-      entry_elsewhere : (m : ℕ) (deal : Deal) (r : Point) → es ≡ at m deal → xs ≡ [] → q ≡ r → r.machine ≡ p.machine → IsQuiet n items (at m deal) → IsAway n p.phase → IsAway n r.phase → Stood first (items ++ es) (ss ++ xs) q n
+      entry_elsewhere : (m : ℕ) (deal : Deal) (r : Point) → es ≡ at m deal → xs ≡ [] → q ≡ r → r.machine ≡ p.machine → IsQuiet n items (at m deal) → IsAway n p.phase → IsAway n r.phase
+          → Stood first (items ++ es) (ss ++ xs) q n
       entry_elsewhere m deal r e none is same quiet was now =
           elsewhere (inl (none, ap (λ (point : Point). point.machine) is ∙ same)) (subst (λ (l : List Item). IsQuiet n items l) (sym e) quiet) was (subst (λ (point : Point). IsAway n point.phase) (sym is) now)
 

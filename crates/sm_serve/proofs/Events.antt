@@ -169,7 +169,8 @@ module _ {D : Type 0} (view W : D → View) (leave leave' : D → Image → Type
                   inl (subst (λ (m : Machine). Fits m image) (sym (keeps.current has t (let c = keeps.clock has in omega (arith, c, after)))) (keeps.now image was))
               | inr before ↦ keeps.images t image from ((time.keeps t image before).0 left)
             ];
-            recorded = subst (λ (o : Option (List DiskCall)). IfSome o (λ cs. (before : List DiskCall) × (cs ≡ before ++ calls_of h.steps))) (sym (calls_here view W leave leave' left_at left' one_view one_disk one_past told d e call)) keeps.recorded;
+            recorded = subst (λ (o : Option (List DiskCall)). IfSome o (λ cs. (before : List DiskCall) × (cs ≡ before ++ calls_of h.steps)))
+                (sym (calls_here view W leave leave' left_at left' one_view one_disk one_past told d e call)) keeps.recorded;
             blamed = λ below. subst (λ (k : ℕ). h.point.failed ≤ k) (sym sends) (keeps.blamed (subst (λ (k : ℕ). k < 2 ^ 64 - 1) sends below));
           };
           rest = record {
@@ -210,7 +211,8 @@ module _ {D : Type 0} (view W : D → View) (leave leave' : D → Image → Type
   is_new Ended h d told next = tt
 
 module _ {D : Type 0} (view : D → View) (leave : D → Image → Type 0) (left_at : D → ℕ → Image → Type 0) where
-  pub turns_then : (h : History) (i j k : ℕ) (state : State) (d : D) (mid : State) (c : D) → j + i ≡ k → (one : Turns view leave left_at h i mid c) → Turns view leave left_at one.later j state d → Turns view leave left_at h k state d
+  pub turns_then : (h : History) (i j k : ℕ) (state : State) (d : D) (mid : State) (c : D) → j + i ≡ k → (one : Turns view leave left_at h i mid c) → Turns view leave left_at one.later j state d
+      → Turns view leave left_at h k state d
   turns_then h i j k state d mid c sum one two = record {
     later = two.later;
     serves = two.serves;

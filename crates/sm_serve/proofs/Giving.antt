@@ -141,7 +141,8 @@ module _ {D : Type 0} (view : D → View) (leave : D → Image → Type 0) (left
   -- parts, and then further ones
   pub then_gives : (h : History) (n : ℕ) (r : Bool) (push push' : Option Standing) (counts counts' : Counts) (before : Option (List ℕ)) (ps qs more : List PartItem) (origin origin' : Origin) (d e : D)
       → (one : StaysOpen view leave left_at h n push counts before ps (qs ++ more) origin d)
-      → ((k : History) → Keeps view leave left_at k d → StandsOn view leave k.point.machine origin d → k.point.phase ≡ acting n one.left → k.point.counts n ≡ counts → PartGives view leave left_at k n r push' counts' one.after qs more origin' e)
+      → ((k : History) → Keeps view leave left_at k d → StandsOn view leave k.point.machine origin d → k.point.phase ≡ acting n one.left → k.point.counts n ≡ counts
+      → PartGives view leave left_at k n r push' counts' one.after qs more origin' e)
       → PartGives view leave left_at h n r push' counts' before (ps ++ qs) more origin' e
   then_gives h n true push push' counts counts' before ps qs more origin origin' d e one so =
       let was = one.reaches in

@@ -101,5 +101,6 @@ from_first first begin items steps q (goes_on was es items' ss xs steps' p q' ru
         ⊎_elim
         (λ (early : t < x.ends). subst (λ (n : Machine). Extends first n) (sym (at ∙ not_reached x.after (machine_at first ss t) x.ends t early)) before)
         (λ (late : x.ends ≤ t). subst (λ (n : Machine). Extends first n) (sym (at ∙ reached_by x.after (machine_at first ss t) x.ends t late))
-        (and_then first (machine_at first ss t) x.after before (and_then (machine_at first ss t) p.machine x.after (below first begin was ss p run t) (subst (λ (m : Machine). Extends m x.after) from (step_adds (Rose x.faults x.faults_after) x.before x.after x.act x.reply step)))))
+        (and_then first (machine_at first ss t) x.after before
+        (and_then (machine_at first ss t) p.machine x.after (below first begin was ss p run t) (subst (λ (m : Machine). Extends m x.after) from (step_adds (Rose x.faults x.faults_after) x.before x.after x.act x.reply step)))))
         (cases_lt t x.ends)

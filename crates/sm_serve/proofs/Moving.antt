@@ -117,7 +117,8 @@ module _ (laws : WireLaws) (texts : TextsHold) (first : Machine) (items : List I
       ]
 
   -- the reply to the next request, or its front
-  answered : (m k j : ℕ) (text : List ℕ) (broken : Bool) (more : List WireItem) (item : WireItem) (request : Request) → k ≡ n → p.ended < m → IsOpenWith (HeldBy first items ss) p (received n items) (replies n items) s.core (item ∷ more)
+  answered : (m k j : ℕ) (text : List ℕ) (broken : Bool) (more : List WireItem) (item : WireItem) (request : Request) → k ≡ n → p.ended < m
+      → IsOpenWith (HeldBy first items ss) p (received n items) (replies n items) s.core (item ∷ more)
       → complete [] (s.core.done ++ item ∷ []) ≡ complete [] s.core.done ++ request ∷ [] → AreKept p.machine.log (open_push [] (s.core.done ++ item ∷ [])) → shows_status 100 (take j text) ≡ false
       → (IsOk (take j text) → (claim : Claim) → Shows request (take j text) claim → HeldIn p.machine.log claim) → ((t : ℕ) → p.ended ≤ t → machine_at first ss t ≡ p.machine)
       → Open (HeldBy first (items ++ at m (Sent k (take j text) broken)) ss) p (received n (items ++ at m (Sent k (take j text) broken))) (replies n (items ++ at m (Sent k (take j text) broken))) more

@@ -23,7 +23,8 @@ use Rattle.sm_serve.proofs.Going.{machine_push}
 use Rattle.sm_serve.proofs.Requests.{matches_map, matches_push, complete_split, open_split, bad_push, kept_push}
 
 -- a reply that is sent, or its front, is one that answers the next request
-pub replied : (now : ℕ → Machine) (H K : Claim → Type 0) (p : Point) (bytes : List ℕ) (parts : List (List ℕ)) (c : Core H p.machine.log bytes parts) (text : List ℕ) (more : List WireItem) (item : WireItem) (q : Request) (k : ℕ)
+pub replied : (now : ℕ → Machine) (H K : Claim → Type 0) (p : Point) (bytes : List ℕ) (parts : List (List ℕ)) (c : Core H p.machine.log bytes parts) (text : List ℕ) (more : List WireItem) (item : WireItem) (q : Request)
+    (k : ℕ)
     → ((claim : Claim) → H claim → K claim) → IsOpenWith H p bytes parts c (item ∷ more) → complete [] (c.done ++ item ∷ []) ≡ complete [] c.done ++ q ∷ [] → AreKept p.machine.log (open_push [] (c.done ++ item ∷ []))
     → (IsOk (take k text) → (claim : Claim) → Shows q (take k text) claim → K claim)
     → (d : Core K p.machine.log bytes (parts ++ take k text ∷ [])) × IsOpenWith K p bytes (parts ++ take k text ∷ []) d more
@@ -49,7 +50,8 @@ replied now H K p bytes parts c text more item q k so (none, clean, rest) whole 
 )
 
 -- a piece that is taken in
-pub taken_in : WireLaws → (H K : Claim → Type 0) (p : Point) (bytes : List ℕ) (parts : List (List ℕ)) (c : Core H p.machine.log bytes parts) (piece : List ℕ) (given more : List WireItem) → ((claim : Claim) → H claim → K claim)
+pub taken_in : WireLaws → (H K : Claim → Type 0) (p : Point) (bytes : List ℕ) (parts : List (List ℕ)) (c : Core H p.machine.log bytes parts) (piece : List ℕ) (given more : List WireItem)
+    → ((claim : Claim) → H claim → K claim)
     → IsOpenWith H p bytes parts c [] → IsWire bytes given → IsWire (bytes ++ piece) (given ++ more) → (d : Core K p.machine.log (bytes ++ piece) parts) × IsOpenWith K p (bytes ++ piece) parts d more
 taken_in laws H K p bytes parts c piece given more so (none, clean, rest) one two =
     let base_is : bytes ≡ c.base = c.bytes_are ∙ ap (λ (b : List ℕ). c.base ++ b) none ∙ append-nil c.base in
@@ -93,7 +95,8 @@ module _ (longer : (log more : List Entry) (claim : Claim) → HeldIn log claim 
       subst (λ (log : List Entry). HeldIn log claim) (sym (grow t).1) (longer (machine_at first ss t).log (grow t).0 claim (held t (all_by_front t items es by)))
 
   -- a fragment without a reply joins its push
-  pub joins : (H K : Claim → Type 0) (p q : Point) (bytes : List ℕ) (parts : List (List ℕ)) (c : Core H p.machine.log bytes parts) (f : Fragment) (more : List WireItem) → ((claim : Claim) → H claim → K claim) → Extends p.machine q.machine
+  pub joins : (H K : Claim → Type 0) (p q : Point) (bytes : List ℕ) (parts : List (List ℕ)) (c : Core H p.machine.log bytes parts) (f : Fragment) (more : List WireItem) → ((claim : Claim) → H claim → K claim)
+      → Extends p.machine q.machine
       → IsOpenWith H p bytes parts c (Frag f ∷ more) → HeldIn q.machine.log (Acknowledged (address_of f)) → (d : Core K q.machine.log bytes parts) × IsOpenWith K q bytes parts d more
   joins H K p q bytes parts c f more so grow (none, clean, rest) kept = (
     record {
@@ -182,7 +185,8 @@ recast K p bytes now parts these more one two (c, open_) = (
   open_,
 )
 
-pub mapped : (H K : Claim → Type 0) (log : List Entry) (bytes now : List ℕ) (parts these : List (List ℕ)) → now ≡ bytes → these ≡ parts → ((claim : Claim) → H claim → K claim) → Core H log bytes parts → Core K log now these
+pub mapped : (H K : Claim → Type 0) (log : List Entry) (bytes now : List ℕ) (parts these : List (List ℕ)) → now ≡ bytes → these ≡ parts → ((claim : Claim) → H claim → K claim) → Core H log bytes parts
+    → Core K log now these
 mapped H K log bytes now parts these one two so c = record {
   base = c.base;
   extra = c.extra;
@@ -201,7 +205,8 @@ mapped H K log bytes now parts these one two so c = record {
 }
 
 -- a part that is no 200
-pub with_bad : (H K : Claim → Type 0) (log : List Entry) (bytes now : List ℕ) (parts these : List (List ℕ)) (part : List ℕ) → now ≡ bytes → these ≡ parts ++ part ∷ [] → ((claim : Claim) → H claim → K claim) → (IsOk part → ⊥)
+pub with_bad : (H K : Claim → Type 0) (log : List Entry) (bytes now : List ℕ) (parts these : List (List ℕ)) (part : List ℕ) → now ≡ bytes → these ≡ parts ++ part ∷ [] → ((claim : Claim) → H claim → K claim)
+    → (IsOk part → ⊥)
     → Core H log bytes parts → Core K log now these
 with_bad H K log bytes now parts these part one two so not_so c = record {
   base = c.base;
@@ -244,7 +249,8 @@ outside H K log bytes now parts these piece one two so c = (
 )
 
 -- an item that ends no request and adds nothing to the open push
-pub passes : (H K : Claim → Type 0) (p : Point) (bytes : List ℕ) (parts : List (List ℕ)) (item : WireItem) (more : List WireItem) → ((claim : Claim) → H claim → K claim) → ((fs : List Fragment) → complete fs (item ∷ []) ≡ [])
+pub passes : (H K : Claim → Type 0) (p : Point) (bytes : List ℕ) (parts : List (List ℕ)) (item : WireItem) (more : List WireItem) → ((claim : Claim) → H claim → K claim)
+    → ((fs : List Fragment) → complete fs (item ∷ []) ≡ [])
     → ((fs : List Fragment) → open_push fs (item ∷ []) ≡ fs) → Open H p bytes parts (item ∷ more) → Open K p bytes parts more
 passes H K p bytes parts item more so ends adds (c, (none, clean, rest)) = (
   record {

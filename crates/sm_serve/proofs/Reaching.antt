@@ -30,7 +30,8 @@ reached view leave left_at h later n is_open e q origin keeps follows is machine
   counts_are = λ open_. ap (λ (p : Point). p.counts n) is ∙ ap (λ (f : ℕ → Counts). f n) counts;
 }
 
-pub follows_itself : (n : ℕ) (h k : History) → k.first ≡ h.first → k.begin ≡ h.begin → k.base ≡ h.base → k.items ≡ h.items → ((j : ℕ) → (j ≡ n → ⊥) → k.point.counts j ≡ h.point.counts j) → Follows n true h k
+pub follows_itself : (n : ℕ) (h k : History) → k.first ≡ h.first → k.begin ≡ h.begin → k.base ≡ h.base → k.items ≡ h.items → ((j : ℕ) → (j ≡ n → ⊥) → k.point.counts j ≡ h.point.counts j)
+    → Follows n true h k
 follows_itself n h k first begin base items counts = record {
   first = first;
   begin = begin;
@@ -112,10 +113,12 @@ module _ {D : Type 0} (view : D → View) (leave : D → Image → Type 0) (left
       → ((k : History) → Keeps view leave left_at k d → StandsOn view leave k.point.machine origin d → k.point.phase ≡ from m → k.point.counts m ≡ counts → Reaches view leave left_at k m is_open (to m) all after e)
       → (k : History) → Keeps view leave left_at k d → StandsOn view leave k.point.machine origin d → k.point.phase ≡ from n → k.point.counts n ≡ counts → Reaches view leave left_at k n is_open (to n) all after e
   go_from m n d e origin after from to counts all is_open same so =
-      subst (λ (i : ℕ). (k : History) → Keeps view leave left_at k d → StandsOn view leave k.point.machine origin d → k.point.phase ≡ from i → k.point.counts i ≡ counts → Reaches view leave left_at k i is_open (to i) all after e) same so
+      subst (λ (i : ℕ). (k : History) → Keeps view leave left_at k d → StandsOn view leave k.point.machine origin d → k.point.phase ≡ from i → k.point.counts i ≡ counts
+      → Reaches view leave left_at k i is_open (to i) all after e) same so
 
   -- nothing was done
-  pub reaches_here : (h : History) (n : ℕ) (d : D) (phase : Phase) (counts : Counts) (origin : Origin) → Keeps view leave left_at h d → StandsOn view leave h.point.machine origin d → h.point.phase ≡ phase → h.point.counts n ≡ counts
+  pub reaches_here : (h : History) (n : ℕ) (d : D) (phase : Phase) (counts : Counts) (origin : Origin) → Keeps view leave left_at h d → StandsOn view leave h.point.machine origin d → h.point.phase ≡ phase
+      → h.point.counts n ≡ counts
       → Reaches view leave left_at h n true phase counts origin d
   reaches_here h n d phase counts origin keeps stands at is = record {
     later = h;

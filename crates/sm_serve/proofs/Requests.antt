@@ -60,7 +60,8 @@ matches_map H K so [] (p ∷ ps) m = absurd m
 matches_map H K so (q ∷ qs) [] m = absurd m
 matches_map H K so (q ∷ qs) (p ∷ ps) m = (λ ok claim shows. so claim (m.0 ok claim shows), matches_map H K so qs ps m.1)
 
-pub matches_push : (H : Claim → Type 0) (qs : List Request) (ps : List (List ℕ)) (q : Request) (p : List ℕ) → Matches H qs ps → (IsOk p → (claim : Claim) → Shows q p claim → H claim) → Matches H (qs ++ q ∷ []) (ps ++ p ∷ [])
+pub matches_push : (H : Claim → Type 0) (qs : List Request) (ps : List (List ℕ)) (q : Request) (p : List ℕ) → Matches H qs ps → (IsOk p → (claim : Claim) → Shows q p claim → H claim)
+    → Matches H (qs ++ q ∷ []) (ps ++ p ∷ [])
 matches_push H [] [] q p m new = (new, tt)
 matches_push H [] (y ∷ ps) q p m new = absurd m
 matches_push H (x ∷ qs) [] q p m new = absurd m

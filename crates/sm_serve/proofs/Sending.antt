@@ -108,7 +108,8 @@ module _ {D : Type 0} (view W : D → View) (leave leave' : D → Image → Type
       let q = behind_failure h.point (shutting n) in
       let time = elapses_here view W leave leave' left_at left' one_view one_disk one_past d e call.time in
       let same = same_here view W leave leave' left_at left' one_view one_disk one_past d e call.same in
-      let told_is : (view e).transcript ≡ Some ((h.base ++ h.items) ++ []) = ap (λ (v : View). v.transcript) (one_view e) ∙ still ∙ ap (λ (v : View). v.transcript) (sym (one_view d)) ∙ keeps.told ∙ ap (λ (l : List Item). Some l) (sym (append-nil (h.base ++ h.items))) in
+      let told_is : (view e).transcript ≡ Some ((h.base ++ h.items) ++ []) = ap (λ (v : View). v.transcript) (one_view e) ∙ still ∙ ap (λ (v : View). v.transcript) (sym (one_view d)) ∙ keeps.told ∙ ap
+      (λ (l : List Item). Some l) (sym (append-nil (h.base ++ h.items))) in
       let on = link_move view leave left_at told h d e [] q keeps (unsent n bytes close more phase refl refl refl) refl (λ has. omega arith) told_is time same (calls_here d e call) (contents_here d e call)
       (λ has. (let c = keeps.clock (told_here d e call has) in let l = time.later in omega (arith, c, l))) (λ below. blame d e h keeps rose below) in
       record {
@@ -140,7 +141,8 @@ module _ {D : Type 0} (view W : D → View) (leave leave' : D → Image → Type
         point_is = refl;
       }
 
-  pub then_shut : (h : History) (d e : D) (n : ℕ) (q : Point) → (a : After h n true d q) → q.phase ≡ shutting n → LinkCall d e → Adds (Shut n) (W d) (W e) → (W e).send_faults ≡ (W d).send_faults → After h n false e (in_phase q idle)
+  pub then_shut : (h : History) (d e : D) (n : ℕ) (q : Point) → (a : After h n true d q) → q.phase ≡ shutting n → LinkCall d e → Adds (Shut n) (W d) (W e) → (W e).send_faults ≡ (W d).send_faults
+      → After h n false e (in_phase q idle)
   then_shut h d e n q a phase call adds faults =
       let s = shut_after a.later d e n a.keeps call (ap (λ (p : Point). p.phase) a.point_is ∙ phase) adds faults in
       record { later = s.later; keeps = s.keeps; follows = follows_then n false h a.later s.later a.follows s.follows; point_is = s.point_is ∙ ap (λ (p : Point). in_phase p idle) a.point_is }

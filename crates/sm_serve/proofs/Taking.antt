@@ -40,7 +40,8 @@ module _ {D : Type 0} (view : D → View) (leave : D → Image → Type 0) (left
   others_after h k m n piece q r counts follows l other rest =
       same_rest h k l (follows.received l.number ∙ other_bytes l.number n m piece h other) (follows.counts l.number other ∙ ap (λ (f : ℕ → Counts). f l.number) counts) rest
 
-  now_resting : (h k : History) (m n : ℕ) (piece : List ℕ) (q : Point) (new : Live) → Follows n true (moved h (at m (Came n piece)) q) k → new.number ≡ n → Rests new (received n h.items ++ piece) → k.point.counts n ≡ counts_of new → IsResting k new
+  now_resting : (h k : History) (m n : ℕ) (piece : List ℕ) (q : Point) (new : Live) → Follows n true (moved h (at m (Came n piece)) q) k → new.number ≡ n → Rests new (received n h.items ++ piece)
+      → k.point.counts n ≡ counts_of new → IsResting k new
   now_resting h k m n piece q new follows number rests counts = record {
     rests = subst (λ (b : List ℕ). Rests new b) (sym (ap (λ (j : ℕ). received j k.items) number ∙ follows.received n ∙ these_bytes n m piece h)) rests;
     counts = ap (λ (j : ℕ). k.point.counts j) number ∙ counts;
@@ -92,7 +93,8 @@ module _ {D : Type 0} (view : D → View) (leave : D → Image → Type 0) (left
       }
 
   -- a piece of a connection that isn't live
-  pub piece_passed : (h : History) (m n : ℕ) (piece : List ℕ) (state : State) (d : D) → Pending view leave left_at h m (Came n piece) d → IsAtRest view leave h state d → is_among n (numbers_of state.lives.items) ≡ false → Turns view leave left_at h 1 state d
+  pub piece_passed : (h : History) (m n : ℕ) (piece : List ℕ) (state : State) (d : D) → Pending view leave left_at h m (Came n piece) d → IsAtRest view leave h state d → is_among n (numbers_of state.lives.items) ≡ false
+      → Turns view leave left_at h 1 state d
   piece_passed h m n piece state d pending rest none =
       let q = at_event h.point idle m in
       let k = moved h (at m (Came n piece)) q in

@@ -24,7 +24,8 @@ abbrev pub EndedPush : List ℕ → Result (Unit {0}) PushFault → Type 0
 EndedPush b result = Ends false b result
 
 -- Behind these parts the connection is still open. Whatever parts follow, they give behind what was given what they give with the push that is open now.
-pub record StaysOpen {D : Type 0} (view : D → View) (leave : D → Image → Type 0) (left_at : D → ℕ → Image → Type 0) (h : History) (n : ℕ) (push : Option Standing)
+pub record StaysOpen {D : Type 0} (view : D → View) (leave : D → Image → Type 0) (left_at : D → ℕ → Image → Type 0) (h : History) (n : ℕ)
+    (push : Option Standing)
     (counts : Counts)
     (before : Option (List ℕ)) (parts more : List PartItem) (origin : Origin) (d : D) : Type 0 where
   pub after : Option (List ℕ)
@@ -35,13 +36,15 @@ pub record StaysOpen {D : Type 0} (view : D → View) (leave : D → Image → T
   pub left_is : Left after more left
   pub reaches : Reaches view leave left_at h n true (acting n left) counts origin d
 
-abbrev pub PartGives : {D : Type 0} (view : D → View) (leave : D → Image → Type 0) (left_at : D → ℕ → Image → Type 0) → History → ℕ → Bool → Option Standing → Counts
+abbrev pub PartGives : {D : Type 0} (view : D → View) (leave : D → Image → Type 0) (left_at : D → ℕ → Image → Type 0) → History → ℕ → Bool
+    → Option Standing → Counts
     → Option (List ℕ) → List PartItem → List PartItem → Origin → D → Type 0
 PartGives view leave left_at h n true push counts before parts more origin d = StaysOpen view leave left_at h n push counts before parts more origin d
 PartGives view leave left_at h n false push counts before parts more origin d = Reaches view leave left_at h n false idle counts origin d
 
 -- A piece was taken: the run goes on from its event to the next one, and an open connection rests with the piece.
-pub record PieceGives {D : Type 0} (view : D → View) (leave : D → Image → Type 0) (left_at : D → ℕ → Image → Type 0) (h : History) (m : ℕ) (piece : List ℕ) (n : ℕ)
+pub record PieceGives {D : Type 0} (view : D → View) (leave : D → Image → Type 0) (left_at : D → ℕ → Image → Type 0) (h : History) (m : ℕ)
+    (piece : List ℕ) (n : ℕ)
     (is_open : Bool) (live : Live)
     (origin : Origin) (d : D) : Type 0 where
   pub from : Point

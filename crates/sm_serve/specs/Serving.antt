@@ -42,7 +42,8 @@ pub record IsAtRest {D : Type 0} (view : D → View) (leave : D → Image → Ty
   pub numbers : numbers_of state.lives.items ≡ live h.items
   pub resting : AreResting h state.lives.items
 
-pub record Serves {D : Type 0} (view : D → View) (leave : D → Image → Type 0) (left_at : D → ℕ → Image → Type 0) (h : History) (state : State) (d : D) : Type 0 where
+pub record Serves {D : Type 0} (view : D → View) (leave : D → Image → Type 0) (left_at : D → ℕ → Image → Type 0) (h : History) (state : State)
+    (d : D) : Type 0 where
   pub keeps : Keeps view leave left_at h d
   pub rest : IsAtRest view leave h state d
 
@@ -99,7 +100,8 @@ EndsAs turns served.NoMemory told before now = Unit {0}
 -- The loop served: from wherever a run had come it goes on, over the entries since; and at every moment since its start, each image that a
 -- crash may leave is the store of the last step that ended by then, or of that with the doubt, or of one of these with the entry that
 -- is being written. So it holds whatever had been shown by then.
-pub record Served {D : Type 0} (view : D → View) (leave : D → Image → Type 0) (left_at : D → ℕ → Image → Type 0) (h : History) (result : Outcome) (turns : ℕ)
+pub record Served {D : Type 0} (view : D → View) (leave : D → Image → Type 0) (left_at : D → ℕ → Image → Type 0) (h : History) (result : Outcome)
+    (turns : ℕ)
     (state : State) (d : D) : Type 0 where
   pub later : History
   pub since : Since h later
@@ -116,7 +118,8 @@ pub record Served {D : Type 0} (view : D → View) (leave : D → Image → Type
 -- A new state is where a run begins, whatever the machine that its origin stands for and the transcript before it.
 abbrev pub Begins : {D : Type 0} (view : D → View) (leave : D → Image → Type 0) (left_at : D → ℕ → Image → Type 0) → State → D → Type 0
 Begins view leave left_at state d = (m : Machine) (base : List Item) → StandsOn view leave m state.origin d → (view d).transcript ≡ Some base
-    → (h : History) × (h.first ≡ m) × (h.begin ≡ (view d).moment) × (h.base ≡ base) × (h.items ≡ []) × (h.steps ≡ []) × Serves view leave left_at h state d
+    → (h : History) × (h.first ≡ m) × (h.begin ≡ (view d).moment) × (h.base ≡ base) × (h.items ≡ []) × (h.steps ≡ [])
+    × Serves view leave left_at h state d
 
 -- how many events a turn took
 abbrev pub taken_by : Turned → ℕ

@@ -52,7 +52,8 @@ abbrev pub moved : History → List Item → Point → History
 moved h es q = record h { items = h.items ++ es; point = q }
 
 -- An event was taken, and the run goes on from it.
-abbrev pub Pending : {D : Type 0} (view : D → View) (leave : D → Image → Type 0) (left_at : D → ℕ → Image → Type 0) → History → ℕ → Deal → D → Type 0
+abbrev pub Pending : {D : Type 0} (view : D → View) (leave : D → Image → Type 0) (left_at : D → ℕ → Image → Type 0) → History → ℕ → Deal → D
+    → Type 0
 Pending view leave left_at h m deal d =
     (q : Point) → Moves (is_told (view d)) h.items h.point (at m deal) [] q → q.machine ≡ h.point.machine → q.ended ≡ m → q.failed ≡ h.point.failed
     → Keeps view leave left_at (moved h (at m deal) q) d

@@ -73,7 +73,8 @@ fn take_chunk<S: Site>(
         → StandsOn S.Disk.view S.Disk.may_leave h.point.machine origin.old site.old → PlaceIs live.old.push (Some b)
         → Left (Some b) (map (λ x. byte x) bytes.now ++ more) items
         → h.point.phase ≡ acting live.old.number items → h.point.counts live.old.number ≡ counts_of live.old
-        → PartGives S.Disk.view S.Disk.may_leave S.Disk.left_at h live.old.number result live.new.push (counts_of live.new) (Some b) (map (λ x. byte x) bytes.now) more origin.new site.new }
+        → PartGives S.Disk.view S.Disk.may_leave S.Disk.left_at h live.old.number result live.new.push (counts_of live.new) (Some b)
+        (map (λ x. byte x) bytes.now) more origin.new site.new }
     ensures stands { (m : Machine) × StandsOn S.Disk.view S.Disk.may_leave m origin.new site.new }
     ensures open { IsTrue result → IfSome (S.Disk.view site.new).transcript (IsLive live.old.number) }
     ensures push { IsTrue result → is_some live.new.push ≡ true }
@@ -111,7 +112,8 @@ pub(crate) fn take_body<S: Site>(
         → StandsOn S.Disk.view S.Disk.may_leave h.point.machine origin.old site.old → PlaceIs live.old.push (Some b)
         → Left (Some b) (map (λ x. byte x) bytes.now ++ more) items
         → h.point.phase ≡ acting live.old.number items → h.point.counts live.old.number ≡ counts_of live.old
-        → PartGives S.Disk.view S.Disk.may_leave S.Disk.left_at h live.old.number result live.new.push (counts_of live.new) (Some b) (map (λ x. byte x) bytes.now) more origin.new site.new }
+        → PartGives S.Disk.view S.Disk.may_leave S.Disk.left_at h live.old.number result live.new.push (counts_of live.new) (Some b)
+        (map (λ x. byte x) bytes.now) more origin.new site.new }
     ensures stands { (m : Machine) × StandsOn S.Disk.view S.Disk.may_leave m origin.new site.new }
     ensures open { IsTrue result → IfSome (S.Disk.view site.new).transcript (IsLive live.old.number) }
     ensures push { IsTrue result → is_some live.new.push ≡ true }
@@ -144,7 +146,8 @@ pub(crate) fn take_end<S: Site>(
     ensures goes_on { (h : History) (b : List ℕ) (more : List PartItem) (items : List WireItem) → Keeps S.Disk.view S.Disk.may_leave S.Disk.left_at h site.old
         → StandsOn S.Disk.view S.Disk.may_leave h.point.machine origin.old site.old → PlaceIs live.old.push (Some b) → Left (Some b) (ended close ∷ more) items
         → h.point.phase ≡ acting live.old.number items → h.point.counts live.old.number ≡ counts_of live.old
-        → PartGives S.Disk.view S.Disk.may_leave S.Disk.left_at h live.old.number result live.new.push (counts_of live.new) (Some b) (ended close ∷ []) more origin.new site.new }
+        → PartGives S.Disk.view S.Disk.may_leave S.Disk.left_at h live.old.number result live.new.push (counts_of live.new) (Some b)
+        (ended close ∷ []) more origin.new site.new }
     ensures stands { (m : Machine) × StandsOn S.Disk.view S.Disk.may_leave m origin.new site.new }
     ensures open { IsTrue result → IfSome (S.Disk.view site.new).transcript (IsLive live.old.number) }
     ensures same { SameConn live.old live.new }
@@ -179,7 +182,8 @@ fn end_push<S: Site>(
     ensures goes_on { (h : History) (more : List WireItem) → Keeps S.Disk.view S.Disk.may_leave S.Disk.left_at h site.old
         → StandsOn S.Disk.view S.Disk.may_leave h.point.machine origin.old site.old → h.point.phase ≡ acting live.old.number (End close ∷ more)
         → h.point.counts live.old.number ≡ counts_of live.old
-        → Reaches S.Disk.view S.Disk.may_leave S.Disk.left_at h live.old.number result (if result then acting live.old.number more else idle) (counts_of live.new) origin.new site.new }
+        → Reaches S.Disk.view S.Disk.may_leave S.Disk.left_at h live.old.number result (if result then acting live.old.number more else idle)
+        (counts_of live.new) origin.new site.new }
     ensures closed { IsTrue close → result ≡ false }
     ensures stands { (m : Machine) × StandsOn S.Disk.view S.Disk.may_leave m origin.new site.new }
     ensures open { IsTrue result → IfSome (S.Disk.view site.new).transcript (IsLive live.old.number) }

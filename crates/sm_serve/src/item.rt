@@ -37,8 +37,10 @@ pub(crate) fn act_on<S: Site>(
     ensures goes_on { (h : History) (item : WireItem) (more : List WireItem) → Keeps S.Disk.view S.Disk.may_leave S.Disk.left_at h site.old
         → StandsOn S.Disk.view S.Disk.may_leave h.point.machine origin.old site.old → h.point.phase ≡ acting live.old.number (item ∷ more)
         → h.point.counts live.old.number ≡ counts_of live.old
-        → act_of (counts_of live.old) item ≡ Some act.now → closes item ≡ close → ((c : Counted) (counts : Counts) → counts_after item c counts ≡ counts_by c counts)
-        → Reaches S.Disk.view S.Disk.may_leave S.Disk.left_at h live.old.number result (if result then acting live.old.number more else idle) (counts_of live.new) origin.new site.new }
+        → act_of (counts_of live.old) item ≡ Some act.now → closes item ≡ close
+        → ((c : Counted) (counts : Counts) → counts_after item c counts ≡ counts_by c counts)
+        → Reaches S.Disk.view S.Disk.may_leave S.Disk.left_at h live.old.number result (if result then acting live.old.number more else idle)
+        (counts_of live.new) origin.new site.new }
     ensures closed { IsTrue close → result ≡ false }
     ensures stands { (m : Machine) × StandsOn S.Disk.view S.Disk.may_leave m origin.new site.new }
     ensures open { IsTrue result → IfSome (S.Disk.view site.new).transcript (IsLive live.old.number) }
@@ -61,7 +63,8 @@ pub(crate) fn starve<S: Site>(site: &mut S, number: u64) -> bool
     ensures goes_on { (h : History) (more : List WireItem) (counts : Counts) (origin : Origin) → Keeps S.Disk.view S.Disk.may_leave S.Disk.left_at h site.old
         → StandsOn S.Disk.view S.Disk.may_leave h.point.machine origin site.old → h.point.phase ≡ acting number more
         → Reaches S.Disk.view S.Disk.may_leave S.Disk.left_at h number false idle counts origin site.new }
-    ensures stands { (m : Machine) (origin : Origin) → StandsOn S.Disk.view S.Disk.may_leave m origin site.old → StandsOn S.Disk.view S.Disk.may_leave m origin site.new }
+    ensures stands { (m : Machine) (origin : Origin) → StandsOn S.Disk.view S.Disk.may_leave m origin site.old
+        → StandsOn S.Disk.view S.Disk.may_leave m origin site.new }
     ensures same { SameOutcomes (S.Disk.may_leave site.old) (S.Disk.may_leave site.new) }
     ensures contents { (S.Disk.view site.new).contents ≡ (S.Disk.view site.old).contents }
     ensures closed { result ≡ false }
@@ -85,7 +88,8 @@ fn take_item<S: Site>(
     ensures goes_on { (h : History) (more : List WireItem) → Keeps S.Disk.view S.Disk.may_leave S.Disk.left_at h site.old
         → StandsOn S.Disk.view S.Disk.may_leave h.point.machine origin.old site.old → h.point.phase ≡ acting live.old.number (shown_item item ∷ more)
         → h.point.counts live.old.number ≡ counts_of live.old
-        → Reaches S.Disk.view S.Disk.may_leave S.Disk.left_at h live.old.number result (if result then acting live.old.number more else idle) (counts_of live.new) origin.new site.new }
+        → Reaches S.Disk.view S.Disk.may_leave S.Disk.left_at h live.old.number result (if result then acting live.old.number more else idle)
+        (counts_of live.new) origin.new site.new }
     ensures stands { (m : Machine) × StandsOn S.Disk.view S.Disk.may_leave m origin.new site.new }
     ensures open { IsTrue result → IfSome (S.Disk.view site.new).transcript (IsLive live.old.number) }
     ensures same { SameBut live.old live.new }
@@ -122,7 +126,8 @@ pub(crate) fn take_items<S: Site>(
     ensures goes_on { (h : History) (more : List WireItem) → Keeps S.Disk.view S.Disk.may_leave S.Disk.left_at h site.old
         → StandsOn S.Disk.view S.Disk.may_leave h.point.machine origin.old site.old → h.point.phase ≡ acting live.old.number (map shown_item items.items ++ more)
         → h.point.counts live.old.number ≡ counts_of live.old
-        → Reaches S.Disk.view S.Disk.may_leave S.Disk.left_at h live.old.number result (if result then acting live.old.number more else idle) (counts_of live.new) origin.new site.new }
+        → Reaches S.Disk.view S.Disk.may_leave S.Disk.left_at h live.old.number result (if result then acting live.old.number more else idle)
+        (counts_of live.new) origin.new site.new }
     ensures stands { (m : Machine) × StandsOn S.Disk.view S.Disk.may_leave m origin.new site.new }
     ensures open { IsTrue result → IfSome (S.Disk.view site.new).transcript (IsLive live.old.number) }
     ensures same { SameBut live.old live.new }

@@ -38,7 +38,8 @@ fn take_parts<S: Site>(
         → Keeps S.Disk.view S.Disk.may_leave S.Disk.left_at h site.old
         → StandsOn S.Disk.view S.Disk.may_leave h.point.machine origin.old site.old → PlaceIs live.old.push place → Left place (joined parts.items ++ more) items
         → h.point.phase ≡ acting live.old.number items → h.point.counts live.old.number ≡ counts_of live.old
-        → PartGives S.Disk.view S.Disk.may_leave S.Disk.left_at h live.old.number result live.new.push (counts_of live.new) place (joined parts.items) more origin.new site.new }
+        → PartGives S.Disk.view S.Disk.may_leave S.Disk.left_at h live.old.number result live.new.push (counts_of live.new) place
+        (joined parts.items) more origin.new site.new }
     ensures stands { (m : Machine) × StandsOn S.Disk.view S.Disk.may_leave m origin.new site.new }
     ensures open { IsTrue result → IfSome (S.Disk.view site.new).transcript (IsLive live.old.number) }
     ensures same { SameConn live.old live.new }

@@ -40,7 +40,8 @@ pub fn what_was_shown_is_held()
 pub fn crashes_hold_what_was_shown()
     ensures { (first : Machine) (begin : ℕ) (items : List Item) (steps : List Stepped) (point : Point) → Run true first begin items steps point
         → (t : ℕ) (image : Image) → FitsAt first steps t image
-        → (log : List Entry) × IsStore log image × ((more : List Entry) × (log ≡ first.log ++ more)) × ((claim : Claim) → Shown items t claim → Holds log claim) }
+        → (log : List Entry) × IsStore log image × ((more : List Entry) × (log ≡ first.log ++ more))
+        × ((claim : Claim) → Shown items t claim → Holds log claim) }
 {
     logs_of_stores_are_real();
     what_is_held_stays();

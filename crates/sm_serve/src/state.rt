@@ -5,6 +5,7 @@ ghost use Rattle.sm_model.specs.declared.entry.Entry.{Entry};
 ghost use Rattle.sm_site.specs.Clauses.{Rose, Throughout};
 ghost use Rattle.sm_site.specs.Meanings.{SameLink};
 ghost use Rattle.sm_archive.specs.declared.opened.OpenFault.TheVariants as open_fault;
+ghost use Rattle.sm_archive.specs.declared.answers.Declared.TheVariants as answer;
 ghost use Rattle.sm_archive.specs.Store.{IsStore};
 ghost use Rattle.sm_archive.specs.Opening.{NotAStore};
 ghost use Rattle.sm_origin.specs.Machine.{Machine};
@@ -68,6 +69,7 @@ impl State {
             → DeclaresIn S.Disk.view S.Disk.may_leave S.Disk.left_at h channel.now result self.new site.new }
         ensures stands { (m : Machine) × StandsOn S.Disk.view S.Disk.may_leave m self.new.origin site.new }
         ensures lives { self.new.lives ≡ self.old.lives }
+        ensures fault { result ≡ answer.DiskFault → Rose (S.Disk.view site.old).disk_faults (S.Disk.view site.new).disk_faults }
         ensures no_fewer { (S.Disk.view site.old).disk_faults ≤ (S.Disk.view site.new).disk_faults }
         ensures link { SameLink (S.Disk.view site.old) (S.Disk.view site.new) }
     {

@@ -18,7 +18,8 @@ pub(crate) fn tell<S: Site>(site: &mut S, number: u64, bytes: &[u8], close: bool
         → StandsOn S.Disk.view S.Disk.may_leave h.point.machine origin site.old → h.point.phase ≡ sending number bytes.now close more
         → Reaches S.Disk.view S.Disk.may_leave S.Disk.left_at h number result (if result then acting number more else idle) (h.point.counts number) origin site.new }
     ensures closed { IsTrue close → result ≡ false }
-    ensures stands { (m : Machine) (origin : Origin) → StandsOn S.Disk.view S.Disk.may_leave m origin site.old → StandsOn S.Disk.view S.Disk.may_leave m origin site.new }
+    ensures stands { (m : Machine) (origin : Origin) → StandsOn S.Disk.view S.Disk.may_leave m origin site.old
+        → StandsOn S.Disk.view S.Disk.may_leave m origin site.new }
     ensures same { SameOutcomes (S.Disk.may_leave site.old) (S.Disk.may_leave site.new) }
     ensures contents { (S.Disk.view site.new).contents ≡ (S.Disk.view site.old).contents }
     ensures open { IsTrue result → IfSome (S.Disk.view site.new).transcript (IsLive number) }

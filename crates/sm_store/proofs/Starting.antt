@@ -154,12 +154,12 @@ has_run view leave left_at ladder told told' turns state old mid new (Ok end) f 
 }
 
 pub why_stopped : {D : Type 0} (view : D → View) (leave : D → Image → Type 0) (left_at : D → ℕ → Image → Type 0) (ladder : Bool) (input input' : Input) (state : State) (old mid new : D)
-    (r : Result Outcome StoreFault) → Found view leave state old mid → Begins view leave left_at state mid
+    (r : Result Outcome StoreFault) → Found view leave state old mid → (view old).disk_faults ≤ (view mid).disk_faults → Begins view leave left_at state mid
     → IfErr r (λ why. StopsFrom view leave left_at ladder input input' state mid new why) → IfErr r (λ why. WhyUnready view leave left_at ladder input input' old new why)
-why_stopped view leave left_at ladder input input' state old mid new (Ok end) f begins h = tt
-why_stopped view leave left_at ladder input input' state old mid new (Err why) f begins h = inr (h.0, by_cause h.1)
+why_stopped view leave left_at ladder input input' state old mid new (Ok end) f le begins h = tt
+why_stopped view leave left_at ladder input input' state old mid new (Err why) f le begins h = inr (h.0, by_cause h.1)
   where
     by_cause : (WhyUnread input input' why ⊎ ((after : State) × DeclaresTo view leave left_at input.told input'.told state mid after new (Err why)))
         → WhyUnread input input' why ⊎ TriesLadder view leave left_at input.told input'.told old new (Err why)
     by_cause (inl unread) = inl unread
-    by_cause (inr declares) = inr (record { state = state; opened = mid; found = f; begins = begins; after = declares.0; declares = declares.1 })
+    by_cause (inr declares) = inr (record { state = state; opened = mid; found = f; no_fewer = le; begins = begins; after = declares.0; declares = declares.1 })

@@ -73,23 +73,29 @@ outcome_of declared.DiskFault = Err fault.DiskFault
 outcome_of declared.NoMemory = Err fault.NoMemory
 
 -- the channel of the ladder that was read was declared, and this was answered
-pub record Declares {D : Type 0} (view : D → View) (leave : D → Image → Type 0) (left_at : D → ℕ → Image → Type 0) (told told' : Option (List ℕ)) (state : State) (d : D) (state' : State) (d' : D)
+pub record Declares {D : Type 0} (view : D → View) (leave : D → Image → Type 0) (left_at : D → ℕ → Image → Type 0) (told told' : Option (List ℕ))
+    (state : State) (d : D) (state' : State) (d' : D)
     (answer : Declared) : Type 0 where
   pub channel : List Track
   pub input : IsLadderInput told told' (Ok channel)
   pub runs : (h : History) → Serves view leave left_at h state d → DeclaresIn view leave left_at h channel answer state' d'
+  -- a disk that failed counted it
+  pub fault : answer ≡ declared.DiskFault → site.Rose (view d).disk_faults (view d').disk_faults
 
 -- the same, where this is what it comes to
-abbrev pub DeclaresTo : {D : Type 0} (view : D → View) (leave : D → Image → Type 0) (left_at : D → ℕ → Image → Type 0) → Option (List ℕ) → Option (List ℕ) → State → D → State → D
+abbrev pub DeclaresTo : {D : Type 0} (view : D → View) (leave : D → Image → Type 0) (left_at : D → ℕ → Image → Type 0) → Option (List ℕ)
+    → Option (List ℕ) → State → D → State → D
     → Result (Unit {0}) StoreFault → Type 0
-DeclaresTo view leave left_at told told' state d state' d' result = (answer : Declared) × (result ≡ outcome_of answer) × Declares view leave left_at told told' state d state' d' answer
+DeclaresTo view leave left_at told told' state d state' d' result = (answer : Declared) × (result ≡ outcome_of answer)
+    × Declares view leave left_at told told' state d state' d' answer
 
 abbrev pub NotRead : Input → Input → Result (Unit {0}) StoreFault → Type 0
 NotRead old new (Ok x) = ⊥
 NotRead old new (Err why) = WhyUnread old new why
 
 -- a ladder was read and declared, or none was read
-abbrev pub LadderMeans : {D : Type 0} (view : D → View) (leave : D → Image → Type 0) (left_at : D → ℕ → Image → Type 0) → Input → Input → State → D → State → D
+abbrev pub LadderMeans : {D : Type 0} (view : D → View) (leave : D → Image → Type 0) (left_at : D → ℕ → Image → Type 0) → Input → Input → State
+    → D → State → D
     → Result (Unit {0}) StoreFault → Type 0
 LadderMeans view leave left_at input input' state d state' d' result =
     DeclaresTo view leave left_at input.told input'.told state d state' d' result ⊎ NotRead input input' result
@@ -101,7 +107,8 @@ pub record IsSame {D : Type 0} (input input' : Input) (state : State) (d : D) (s
   pub state_is : state' ≡ state
   pub site_is : d' ≡ d
 
-abbrev pub PrepareMeans : {D : Type 0} (view : D → View) (leave : D → Image → Type 0) (left_at : D → ℕ → Image → Type 0) → Bool → Input → Input → State → D → State → D
+abbrev pub PrepareMeans : {D : Type 0} (view : D → View) (leave : D → Image → Type 0) (left_at : D → ℕ → Image → Type 0) → Bool → Input → Input
+    → State → D → State → D
     → Result (Unit {0}) StoreFault → Type 0
 PrepareMeans view leave left_at true input input' state d state' d' result = LadderMeans view leave left_at input input' state d state' d' result
 PrepareMeans view leave left_at false input input' state d state' d' result = IsSame input input' state d state' d' result
@@ -129,17 +136,20 @@ WhyUnopened old new fault.Damaged = ⊥
 WhyUnopened old new fault.NoMemory = Unit {0}
 
 -- the store was opened, the ladder was declared to what was found, and this is what it comes to
-pub record TriesLadder {D : Type 0} (view : D → View) (leave : D → Image → Type 0) (left_at : D → ℕ → Image → Type 0) (told told' : Option (List ℕ)) (old new : D)
+pub record TriesLadder {D : Type 0} (view : D → View) (leave : D → Image → Type 0) (left_at : D → ℕ → Image → Type 0) (told told' : Option (List ℕ))
+    (old new : D)
     (result : Result (Unit {0}) StoreFault) : Type 0 where
   pub state : State
   pub opened : D
   pub found : Found view leave state old opened
+  pub no_fewer : (view old).disk_faults ≤ (view opened).disk_faults
   pub begins : Begins view leave left_at state opened
   pub after : State
   pub declares : DeclaresTo view leave left_at told told' state opened after new result
 
 -- Why nothing was served. Beside want of memory: what failed counted it, or this was answered to the ladder, if one was asked for.
-abbrev pub WhyUnready : {D : Type 0} (view : D → View) (leave : D → Image → Type 0) (left_at : D → ℕ → Image → Type 0) → Bool → Input → Input → D → D → StoreFault → Type 0
+abbrev pub WhyUnready : {D : Type 0} (view : D → View) (leave : D → Image → Type 0) (left_at : D → ℕ → Image → Type 0) → Bool → Input → Input
+    → D → D → StoreFault → Type 0
 WhyUnready view leave left_at ladder input input' old new why =
     WhyUnopened (view old) (view new) why
     ⊎ (IsTrue ladder × (WhyUnread input input' why ⊎ TriesLadder view leave left_at input.told input'.told old new (Err why)))
@@ -159,7 +169,8 @@ pub record IsBegun (machine : Machine) (channel : Option (List Track)) (base : L
   pub steps : LadderSteps channel h.steps
 
 -- from a state that was opened the loop ran to the end that it tells, with the ladder's step in front
-pub record RunsFrom {D : Type 0} (view : D → View) (leave : D → Image → Type 0) (left_at : D → ℕ → Image → Type 0) (ladder : Bool) (told told' : Option (List ℕ)) (turns : ℕ) (state : State)
+pub record RunsFrom {D : Type 0} (view : D → View) (leave : D → Image → Type 0) (left_at : D → ℕ → Image → Type 0) (ladder : Bool)
+    (told told' : Option (List ℕ)) (turns : ℕ) (state : State)
     (d d' : D) (end : Outcome) : Type 0 where
   pub channel : Option (List Track)
   pub input : ReadsLadder ladder told told' channel
@@ -168,13 +179,15 @@ pub record RunsFrom {D : Type 0} (view : D → View) (leave : D → Image → Ty
       → (h : History) × IsBegun m channel base h × ((after : State) × Served view leave left_at h end turns after d')
 
 -- the ladder that was asked for was not read, or this was answered to it
-abbrev pub StopsFrom : {D : Type 0} (view : D → View) (leave : D → Image → Type 0) (left_at : D → ℕ → Image → Type 0) → Bool → Input → Input → State → D → D → StoreFault → Type 0
+abbrev pub StopsFrom : {D : Type 0} (view : D → View) (leave : D → Image → Type 0) (left_at : D → ℕ → Image → Type 0) → Bool → Input → Input
+    → State → D → D → StoreFault → Type 0
 StopsFrom view leave left_at ladder input input' state d d' why =
     IsTrue ladder × (WhyUnread input input' why ⊎ ((after : State) × DeclaresTo view leave left_at input.told input'.told state d after d' (Err why)))
 
 -- The loop ran from the log that was found, with the ladder's step in front, to the end that it tells; where the transcript is told, that
 -- is its run, and what a crash may leave at each moment fits it.
-pub record HasRun {D : Type 0} (view : D → View) (leave : D → Image → Type 0) (left_at : D → ℕ → Image → Type 0) (ladder : Bool) (told told' : Option (List ℕ)) (turns : ℕ) (old new : D)
+pub record HasRun {D : Type 0} (view : D → View) (leave : D → Image → Type 0) (left_at : D → ℕ → Image → Type 0) (ladder : Bool)
+    (told told' : Option (List ℕ)) (turns : ℕ) (old new : D)
     (end : Outcome) : Type 0 where
   pub machine : Machine
   pub settled : machine.doubt ≡ None

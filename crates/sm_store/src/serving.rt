@@ -24,7 +24,8 @@ fn serve_state<I: Source, S: Site>(
 ) -> Result<Served, StoreFault>
     requires begins { Begins S.Disk.view S.Disk.may_leave S.Disk.left_at state.old site.old }
     requires stands { (m : Machine) × StandsOn S.Disk.view S.Disk.may_leave m state.old.origin site.old }
-    ensures run { IfOk result (λ end. RunsFrom S.Disk.view S.Disk.may_leave S.Disk.left_at ladder (I.left input.old) (I.left input.new) turns state.old site.old site.new end) }
+    ensures run { IfOk result (λ end. RunsFrom S.Disk.view S.Disk.may_leave S.Disk.left_at ladder (I.left input.old)
+        (I.left input.new) turns state.old site.old site.new end) }
     ensures why { IfErr result (λ why. StopsFrom S.Disk.view S.Disk.may_leave S.Disk.left_at ladder
         (record { told = I.left input.old; faults = I.faults input.old })
         (record { told = I.left input.new; faults = I.faults input.new }) state.old site.old site.new why) }

@@ -47,5 +47,6 @@ returns-clause-fits c = λ log is place_is.
     let ch = c.args.index.now.catalog.channel in
     let m : IsMetaOf ch c.args.fragment.now c.in-Some.meta = meta_is ch c.args.fragment.now c.args.body.now c.in-Some.meta c.in-Some.ensures (c.front_of_a_fragment.ensures ch c.args.fragment.now c.args.body.now c.requires.is) in
     let v : IsValid c.args.fragment.now = c.is_valid.ensures.0 c.if-not-is_valid.false in
-    let h = fragment_admitted c.args.index.now c.reserve.new.self c.add.new.self c.args.fragment.now c.in_ok-address.address c.in-Some.meta c.args.place log c.in_ok-reserve.ensures.reserved c.in_ok-address.ensures m (c.is_new.ensures.0 c.if-not-is_new.false) c.add.ensures is place_is in
+    let h = fragment_admitted c.args.index.now c.reserve.new.self c.add.new.self c.args.fragment.now c.in_ok-address.address c.in-Some.meta c.args.place log c.in_ok-reserve.ensures.reserved c.in_ok-address.ensures m
+    (c.is_new.ensures.0 c.if-not-is_new.false) c.add.ensures is place_is in
     ((v, h.0), h.1)

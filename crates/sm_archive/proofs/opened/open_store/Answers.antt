@@ -37,7 +37,8 @@ returns-in-Ok-walk-clause-has g c =
     let some1 = c.open_log.ensures.told ∙ some in (
       r.log,
       spelled_read _ c.in-Ok.log (g.D.Disk.may_leave d1) c.in-Ok-walk.index c.in-Ok-walk.used (count_of c.in-Ok.log) r refl some1 bodies s,
-      stands_read _ c.in-Ok.log (g.D.Disk.may_leave d1) c.in-Ok-walk.index c.in-Ok-walk.used (count_of c.in-Ok.log) r c.args.limits (g.D.Disk.may_leave d2) c.requires.bytes c.requires.entries refl (bodies, s) (λ x left. (some1, c.walk.ensures.no_more x left)),
+      stands_read _ c.in-Ok.log (g.D.Disk.may_leave d1) c.in-Ok-walk.index c.in-Ok-walk.used (count_of c.in-Ok.log) r c.args.limits (g.D.Disk.may_leave d2) c.requires.bytes c.requires.entries refl (bodies, s)
+          (λ x left. (some1, c.walk.ensures.no_more x left)),
     ) in
     opened_has (g.D.Disk.view d0).contents a (g.D.Disk.may_leave d2) c.in-Ok.log (g.D.Disk.may_leave d1) c.in-Ok.ensures.opened
     (some_one (g.D.Disk.view d0).contents c.in-Ok.log (g.D.Disk.may_leave d1) c.stores_have_one_reading.ensures.one_list c.stores_have_one_reading.ensures.one_cut c.in-Ok.ensures.sure c.in-Ok.ensures.opened) walked
@@ -54,7 +55,8 @@ returns-in-Ok-walk-clause-store g c =
     let some1 = c.open_log.ensures.told ∙ some in (
       r.log,
       spelled_read _ c.in-Ok.log (g.D.Disk.may_leave d1) c.in-Ok-walk.index c.in-Ok-walk.used (count_of c.in-Ok.log) r refl some1 bodies s,
-      stands_read _ c.in-Ok.log (g.D.Disk.may_leave d1) c.in-Ok-walk.index c.in-Ok-walk.used (count_of c.in-Ok.log) r c.args.limits (g.D.Disk.may_leave d2) c.requires.bytes c.requires.entries refl (bodies, s) (λ x left. (some1, c.walk.ensures.no_more x left)),
+      stands_read _ c.in-Ok.log (g.D.Disk.may_leave d1) c.in-Ok-walk.index c.in-Ok-walk.used (count_of c.in-Ok.log) r c.args.limits (g.D.Disk.may_leave d2) c.requires.bytes c.requires.entries refl (bodies, s)
+          (λ x left. (some1, c.walk.ensures.no_more x left)),
     ) in
     opened_store (g.D.Disk.view d0).contents a (g.D.Disk.may_leave d2) c.in-Ok.log (g.D.Disk.may_leave d1) c.bodies_have_one_log.ensures
     (some_one (g.D.Disk.view d0).contents c.in-Ok.log (g.D.Disk.may_leave d1) c.stores_have_one_reading.ensures.one_list c.stores_have_one_reading.ensures.one_cut c.in-Ok.ensures.sure c.in-Ok.ensures.opened) walked

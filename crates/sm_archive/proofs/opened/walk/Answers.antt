@@ -23,9 +23,12 @@ pub loop-place-preserved : goal.loop-place-preserved
 loop-place-preserved g c =
     let i = c.loop-place.invariant in
     let old = g.D.Disk.may_leave c.args.disk.now in
-    let there = body_read (g.D.Disk.view c.args.disk.now).contents (g.D.Disk.view c.loop-place.disk).contents c.args.log.now old (g.D.Disk.may_leave c.loop-place.disk) c.loop-place.place c.in-Ok.body i.contents i.crash c.in-Ok.ensures.bytes in
-    let on : (seen : List (List ℕ)) (log : List Entry) → IsWalked c.loop-place.index c.loop-place.used seen log → length seen ≡ c.loop-place.place → (e : Entry) × IsWalked c.admit.new.index c.admit.new.used (seen ++ c.in-Ok.body ∷ []) (log ++ e ∷ []) =
-    subst (λ (b : List ℕ). (seen : List (List ℕ)) (log : List Entry) → IsWalked c.loop-place.index c.loop-place.used seen log → length seen ≡ c.loop-place.place → (e : Entry) × IsWalked c.admit.new.index c.admit.new.used (seen ++ b ∷ []) (log ++ e ∷ [])) c.as_slice.ensures c.in-Ok-admit.ensures.fits in
+    let there = body_read (g.D.Disk.view c.args.disk.now).contents (g.D.Disk.view c.loop-place.disk).contents c.args.log.now old
+    (g.D.Disk.may_leave c.loop-place.disk) c.loop-place.place c.in-Ok.body i.contents i.crash c.in-Ok.ensures.bytes in
+    let on : (seen : List (List ℕ)) (log : List Entry) → IsWalked c.loop-place.index c.loop-place.used seen log → length seen ≡ c.loop-place.place → (e : Entry)
+    × IsWalked c.admit.new.index c.admit.new.used (seen ++ c.in-Ok.body ∷ []) (log ++ e ∷ []) =
+    subst (λ (b : List ℕ). (seen : List (List ℕ)) (log : List Entry) → IsWalked c.loop-place.index c.loop-place.used seen log → length seen ≡ c.loop-place.place → (e : Entry)
+    × IsWalked c.admit.new.index c.admit.new.used (seen ++ b ∷ []) (log ++ e ∷ [])) c.as_slice.ensures c.in-Ok-admit.ensures.fits in
     record {
       is_read = read_next _ c.args.log.now old c.loop-place.index c.loop-place.used c.loop-place.place i.is_read c.admit.new.index c.admit.new.used c.in-Ok.body there on;
       contents = c.in-Ok.ensures.contents ∙ i.contents;
@@ -44,9 +47,11 @@ pub returns-in-Err-Damaged-clause-refused : goal.returns-in-Err-Damaged-clause-r
 returns-in-Err-Damaged-clause-refused g c = λ at is bodies s some.
     let i = c.loop-place.invariant in
     let x = outcome (g.D.Disk.view c.args.disk.now).contents (g.D.Disk.may_leave c.args.disk.now) some (g.met.D.Disk.contents_pass c.args.disk.now) in
-    let there = body_read (g.D.Disk.view c.args.disk.now).contents (g.D.Disk.view c.loop-place.disk).contents c.args.log.now (g.D.Disk.may_leave c.args.disk.now) (g.D.Disk.may_leave c.loop-place.disk) c.loop-place.place c.in-Ok.body i.contents i.crash c.in-Ok.ensures.bytes some bodies s in
+    let there = body_read (g.D.Disk.view c.args.disk.now).contents (g.D.Disk.view c.loop-place.disk).contents c.args.log.now (g.D.Disk.may_leave c.args.disk.now)
+    (g.D.Disk.may_leave c.loop-place.disk) c.loop-place.place c.in-Ok.body i.contents i.crash c.in-Ok.ensures.bytes some bodies s in
     let misfit : (seen : List (List ℕ)) (log : List Entry) → IsWalked c.loop-place.index c.loop-place.used seen log → length seen ≡ c.loop-place.place → IsMisfit log c.in-Ok.body =
-    subst (λ (b : List ℕ). (seen : List (List ℕ)) (log : List Entry) → IsWalked c.loop-place.index c.loop-place.used seen log → length seen ≡ c.loop-place.place → IsMisfit log b) c.as_slice.ensures (c.in-Err-Damaged.ensures.damaged (search rules)) in (
+    subst (λ (b : List ℕ). (seen : List (List ℕ)) (log : List Entry) → IsWalked c.loop-place.index c.loop-place.used seen log → length seen ≡ c.loop-place.place → IsMisfit log b) c.as_slice.ensures
+    (c.in-Err-Damaged.ensures.damaged (search rules)) in (
       c.loop-place.place,
       get_or (slots_of c.args.log.now.full ++ c.args.log.now.last.slots) c.loop-place.place (record { gate = 0; length = 0 }),
       slot_there bodies c.args.log.now c.loop-place.place (g.D.Disk.may_leave c.args.disk.now) (record { gate = 0; length = 0 }) (s.each x.0 x.1) (search rules),

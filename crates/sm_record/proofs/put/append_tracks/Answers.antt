@@ -13,6 +13,7 @@ loop-track-preserved c =
     let i = c.loop-track.track-index in
     let x = c.track-item.result in
     let more : take (i + 1) xs ≡ take i xs ++ x ∷ [] = one_more xs i x c.loop-track-test.true c.track-item.is in (
-      c.in_ok-append_track.ensures.text ∙ ap (λ (l : List ℕ). l ++ track_text x) c.loop-track.invariant.0 ∙ append_assoc c.args.out.now.items (flat_map track_text (take i xs)) (track_text x) ∙ ap (λ (l : List ℕ). c.args.out.now.items ++ l) (sym (texts_push track_text (take i xs) x)) ∙ ap (λ (l : List Track). c.args.out.now.items ++ flat_map track_text l) (sym more),
+      c.in_ok-append_track.ensures.text ∙ ap (λ (l : List ℕ). l ++ track_text x) c.loop-track.invariant.0 ∙ append_assoc c.args.out.now.items (flat_map track_text (take i xs)) (track_text x) ∙ ap
+          (λ (l : List ℕ). c.args.out.now.items ++ l) (sym (texts_push track_text (take i xs) x)) ∙ ap (λ (l : List Track). c.args.out.now.items ++ flat_map track_text l) (sym more),
       subst (λ (l : List Track). All FitsTrack l) (sym more) (All-push FitsTrack (take i xs) x c.loop-track.invariant.1 c.in_ok-append_track.ensures.fits),
     )

@@ -14,12 +14,15 @@ returns-then-close-clause-goes_on g c h more origin keeps stands phase =
     let d = c.args.site.now in
     let e = c.close.new.self in
     let n = c.args.number in
-    let call : LinkCall V W g.S.Disk.may_leave g.S.Link.may_leave g.S.Disk.left_at g.S.Link.left_at g.met.S.Site.one_view g.met.S.Site.one_disk g.met.S.Site.one_past g.met.S.Disk.told d e = record { time = c.close.ensures.time; same = c.close.ensures.crash; disk = c.close.ensures.disk } in
+    let call : LinkCall V W g.S.Disk.may_leave g.S.Link.may_leave g.S.Disk.left_at g.S.Link.left_at g.met.S.Site.one_view g.met.S.Site.one_disk g.met.S.Site.one_past g.met.S.Disk.told d e =
+    record { time = c.close.ensures.time; same = c.close.ensures.crash; disk = c.close.ensures.disk } in
     let same = same_here V W g.S.Disk.may_leave g.S.Link.may_leave g.S.Disk.left_at g.S.Link.left_at g.met.S.Site.one_view g.met.S.Site.one_disk g.met.S.Site.one_past d e c.close.ensures.crash in
     let shuts : h.point.phase ≡ shutting n = phase ∙ ap (λ (b : Bool). if b then shutting n else acting n more) c.if-close.true in
-    let s = shut_after V W g.S.Disk.may_leave g.S.Link.may_leave g.S.Disk.left_at g.S.Link.left_at g.met.S.Site.one_view g.met.S.Site.one_disk g.met.S.Site.one_past g.met.S.Disk.told h d e n keeps call shuts c.close.ensures.shut c.close.ensures.send_faults in
+    let s = shut_after V W g.S.Disk.may_leave g.S.Link.may_leave g.S.Disk.left_at g.S.Link.left_at g.met.S.Site.one_view g.met.S.Site.one_disk g.met.S.Site.one_past g.met.S.Disk.told h d e n keeps call shuts c.close.ensures.shut
+    c.close.ensures.send_faults in
     reached V g.S.Disk.may_leave g.S.Disk.left_at h s.later n false e (in_phase h.point idle) origin s.keeps s.follows s.point_is refl refl
-    (c.fewer_images_stand.ensures h.point.machine origin d e stands (contents_here V W g.S.Disk.may_leave g.S.Link.may_leave g.S.Disk.left_at g.S.Link.left_at g.met.S.Site.one_view g.met.S.Site.one_disk g.met.S.Site.one_past g.met.S.Disk.told d e call) (λ image left. (same image).0 left))
+    (c.fewer_images_stand.ensures h.point.machine origin d e stands
+    (contents_here V W g.S.Disk.may_leave g.S.Link.may_leave g.S.Disk.left_at g.S.Link.left_at g.met.S.Site.one_view g.met.S.Site.one_disk g.met.S.Site.one_past g.met.S.Disk.told d e call) (λ image left. (same image).0 left))
 
 pub returns-then-close-clause-told : goal.returns-then-close-clause-told
 returns-then-close-clause-told g c =
@@ -31,7 +34,8 @@ returns-then-close-clause-contents g c =
     let W = g.S.Link.view in
     let d = c.args.site.now in
     let e = c.close.new.self in
-    let call : LinkCall V W g.S.Disk.may_leave g.S.Link.may_leave g.S.Disk.left_at g.S.Link.left_at g.met.S.Site.one_view g.met.S.Site.one_disk g.met.S.Site.one_past g.met.S.Disk.told d e = record { time = c.close.ensures.time; same = c.close.ensures.crash; disk = c.close.ensures.disk } in
+    let call : LinkCall V W g.S.Disk.may_leave g.S.Link.may_leave g.S.Disk.left_at g.S.Link.left_at g.met.S.Site.one_view g.met.S.Site.one_disk g.met.S.Site.one_past g.met.S.Disk.told d e =
+    record { time = c.close.ensures.time; same = c.close.ensures.crash; disk = c.close.ensures.disk } in
     contents_here V W g.S.Disk.may_leave g.S.Link.may_leave g.S.Disk.left_at g.S.Link.left_at g.met.S.Site.one_view g.met.S.Site.one_disk g.met.S.Site.one_past g.met.S.Disk.told d e call
 
 pub returns-then-close-clause-link_faults : goal.returns-then-close-clause-link_faults

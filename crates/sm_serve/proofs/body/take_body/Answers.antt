@@ -45,7 +45,8 @@ returns-then-not-take_chunk-clause-goes_on g c h b more items keeps stands is le
     let one = subst (λ (qs : List PartItem). StaysOpen V A L h n c.loop-done.live.push (counts_of c.loop-done.live) (Some b) (map byte (take i bytes)) qs c.loop-done.origin c.loop-done.site)
     (bytes_split bytes piece i count more piece_is) (c.loop-done.invariant.goes_on h b more items keeps stands is left phase counts) in
     let place = place_some c.loop-done.live.push one.after c.loop-done.invariant.open_ one.after_is in
-    let T : ℕ → Type 0 = λ m. (k : History) → Keeps V A L k c.loop-done.site → StandsOn V A k.point.machine c.loop-done.origin c.loop-done.site → k.point.phase ≡ acting m one.left → k.point.counts m ≡ counts_of c.loop-done.live
+    let T : ℕ → Type 0 = λ m. (k : History) → Keeps V A L k c.loop-done.site → StandsOn V A k.point.machine c.loop-done.origin c.loop-done.site → k.point.phase ≡ acting m one.left
+    → k.point.counts m ≡ counts_of c.loop-done.live
     → PartGives V A L k m false c.take_chunk.new.live.push (counts_of c.take_chunk.new.live) one.after (map byte piece) rest c.take_chunk.new.origin c.take_chunk.new.site in
     let go : T c.loop-done.live.number = λ k kk ks kp kc.
     subst (λ (o : Option (List ℕ)). PartGives V A L k c.loop-done.live.number false c.take_chunk.new.live.push (counts_of c.take_chunk.new.live) o (map byte piece) rest c.take_chunk.new.origin c.take_chunk.new.site) (sym place.1)
@@ -79,7 +80,8 @@ loop-done-preserved g c =
           let one = subst (λ (qs : List PartItem). StaysOpen V A L h n c.loop-done.live.push (counts_of c.loop-done.live) (Some b) (map byte (take i bytes)) qs c.loop-done.origin c.loop-done.site)
           (bytes_split bytes piece i count more piece_is) (c.loop-done.invariant.goes_on h b more items keeps stands is left phase counts) in
           let place = place_some c.loop-done.live.push one.after c.loop-done.invariant.open_ one.after_is in
-          let T : ℕ → Type 0 = λ m. (k : History) → Keeps V A L k c.loop-done.site → StandsOn V A k.point.machine c.loop-done.origin c.loop-done.site → k.point.phase ≡ acting m one.left → k.point.counts m ≡ counts_of c.loop-done.live
+          let T : ℕ → Type 0 = λ m. (k : History) → Keeps V A L k c.loop-done.site → StandsOn V A k.point.machine c.loop-done.origin c.loop-done.site → k.point.phase ≡ acting m one.left
+          → k.point.counts m ≡ counts_of c.loop-done.live
           → PartGives V A L k m true c.take_chunk.new.live.push (counts_of c.take_chunk.new.live) one.after (map byte piece) rest c.take_chunk.new.origin c.take_chunk.new.site in
           let go : T c.loop-done.live.number = λ k kk ks kp kc.
           subst (λ (o : Option (List ℕ)). PartGives V A L k c.loop-done.live.number true c.take_chunk.new.live.push (counts_of c.take_chunk.new.live) o (map byte piece) rest c.take_chunk.new.origin c.take_chunk.new.site) (sym place.1)

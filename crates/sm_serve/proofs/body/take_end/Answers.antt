@@ -23,7 +23,8 @@ returns-in-Err-Refused-clause-goes_on g c h b more items keeps stands place left
     let r = c.in-Err-Refused.refusal in
     let ends = rw c.in-Err-Refused.field-0-is at (c.in-Err-Refused.ensures b place) in
     let is : items ≡ Refuse r ∷ [] = left_unique (Some b) (ended c.args.close ∷ more) items _ left (ended_refused b more c.args.close r ends.1) in
-    closed_gives g.S.Disk.view g.S.Disk.may_leave g.S.Disk.left_at h n c.act_on.result c.act_on.new.live.push (counts_of c.act_on.new.live) (Some b) (ended c.args.close ∷ []) more [] c.act_on.new.origin c.act_on.new.site (c.act_on.ensures.closed refl)
+    closed_gives g.S.Disk.view g.S.Disk.may_leave g.S.Disk.left_at h n c.act_on.result c.act_on.new.live.push (counts_of c.act_on.new.live) (Some b) (ended c.args.close ∷ []) more [] c.act_on.new.origin c.act_on.new.site
+    (c.act_on.ensures.closed refl)
     (c.act_on.ensures.goes_on h (Refuse r) [] keeps stands (phase ∙ ap (acting n) is) counts refl refl (λ counted all. refl))
 
 pub returns-in-Err-Failed-clause-stands : goal.returns-in-Err-Failed-clause-stands

@@ -43,7 +43,8 @@ returns-in-Continue-clause-goes_on g c h more items keeps stands place left phas
     let at = phase ∙ ap (acting n) is in
     let k = paused V A L h (in_phase h.point (sending n CONTINUE.now false (wire None more))) in
     let told = c.tell.ensures.goes_on k (wire None more) c.args.origin.now (continuing V A L h c.args.site.now n (wire None more) keeps at) stands refl in
-    let reaches = reach_then V A L h k n r (if r then acting n (wire None more) else idle) (h.point.counts n) (counts_of c.args.live.now) c.args.origin.now c.tell.new.site (paused_follows V A L h n (sending n CONTINUE.now false (wire None more))) told (λ t. counts) in
+    let reaches = reach_then V A L h k n r (if r then acting n (wire None more) else idle) (h.point.counts n) (counts_of c.args.live.now) c.args.origin.now c.tell.new.site
+    (paused_follows V A L h n (sending n CONTINUE.now false (wire None more))) told (λ t. counts) in
     let gives = continue_gives V A L h n r c.args.live.now.push (counts_of c.args.live.now) more c.args.origin.now c.tell.new.site place reaches in
     subst (λ (p : Part). PartGives V A L h n r c.args.live.now.push (counts_of c.args.live.now) None (items_of p) more c.args.origin.now c.tell.new.site) (sym c.in-Continue.is) gives
 
@@ -70,7 +71,8 @@ returns-in-Bad-clause-goes_on g c h more items keeps stands place left phase cou
     let here = subst (λ (p : Part). Left None (items_of p ++ more) items) c.in-Bad.is left in
     let r = unplaced c.in-Bad.cause in
     let is : items ≡ Refuse r ∷ [] = left_unique None (bad c.in-Bad.cause ∷ more) items _ here (bad_left c.in-Bad.cause more) in
-    closed_gives g.S.Disk.view g.S.Disk.may_leave g.S.Disk.left_at h c.args.live.now.number c.act_on-in-Bad.result c.act_on-in-Bad.new.live.push (counts_of c.act_on-in-Bad.new.live) None (items_of c.args.part) more [] c.act_on-in-Bad.new.origin c.act_on-in-Bad.new.site (c.act_on-in-Bad.ensures.closed refl)
+    closed_gives g.S.Disk.view g.S.Disk.may_leave g.S.Disk.left_at h c.args.live.now.number c.act_on-in-Bad.result c.act_on-in-Bad.new.live.push (counts_of c.act_on-in-Bad.new.live) None
+    (items_of c.args.part) more [] c.act_on-in-Bad.new.origin c.act_on-in-Bad.new.site (c.act_on-in-Bad.ensures.closed refl)
     (c.act_on-in-Bad.ensures.goes_on h (Refuse r) [] keeps stands (phase ∙ ap (acting c.args.live.now.number) is) counts refl refl (λ counted all. refl))
 
 pub returns-in-Continue-clause-stands : goal.returns-in-Continue-clause-stands

@@ -10,12 +10,16 @@ pub returns-then-is_some-clause-goes_on : goal.returns-then-is_some-clause-goes_
 returns-then-is_some-clause-goes_on g c h place more items keeps stands is left phase counts =
     let some : is_some c.args.live.now.push ≡ true = search rules in
     let b = place_some c.args.live.now.push place some is in
-    let gives = c.take_inside.ensures.goes_on h b.0 more items keeps stands (subst (λ (o : Option (List ℕ)). PlaceIs c.args.live.now.push o) b.1 is) (subst (λ (o : Option (List ℕ)). Left o (items_of c.args.part ++ more) items) b.1 left) phase counts in
-    subst (λ (o : Option (List ℕ)). PartGives g.S.Disk.view g.S.Disk.may_leave g.S.Disk.left_at h c.args.live.now.number c.take_inside.result c.take_inside.new.live.push (counts_of c.take_inside.new.live) o (items_of c.args.part) more c.take_inside.new.origin c.take_inside.new.site) (sym b.1) gives
+    let gives = c.take_inside.ensures.goes_on h b.0 more items keeps stands (subst (λ (o : Option (List ℕ)). PlaceIs c.args.live.now.push o) b.1 is)
+    (subst (λ (o : Option (List ℕ)). Left o (items_of c.args.part ++ more) items) b.1 left) phase counts in
+    subst (λ (o : Option (List ℕ)). PartGives g.S.Disk.view g.S.Disk.may_leave g.S.Disk.left_at h c.args.live.now.number c.take_inside.result c.take_inside.new.live.push (counts_of c.take_inside.new.live) o
+    (items_of c.args.part) more c.take_inside.new.origin c.take_inside.new.site) (sym b.1) gives
 
 pub returns-clause-goes_on : goal.returns-clause-goes_on
 returns-clause-goes_on g c h place more items keeps stands is left phase counts =
     let none : is_some c.args.live.now.push ≡ false = search rules in
     let b = place_none c.args.live.now.push place none is in
-    let gives = c.take_outside.ensures.goes_on h more items keeps stands (subst (λ (o : Option (List ℕ)). PlaceIs c.args.live.now.push o) b is) (subst (λ (o : Option (List ℕ)). Left o (items_of c.args.part ++ more) items) b left) phase counts in
-    subst (λ (o : Option (List ℕ)). PartGives g.S.Disk.view g.S.Disk.may_leave g.S.Disk.left_at h c.args.live.now.number c.take_outside.result c.take_outside.new.live.push (counts_of c.take_outside.new.live) o (items_of c.args.part) more c.take_outside.new.origin c.take_outside.new.site) (sym b) gives
+    let gives = c.take_outside.ensures.goes_on h more items keeps stands (subst (λ (o : Option (List ℕ)). PlaceIs c.args.live.now.push o) b is)
+    (subst (λ (o : Option (List ℕ)). Left o (items_of c.args.part ++ more) items) b left) phase counts in
+    subst (λ (o : Option (List ℕ)). PartGives g.S.Disk.view g.S.Disk.may_leave g.S.Disk.left_at h c.args.live.now.number c.take_outside.result c.take_outside.new.live.push (counts_of c.take_outside.new.live) o
+    (items_of c.args.part) more c.take_outside.new.origin c.take_outside.new.site) (sym b) gives

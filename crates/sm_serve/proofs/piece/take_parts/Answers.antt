@@ -27,7 +27,8 @@ loop-part-init g c = record {
   link_faults = refl;
   same = record { number = refl; conn = refl };
   goes_on = λ h place more items keeps stands is left phase counts.
-      open_here g.S.Disk.view g.S.Disk.may_leave g.S.Disk.left_at h c.args.live.now.number c.args.site.now c.args.live.now.push (counts_of c.args.live.now) place (joined c.args.parts.items ++ more) items c.args.origin.now keeps stands is left phase counts;
+      open_here g.S.Disk.view g.S.Disk.may_leave g.S.Disk.left_at h c.args.live.now.number c.args.site.now c.args.live.now.push (counts_of c.args.live.now) place
+      (joined c.args.parts.items ++ more) items c.args.origin.now keeps stands is left phase counts;
 }
 
 pub returns-then-not-take_part-clause-goes_on : goal.returns-then-not-take_part-clause-goes_on
@@ -44,10 +45,12 @@ returns-then-not-take_part-clause-goes_on g c h place more items keeps stands is
     let rest = joined (drop (i + 1) parts) ++ more in
     let one = subst (λ (qs : List PartItem). StaysOpen V A L h n c.loop-part.live.push (counts_of c.loop-part.live) place (joined (take i parts)) qs c.loop-part.origin c.loop-part.site) (joined_drop parts i x more t.0 t.1)
     (c.loop-part.invariant.goes_on h place more items keeps stands is left phase counts) in
-    let T : ℕ → Type 0 = λ m. (k : History) → Keeps V A L k c.loop-part.site → StandsOn V A k.point.machine c.loop-part.origin c.loop-part.site → k.point.phase ≡ acting m one.left → k.point.counts m ≡ counts_of c.loop-part.live
+    let T : ℕ → Type 0 = λ m. (k : History) → Keeps V A L k c.loop-part.site → StandsOn V A k.point.machine c.loop-part.origin c.loop-part.site → k.point.phase ≡ acting m one.left
+    → k.point.counts m ≡ counts_of c.loop-part.live
     → PartGives V A L k m false c.take_part.new.live.push (counts_of c.take_part.new.live) one.after (items_of x) rest c.take_part.new.origin c.take_part.new.site in
     let go : T c.loop-part.live.number = λ k kk ks kp kc. c.if-not-take_part.ensures.goes_on k one.after rest one.left kk ks one.after_is one.left_is kp kc in
-    then_gives V A L h n false c.loop-part.live.push c.take_part.new.live.push (counts_of c.loop-part.live) (counts_of c.take_part.new.live) place (joined (take i parts)) (items_of x) rest c.loop-part.origin c.take_part.new.origin c.loop-part.site c.take_part.new.site one
+    then_gives V A L h n false c.loop-part.live.push c.take_part.new.live.push (counts_of c.loop-part.live) (counts_of c.take_part.new.live) place (joined (take i parts))
+    (items_of x) rest c.loop-part.origin c.take_part.new.origin c.loop-part.site c.take_part.new.site one
     (subst T c.loop-part.invariant.same.number go)
 
 pub loop-part-preserved : goal.loop-part-preserved
@@ -71,10 +74,12 @@ loop-part-preserved g c =
           let rest = joined (drop (i + 1) parts) ++ more in
           let one = subst (λ (qs : List PartItem). StaysOpen V A L h n c.loop-part.live.push (counts_of c.loop-part.live) place (joined (take i parts)) qs c.loop-part.origin c.loop-part.site) (joined_drop parts i x more t.0 t.1)
           (c.loop-part.invariant.goes_on h place more items keeps stands is left phase counts) in
-          let T : ℕ → Type 0 = λ m. (k : History) → Keeps V A L k c.loop-part.site → StandsOn V A k.point.machine c.loop-part.origin c.loop-part.site → k.point.phase ≡ acting m one.left → k.point.counts m ≡ counts_of c.loop-part.live
+          let T : ℕ → Type 0 = λ m. (k : History) → Keeps V A L k c.loop-part.site → StandsOn V A k.point.machine c.loop-part.origin c.loop-part.site → k.point.phase ≡ acting m one.left
+          → k.point.counts m ≡ counts_of c.loop-part.live
           → PartGives V A L k m true c.take_part.new.live.push (counts_of c.take_part.new.live) one.after (items_of x) rest c.take_part.new.origin c.take_part.new.site in
           let go : T c.loop-part.live.number = λ k kk ks kp kc. c.if-not-take_part.ensures.goes_on k one.after rest one.left kk ks one.after_is one.left_is kp kc in
-          let all = then_gives V A L h n true c.loop-part.live.push c.take_part.new.live.push (counts_of c.loop-part.live) (counts_of c.take_part.new.live) place (joined (take i parts)) (items_of x) rest c.loop-part.origin c.take_part.new.origin c.loop-part.site c.take_part.new.site one
+          let all = then_gives V A L h n true c.loop-part.live.push c.take_part.new.live.push (counts_of c.loop-part.live) (counts_of c.take_part.new.live) place (joined (take i parts))
+          (items_of x) rest c.loop-part.origin c.take_part.new.origin c.loop-part.site c.take_part.new.site one
           (subst T c.loop-part.invariant.same.number go) in
           let at : length (c.loop-part.yielded ++ x ∷ []) ≡ i + 1 = length_push c.loop-part.yielded x in
           subst (λ (j : ℕ). StaysOpen V A L h n c.take_part.new.live.push (counts_of c.take_part.new.live) place (joined (take j parts)) (joined (drop j parts) ++ more) c.take_part.new.origin c.take_part.new.site) (sym at)

@@ -22,5 +22,6 @@ invariant-loop-part g l = record {
   goes_on : (h : History) (place : Option (List ℕ)) (more : List PartItem) (items : List WireItem) → Keeps g.S.Disk.view g.S.Disk.may_leave g.S.Disk.left_at h l.fn.site
       → StandsOn g.S.Disk.view g.S.Disk.may_leave h.point.machine l.fn.origin l.fn.site → PlaceIs l.fn.live.push place → Left place (joined l.fn.parts.items ++ more) items
       → h.point.phase ≡ acting l.fn.live.number items → h.point.counts l.fn.live.number ≡ counts_of l.fn.live
-      → StaysOpen g.S.Disk.view g.S.Disk.may_leave g.S.Disk.left_at h l.fn.live.number l.live.push (counts_of l.live) place (joined (take (length l.yielded) l.fn.parts.items)) (joined (drop (length l.yielded) l.fn.parts.items) ++ more) l.origin l.site;
+      → StaysOpen g.S.Disk.view g.S.Disk.may_leave g.S.Disk.left_at h l.fn.live.number l.live.push (counts_of l.live) place (joined (take (length l.yielded) l.fn.parts.items))
+      (joined (drop (length l.yielded) l.fn.parts.items) ++ more) l.origin l.site;
 }

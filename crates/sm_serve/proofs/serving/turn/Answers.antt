@@ -27,7 +27,8 @@ handle-requires-clause-may g c =
     let d = c.args.site.now in
     let e = c.next.new.self in
     let adds : Adds (deal_of c.in-Ok.event) (W d) (W e) = c.in-Ok.ensures.taken in
-    may_handle g.S.Disk.view g.S.Link.view g.S.Disk.may_leave g.S.Link.may_leave g.S.Disk.left_at g.S.Link.left_at g.met.S.Site.one_view g.met.S.Site.one_disk g.met.S.Site.one_past g.met.S.Disk.told c.in-Ok.event c.args.state.now d e c.requires.known adds (told_here g.S.Disk.view W g.met.S.Site.one_view d e (adds_told (W d) (W e) (deal_of c.in-Ok.event) adds))
+    may_handle g.S.Disk.view g.S.Link.view g.S.Disk.may_leave g.S.Link.may_leave g.S.Disk.left_at g.S.Link.left_at g.met.S.Site.one_view g.met.S.Site.one_disk g.met.S.Site.one_past g.met.S.Disk.told c.in-Ok.event c.args.state.now d e
+    c.requires.known adds (told_here g.S.Disk.view W g.met.S.Site.one_view d e (adds_told (W d) (W e) (deal_of c.in-Ok.event) adds))
 
 pub returns-in-Ok-clause-runs : goal.returns-in-Ok-clause-runs
 returns-in-Ok-clause-runs g c h serves =
@@ -35,18 +36,23 @@ returns-in-Ok-clause-runs g c h serves =
     let d = c.args.site.now in
     let e = c.next.new.self in
     let adds : Adds (deal_of c.in-Ok.event) (W d) (W e) = c.in-Ok.ensures.taken in
-    let call : LinkCall g.S.Disk.view g.S.Link.view g.S.Disk.may_leave g.S.Link.may_leave g.S.Disk.left_at g.S.Link.left_at g.met.S.Site.one_view g.met.S.Site.one_disk g.met.S.Site.one_past g.met.S.Disk.told d e = record { time = c.next.ensures.time; same = c.next.ensures.crash; disk = c.next.ensures.disk } in
-    let p = pend g.S.Disk.view g.S.Link.view g.S.Disk.may_leave g.S.Link.may_leave g.S.Disk.left_at g.S.Link.left_at g.met.S.Site.one_view g.met.S.Site.one_disk g.met.S.Site.one_past g.met.S.Disk.told h d e (deal_of c.in-Ok.event) serves.keeps call adds c.next.ensures.send_faults in
+    let call : LinkCall g.S.Disk.view g.S.Link.view g.S.Disk.may_leave g.S.Link.may_leave g.S.Disk.left_at g.S.Link.left_at g.met.S.Site.one_view g.met.S.Site.one_disk g.met.S.Site.one_past g.met.S.Disk.told d e =
+    record { time = c.next.ensures.time; same = c.next.ensures.crash; disk = c.next.ensures.disk } in
+    let p = pend g.S.Disk.view g.S.Link.view g.S.Disk.may_leave g.S.Link.may_leave g.S.Disk.left_at g.S.Link.left_at g.met.S.Site.one_view g.met.S.Site.one_disk g.met.S.Site.one_past g.met.S.Disk.told h d e
+    (deal_of c.in-Ok.event) serves.keeps call adds c.next.ensures.send_faults in
     let next : IfSome (W d).transcript (IsNext c.in-Ok.event) = c.in-Ok.ensures.rising in
     let same = same_here g.S.Disk.view g.S.Link.view g.S.Disk.may_leave g.S.Link.may_leave g.S.Disk.left_at g.S.Link.left_at g.met.S.Site.one_view g.met.S.Site.one_disk g.met.S.Site.one_past d e c.next.ensures.crash in
     let rest : IsAtRest g.S.Disk.view g.S.Disk.may_leave h c.args.state.now e = record {
-      stands = c.fewer_images_stand.ensures h.point.machine c.args.state.now.origin d e serves.rest.stands (contents_here g.S.Disk.view g.S.Link.view g.S.Disk.may_leave g.S.Link.may_leave g.S.Disk.left_at g.S.Link.left_at g.met.S.Site.one_view g.met.S.Site.one_disk g.met.S.Site.one_past g.met.S.Disk.told d e call) (λ image left. (same image).0 left);
+      stands = c.fewer_images_stand.ensures h.point.machine c.args.state.now.origin d e serves.rest.stands
+          (contents_here g.S.Disk.view g.S.Link.view g.S.Disk.may_leave g.S.Link.may_leave g.S.Disk.left_at g.S.Link.left_at g.met.S.Site.one_view g.met.S.Site.one_disk g.met.S.Site.one_past g.met.S.Disk.told d e call)
+          (λ image left. (same image).0 left);
       phase_is = serves.rest.phase_is;
       numbers = serves.rest.numbers;
       resting = serves.rest.resting;
     } in
     subst (λ (k : ℕ). Turns g.S.Disk.view g.S.Disk.may_leave g.S.Disk.left_at h k c.handle.new.state c.handle.new.site) (sym (took c.handle.result c.handle.ensures.no_fault c.handle.ensures.no_want))
-    (c.handle.ensures.goes_on h p.0 p.1 rest (is_new g.S.Disk.view g.S.Link.view g.S.Disk.may_leave g.S.Link.may_leave g.S.Disk.left_at g.S.Link.left_at g.met.S.Site.one_view g.met.S.Site.one_disk g.met.S.Site.one_past g.met.S.Disk.told c.in-Ok.event h d serves.keeps.told next))
+    (c.handle.ensures.goes_on h p.0 p.1 rest (is_new g.S.Disk.view g.S.Link.view g.S.Disk.may_leave g.S.Link.may_leave g.S.Disk.left_at g.S.Link.left_at g.met.S.Site.one_view g.met.S.Site.one_disk g.met.S.Site.one_past g.met.S.Disk.told
+    c.in-Ok.event h d serves.keeps.told next))
 
 pub returns-in-Ok-clause-link_fault : goal.returns-in-Ok-clause-link_fault
 returns-in-Ok-clause-link_fault g c is = absurd (c.handle.ensures.no_fault is)
@@ -56,13 +62,15 @@ returns-in-Ok-clause-none_taken g c is = absurd (⊎_elim c.handle.ensures.no_fa
 
 pub returns-in-Err-Failed-clause-runs : goal.returns-in-Err-Failed-clause-runs
 returns-in-Err-Failed-clause-runs g c h serves =
-    let call : LinkCall g.S.Disk.view g.S.Link.view g.S.Disk.may_leave g.S.Link.may_leave g.S.Disk.left_at g.S.Link.left_at g.met.S.Site.one_view g.met.S.Site.one_disk g.met.S.Site.one_past g.met.S.Disk.told c.args.site.now c.next.new.self = record { time = c.next.ensures.time; same = c.next.ensures.crash; disk = c.next.ensures.disk } in
+    let call : LinkCall g.S.Disk.view g.S.Link.view g.S.Disk.may_leave g.S.Link.may_leave g.S.Disk.left_at g.S.Link.left_at g.met.S.Site.one_view g.met.S.Site.one_disk g.met.S.Site.one_past g.met.S.Disk.told c.args.site.now
+    c.next.new.self = record { time = c.next.ensures.time; same = c.next.ensures.crash; disk = c.next.ensures.disk } in
     still_serves g.S.Disk.view g.S.Link.view g.S.Disk.may_leave g.S.Link.may_leave g.S.Disk.left_at g.S.Link.left_at g.met.S.Site.one_view g.met.S.Site.one_disk g.met.S.Site.one_past g.met.S.Disk.told
     c.fewer_images_stand.ensures h c.args.state.now c.args.site.now c.next.new.self serves call c.in-Err-Failed.ensures.not_taken c.next.ensures.send_faults
 
 pub returns-in-Err-NoMemory-clause-runs : goal.returns-in-Err-NoMemory-clause-runs
 returns-in-Err-NoMemory-clause-runs g c h serves =
-    let call : LinkCall g.S.Disk.view g.S.Link.view g.S.Disk.may_leave g.S.Link.may_leave g.S.Disk.left_at g.S.Link.left_at g.met.S.Site.one_view g.met.S.Site.one_disk g.met.S.Site.one_past g.met.S.Disk.told c.args.site.now c.next.new.self = record { time = c.next.ensures.time; same = c.next.ensures.crash; disk = c.next.ensures.disk } in
+    let call : LinkCall g.S.Disk.view g.S.Link.view g.S.Disk.may_leave g.S.Link.may_leave g.S.Disk.left_at g.S.Link.left_at g.met.S.Site.one_view g.met.S.Site.one_disk g.met.S.Site.one_past g.met.S.Disk.told c.args.site.now
+    c.next.new.self = record { time = c.next.ensures.time; same = c.next.ensures.crash; disk = c.next.ensures.disk } in
     still_serves g.S.Disk.view g.S.Link.view g.S.Disk.may_leave g.S.Link.may_leave g.S.Disk.left_at g.S.Link.left_at g.met.S.Site.one_view g.met.S.Site.one_disk g.met.S.Site.one_past g.met.S.Disk.told
     c.fewer_images_stand.ensures h c.args.state.now c.args.site.now c.next.new.self serves call c.in-Err-NoMemory.ensures.not_taken c.next.ensures.send_faults
 
@@ -81,8 +89,12 @@ handle-requires-clause-stands g c =
     let e = c.next.new.self in
     let call : LinkCall g.S.Disk.view g.S.Link.view g.S.Disk.may_leave g.S.Link.may_leave g.S.Disk.left_at g.S.Link.left_at g.met.S.Site.one_view g.met.S.Site.one_disk g.met.S.Site.one_past g.met.S.Disk.told d e =
     record { time = c.next.ensures.time; same = c.next.ensures.crash; disk = c.next.ensures.disk } in
-    let same = same_here g.S.Disk.view g.S.Link.view g.S.Disk.may_leave g.S.Link.may_leave g.S.Disk.left_at g.S.Link.left_at g.met.S.Site.one_view g.met.S.Site.one_disk g.met.S.Site.one_past d e c.next.ensures.crash in
-    (m.0, c.fewer_images_stand.ensures m.0 c.args.state.now.origin d e m.1 (contents_here g.S.Disk.view g.S.Link.view g.S.Disk.may_leave g.S.Link.may_leave g.S.Disk.left_at g.S.Link.left_at g.met.S.Site.one_view g.met.S.Site.one_disk g.met.S.Site.one_past g.met.S.Disk.told d e call) (λ image left. (same image).0 left))
+    let same = same_here g.S.Disk.view g.S.Link.view g.S.Disk.may_leave g.S.Link.may_leave g.S.Disk.left_at g.S.Link.left_at g.met.S.Site.one_view g.met.S.Site.one_disk g.met.S.Site.one_past d e c.next.ensures.crash in (
+      m.0,
+      c.fewer_images_stand.ensures m.0 c.args.state.now.origin d e m.1
+          (contents_here g.S.Disk.view g.S.Link.view g.S.Disk.may_leave g.S.Link.may_leave g.S.Disk.left_at g.S.Link.left_at g.met.S.Site.one_view g.met.S.Site.one_disk g.met.S.Site.one_past g.met.S.Disk.told d e call)
+          (λ image left. (same image).0 left),
+    )
 
 pub returns-in-Err-Failed-clause-stands : goal.returns-in-Err-Failed-clause-stands
 returns-in-Err-Failed-clause-stands g c =
@@ -91,8 +103,12 @@ returns-in-Err-Failed-clause-stands g c =
     let e = c.next.new.self in
     let call : LinkCall g.S.Disk.view g.S.Link.view g.S.Disk.may_leave g.S.Link.may_leave g.S.Disk.left_at g.S.Link.left_at g.met.S.Site.one_view g.met.S.Site.one_disk g.met.S.Site.one_past g.met.S.Disk.told d e =
     record { time = c.next.ensures.time; same = c.next.ensures.crash; disk = c.next.ensures.disk } in
-    let same = same_here g.S.Disk.view g.S.Link.view g.S.Disk.may_leave g.S.Link.may_leave g.S.Disk.left_at g.S.Link.left_at g.met.S.Site.one_view g.met.S.Site.one_disk g.met.S.Site.one_past d e c.next.ensures.crash in
-    (m.0, c.fewer_images_stand.ensures m.0 c.args.state.now.origin d e m.1 (contents_here g.S.Disk.view g.S.Link.view g.S.Disk.may_leave g.S.Link.may_leave g.S.Disk.left_at g.S.Link.left_at g.met.S.Site.one_view g.met.S.Site.one_disk g.met.S.Site.one_past g.met.S.Disk.told d e call) (λ image left. (same image).0 left))
+    let same = same_here g.S.Disk.view g.S.Link.view g.S.Disk.may_leave g.S.Link.may_leave g.S.Disk.left_at g.S.Link.left_at g.met.S.Site.one_view g.met.S.Site.one_disk g.met.S.Site.one_past d e c.next.ensures.crash in (
+      m.0,
+      c.fewer_images_stand.ensures m.0 c.args.state.now.origin d e m.1
+          (contents_here g.S.Disk.view g.S.Link.view g.S.Disk.may_leave g.S.Link.may_leave g.S.Disk.left_at g.S.Link.left_at g.met.S.Site.one_view g.met.S.Site.one_disk g.met.S.Site.one_past g.met.S.Disk.told d e call)
+          (λ image left. (same image).0 left),
+    )
 
 pub returns-in-Err-NoMemory-clause-stands : goal.returns-in-Err-NoMemory-clause-stands
 returns-in-Err-NoMemory-clause-stands g c =
@@ -101,8 +117,12 @@ returns-in-Err-NoMemory-clause-stands g c =
     let e = c.next.new.self in
     let call : LinkCall g.S.Disk.view g.S.Link.view g.S.Disk.may_leave g.S.Link.may_leave g.S.Disk.left_at g.S.Link.left_at g.met.S.Site.one_view g.met.S.Site.one_disk g.met.S.Site.one_past g.met.S.Disk.told d e =
     record { time = c.next.ensures.time; same = c.next.ensures.crash; disk = c.next.ensures.disk } in
-    let same = same_here g.S.Disk.view g.S.Link.view g.S.Disk.may_leave g.S.Link.may_leave g.S.Disk.left_at g.S.Link.left_at g.met.S.Site.one_view g.met.S.Site.one_disk g.met.S.Site.one_past d e c.next.ensures.crash in
-    (m.0, c.fewer_images_stand.ensures m.0 c.args.state.now.origin d e m.1 (contents_here g.S.Disk.view g.S.Link.view g.S.Disk.may_leave g.S.Link.may_leave g.S.Disk.left_at g.S.Link.left_at g.met.S.Site.one_view g.met.S.Site.one_disk g.met.S.Site.one_past g.met.S.Disk.told d e call) (λ image left. (same image).0 left))
+    let same = same_here g.S.Disk.view g.S.Link.view g.S.Disk.may_leave g.S.Link.may_leave g.S.Disk.left_at g.S.Link.left_at g.met.S.Site.one_view g.met.S.Site.one_disk g.met.S.Site.one_past d e c.next.ensures.crash in (
+      m.0,
+      c.fewer_images_stand.ensures m.0 c.args.state.now.origin d e m.1
+          (contents_here g.S.Disk.view g.S.Link.view g.S.Disk.may_leave g.S.Link.may_leave g.S.Disk.left_at g.S.Link.left_at g.met.S.Site.one_view g.met.S.Site.one_disk g.met.S.Site.one_past g.met.S.Disk.told d e call)
+          (λ image left. (same image).0 left),
+    )
 
 pub returns-in-Ok-clause-link_faults : goal.returns-in-Ok-clause-link_faults
 returns-in-Ok-clause-link_faults g c =

@@ -24,7 +24,8 @@ close-requires-in-Err g c =
     let part : ((k : ℕ) × (k ≤ length c.args.bytes.now) × Adds (Sent c.args.number (take k c.args.bytes.now) true) (W d) (W e)) ⊎ ((W e).transcript ≡ (W d).transcript) = search rules in
     record {
       live = ⊎_elim
-          (λ (p : (k : ℕ) × (k ≤ length c.args.bytes.now) × Adds (Sent c.args.number (take k c.args.bytes.now) true) (W d) (W e)). stays_live (g.S.Link.view c.args.site.now) (g.S.Link.view c.send.new.self) c.args.number (Sent c.args.number (take p.0 c.args.bytes.now) true) (λ was t. t) live p.2)
+          (λ (p : (k : ℕ) × (k ≤ length c.args.bytes.now) × Adds (Sent c.args.number (take k c.args.bytes.now) true) (W d) (W e)). stays_live (g.S.Link.view c.args.site.now) (g.S.Link.view c.send.new.self) c.args.number
+          (Sent c.args.number (take p.0 c.args.bytes.now) true) (λ was t. t) live p.2)
           (λ (same : (W e).transcript ≡ (W d).transcript). subst (λ (o : _). IfSome o (IsLive c.args.number)) (sym same) live) part;
     }
 
@@ -32,7 +33,8 @@ pub returns-else-close-clause-open : goal.returns-else-close-clause-open
 returns-else-close-clause-open g c open_ =
     let live : IfSome (g.S.Link.view c.args.site.now).transcript (IsLive c.args.number) = subst (λ (v : View). IfSome v.transcript (IsLive c.args.number)) (g.met.S.Site.one_view c.args.site.now) c.requires.live in
     let adds : Adds (Sent c.args.number c.args.bytes.now false) (g.S.Link.view c.args.site.now) (g.S.Link.view c.send.new.self) = search rules in
-    subst (λ (v : View). IfSome v.transcript (IsLive c.args.number)) (sym (g.met.S.Site.one_view c.send.new.self)) (stays_live (g.S.Link.view c.args.site.now) (g.S.Link.view c.send.new.self) c.args.number (Sent c.args.number c.args.bytes.now false) (λ was t. t) live adds)
+    subst (λ (v : View). IfSome v.transcript (IsLive c.args.number)) (sym (g.met.S.Site.one_view c.send.new.self))
+    (stays_live (g.S.Link.view c.args.site.now) (g.S.Link.view c.send.new.self) c.args.number (Sent c.args.number c.args.bytes.now false) (λ was t. t) live adds)
 
 pub returns-else-close-clause-goes_on : goal.returns-else-close-clause-goes_on
 returns-else-close-clause-goes_on g c h more origin keeps stands phase =
@@ -43,13 +45,16 @@ returns-else-close-clause-goes_on g c h more origin keeps stands phase =
     let n = c.args.number in
     let adds : Adds (Sent n c.args.bytes.now false) (W d) (W e) = search rules in
     let faults : (W e).send_faults ≡ (W d).send_faults = search rules in
-    let call : LinkCall V W g.S.Disk.may_leave g.S.Link.may_leave g.S.Disk.left_at g.S.Link.left_at g.met.S.Site.one_view g.met.S.Site.one_disk g.met.S.Site.one_past g.met.S.Disk.told d e = record { time = c.send.ensures.time; same = c.send.ensures.crash; disk = c.send.ensures.disk } in
+    let call : LinkCall V W g.S.Disk.may_leave g.S.Link.may_leave g.S.Disk.left_at g.S.Link.left_at g.met.S.Site.one_view g.met.S.Site.one_disk g.met.S.Site.one_past g.met.S.Disk.told d e =
+    record { time = c.send.ensures.time; same = c.send.ensures.crash; disk = c.send.ensures.disk } in
     let same = same_here V W g.S.Disk.may_leave g.S.Link.may_leave g.S.Disk.left_at g.S.Link.left_at g.met.S.Site.one_view g.met.S.Site.one_disk g.met.S.Site.one_past d e c.send.ensures.crash in
-    let a = sent_after V W g.S.Disk.may_leave g.S.Link.may_leave g.S.Disk.left_at g.S.Link.left_at g.met.S.Site.one_view g.met.S.Site.one_disk g.met.S.Site.one_past g.met.S.Disk.told h d e n c.args.bytes.now c.args.close more keeps call phase adds faults in
+    let a = sent_after V W g.S.Disk.may_leave g.S.Link.may_leave g.S.Disk.left_at g.S.Link.left_at g.met.S.Site.one_view g.met.S.Site.one_disk g.met.S.Site.one_past g.met.S.Disk.told h d e n c.args.bytes.now c.args.close more keeps call
+    phase adds faults in
     let q = in_phase h.point (acting n more) in
     let is : a.later.point ≡ q = a.point_is ∙ ap (λ (b : Bool). in_phase h.point (if b then shutting n else acting n more)) c.if-close.false in
     reached V g.S.Disk.may_leave g.S.Disk.left_at h a.later n true e q origin a.keeps a.follows is refl refl
-    (c.fewer_images_stand.ensures h.point.machine origin d e stands (contents_here V W g.S.Disk.may_leave g.S.Link.may_leave g.S.Disk.left_at g.S.Link.left_at g.met.S.Site.one_view g.met.S.Site.one_disk g.met.S.Site.one_past g.met.S.Disk.told d e call) (λ image left. (same image).0 left))
+    (c.fewer_images_stand.ensures h.point.machine origin d e stands
+    (contents_here V W g.S.Disk.may_leave g.S.Link.may_leave g.S.Disk.left_at g.S.Link.left_at g.met.S.Site.one_view g.met.S.Site.one_disk g.met.S.Site.one_past g.met.S.Disk.told d e call) (λ image left. (same image).0 left))
 
 pub returns-then-close-clause-goes_on : goal.returns-then-close-clause-goes_on
 returns-then-close-clause-goes_on g c h more origin keeps stands phase =
@@ -61,16 +66,22 @@ returns-then-close-clause-goes_on g c h more origin keeps stands phase =
     let n = c.args.number in
     let adds : Adds (Sent n c.args.bytes.now false) (W d) (W e) = search rules in
     let faults : (W e).send_faults ≡ (W d).send_faults = search rules in
-    let call : LinkCall V W g.S.Disk.may_leave g.S.Link.may_leave g.S.Disk.left_at g.S.Link.left_at g.met.S.Site.one_view g.met.S.Site.one_disk g.met.S.Site.one_past g.met.S.Disk.told d e = record { time = c.send.ensures.time; same = c.send.ensures.crash; disk = c.send.ensures.disk } in
+    let call : LinkCall V W g.S.Disk.may_leave g.S.Link.may_leave g.S.Disk.left_at g.S.Link.left_at g.met.S.Site.one_view g.met.S.Site.one_disk g.met.S.Site.one_past g.met.S.Disk.told d e =
+    record { time = c.send.ensures.time; same = c.send.ensures.crash; disk = c.send.ensures.disk } in
     let same = same_here V W g.S.Disk.may_leave g.S.Link.may_leave g.S.Disk.left_at g.S.Link.left_at g.met.S.Site.one_view g.met.S.Site.one_disk g.met.S.Site.one_past d e c.send.ensures.crash in
-    let call2 : LinkCall V W g.S.Disk.may_leave g.S.Link.may_leave g.S.Disk.left_at g.S.Link.left_at g.met.S.Site.one_view g.met.S.Site.one_disk g.met.S.Site.one_past g.met.S.Disk.told e f = record { time = c.close.ensures.time; same = c.close.ensures.crash; disk = c.close.ensures.disk } in
+    let call2 : LinkCall V W g.S.Disk.may_leave g.S.Link.may_leave g.S.Disk.left_at g.S.Link.left_at g.met.S.Site.one_view g.met.S.Site.one_disk g.met.S.Site.one_past g.met.S.Disk.told e f =
+    record { time = c.close.ensures.time; same = c.close.ensures.crash; disk = c.close.ensures.disk } in
     let same2 = same_here V W g.S.Disk.may_leave g.S.Link.may_leave g.S.Disk.left_at g.S.Link.left_at g.met.S.Site.one_view g.met.S.Site.one_disk g.met.S.Site.one_past e f c.close.ensures.crash in
-    let a = sent_after V W g.S.Disk.may_leave g.S.Link.may_leave g.S.Disk.left_at g.S.Link.left_at g.met.S.Site.one_view g.met.S.Site.one_disk g.met.S.Site.one_past g.met.S.Disk.told h d e n c.args.bytes.now c.args.close more keeps call phase adds faults in
+    let a = sent_after V W g.S.Disk.may_leave g.S.Link.may_leave g.S.Disk.left_at g.S.Link.left_at g.met.S.Site.one_view g.met.S.Site.one_disk g.met.S.Site.one_past g.met.S.Disk.told h d e n c.args.bytes.now c.args.close more keeps call
+    phase adds faults in
     let q = in_phase h.point (if c.args.close then shutting n else acting n more) in
     let shuts : q.phase ≡ shutting n = ap (λ (b : Bool). if b then shutting n else acting n more) c.if-close.true in
-    let s = then_shut V W g.S.Disk.may_leave g.S.Link.may_leave g.S.Disk.left_at g.S.Link.left_at g.met.S.Site.one_view g.met.S.Site.one_disk g.met.S.Site.one_past g.met.S.Disk.told h e f n q a shuts call2 c.close.ensures.shut c.close.ensures.send_faults in
+    let s = then_shut V W g.S.Disk.may_leave g.S.Link.may_leave g.S.Disk.left_at g.S.Link.left_at g.met.S.Site.one_view g.met.S.Site.one_disk g.met.S.Site.one_past g.met.S.Disk.told h e f n q a shuts call2 c.close.ensures.shut
+    c.close.ensures.send_faults in
     reached V g.S.Disk.may_leave g.S.Disk.left_at h s.later n false f (in_phase q idle) origin s.keeps s.follows s.point_is refl refl
-    (c.fewer_images_stand.ensures h.point.machine origin d f stands (contents_here V W g.S.Disk.may_leave g.S.Link.may_leave g.S.Disk.left_at g.S.Link.left_at g.met.S.Site.one_view g.met.S.Site.one_disk g.met.S.Site.one_past g.met.S.Disk.told e f call2 ∙ contents_here V W g.S.Disk.may_leave g.S.Link.may_leave g.S.Disk.left_at g.S.Link.left_at g.met.S.Site.one_view g.met.S.Site.one_disk g.met.S.Site.one_past g.met.S.Disk.told d e call)
+    (c.fewer_images_stand.ensures h.point.machine origin d f stands
+    (contents_here V W g.S.Disk.may_leave g.S.Link.may_leave g.S.Disk.left_at g.S.Link.left_at g.met.S.Site.one_view g.met.S.Site.one_disk g.met.S.Site.one_past g.met.S.Disk.told e f call2 ∙ contents_here V W g.S.Disk.may_leave
+    g.S.Link.may_leave g.S.Disk.left_at g.S.Link.left_at g.met.S.Site.one_view g.met.S.Site.one_disk g.met.S.Site.one_past g.met.S.Disk.told d e call)
     (λ image left. (same image).0 ((same2 image).0 left)))
 
 pub returns-in-Err-clause-goes_on : goal.returns-in-Err-clause-goes_on
@@ -83,17 +94,26 @@ returns-in-Err-clause-goes_on g c h more origin keeps stands phase =
     let n = c.args.number in
     let part : ((k : ℕ) × (k ≤ length c.args.bytes.now) × Adds (Sent n (take k c.args.bytes.now) true) (W d) (W e)) ⊎ ((W e).transcript ≡ (W d).transcript) = search rules in
     let rose : Rose (W d).send_faults (W e).send_faults = search rules in
-    let call : LinkCall V W g.S.Disk.may_leave g.S.Link.may_leave g.S.Disk.left_at g.S.Link.left_at g.met.S.Site.one_view g.met.S.Site.one_disk g.met.S.Site.one_past g.met.S.Disk.told d e = record { time = c.send.ensures.time; same = c.send.ensures.crash; disk = c.send.ensures.disk } in
+    let call : LinkCall V W g.S.Disk.may_leave g.S.Link.may_leave g.S.Disk.left_at g.S.Link.left_at g.met.S.Site.one_view g.met.S.Site.one_disk g.met.S.Site.one_past g.met.S.Disk.told d e =
+    record { time = c.send.ensures.time; same = c.send.ensures.crash; disk = c.send.ensures.disk } in
     let same = same_here V W g.S.Disk.may_leave g.S.Link.may_leave g.S.Disk.left_at g.S.Link.left_at g.met.S.Site.one_view g.met.S.Site.one_disk g.met.S.Site.one_past d e c.send.ensures.crash in
-    let call2 : LinkCall V W g.S.Disk.may_leave g.S.Link.may_leave g.S.Disk.left_at g.S.Link.left_at g.met.S.Site.one_view g.met.S.Site.one_disk g.met.S.Site.one_past g.met.S.Disk.told e f = record { time = c.close-in-Err.ensures.time; same = c.close-in-Err.ensures.crash; disk = c.close-in-Err.ensures.disk } in
+    let call2 : LinkCall V W g.S.Disk.may_leave g.S.Link.may_leave g.S.Disk.left_at g.S.Link.left_at g.met.S.Site.one_view g.met.S.Site.one_disk g.met.S.Site.one_past g.met.S.Disk.told e f =
+    record { time = c.close-in-Err.ensures.time; same = c.close-in-Err.ensures.crash; disk = c.close-in-Err.ensures.disk } in
     let same2 = same_here V W g.S.Disk.may_leave g.S.Link.may_leave g.S.Disk.left_at g.S.Link.left_at g.met.S.Site.one_view g.met.S.Site.one_disk g.met.S.Site.one_past e f c.close-in-Err.ensures.crash in
     let q = behind_failure h.point (shutting n) in
     let a : After V W g.S.Disk.may_leave g.S.Link.may_leave g.S.Disk.left_at g.S.Link.left_at g.met.S.Site.one_view g.met.S.Site.one_disk g.met.S.Site.one_past g.met.S.Disk.told h n true e q = ⊎_elim
-    (λ (p : (k : ℕ) × (k ≤ length c.args.bytes.now) × Adds (Sent n (take k c.args.bytes.now) true) (W d) (W e)). failed_after V W g.S.Disk.may_leave g.S.Link.may_leave g.S.Disk.left_at g.S.Link.left_at g.met.S.Site.one_view g.met.S.Site.one_disk g.met.S.Site.one_past g.met.S.Disk.told h d e n p.0 c.args.bytes.now c.args.close more keeps call phase p.2 rose)
-    (λ (still : (W e).transcript ≡ (W d).transcript). unsent_after V W g.S.Disk.may_leave g.S.Link.may_leave g.S.Disk.left_at g.S.Link.left_at g.met.S.Site.one_view g.met.S.Site.one_disk g.met.S.Site.one_past g.met.S.Disk.told h d e n c.args.bytes.now c.args.close more keeps call phase still rose) part in
-    let s = then_shut V W g.S.Disk.may_leave g.S.Link.may_leave g.S.Disk.left_at g.S.Link.left_at g.met.S.Site.one_view g.met.S.Site.one_disk g.met.S.Site.one_past g.met.S.Disk.told h e f n q a refl call2 c.close-in-Err.ensures.shut c.close-in-Err.ensures.send_faults in
+    (λ (p : (k : ℕ) × (k ≤ length c.args.bytes.now)
+    × Adds (Sent n (take k c.args.bytes.now) true) (W d)
+    (W e)). failed_after V W g.S.Disk.may_leave g.S.Link.may_leave g.S.Disk.left_at g.S.Link.left_at g.met.S.Site.one_view g.met.S.Site.one_disk g.met.S.Site.one_past g.met.S.Disk.told h d e n p.0 c.args.bytes.now c.args.close more
+    keeps call phase p.2 rose)
+    (λ (still : (W e).transcript ≡ (W d).transcript). unsent_after V W g.S.Disk.may_leave g.S.Link.may_leave g.S.Disk.left_at g.S.Link.left_at g.met.S.Site.one_view g.met.S.Site.one_disk g.met.S.Site.one_past g.met.S.Disk.told h d e
+    n c.args.bytes.now c.args.close more keeps call phase still rose) part in
+    let s = then_shut V W g.S.Disk.may_leave g.S.Link.may_leave g.S.Disk.left_at g.S.Link.left_at g.met.S.Site.one_view g.met.S.Site.one_disk g.met.S.Site.one_past g.met.S.Disk.told h e f n q a refl call2 c.close-in-Err.ensures.shut
+    c.close-in-Err.ensures.send_faults in
     reached V g.S.Disk.may_leave g.S.Disk.left_at h s.later n false f (in_phase q idle) origin s.keeps s.follows s.point_is refl refl
-    (c.fewer_images_stand.ensures h.point.machine origin d f stands (contents_here V W g.S.Disk.may_leave g.S.Link.may_leave g.S.Disk.left_at g.S.Link.left_at g.met.S.Site.one_view g.met.S.Site.one_disk g.met.S.Site.one_past g.met.S.Disk.told e f call2 ∙ contents_here V W g.S.Disk.may_leave g.S.Link.may_leave g.S.Disk.left_at g.S.Link.left_at g.met.S.Site.one_view g.met.S.Site.one_disk g.met.S.Site.one_past g.met.S.Disk.told d e call)
+    (c.fewer_images_stand.ensures h.point.machine origin d f stands
+    (contents_here V W g.S.Disk.may_leave g.S.Link.may_leave g.S.Disk.left_at g.S.Link.left_at g.met.S.Site.one_view g.met.S.Site.one_disk g.met.S.Site.one_past g.met.S.Disk.told e f call2 ∙ contents_here V W g.S.Disk.may_leave
+    g.S.Link.may_leave g.S.Disk.left_at g.S.Link.left_at g.met.S.Site.one_view g.met.S.Site.one_disk g.met.S.Site.one_past g.met.S.Disk.told d e call)
     (λ image left. (same image).0 ((same2 image).0 left)))
 
 pub returns-else-close-clause-told : goal.returns-else-close-clause-told
@@ -125,7 +145,8 @@ returns-else-close-clause-contents g c =
     let W = g.S.Link.view in
     let d = c.args.site.now in
     let e = c.send.new.self in
-    let call : LinkCall V W g.S.Disk.may_leave g.S.Link.may_leave g.S.Disk.left_at g.S.Link.left_at g.met.S.Site.one_view g.met.S.Site.one_disk g.met.S.Site.one_past g.met.S.Disk.told d e = record { time = c.send.ensures.time; same = c.send.ensures.crash; disk = c.send.ensures.disk } in
+    let call : LinkCall V W g.S.Disk.may_leave g.S.Link.may_leave g.S.Disk.left_at g.S.Link.left_at g.met.S.Site.one_view g.met.S.Site.one_disk g.met.S.Site.one_past g.met.S.Disk.told d e =
+    record { time = c.send.ensures.time; same = c.send.ensures.crash; disk = c.send.ensures.disk } in
     contents_here V W g.S.Disk.may_leave g.S.Link.may_leave g.S.Disk.left_at g.S.Link.left_at g.met.S.Site.one_view g.met.S.Site.one_disk g.met.S.Site.one_past g.met.S.Disk.told d e call
 
 pub returns-then-close-clause-contents : goal.returns-then-close-clause-contents
@@ -135,9 +156,12 @@ returns-then-close-clause-contents g c =
     let d = c.args.site.now in
     let e = c.send.new.self in
     let f = c.close.new.self in
-    let call : LinkCall V W g.S.Disk.may_leave g.S.Link.may_leave g.S.Disk.left_at g.S.Link.left_at g.met.S.Site.one_view g.met.S.Site.one_disk g.met.S.Site.one_past g.met.S.Disk.told d e = record { time = c.send.ensures.time; same = c.send.ensures.crash; disk = c.send.ensures.disk } in
-    let call2 : LinkCall V W g.S.Disk.may_leave g.S.Link.may_leave g.S.Disk.left_at g.S.Link.left_at g.met.S.Site.one_view g.met.S.Site.one_disk g.met.S.Site.one_past g.met.S.Disk.told e f = record { time = c.close.ensures.time; same = c.close.ensures.crash; disk = c.close.ensures.disk } in
-    contents_here V W g.S.Disk.may_leave g.S.Link.may_leave g.S.Disk.left_at g.S.Link.left_at g.met.S.Site.one_view g.met.S.Site.one_disk g.met.S.Site.one_past g.met.S.Disk.told e f call2 ∙ contents_here V W g.S.Disk.may_leave g.S.Link.may_leave g.S.Disk.left_at g.S.Link.left_at g.met.S.Site.one_view g.met.S.Site.one_disk g.met.S.Site.one_past g.met.S.Disk.told d e call
+    let call : LinkCall V W g.S.Disk.may_leave g.S.Link.may_leave g.S.Disk.left_at g.S.Link.left_at g.met.S.Site.one_view g.met.S.Site.one_disk g.met.S.Site.one_past g.met.S.Disk.told d e =
+    record { time = c.send.ensures.time; same = c.send.ensures.crash; disk = c.send.ensures.disk } in
+    let call2 : LinkCall V W g.S.Disk.may_leave g.S.Link.may_leave g.S.Disk.left_at g.S.Link.left_at g.met.S.Site.one_view g.met.S.Site.one_disk g.met.S.Site.one_past g.met.S.Disk.told e f =
+    record { time = c.close.ensures.time; same = c.close.ensures.crash; disk = c.close.ensures.disk } in
+    contents_here V W g.S.Disk.may_leave g.S.Link.may_leave g.S.Disk.left_at g.S.Link.left_at g.met.S.Site.one_view g.met.S.Site.one_disk g.met.S.Site.one_past g.met.S.Disk.told e f call2 ∙ contents_here V W g.S.Disk.may_leave
+    g.S.Link.may_leave g.S.Disk.left_at g.S.Link.left_at g.met.S.Site.one_view g.met.S.Site.one_disk g.met.S.Site.one_past g.met.S.Disk.told d e call
 
 pub returns-in-Err-clause-contents : goal.returns-in-Err-clause-contents
 returns-in-Err-clause-contents g c =
@@ -146,9 +170,12 @@ returns-in-Err-clause-contents g c =
     let d = c.args.site.now in
     let e = c.send.new.self in
     let f = c.close-in-Err.new.self in
-    let call : LinkCall V W g.S.Disk.may_leave g.S.Link.may_leave g.S.Disk.left_at g.S.Link.left_at g.met.S.Site.one_view g.met.S.Site.one_disk g.met.S.Site.one_past g.met.S.Disk.told d e = record { time = c.send.ensures.time; same = c.send.ensures.crash; disk = c.send.ensures.disk } in
-    let call2 : LinkCall V W g.S.Disk.may_leave g.S.Link.may_leave g.S.Disk.left_at g.S.Link.left_at g.met.S.Site.one_view g.met.S.Site.one_disk g.met.S.Site.one_past g.met.S.Disk.told e f = record { time = c.close-in-Err.ensures.time; same = c.close-in-Err.ensures.crash; disk = c.close-in-Err.ensures.disk } in
-    contents_here V W g.S.Disk.may_leave g.S.Link.may_leave g.S.Disk.left_at g.S.Link.left_at g.met.S.Site.one_view g.met.S.Site.one_disk g.met.S.Site.one_past g.met.S.Disk.told e f call2 ∙ contents_here V W g.S.Disk.may_leave g.S.Link.may_leave g.S.Disk.left_at g.S.Link.left_at g.met.S.Site.one_view g.met.S.Site.one_disk g.met.S.Site.one_past g.met.S.Disk.told d e call
+    let call : LinkCall V W g.S.Disk.may_leave g.S.Link.may_leave g.S.Disk.left_at g.S.Link.left_at g.met.S.Site.one_view g.met.S.Site.one_disk g.met.S.Site.one_past g.met.S.Disk.told d e =
+    record { time = c.send.ensures.time; same = c.send.ensures.crash; disk = c.send.ensures.disk } in
+    let call2 : LinkCall V W g.S.Disk.may_leave g.S.Link.may_leave g.S.Disk.left_at g.S.Link.left_at g.met.S.Site.one_view g.met.S.Site.one_disk g.met.S.Site.one_past g.met.S.Disk.told e f =
+    record { time = c.close-in-Err.ensures.time; same = c.close-in-Err.ensures.crash; disk = c.close-in-Err.ensures.disk } in
+    contents_here V W g.S.Disk.may_leave g.S.Link.may_leave g.S.Disk.left_at g.S.Link.left_at g.met.S.Site.one_view g.met.S.Site.one_disk g.met.S.Site.one_past g.met.S.Disk.told e f call2 ∙ contents_here V W g.S.Disk.may_leave
+    g.S.Link.may_leave g.S.Disk.left_at g.S.Link.left_at g.met.S.Site.one_view g.met.S.Site.one_disk g.met.S.Site.one_past g.met.S.Disk.told d e call
 
 pub returns-else-close-clause-link_faults : goal.returns-else-close-clause-link_faults
 returns-else-close-clause-link_faults g c = faults_here g.S.Disk.view g.S.Link.view g.met.S.Site.one_view c.args.site.now c.send.new.self c.send.ensures.link_faults
@@ -167,9 +194,11 @@ returns-else-close-clause-stands g c m origin stands =
     let W = g.S.Link.view in
     let d = c.args.site.now in
     let e = c.send.new.self in
-    let call : LinkCall V W g.S.Disk.may_leave g.S.Link.may_leave g.S.Disk.left_at g.S.Link.left_at g.met.S.Site.one_view g.met.S.Site.one_disk g.met.S.Site.one_past g.met.S.Disk.told d e = record { time = c.send.ensures.time; same = c.send.ensures.crash; disk = c.send.ensures.disk } in
+    let call : LinkCall V W g.S.Disk.may_leave g.S.Link.may_leave g.S.Disk.left_at g.S.Link.left_at g.met.S.Site.one_view g.met.S.Site.one_disk g.met.S.Site.one_past g.met.S.Disk.told d e =
+    record { time = c.send.ensures.time; same = c.send.ensures.crash; disk = c.send.ensures.disk } in
     let same = same_here V W g.S.Disk.may_leave g.S.Link.may_leave g.S.Disk.left_at g.S.Link.left_at g.met.S.Site.one_view g.met.S.Site.one_disk g.met.S.Site.one_past d e c.send.ensures.crash in
-    c.fewer_images_stand.ensures m origin d e stands (contents_here V W g.S.Disk.may_leave g.S.Link.may_leave g.S.Disk.left_at g.S.Link.left_at g.met.S.Site.one_view g.met.S.Site.one_disk g.met.S.Site.one_past g.met.S.Disk.told d e call) (λ image left. (same image).0 left)
+    c.fewer_images_stand.ensures m origin d e stands
+    (contents_here V W g.S.Disk.may_leave g.S.Link.may_leave g.S.Disk.left_at g.S.Link.left_at g.met.S.Site.one_view g.met.S.Site.one_disk g.met.S.Site.one_past g.met.S.Disk.told d e call) (λ image left. (same image).0 left)
 
 pub returns-then-close-clause-stands : goal.returns-then-close-clause-stands
 returns-then-close-clause-stands g c m origin stands =
@@ -178,11 +207,15 @@ returns-then-close-clause-stands g c m origin stands =
     let d = c.args.site.now in
     let e = c.send.new.self in
     let f = c.close.new.self in
-    let call : LinkCall V W g.S.Disk.may_leave g.S.Link.may_leave g.S.Disk.left_at g.S.Link.left_at g.met.S.Site.one_view g.met.S.Site.one_disk g.met.S.Site.one_past g.met.S.Disk.told d e = record { time = c.send.ensures.time; same = c.send.ensures.crash; disk = c.send.ensures.disk } in
+    let call : LinkCall V W g.S.Disk.may_leave g.S.Link.may_leave g.S.Disk.left_at g.S.Link.left_at g.met.S.Site.one_view g.met.S.Site.one_disk g.met.S.Site.one_past g.met.S.Disk.told d e =
+    record { time = c.send.ensures.time; same = c.send.ensures.crash; disk = c.send.ensures.disk } in
     let same = same_here V W g.S.Disk.may_leave g.S.Link.may_leave g.S.Disk.left_at g.S.Link.left_at g.met.S.Site.one_view g.met.S.Site.one_disk g.met.S.Site.one_past d e c.send.ensures.crash in
-    let call2 : LinkCall V W g.S.Disk.may_leave g.S.Link.may_leave g.S.Disk.left_at g.S.Link.left_at g.met.S.Site.one_view g.met.S.Site.one_disk g.met.S.Site.one_past g.met.S.Disk.told e f = record { time = c.close.ensures.time; same = c.close.ensures.crash; disk = c.close.ensures.disk } in
+    let call2 : LinkCall V W g.S.Disk.may_leave g.S.Link.may_leave g.S.Disk.left_at g.S.Link.left_at g.met.S.Site.one_view g.met.S.Site.one_disk g.met.S.Site.one_past g.met.S.Disk.told e f =
+    record { time = c.close.ensures.time; same = c.close.ensures.crash; disk = c.close.ensures.disk } in
     let same2 = same_here V W g.S.Disk.may_leave g.S.Link.may_leave g.S.Disk.left_at g.S.Link.left_at g.met.S.Site.one_view g.met.S.Site.one_disk g.met.S.Site.one_past e f c.close.ensures.crash in
-    c.fewer_images_stand.ensures m origin d f stands (contents_here V W g.S.Disk.may_leave g.S.Link.may_leave g.S.Disk.left_at g.S.Link.left_at g.met.S.Site.one_view g.met.S.Site.one_disk g.met.S.Site.one_past g.met.S.Disk.told e f call2 ∙ contents_here V W g.S.Disk.may_leave g.S.Link.may_leave g.S.Disk.left_at g.S.Link.left_at g.met.S.Site.one_view g.met.S.Site.one_disk g.met.S.Site.one_past g.met.S.Disk.told d e call) (λ image left. (same image).0 ((same2 image).0 left))
+    c.fewer_images_stand.ensures m origin d f stands
+    (contents_here V W g.S.Disk.may_leave g.S.Link.may_leave g.S.Disk.left_at g.S.Link.left_at g.met.S.Site.one_view g.met.S.Site.one_disk g.met.S.Site.one_past g.met.S.Disk.told e f call2 ∙ contents_here V W g.S.Disk.may_leave
+    g.S.Link.may_leave g.S.Disk.left_at g.S.Link.left_at g.met.S.Site.one_view g.met.S.Site.one_disk g.met.S.Site.one_past g.met.S.Disk.told d e call) (λ image left. (same image).0 ((same2 image).0 left))
 
 pub returns-in-Err-clause-stands : goal.returns-in-Err-clause-stands
 returns-in-Err-clause-stands g c m origin stands =
@@ -191,8 +224,12 @@ returns-in-Err-clause-stands g c m origin stands =
     let d = c.args.site.now in
     let e = c.send.new.self in
     let f = c.close-in-Err.new.self in
-    let call : LinkCall V W g.S.Disk.may_leave g.S.Link.may_leave g.S.Disk.left_at g.S.Link.left_at g.met.S.Site.one_view g.met.S.Site.one_disk g.met.S.Site.one_past g.met.S.Disk.told d e = record { time = c.send.ensures.time; same = c.send.ensures.crash; disk = c.send.ensures.disk } in
+    let call : LinkCall V W g.S.Disk.may_leave g.S.Link.may_leave g.S.Disk.left_at g.S.Link.left_at g.met.S.Site.one_view g.met.S.Site.one_disk g.met.S.Site.one_past g.met.S.Disk.told d e =
+    record { time = c.send.ensures.time; same = c.send.ensures.crash; disk = c.send.ensures.disk } in
     let same = same_here V W g.S.Disk.may_leave g.S.Link.may_leave g.S.Disk.left_at g.S.Link.left_at g.met.S.Site.one_view g.met.S.Site.one_disk g.met.S.Site.one_past d e c.send.ensures.crash in
-    let call2 : LinkCall V W g.S.Disk.may_leave g.S.Link.may_leave g.S.Disk.left_at g.S.Link.left_at g.met.S.Site.one_view g.met.S.Site.one_disk g.met.S.Site.one_past g.met.S.Disk.told e f = record { time = c.close-in-Err.ensures.time; same = c.close-in-Err.ensures.crash; disk = c.close-in-Err.ensures.disk } in
+    let call2 : LinkCall V W g.S.Disk.may_leave g.S.Link.may_leave g.S.Disk.left_at g.S.Link.left_at g.met.S.Site.one_view g.met.S.Site.one_disk g.met.S.Site.one_past g.met.S.Disk.told e f =
+    record { time = c.close-in-Err.ensures.time; same = c.close-in-Err.ensures.crash; disk = c.close-in-Err.ensures.disk } in
     let same2 = same_here V W g.S.Disk.may_leave g.S.Link.may_leave g.S.Disk.left_at g.S.Link.left_at g.met.S.Site.one_view g.met.S.Site.one_disk g.met.S.Site.one_past e f c.close-in-Err.ensures.crash in
-    c.fewer_images_stand.ensures m origin d f stands (contents_here V W g.S.Disk.may_leave g.S.Link.may_leave g.S.Disk.left_at g.S.Link.left_at g.met.S.Site.one_view g.met.S.Site.one_disk g.met.S.Site.one_past g.met.S.Disk.told e f call2 ∙ contents_here V W g.S.Disk.may_leave g.S.Link.may_leave g.S.Disk.left_at g.S.Link.left_at g.met.S.Site.one_view g.met.S.Site.one_disk g.met.S.Site.one_past g.met.S.Disk.told d e call) (λ image left. (same image).0 ((same2 image).0 left))
+    c.fewer_images_stand.ensures m origin d f stands
+    (contents_here V W g.S.Disk.may_leave g.S.Link.may_leave g.S.Disk.left_at g.S.Link.left_at g.met.S.Site.one_view g.met.S.Site.one_disk g.met.S.Site.one_past g.met.S.Disk.told e f call2 ∙ contents_here V W g.S.Disk.may_leave
+    g.S.Link.may_leave g.S.Disk.left_at g.S.Link.left_at g.met.S.Site.one_view g.met.S.Site.one_disk g.met.S.Site.one_past g.met.S.Disk.told d e call) (λ image left. (same image).0 ((same2 image).0 left))

@@ -9,4 +9,4 @@ returns-in-Ok-clause-run g c =
 pub returns-in-Ok-clause-why : goal.returns-in-Ok-clause-why
 returns-in-Ok-clause-why g c =
     why_stopped g.S.Disk.view g.S.Disk.may_leave g.S.Disk.left_at c.args.ladder _ _ c.in-Ok.state c.args.site.now c.open_state.new.site c.serve_state.new.site c.serve_state.result
-    c.in-Ok.ensures.found c.in-Ok.ensures.begins c.serve_state.ensures.why
+    c.in-Ok.ensures.found c.in-Ok.ensures.disk_faults c.in-Ok.ensures.begins c.serve_state.ensures.why

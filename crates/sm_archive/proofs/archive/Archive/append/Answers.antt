@@ -20,7 +20,8 @@ returns-in-Stored-clause-stored g c = λ place is log x s can.
     let e = c.append.ensures.stored c.in-Stored.place c.in-Stored.is in
     let so : (bodies : List (List ℕ)) → seg.Stands c.args.self.now.log bodies None old → seg.Stands c.append.new.log (bodies ++ c.args.body ∷ []) None now =
     subst (λ (b : List ℕ). (bodies : List (List ℕ)) → seg.Stands c.args.self.now.log bodies None old → seg.Stands c.append.new.log (bodies ++ b ∷ []) None now) c.as_slice.ensures e.1 in
-    let made = appended c.args.self.now c.args.entry c.args.body log x old s can c.append.new.log _ c.take_in.new.index c.in-Stored.place now e.0 so (ap (λ (n : ℕ). c.args.self.now.used + (5 + n)) c.len-bytes.ensures) c.take_in.ensures in
+    let made = appended c.args.self.now c.args.entry c.args.body log x old s can c.append.new.log _ c.take_in.new.index c.in-Stored.place now e.0 so
+    (ap (λ (n : ℕ). c.args.self.now.used + (5 + n)) c.len-bytes.ensures) c.take_in.ensures in
     (same_place c.in-Stored.place place is made.0, made.1)
 
 pub returns-in-Clean-clause-failed : goal.returns-in-Clean-clause-failed

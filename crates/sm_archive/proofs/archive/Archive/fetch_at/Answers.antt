@@ -15,7 +15,8 @@ read-requires g c =
 
 pub returns-clause-damaged : goal.returns-clause-damaged
 returns-clause-damaged g c = λ e log doubt s some.
-    let b = body_there (g.D.Disk.view c.args.disk.now).contents c.args.self.now c.args.index.now log doubt (g.D.Disk.may_leave c.args.disk.now) c.args.address.now c.args.place c.in-Ok.body s c.requires.index c.requires.place some c.in-Ok.ensures.bytes in
+    let b = body_there (g.D.Disk.view c.args.disk.now).contents c.args.self.now c.args.index.now log doubt
+    (g.D.Disk.may_leave c.args.disk.now) c.args.address.now c.args.place c.in-Ok.body s c.requires.index c.requires.place some c.in-Ok.ensures.bytes in
     let own : IsBody (Some c.channel.result.now) (Keep b.0) c.as_slice.result.now =
     subst (λ (t : List Track). IsBody (Some t) (Keep b.0) c.as_slice.result.now) (sym c.channel.ensures.same) (subst (λ (x : List ℕ). IsBody (Some c.args.index.now.catalog.channel) (Keep b.0) x) (sym c.as_slice.ensures) b.3) in
     c.in-Err.ensures.damaged (failed_as c.in-Err.fault c.in-Damaged.is) b.0 own b.2 (valid_there log c.args.place b.0 s.keeps.sound b.1)
@@ -27,9 +28,11 @@ returns-in-Ok-kept_at-clause-found g c = λ at f is.
       sym same.0,
       subst (λ (x : Fragment). address_of x ≡ c.args.address.now) same.1 k.1,
       λ log doubt s some.
-          let b = body_there (g.D.Disk.view c.args.disk.now).contents c.args.self.now c.args.index.now log doubt (g.D.Disk.may_leave c.args.disk.now) c.args.address.now c.args.place c.in-Ok.body s c.requires.index c.requires.place some c.in-Ok.ensures.bytes in
+          let b = body_there (g.D.Disk.view c.args.disk.now).contents c.args.self.now c.args.index.now log doubt
+          (g.D.Disk.may_leave c.args.disk.now) c.args.address.now c.args.place c.in-Ok.body s c.requires.index c.requires.place some c.in-Ok.ensures.bytes in
           let own : IsBody (Some c.args.index.now.catalog.channel) (Keep c.in-Ok-kept_at.fragment) c.in-Ok.body =
-          subst (λ (t : List Track). IsBody (Some t) (Keep c.in-Ok-kept_at.fragment) c.in-Ok.body) c.channel.ensures.same (subst (λ (x : List ℕ). IsBody (Some c.channel.result.now) (Keep c.in-Ok-kept_at.fragment) x) c.as_slice.ensures k.0) in
+          subst (λ (t : List Track). IsBody (Some t) (Keep c.in-Ok-kept_at.fragment) c.in-Ok.body) c.channel.ensures.same
+          (subst (λ (x : List ℕ). IsBody (Some c.channel.result.now) (Keep c.in-Ok-kept_at.fragment) x) c.as_slice.ensures k.0) in
           let one = c.a_body_has_one_entry.ensures (Some c.args.index.now.catalog.channel) (Keep b.0) (Keep c.in-Ok-kept_at.fragment) c.in-Ok.body b.3 own in
           b.1 ∙ ap (λ (x : Fragment). Some (Keep x)) (keep_is b.0 c.in-Ok-kept_at.fragment one ∙ same.1),
     )
