@@ -69,10 +69,10 @@ moved f bytes at n p q b b' r fits leads adds fine = record {
   fine = fine;
 }
 
-tail_is : (bytes : List ℕ) (at : ℕ) → take (length bytes - at) (drop at bytes) ≡ drop at bytes
+pub tail_is : (bytes : List ℕ) (at : ℕ) → take (length bytes - at) (drop at bytes) ≡ drop at bytes
 tail_is bytes at = grind (arith, common_steps)
 
-tail_len : (bytes : List ℕ) (at n : ℕ) → n ≤ length (take (length bytes - at) (drop at bytes)) → at ≤ length bytes → at + n ≤ length bytes
+pub tail_len : (bytes : List ℕ) (at n : ℕ) → n ≤ length (take (length bytes - at) (drop at bytes)) → at ≤ length bytes → at + n ≤ length bytes
 tail_len bytes at n fits within = let l = length-drop at bytes in let e = ap length (tail_is bytes at) in omega (arith, l, e)
 
 first_of_tail : (bytes : List ℕ) (at n : ℕ) → take n (take (length bytes - at) (drop at bytes)) ≡ take n (drop at bytes)
