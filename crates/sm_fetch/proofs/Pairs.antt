@@ -1,6 +1,6 @@
 -- A body of a `moof` and one box behind it, and the fragment that it is.
 use Rattle.std.proofs.Common.{◌≡◌, ◌≢◌, ◌≤◌, ℕ, Bool, true, false, List, [], ◌∷◌, ◌++◌, length, take, drop, refl, ap, ◌∙◌, sym, subst, arith, take-append-drop, length-take}
-use Rattle.std.specs.Prelude.{Ok, Err, Result, nat_le, codes}
+use Rattle.std.specs.Prelude.{Ok, Err, Result, nat_le, codes, IsTrue}
 use Rattle.std.proofs.lemmas.Bool.Decides.{nat_tests}
 use Rattle.sm_model.specs.declared.cause.Cause.{Cause}
 use Rattle.sm_model.specs.declared.run.RawFragment.{RawFragment}
@@ -22,7 +22,11 @@ pub record Stays : Type 0 where
   pub same : (b rest : List ℕ) → starts_whole b ≡ true → box_of (b ++ rest) ≡ box_of b
 
 not_both : (b : Bool) → b ≡ true → b ≡ false → ⊥
-not_both b yes no = absurd (cc)
+not_both b is not = absurd (cc)
+
+pub not_true : (b : Bool) (P : Type 0) → b ≡ false → (P → IsTrue b) → P → ⊥
+not_true true P is to p = absurd (cc)
+not_true false P is to p = let t : IsTrue false = to p in absurd (cc)
 
 pub no_front : Stays → (body : List ℕ) → starts_whole body ≡ false → HasNoPair body
 no_front stays body none moof mdat p =
