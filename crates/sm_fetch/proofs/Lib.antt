@@ -3,3 +3,5 @@ pub mod Heads
 pub mod Filling
 pub mod Chunks
 pub mod Pairs
+pub mod Fronts
+pub mod Origin
