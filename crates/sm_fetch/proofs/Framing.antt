@@ -103,7 +103,7 @@ read_end f bytes at n p q b r s =
     record { framed = take (at + n) bytes; rest = drop (at + n) bytes; joined = sym (take-append-drop (at + n) bytes); ends = done.place_is; body_is = done.body_is }
 
 -- a front of a list that two splits give
-split : (a b c d : List ℕ) → a ++ b ≡ c ++ d → ((k : List ℕ) × (c ≡ a ++ k) × (b ≡ k ++ d)) ⊎ ((k : List ℕ) × (a ≡ c ++ k) × (d ≡ k ++ b))
+pub split : (a b c d : List ℕ) → a ++ b ≡ c ++ d → ((k : List ℕ) × (c ≡ a ++ k) × (b ≡ k ++ d)) ⊎ ((k : List ℕ) × (a ≡ c ++ k) × (d ≡ k ++ b))
 split [] b c d same = inl (c, refl, same)
 split (x ∷ a) b [] d same = inr (x ∷ a, refl, sym same)
 split (x ∷ a) b (y ∷ c) d same =

@@ -5,3 +5,6 @@ pub mod Chunks
 pub mod Pairs
 pub mod Fronts
 pub mod Origin
+pub mod OneReply
+pub mod OneGot
+pub mod Listed

@@ -2,7 +2,7 @@
 ghost use Rattle.std.specs.Prelude.{◌≡◌, ◌≤◌, ℕ};
 ghost use Rattle.sm_fetch.specs.Exchanges.{Rose};
 ghost use Rattle.sm_fetch.specs.Origins.{Grows};
-ghost use Rattle.sm_fetch.specs.Fetched.{FetchedManifest, FetchedFragment, IsKeptAt};
+ghost use Rattle.sm_fetch.specs.Fetched.{FetchedManifest, FetchedFragment, IsKeptAt, HasLevels};
 ghost use Rattle.sm_fetch.specs.Spelt.{SpellsListing, SpellsSamples};
 
 use crate::reply::{Reply, read_reply};
@@ -66,6 +66,7 @@ pub fn get_manifest<C: Dial>(alloc: Global, dial: &mut C, place: &Place) -> Got
     ensures later { C.dial_faults dial.old ≤ C.dial_faults dial.new }
     ensures lost { result ≡ Got.Lost → Rose (C.dial_faults dial.old) (C.dial_faults dial.new) }
     ensures grows { Grows (C.store dial.old) (C.store dial.new) }
+    ensures levels { HasLevels result }
 {
     let Ok(request) = put_manifest_request(alloc, place) else {
         return Got::NoMemory;

@@ -6,6 +6,7 @@ mod body;
 mod dial;
 mod get;
 mod got;
+pub mod law;
 mod memory_dial;
 mod place;
 pub mod plain;

@@ -69,25 +69,29 @@ fn another_time_is_unreadable_behind_the_head(rt: HostRuntime) -> Result<(), Fai
     Ok(())
 }
 
+// Whether a 200 with this body is unreadable behind its head.
+fn is_unreadable(alloc: Global, body: &[u8]) -> Result<bool, Fail> {
+    let count = body.len();
+    let digits = format!(in alloc; "{count}")?.len() as u64;
+    Ok(asked(alloc, &reply(alloc, body)?)? == Told::Unreadable(digits + 62))
+}
+
 #[test]
 fn bodies_that_are_no_fragment(rt: HostRuntime) -> Result<(), Fail> {
     let alloc = rt.alloc();
-    let whole = AT_NONE.as_slice();
-    // The `mdat` alone, the `moof` alone, two `mdat`, a byte behind, another kind.
-    let (moof, mdat) = whole.split_at(128);
-    let mut twice = whole.to_vec(alloc)?;
+    let (moof, mdat) = AT_NONE.split_at(128);
+    assert!(rt; is_unreadable(alloc, b"")?);
+    assert!(rt; is_unreadable(alloc, moof)?);
+    assert!(rt; is_unreadable(alloc, mdat)?);
+    let mut twice = AT_NONE.to_vec(alloc)?;
     twice.extend_from_slice(mdat)?;
-    let mut behind = whole.to_vec(alloc)?;
+    assert!(rt; is_unreadable(alloc, &twice)?);
+    let mut behind = AT_NONE.to_vec(alloc)?;
     behind.push(0)?;
-    let mut kind = whole.to_vec(alloc)?;
-    if kind.len() > 4 {
-        kind[4] = b'x';
-    }
-    for body in [mdat, moof, &twice, &behind, &kind, b"".as_slice()] {
-        let count = body.len();
-        let wanted = format!(in alloc; "{count}")?.len() as u64 + 62;
-        assert_eq!(rt; asked(alloc, &reply(alloc, body)?)?, Told::Unreadable(wanted), "{count}");
-    }
+    assert!(rt; is_unreadable(alloc, &behind)?);
+    let mut other = moof.to_vec(alloc)?;
+    other.extend_from_slice(b"\x00\x00\x00\x09free\x41")?;
+    assert!(rt; is_unreadable(alloc, &other)?);
     Ok(())
 }
 
