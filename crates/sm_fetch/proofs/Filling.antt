@@ -15,6 +15,7 @@ short_head (h ∷ head) [] (suc i) low past = nothing_begins (drop i head) (some
   where
     some_left : (xs : List ℕ) (i : ℕ) → i < length xs → 0 < length (drop i xs)
     some_left xs i low = let l = length-drop i xs in omega arith
+
     nothing_begins : (xs : List ℕ) → 0 < length xs → begins_with xs [] ≡ false
     nothing_begins [] some = absurd (omega arith)
     nothing_begins (x ∷ xs) some = refl

@@ -128,12 +128,13 @@ bad_at f bytes front tail c p joined leads fine unended fails = record {
   where
     behind : (framed k : List ℕ) → front ≡ framed ++ k → place_after (start f) framed ≡ Ended → place_after Ended k ≡ p
     behind framed k is ended = ap (λ (o : Place). place_after o k) (sym ended) ∙ sym (place_on (start f) framed k) ∙ ap (place_after (start f)) (sym is) ∙ leads
+
     inside : (framed rest k : List ℕ) → framed ≡ front ++ k → c ∷ tail ≡ k ++ rest → place_after (start f) framed ≡ Ended → ⊥
     inside framed rest [] is at ended = unended (sym leads ∙ ap (place_after (start f)) (sym (is ∙ append-nil front)) ∙ ended)
     inside framed rest (x ∷ k) is at ended =
         let head : c ≡ x = cc in
         let all : Ended ≡ Failed = sym ended ∙ ap (place_after (start f)) is ∙ place_on (start f) front (x ∷ k) ∙ ap (λ (o : Place). place_after o (x ∷ k)) leads
-            ∙ ap (λ y. place_after (next_place p y) k) (sym head) ∙ ap (λ (o : Place). place_after o k) fails ∙ failed_stays k in
+        ∙ ap (λ y. place_after (next_place p y) k) (sym head) ∙ ap (λ (o : Place). place_after o k) fails ∙ failed_stays k in
         absurd (cc)
 
 pub read_bad : (f : Framing) (bytes : List ℕ) (at : ℕ) (p q : Place) (b : List ℕ) → IsReadTo f bytes at p b
@@ -143,8 +144,10 @@ read_bad f bytes at p q b r (frame, now, inr (unended, some, fails)) = at_tail (
   where
     some_left : 0 < length (drop at bytes)
     some_left = subst (λ (x : List ℕ). 0 < length x) (tail_is bytes at) some
+
     fails_left : next_place p (get_or (drop at bytes) 0 0) ≡ Failed
     fails_left = subst (λ (x : List ℕ). next_place p (get_or x 0 0) ≡ Failed) (tail_is bytes at) fails
+
     at_tail : (tail : List ℕ) → bytes ≡ take at bytes ++ tail → 0 < length tail → next_place p (get_or tail 0 0) ≡ Failed → IsFramedBad f bytes
     at_tail [] joined some fails = absurd (omega arith)
     at_tail (c ∷ tail) joined some fails = bad_at f bytes (take at bytes) tail c p joined r.place_is r.fine unended fails

@@ -25,7 +25,12 @@ interim bytes at len status f behind head low = next bytes at len status f (at +
 pub head_end : (bytes : List ℕ) (at len status : ℕ) (f : Framing) → IsBehindInterim bytes at
     → IsReplyAt (take (length bytes - at) (drop at bytes)) len status (Some f) → 200 ≤ status → IsHeadEnd bytes status (at + len) f
 head_end bytes at len status f behind head final = record {
-  from = at; behind = behind; len = len; head = at_tail bytes at len status f head; final = final; at_is = refl;
+  from = at;
+  behind = behind;
+  len = len;
+  head = at_tail bytes at len status f head;
+  final = final;
+  at_is = refl;
 }
 
 pub cut_head : (bytes : List ℕ) (at : ℕ) → IsBehindInterim bytes at → IsUnfinished (take (length bytes - at) (drop at bytes)) → IsCutReply bytes

@@ -82,7 +82,7 @@ read_has listing bad w (Some at) none is = absurd (cc)
 read_has listing bad w None none is =
     let read : listing ≡ read_of w = cc in
     subst StreamsHaveLevels (sym read) (All-from_recursion (λ (s : StreamListing). 0 < length s.levels) (map (listing_of (timescale_of w.root)) w.done)
-        (all_some (timescale_of w.root) [] w.done (done_faults bad w (no_places (faults_of bad w) none))))
+    (all_some (timescale_of w.root) [] w.done (done_faults bad w (no_places (faults_of bad w) none))))
 
 pub listed_have_levels : (text : List ℕ) (listing : Listing) → IsManifest text (Ok listing) → StreamsHaveLevels listing
 listed_have_levels text listing (tags, reads, is) =

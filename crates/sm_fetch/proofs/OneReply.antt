@@ -150,11 +150,11 @@ behind_end p framed k ended = place_on p framed k ∙ ap (λ (o : Place). place_
 same_framed : (p : Place) (framed rest other more : List ℕ) → framed ++ rest ≡ other ++ more → place_after p framed ≡ Ended → place_after p other ≡ Ended → framed ≡ other
 same_framed p framed rest other more joined ended ended_too = ⊎_elim
     (λ (s : (k : List ℕ) × (other ≡ framed ++ k) × (rest ≡ k ++ more)).
-        let none = nothing_more s.0 (sym (behind_end p framed s.0 ended) ∙ ap (place_after p) (sym s.1) ∙ ended_too) in
-        sym (s.1 ∙ ap (λ k. framed ++ k) none ∙ append-nil framed))
+    let none = nothing_more s.0 (sym (behind_end p framed s.0 ended) ∙ ap (place_after p) (sym s.1) ∙ ended_too) in
+    sym (s.1 ∙ ap (λ k. framed ++ k) none ∙ append-nil framed))
     (λ (s : (k : List ℕ) × (framed ≡ other ++ k) × (more ≡ k ++ rest)).
-        let none = nothing_more s.0 (sym (behind_end p other s.0 ended_too) ∙ ap (place_after p) (sym s.1) ∙ ended) in
-        s.1 ∙ ap (λ k. other ++ k) none ∙ append-nil other)
+    let none = nothing_more s.0 (sym (behind_end p other s.0 ended_too) ∙ ap (place_after p) (sym s.1) ∙ ended) in
+    s.1 ∙ ap (λ k. other ++ k) none ∙ append-nil other)
     (split framed rest other more joined)
 
 ended_or_failed : (k : List ℕ) → (place_after Ended k ≡ Ended) ⊎ (place_after Ended k ≡ Failed)
@@ -175,8 +175,8 @@ whole_isnt_cut bytes status at body w (inl c) = end_isnt_cut bytes status at w.f
 whole_isnt_cut bytes status at body w (inr c) =
     let same = one_end bytes status at w.framing c.status c.at c.framing w.head c.head in
     let leads : place_after (start c.framing) (drop c.at bytes) ≡ place_after Ended w.rest =
-        ap (λ n. place_after (start c.framing) (drop n bytes)) same.at_is ∙ ap (place_after (start c.framing)) w.behind
-        ∙ behind_end (start c.framing) w.framed w.rest (ap (λ (f : Framing). place_after (start f) w.framed) same.framing_is ∙ w.ends) in
+    ap (λ n. place_after (start c.framing) (drop n bytes)) same.at_is ∙ ap (place_after (start c.framing)) w.behind
+    ∙ behind_end (start c.framing) w.framed w.rest (ap (λ (f : Framing). place_after (start f) w.framed) same.framing_is ∙ w.ends) in
     ⊎_elim (λ (ended : place_after Ended w.rest ≡ Ended). c.unended (leads ∙ ended)) (λ (failed : place_after Ended w.rest ≡ Failed). c.unfailed (leads ∙ failed)) (ended_or_failed w.rest)
 
 pub whole_isnt_none : (bytes : List ℕ) (status at : ℕ) (body : List ℕ) (bad : ℕ) → IsWholeReply bytes status at body → IsNoReply bytes bad → ⊥

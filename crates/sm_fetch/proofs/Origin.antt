@@ -110,7 +110,7 @@ own_head : (status : ℕ) (kind : Content) (body : List ℕ) (close : Bool) (byt
 own_head status kind body close bytes more len found f code short text head =
     let all : reply_text status kind body close ++ [] ≡ bytes ++ more = append-nil (reply_text status kind body close) ∙ text in
     let said : IsRespAnswer (reply_text status kind body close ++ []) (Ok (Whole len found f)) =
-        subst (λ (b : List ℕ). IsRespAnswer b (Ok (Whole len found f))) (sym all) (head_on bytes more len found (Some f) head) in
+    subst (λ (b : List ℕ). IsRespAnswer b (Ok (Whole len found f))) (sym all) (head_on bytes more len found (Some f) head) in
     ⊎_elim (λ (same : whole_head len found f ≡ whole_head (length (reply_head status kind (length body) close)) status (written_framing status (length body))). told same)
     (λ (none : whole_head len found f ≡ Err fault.NoMemory). absurd (cc))
     (written_is_read status kind body close [] (Ok (Whole len found f)) code short said)
@@ -135,16 +135,19 @@ pub own_body : (status : ℕ) (kind : Content) (body : List ℕ) (close : Bool) 
 own_body status kind body close bytes more found at read code final short text w = ⊎_elim
     (λ (here : w.head.from ≡ 0). at_start here)
     (λ (other : (len low : ℕ) × (f : Framing) × IsReplyAt bytes len low (Some f) × (low < 200)).
-        let own = own_head status kind body close bytes more other.0 other.1 other.2 code short text other.3 in absurd (omega (arith, own.status_is, other.4, final)))
+    let own = own_head status kind body close bytes more other.0 other.1 other.2 code short text other.3 in absurd (omega (arith, own.status_is, other.4, final)))
     (head_first bytes w.head.from w.head.behind)
   where
     fit : w.head.from ≡ 0 → w.head.len ≤ length bytes
     fit here = (subst (λ (n : ℕ). IsReplyAt (drop n bytes) w.head.len found (Some w.framing)) here w.head.head).fits
+
     behind_head : drop (length (reply_head status kind (length body) close)) (reply_text status kind body close) ≡ body
     behind_head = ap (drop (length (reply_head status kind (length body) close))) (sym (append-nil (reply_text status kind body close)))
         ∙ body_begins (reply_head status kind (length body) close) body [] ∙ append-nil body
+
     above : (status count : ℕ) → 200 ≤ status → written_framing status count ≡ framing.Counted count
     above status count high = grind (arith, nat_tests)
+
     at_start : w.head.from ≡ 0 → (found ≡ status) × (read ≡ body)
     at_start here =
         let own = own_head status kind body close bytes more w.head.len found w.framing code short text (subst (λ (n : ℕ). IsReplyAt (drop n bytes) w.head.len found (Some w.framing)) here w.head.head) in
@@ -154,8 +157,8 @@ own_body status kind body close bytes more found at read code final short text w
         let place : at ≡ w.head.len = w.head.at_is ∙ ap (λ n. n + w.head.len) here ∙ zero-add w.head.len in
         let fits : at ≤ length bytes = omega (arith, place, fit here) in
         let left : w.framed ++ (w.rest ++ more) ≡ body =
-            sym (append_assoc w.framed w.rest more) ∙ ap (λ (b : List ℕ). b ++ more) (sym w.behind) ∙ sym (drop-append-le at bytes more fits) ∙ ap (drop at) (sym text)
-            ∙ ap (λ n. drop n (reply_text status kind body close)) (place ∙ own.len_is) ∙ behind_head in
+        sym (append_assoc w.framed w.rest more) ∙ ap (λ (b : List ℕ). b ++ more) (sym w.behind) ∙ sym (drop-append-le at bytes more fits) ∙ ap (drop at) (sym text)
+        ∙ ap (λ n. drop n (reply_text status kind body close)) (place ∙ own.len_is) ∙ behind_head in
         let framed : w.framed ≡ body = same_front w.framed body (w.rest ++ more) [] left whole.0 in
         (own.status_is, w.body_is ∙ ap (λ (f : Framing). body_from (start f) w.framed) counted ∙ whole.1 ∙ framed)
 
@@ -170,10 +173,10 @@ pub kept_is_read : (log : List Entry) (a : Address) (time : ℕ) (body : List �
 kept_is_read log a time body raw k f =
     let boxes = same_box f.moof (moof k.seq k.id k.fragment k.ahead) f.mdat (mdat k.fragment.samples) f.moof_whole (moof_whole k.seq k.id k.fragment k.ahead k.written) (sym f.body_is ∙ k.text_is) in
     let says : frag no_defaults (moof k.seq k.id k.fragment k.ahead) (mdat k.fragment.samples) ≡ Ok raw =
-        sym (ap (λ (m : List ℕ). frag no_defaults m f.mdat) boxes.0 ∙ ap (frag no_defaults (moof k.seq k.id k.fragment k.ahead)) boxes.1) ∙ f.read in
+    sym (ap (λ (m : List ℕ). frag no_defaults m f.mdat) boxes.0 ∙ ap (frag no_defaults (moof k.seq k.id k.fragment k.ahead)) boxes.1) ∙ f.read in
     let again : raw_again k.id k.fragment k.ahead ≡ raw = one_raw _ raw (frag no_defaults (moof k.seq k.id k.fragment k.ahead) (mdat k.fragment.samples)) (frag_read no_defaults k.seq k.id k.fragment k.ahead k.written) says in
     let same : given (address_of k.fragment).stream (address_of k.fragment).bitrate (raw_again k.id k.fragment k.ahead) ≡ given a.stream a.bitrate raw =
-        ap (λ (b : Address). given b.stream b.bitrate (raw_again k.id k.fragment k.ahead)) k.address_is ∙ ap (λ (r : RawFragment). given a.stream a.bitrate r) again in
+    ap (λ (b : Address). given b.stream b.bitrate (raw_again k.id k.fragment k.ahead)) k.address_is ∙ ap (λ (r : RawFragment). given a.stream a.bitrate r) again in
     subst (λ (g : Fragment). Contains log (Keep g)) same k.kept
 
 -- ---- answers

@@ -15,6 +15,7 @@ use std::alloc::Global;
 
 // How many bytes of a whole reply are taken.
 const MANIFEST_LIMIT: u64 = 67_108_864;
+
 const FRAGMENT_LIMIT: u64 = 70_254_592;
 
 // What the bytes of an answer are to who asked for a manifest.

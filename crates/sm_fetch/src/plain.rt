@@ -41,11 +41,13 @@ pub fn read_reply_plainly<'a>(alloc: Global, bytes: &'a [u8]) -> Result<Reply<'a
     let mut at = 0;
     loop {
         match read_response(alloc, &bytes[at..]) {
-            Ok(RespHead::Whole {
-                length,
-                status,
-                framing,
-            }) => {
+            Ok(
+                RespHead::Whole {
+                    length,
+                    status,
+                    framing,
+                },
+            ) => {
                 let end = at + length as usize;
                 if status >= 200 {
                     let framed = body_plainly(alloc, framing, &bytes[end..])?;

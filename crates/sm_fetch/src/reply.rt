@@ -24,7 +24,9 @@ pub enum Reply<'a> {
     Cut,
     /// No reply. `at` counts from the answer's first byte: it is the first byte of a head that is bad, else the first one behind
     /// the reply's head.
-    Bad { at: u64 },
+    Bad {
+        at: u64,
+    },
 }
 
 // The reply whose head ends there, by what stands behind that.
@@ -59,11 +61,13 @@ pub fn read_reply<'a>(alloc: Global, bytes: &'a [u8]) -> Result<Reply<'a>, NoMem
     let mut at = 0;
     loop {
         match read_response(alloc, &bytes[at..]) {
-            Ok(RespHead::Whole {
-                length,
-                status,
-                framing,
-            }) => {
+            Ok(
+                RespHead::Whole {
+                    length,
+                    status,
+                    framing,
+                },
+            ) => {
                 let end = at + length as usize;
                 if status >= 200 {
                     let framed = read_body(alloc, framing, &bytes[end..])?;

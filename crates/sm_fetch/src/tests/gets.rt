@@ -62,9 +62,18 @@ fn a_fragment_is_handed_on_with_the_length_of_its_answer(rt: HostRuntime) -> Res
 #[test]
 fn another_time_is_unreadable_behind_the_head(rt: HostRuntime) -> Result<(), Fail> {
     let alloc = rt.alloc();
-    assert_eq!(rt; asked(alloc, &reply(alloc, &AT_SECOND)?)?, Told::Unreadable(65));
+    assert_eq!(rt;
+        asked(alloc, &reply(alloc, &AT_SECOND)?)?,
+        Told::Unreadable(65)
+    );
     let mut dial = MemoryDial::new(alloc, one(alloc, &reply(alloc, &AT_SECOND)?)?);
-    let got = get_fragment(alloc, &mut dial, &place(alloc)?, URL, &address(alloc, 20_000_000)?);
+    let got = get_fragment(
+        alloc,
+        &mut dial,
+        &place(alloc)?,
+        URL,
+        &address(alloc, 20_000_000)?,
+    );
     assert_eq!(rt; seen(&got), Told::Fragment);
     Ok(())
 }
@@ -98,7 +107,8 @@ fn bodies_that_are_no_fragment(rt: HostRuntime) -> Result<(), Fail> {
 #[test]
 fn a_manifest_lists_its_streams(rt: HostRuntime) -> Result<(), Fail> {
     let alloc = rt.alloc();
-    let text = b"<SmoothStreamingMedia MajorVersion=\"2\"><StreamIndex Type=\"video\" Url=\"{bitrate}/{start time}\">\
+    let text =
+        b"<SmoothStreamingMedia MajorVersion=\"2\"><StreamIndex Type=\"video\" Url=\"{bitrate}/{start time}\">\
         <QualityLevel Bitrate=\"7\"/><c t=\"0\" d=\"2\"/></StreamIndex></SmoothStreamingMedia>";
     let whole = reply(alloc, text)?;
     let mut dial = MemoryDial::new(alloc, one(alloc, &whole)?);
@@ -107,9 +117,15 @@ fn a_manifest_lists_its_streams(rt: HostRuntime) -> Result<(), Fail> {
         _ => return Err("no manifest".into()),
     }
     let (front, _) = text.split_at(40);
-    for (body, wanted) in [(front, Told::Unreadable(64)), (b"".as_slice(), Told::Unreadable(63))] {
+    for (body, wanted) in [
+        (front, Told::Unreadable(64)),
+        (b"".as_slice(), Told::Unreadable(63)),
+    ] {
         let mut dial = MemoryDial::new(alloc, one(alloc, &reply(alloc, body)?)?);
-        assert_eq!(rt; seen(&get_manifest(alloc, &mut dial, &place(alloc)?)), wanted);
+        assert_eq!(rt;
+            seen(&get_manifest(alloc, &mut dial, &place(alloc)?)),
+            wanted
+        );
     }
     Ok(())
 }
@@ -117,9 +133,18 @@ fn a_manifest_lists_its_streams(rt: HostRuntime) -> Result<(), Fail> {
 #[test]
 fn an_exchange_without_an_answer_is_lost(rt: HostRuntime) -> Result<(), Fail> {
     let alloc = rt.alloc();
-    let mut dial = MemoryDial::new(alloc, crate::Answers::from_vec(vec![in alloc; crate::Given::Lost]?));
-    assert_eq!(rt; seen(&get_manifest(alloc, &mut dial, &place(alloc)?)), Told::Lost);
-    assert_eq!(rt; seen(&get_manifest(alloc, &mut dial, &place(alloc)?)), Told::Lost);
+    let mut dial = MemoryDial::new(
+        alloc,
+        crate::Answers::from_vec(vec![in alloc; crate::Given::Lost]?),
+    );
+    assert_eq!(rt;
+        seen(&get_manifest(alloc, &mut dial, &place(alloc)?)),
+        Told::Lost
+    );
+    assert_eq!(rt;
+        seen(&get_manifest(alloc, &mut dial, &place(alloc)?)),
+        Told::Lost
+    );
     assert_eq!(rt; dial.faults(), 2);
     let made = dial.exchanges();
     assert_eq!(rt; made.len(), 2);

@@ -45,7 +45,9 @@ pub fn one(alloc: Global, bytes: &[u8]) -> Result<Answers, Fail> {
 /// A reply 200 with this body.
 pub fn reply(alloc: Global, body: &[u8]) -> Result<Vec<u8>, Fail> {
     let count = body.len();
-    let head = format!(in alloc; "HTTP/1.1 200 OK\r\nContent-Type: video/mp4\r\nContent-Length: {count}\r\n\r\n")?;
+    let head = format!(in alloc;
+        "HTTP/1.1 200 OK\r\nContent-Type: video/mp4\r\nContent-Length: {count}\r\n\r\n"
+    )?;
     let mut text = head.as_bytes().to_vec(alloc)?;
     text.extend_from_slice(body)?;
     Ok(text)
