@@ -1,15 +1,16 @@
 -- Bodies read step by step.
-use Rattle.std.proofs.Common.{zero, suc, suc-add, zero-add, ◌≡◌, ◌≢◌, ◌<◌, ◌≤◌, ℕ, ◌+◌, ◌-◌, ◌⊎◌, ◌==◌, if◌then◌else◌, Bool, true, false, List, [], ◌∷◌, ◌++◌, length, take, drop, get_or, refl, ap, ◌∙◌, sym, subst, arith, inl, inr, ⊎_elim, append_assoc, length-take, take-append-drop, length-drop, length-append}
+use Rattle.std.proofs.Common.{zero, suc, suc-add, zero-add, ◌≡◌, ◌≢◌, ◌<◌, ◌≤◌, ℕ, ◌+◌, ◌-◌, ◌⊎◌, ◌==◌, if◌then◌else◌, Bool, true, false, List, []}
+use Rattle.std.proofs.Common.{◌∷◌, ◌++◌, length, take, drop, get_or, refl, ap, ◌∙◌, sym, subst, arith, inl, inr, ⊎_elim, append_assoc, length-take, take-append-drop, length-drop}
 use Rattle.std.proofs.lemmas.List.{append-nil, take_all}
 use Rattle.std.proofs.lemmas.Grind.{common_steps}
 use Rattle.sm_model.specs.declared.framing.Framing.{Framing}
 use Rattle.sm_model.specs.declared.framing.Framing.TheVariants as framing
 use Rattle.sm_body.specs.declared.place.Place.{Place}
-use Rattle.sm_body.specs.declared.place.Place.TheVariants.{Ended, Failed, Counted, Digits}
-use Rattle.sm_body.specs.declared.framer.Step.TheVariants.{Skip, Body, End, More, Bad}
+use Rattle.sm_body.specs.declared.place.Place.TheVariants.{Ended, Failed, Counted}
+use Rattle.sm_body.specs.declared.framer.Step.TheVariants.{Skip, Body, End, Bad}
 use Rattle.sm_body.specs.Places.{start, place_after, body_from, is_data, next_place}
 use Rattle.sm_body.specs.Steps.{StepGives}
-use Rattle.sm_fetch.specs.Framed.{IsFramedWhole, IsFramedCut, IsFramedBad}
+use Rattle.sm_fetch.specs.Framed.{IsFramedWhole, IsFramedBad}
 
 -- so many bytes are read: they lead to this place, before a byte that fits nowhere, and this is the body of them
 pub record IsReadTo (f : Framing) (bytes : List ℕ) (at : ℕ) (place : Place) (body : List ℕ) : Type 0 where

@@ -1,10 +1,10 @@
 -- Heads in front of a reply.
-use Rattle.std.proofs.Common.{◌≡◌, ◌<◌, ◌≤◌, ℕ, ◌+◌, ◌-◌, List, ◌++◌, length, take, drop, refl, sym, subst, arith, inl, inr, length-drop, length-take}
+use Rattle.std.proofs.Common.{◌≡◌, ◌<◌, ◌≤◌, ℕ, ◌+◌, ◌-◌, List, ◌++◌, length, take, drop, refl, subst, inl, inr}
 use Rattle.std.specs.Prelude.{Some, Err}
 use Rattle.sm_model.specs.declared.framing.Framing.{Framing}
 use Rattle.sm_head.specs.declared.response.RespFault.TheVariants as fault
 use Rattle.sm_head.specs.Responses.{IsReplyAt, IsUnfinished, IsRespAnswer}
-use Rattle.sm_fetch.specs.Answered.{IsBehindInterim, first, next, IsHeadEnd, IsWholeReply, IsCutReply, IsNoReply}
+use Rattle.sm_fetch.specs.Answered.{IsBehindInterim, next, IsHeadEnd, IsWholeReply, IsCutReply, IsNoReply}
 use Rattle.sm_fetch.specs.Framed.{IsFramedWhole, IsFramedCut, IsFramedBad}
 use Rattle.sm_fetch.proofs.Framing.{tail_is, tail_len}
 

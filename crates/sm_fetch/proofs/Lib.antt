@@ -8,3 +8,8 @@ pub mod Origin
 pub mod OneReply
 pub mod OneGot
 pub mod Listed
+pub mod CutFronts
+pub mod Fields
+pub mod Hex
+pub mod Pushes
+pub mod Urls

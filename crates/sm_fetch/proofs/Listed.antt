@@ -1,11 +1,9 @@
 -- Each stream that a manifest lists has a quality.
-use Rattle.std.proofs.Common.{◌≡◌, ◌≢◌, ◌<◌, ◌≤◌, ℕ, ◌+◌, ◌==◌, ◌||◌, if◌then◌else◌, Bool, true, false, not, List, [], ◌∷◌, ◌++◌, length, refl, ap, ◌∙◌, sym, subst, arith}
-use Rattle.std.specs.Prelude.{Option, Some, None, Ok, Err, Result, map, All, nat_lt}
+use Rattle.std.proofs.Common.{◌≡◌, ◌<◌, ℕ, ◌+◌, ◌==◌, ◌||◌, if◌then◌else◌, Bool, true, false, List, [], ◌∷◌, ◌++◌, length, refl, sym, subst, arith}
+use Rattle.std.specs.Prelude.{Option, Some, None, Ok, Result, map, nat_lt}
 use Rattle.std.specs.List.{AllByRecursion}
 use Rattle.std.specs.Option.{option_to_list}
-use Rattle.std.proofs.lemmas.Bool.Decides.{nat_tests}
 use Rattle.std.proofs.lemmas.List.Elements.{All-from_recursion}
-use Rattle.sm_model.specs.declared.tag.Tag.{Tag}
 use Rattle.sm_model.specs.LiveFaults.{least_from}
 use Rattle.sm_model.specs.LiveManifests.{bad_of}
 use Rattle.sm_manin.specs.declared.listing.Level.{Level}
@@ -14,8 +12,8 @@ use Rattle.sm_manin.specs.declared.listing.Listing.{Listing}
 use Rattle.sm_manin.specs.declared.raw.RawLevel.{RawLevel}
 use Rattle.sm_manin.specs.declared.raw.RawStream.{RawStream}
 use Rattle.sm_manin.specs.ManifestWalk.{Walk, none_met, walk}
-use Rattle.sm_manin.specs.ManifestFaults.{at_if, root_faults, is_stream_at_fault, lacks_levels, level_faults, stream_faults, streams_faults, open_faults, faults_of}
-use Rattle.sm_manin.specs.Listings.{with_level, level_in, levels_from, levels_of, listing_of, timescale_of, read_of}
+use Rattle.sm_manin.specs.ManifestFaults.{at_if, root_faults, is_stream_at_fault, lacks_levels, stream_faults, streams_faults, open_faults, faults_of}
+use Rattle.sm_manin.specs.Listings.{with_level, level_in, levels_from, listing_of, timescale_of, read_of}
 use Rattle.sm_manin.specs.ManifestRead.{judged, IsManifest}
 use Rattle.sm_manin.proofs.NoFaults.{left_none, right_none}
 use Rattle.sm_fetch.specs.declared.got.Got.{Got}

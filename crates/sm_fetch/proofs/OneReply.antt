@@ -1,5 +1,5 @@
 -- An answer begins with one thing.
-use Rattle.std.proofs.Common.{◌≡◌, ◌≢◌, ◌<◌, ◌≤◌, ℕ, ◌+◌, ◌⊎◌, List, [], ◌∷◌, ◌++◌, length, drop, refl, ap, ◌∙◌, sym, subst, arith, inl, inr, ⊎_elim}
+use Rattle.std.proofs.Common.{◌≡◌, ◌<◌, ◌≤◌, ℕ, ◌+◌, ◌⊎◌, List, [], ◌∷◌, ◌++◌, drop, refl, ap, ◌∙◌, sym, subst, arith, inl, inr, ⊎_elim}
 use Rattle.std.specs.Prelude.{Some, Ok, Err, Result}
 use Rattle.std.proofs.lemmas.List.{append-nil}
 use Rattle.sm_model.specs.declared.framing.Framing.{Framing}
@@ -10,15 +10,15 @@ use Rattle.sm_head.specs.declared.response.RespHead.{RespHead}
 use Rattle.sm_head.specs.declared.response.RespHead.TheVariants.{Whole as Head, Partial}
 use Rattle.sm_head.specs.declared.response.RespFault.{RespFault}
 use Rattle.sm_head.specs.declared.response.RespFault.TheVariants as fault
-use Rattle.sm_head.specs.Responses.{IsReplyAt, IsUnfinished, IsRespAnswer, IsButForMemory}
+use Rattle.sm_head.specs.Responses.{IsReplyAt, IsUnfinished, IsRespAnswer}
 use Rattle.sm_head.proofs.ReplyLaw.{whole_is_one, partial_is_one}
-use Rattle.sm_fetch.specs.Answered.{IsBehindInterim, first, next, IsHeadEnd, IsWholeReply, IsCutHead, IsCutBody, IsCutReply, IsBadHead, IsBadBody, IsNoReply}
+use Rattle.sm_fetch.specs.Answered.{IsBehindInterim, first, next, IsHeadEnd, IsWholeReply, IsCutHead, IsCutReply, IsBadHead, IsNoReply}
 use Rattle.sm_fetch.proofs.Framing.{place_on, failed_stays, split}
 
 -- ---- heads
 
 -- a head of so many bytes with a status below 200 stands there
-record IsInterim (bytes : List ℕ) (at len : ℕ) : Type 0 where
+pub record IsInterim (bytes : List ℕ) (at len : ℕ) : Type 0 where
   pub status : ℕ
   pub framing : Framing
   pub head : IsReplyAt (drop at bytes) len status (Some framing)
@@ -29,7 +29,7 @@ abbrev Stops : List ℕ → ℕ → Type 0
 Stops bytes at = (len : ℕ) → IsInterim bytes at len → ⊥
 
 -- from one place to another there are such heads alone
-data Leads : List ℕ → ℕ → ℕ → Type 0 where
+pub data Leads : List ℕ → ℕ → ℕ → Type 0 where
   here : (bytes : List ℕ) (p q : ℕ) → p ≡ q → Leads bytes p q
   over : (bytes : List ℕ) (p len q : ℕ) → IsInterim bytes p len → Leads bytes (p + len) q → Leads bytes p q
 
@@ -38,7 +38,7 @@ one_more bytes s p len q (here b t u same) head is =
     over bytes s len q (subst (λ n. IsInterim bytes n len) (sym same) head) (here bytes (s + len) q (ap (λ n. n + len) same ∙ sym is))
 one_more bytes s p len q (over b t more u interim leads) head is = over bytes s more q interim (one_more bytes (s + more) p len q leads head is)
 
-from_start : (bytes : List ℕ) (q : ℕ) → IsBehindInterim bytes q → Leads bytes 0 q
+pub from_start : (bytes : List ℕ) (q : ℕ) → IsBehindInterim bytes q → Leads bytes 0 q
 from_start bytes q (first b a at) = here bytes 0 q (sym at)
 from_start bytes q (next b before len status f a behind head low at) =
     one_more bytes 0 before len q (from_start bytes before behind) (record { status = status; framing = f; head = head; low = low }) at
@@ -147,7 +147,7 @@ nothing_more (x ∷ k) is = let wrong : Failed ≡ Ended = sym (failed_stays k) 
 behind_end : (p : Place) (framed k : List ℕ) → place_after p framed ≡ Ended → place_after p (framed ++ k) ≡ place_after Ended k
 behind_end p framed k ended = place_on p framed k ∙ ap (λ (o : Place). place_after o k) ended
 
-same_framed : (p : Place) (framed rest other more : List ℕ) → framed ++ rest ≡ other ++ more → place_after p framed ≡ Ended → place_after p other ≡ Ended → framed ≡ other
+pub same_framed : (p : Place) (framed rest other more : List ℕ) → framed ++ rest ≡ other ++ more → place_after p framed ≡ Ended → place_after p other ≡ Ended → framed ≡ other
 same_framed p framed rest other more joined ended ended_too = ⊎_elim
     (λ (s : (k : List ℕ) × (other ≡ framed ++ k) × (rest ≡ k ++ more)).
     let none = nothing_more s.0 (sym (behind_end p framed s.0 ended) ∙ ap (place_after p) (sym s.1) ∙ ended_too) in

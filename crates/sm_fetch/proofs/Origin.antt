@@ -1,6 +1,6 @@
 -- What a front of an origin's reply spells: nothing but what the reply says.
-use Rattle.std.proofs.Common.{◌≡◌, ◌≢◌, ◌<◌, ◌≤◌, ◌^◌, ℕ, zero, suc, ◌+◌, ◌-◌, ◌⊎◌, ◌==◌, if◌then◌else◌, Bool, true, false, List, [], ◌∷◌, ◌++◌, length, take, drop, refl, ap, ◌∙◌, sym, subst, arith, inl, inr, ⊎_elim, append_assoc, length-append, zero-add}
-use Rattle.std.specs.Prelude.{Option, Some, None, Ok, Err, Result, IfSome, Contains, nat_lt}
+use Rattle.std.proofs.Common.{◌≡◌, ◌<◌, ◌≤◌, ◌^◌, ℕ, zero, suc, ◌+◌, ◌⊎◌, Bool, List, [], ◌∷◌, ◌++◌, length, drop, refl, ap, ◌∙◌, sym, subst, arith, inl, inr, ⊎_elim, append_assoc, length-append, zero-add}
+use Rattle.std.specs.Prelude.{Option, Some, None, Ok, Err, Result, Contains}
 use Rattle.std.proofs.lemmas.List.{append-nil, drop-append-le}
 use Rattle.std.proofs.lemmas.List.Elements.{Contains-append_left}
 use Rattle.std.proofs.lemmas.Bool.Decides.{nat_tests}
@@ -15,14 +15,11 @@ use Rattle.sm_model.specs.declared.fragment.Fragment.{Fragment}
 use Rattle.sm_model.specs.declared.framing.Framing.{Framing}
 use Rattle.sm_model.specs.declared.framing.Framing.TheVariants as framing
 use Rattle.sm_model.specs.declared.run.RawFragment.{RawFragment}
-use Rattle.sm_model.specs.declared.target.Target.TheVariants as target
-use Rattle.sm_model.specs.Boxes.{IsOneBox}
 use Rattle.sm_model.specs.Entries.{address_of}
 use Rattle.sm_model.specs.Frag.{frag}
-use Rattle.sm_model.specs.FragText.{moof, mdat, frag_text}
-use Rattle.sm_model.specs.Written.{IsWritten, raw_again}
-use Rattle.sm_model.proofs.WrittenFragment.{moof_whole, mdat_whole, frag_read}
-use Rattle.sm_addr.specs.Targets.{target_of}
+use Rattle.sm_model.specs.FragText.{moof, mdat}
+use Rattle.sm_model.specs.Written.{raw_again}
+use Rattle.sm_model.proofs.WrittenFragment.{moof_whole, frag_read}
 use Rattle.sm_body.specs.declared.place.Place.{Place as BodyPlace}
 use Rattle.sm_body.specs.declared.place.Place.TheVariants.{Ended, Failed, Counted}
 use Rattle.sm_body.specs.Places.{start, place_after, body_from, next_place}
@@ -31,7 +28,7 @@ use Rattle.sm_head.specs.declared.response.RespHead.{RespHead}
 use Rattle.sm_head.specs.declared.response.RespHead.TheVariants.{Whole}
 use Rattle.sm_head.specs.declared.response.RespFault.{RespFault}
 use Rattle.sm_head.specs.declared.response.RespFault.TheVariants as fault
-use Rattle.sm_head.specs.Responses.{IsReplyAt, IsRespAnswer, IsButForMemory, written_framing}
+use Rattle.sm_head.specs.Responses.{IsReplyAt, IsRespAnswer, written_framing}
 use Rattle.sm_head.specs.Replies.{reply_head, reply_text}
 use Rattle.sm_head.proofs.ReplyLaw.{written_is_read, body_begins}
 use Rattle.sm_moof.specs.Shown.{no_defaults}
@@ -41,9 +38,9 @@ use Rattle.sm_fetch.specs.declared.dial.Answer.TheVariants as answers
 use Rattle.sm_fetch.specs.declared.place.Place.{Place}
 use Rattle.sm_fetch.specs.declared.got.Got.{Got}
 use Rattle.sm_fetch.specs.declared.got.Got.TheVariants as got
-use Rattle.sm_fetch.specs.Answered.{IsBehindInterim, first, next, IsHeadEnd, IsWholeReply}
+use Rattle.sm_fetch.specs.Answered.{IsBehindInterim, first, next, IsWholeReply}
 use Rattle.sm_fetch.specs.Fetched.{IsKeptAt}
-use Rattle.sm_fetch.specs.Origins.{IsKeptText, IsOriginReply, IsOfOrigin, FromOrigin, Grows, AnswersFrom}
+use Rattle.sm_fetch.specs.Origins.{IsKeptText, FromOrigin, Grows, AnswersFrom}
 use Rattle.sm_fetch.specs.Requests.{fragment_target, fragment_request}
 use Rattle.sm_fetch.specs.Spelt.{IsFragmentAt, SpellsFragment, given}
 use Rattle.sm_fetch.proofs.Framing.{failed_stays}

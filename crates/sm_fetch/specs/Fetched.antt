@@ -1,5 +1,5 @@
 -- What one call makes of one exchange.
-use Rattle.std.specs.Prelude.{◌≡◌, ◌<◌, ℕ, List, length, All, Option, Some, IfSome, Contains}
+use Rattle.std.specs.Prelude.{◌≡◌, ◌<◌, ℕ, List, length, All, Option, IfSome, Contains}
 use Rattle.sm_model.specs.declared.address.Address.{Address}
 use Rattle.sm_model.specs.declared.entry.Entry.{Entry}
 use Rattle.sm_model.specs.declared.entry.Entry.TheVariants.{Keep}

@@ -1,5 +1,5 @@
 -- What an answer spells to who asked. [MS-SSTR] 2.2.2, 2.2.4; ISO/IEC 14496-12, 8.8.
-use Rattle.std.specs.Prelude.{◌≡◌, ◌≢◌, ◌≤◌, ◌⊎◌, ℕ, List, [], ◌++◌, true, codes, Ok, Err}
+use Rattle.std.specs.Prelude.{◌≡◌, ◌≢◌, ◌⊎◌, ℕ, List, [], ◌++◌, true, codes, Ok, Err}
 use Rattle.sm_model.specs.declared.fragment.Fragment.{Fragment}
 use Rattle.sm_model.specs.declared.run.RawFragment.{RawFragment}
 use Rattle.sm_model.specs.Boxes.{box_of, IsOneBox}

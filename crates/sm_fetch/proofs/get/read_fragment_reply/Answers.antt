@@ -1,4 +1,4 @@
-use Rattle.std.proofs.Common.{ℕ, List, subst, inl, inr}
+use Rattle.std.proofs.Common.{ℕ, subst, inl, inr}
 use Rattle.sm_fetch.specs.Answered.{IsWholeReply, body_bytes}
 use Rattle.sm_fetch.specs.TwoBoxes.{HasNoFragment}
 use Rattle.sm_fetch.proofs.get.read_fragment_reply.Goals as goal

@@ -1,4 +1,4 @@
-use Rattle.std.proofs.Common.{take, drop, subst, sym, ◌∙◌}
+use Rattle.std.proofs.Common.{take, drop, subst, sym}
 use Rattle.sm_model.specs.Boxes.{IsOneBox}
 use Rattle.sm_fetch.proofs.Pairs.{not_true, not_one, not_rest}
 use Rattle.sm_fetch.proofs.samples.two_boxes.Goals as goal
