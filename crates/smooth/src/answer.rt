@@ -13,10 +13,24 @@ pub enum Answer {
     Unread,
     /// The input has more than 268,435,456 bytes.
     TooLong,
-    /// The input is no whole push. The line says where, and why.
+    /// The ladder has more than 1,048,576 bytes.
+    LongLadder,
+    /// The input is no whole push, or no ladder. The line says where, and why.
     Refused(Bytes),
     /// The input has no such fragment.
     NotKept,
+    /// The channel that stands differs from the ladder. The line says how.
+    Clash(Bytes),
+    /// What was read of the store is not what was written.
+    Damaged,
+    /// The disk failed.
+    DiskFault,
+    /// The link failed.
+    LinkFault,
     /// Memory ran out.
     Starved,
+    /// A limit of the store is met.
+    Full,
+    /// The folder has no store. The line says where.
+    NotAStore(Bytes),
 }

@@ -1,13 +1,17 @@
-//! The program `smooth`: a live origin and client for Smooth Streaming. Today it picks a fragment out of an input.
+//! The program `smooth`: a live origin and client for Smooth Streaming. It picks a fragment out of an input, serves a store and lists it.
 #![tactic(auto)]
 
 mod answer;
 pub mod law;
+mod line;
+mod option;
+mod order;
 mod pick;
 mod print;
 mod search;
 mod seek;
 mod std_ends;
+mod stores;
 #[cfg(test)]
 mod tests;
 mod tool;
@@ -16,6 +20,7 @@ mod words;
 use answer::Answer;
 use print::print;
 use sm_model::NoMemory;
+use sm_real::RealSite;
 use std::env;
 use std::io::ErrorKind;
 use std::process::ExitCode;
@@ -40,8 +45,9 @@ fn words_of(rt: &HostRuntime) -> Result<Vec<String>, NoMemory> {
 fn main(rt: HostRuntime) -> ExitCode {
     let mut input = StdSource::new(rt.stdin());
     let mut output = StdSink::new(rt.stdout());
+    let mut site = RealSite::new(&rt, rt.alloc());
     let status = match words_of(&rt) {
-        Ok(words) => tool(rt.alloc(), &words, &mut input, &mut output),
+        Ok(words) => tool(rt.alloc(), &words, &mut input, &mut output, &mut site),
         Err(NoMemory) => print(&mut output, &Answer::Starved),
     };
     ExitCode::from(status)

@@ -20,9 +20,16 @@ fn write_line<O: Sink>(sink: &mut O, answer: &Answer) -> Result<(), Failed>
         Answer::Words => write_all(sink, b"error: words\n"),
         Answer::Unread => write_all(sink, b"error: read\n"),
         Answer::TooLong => write_all(sink, b"error: input at 268435456: too long\n"),
-        Answer::Refused(line) => write_all(sink, line.as_slice()),
+        Answer::LongLadder => write_all(sink, b"error: input at 1048576: too long\n"),
+        Answer::Refused(line) | Answer::Clash(line) | Answer::NotAStore(line) => {
+            write_all(sink, line.as_slice())
+        }
         Answer::NotKept => write_all(sink, b"error: 47 NotKept\n"),
+        Answer::Damaged => write_all(sink, b"error: 32 Damaged\n"),
+        Answer::DiskFault => write_all(sink, b"error: disk\n"),
+        Answer::LinkFault => write_all(sink, b"error: link\n"),
         Answer::Starved => write_all(sink, b"error: memory\n"),
+        Answer::Full => write_all(sink, b"error: full\n"),
     }
 }
 
@@ -32,10 +39,14 @@ fn status(answer: &Answer) -> u8
     match answer {
         Answer::Found(_) => 0,
         Answer::Words => 2,
-        Answer::TooLong | Answer::Refused(_) => 3,
-        Answer::NotKept => 4,
+        Answer::TooLong | Answer::LongLadder | Answer::Refused(_) => 3,
+        Answer::NotKept | Answer::Clash(_) | Answer::Damaged => 4,
+        Answer::DiskFault => 5,
         Answer::Unread => 6,
+        Answer::LinkFault => 8,
         Answer::Starved => 9,
+        Answer::Full => 10,
+        Answer::NotAStore(_) => 11,
     }
 }
 
