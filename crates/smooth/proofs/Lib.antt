@@ -1,3 +1,6 @@
+pub mod Reading
+pub mod Clapping
+pub mod Asking
 pub mod Searching
 pub mod Looking
 pub mod Picking

@@ -4,10 +4,12 @@
 mod answer;
 pub mod law;
 mod line;
+mod matched;
 mod option;
 mod order;
 mod pick;
 mod print;
+mod put;
 mod search;
 mod seek;
 mod std_ends;

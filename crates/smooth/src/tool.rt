@@ -1,6 +1,8 @@
 //! The commands.
+ghost use Rattle.std.specs.Prelude.{◌≡◌, map, string_bytes};
+ghost use Rattle.smooth.specs.Ran.{IsRun, Means, PickMeans};
 
-use crate::answer::Answer;
+use crate::answer::{Answer, Picked};
 use crate::order::{Order, order_of};
 use crate::pick::pick;
 use crate::print::print;
@@ -11,9 +13,14 @@ use sm_site::Site;
 use std::alloc::Global;
 
 // What the input comes to, where a fragment of it is asked for.
-fn picked<I: Source>(alloc: Global, input: &mut I, track: u32, time: u64) -> Answer {
+fn picked<I: Source>(alloc: Global, input: &mut I, track: u32, time: u64) -> Answer
+    ensures { PickMeans track time (record { told = I.left input.old; faults = I.faults input.old })
+        (record { told = I.left input.new; faults = I.faults input.new }) result }
+{
     match pick(alloc, input, track, time) {
-        Ok(answer) => answer,
+        Ok(Picked::Found(text)) => Answer::Found(text),
+        Ok(Picked::Refused(line)) => Answer::Refused(line),
+        Ok(Picked::NotKept) => Answer::NotKept,
         Err(InputFault::Failed) => Answer::Unread,
         Err(InputFault::TooLong) => Answer::TooLong,
         Err(InputFault::NoMemory) => Answer::Starved,
@@ -26,7 +33,11 @@ fn answer_to<I: Source, S: Site>(
     words: &[String],
     input: &mut I,
     site: &mut S,
-) -> Answer {
+) -> Answer
+    ensures { Means S.Disk.view S.Disk.may_leave S.Disk.left_at (map string_bytes words.now)
+        (record { told = I.left input.old; faults = I.faults input.old })
+        (record { told = I.left input.new; faults = I.faults input.new }) site.old site.new result }
+{
     match order_of(alloc, words) {
         Ok(Some(Order::Pick { track, time })) => picked(alloc, input, track, time),
         Ok(Some(Order::Serve(order))) => serve(alloc, input, site, &order),
@@ -49,7 +60,13 @@ pub fn tool<I: Source, O: Sink, S: Site>(
     input: &mut I,
     output: &mut O,
     site: &mut S,
-) -> u8 {
+) -> u8
+    ensures { IsRun S.Disk.view S.Disk.may_leave S.Disk.left_at (map string_bytes words.now)
+        (record { told = I.left input.old; faults = I.faults input.old })
+        (record { told = I.left input.new; faults = I.faults input.new })
+        (record { told = O.held output.old; faults = O.faults output.old })
+        (record { told = O.held output.new; faults = O.faults output.new }) site.old site.new result }
+{
     let answer = answer_to(alloc, words, input, site);
     print(output, &answer)
 }
