@@ -5,3 +5,4 @@ pub mod Searching
 pub mod Looking
 pub mod Picking
 pub mod OneAnswer
+pub mod Storing
