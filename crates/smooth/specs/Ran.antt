@@ -75,3 +75,9 @@ pub record IsRun {D : Type 0} (view : D → View) (leave : D → Image → Type 
   pub answer : Answer
   pub means : Means view leave left_at words input input' d d' answer
   pub prints : Prints answer output output' status
+
+-- A program ended with the status of a run; where there was no memory for its words, that alone was told.
+abbrev pub EndsAs : {D : Type 0} (view : D → View) (leave : D → Image → Type 0) (left_at : D → ℕ → Image → Type 0) → Option (List (List ℕ))
+    → End → End → End → End → D → D → ℕ → Type 0
+EndsAs view leave left_at None input input' output output' d d' status = Prints Starved output output' status × IsIdle input input' d d'
+EndsAs view leave left_at (Some words) input input' output output' d d' status = IsRun view leave left_at words input input' output output' d d' status

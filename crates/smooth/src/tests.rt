@@ -5,6 +5,8 @@ mod ends;
 mod fixtures;
 mod limits;
 mod picks;
+mod sites;
+mod stores;
 mod words;
 
 use crate::tool::tool;
