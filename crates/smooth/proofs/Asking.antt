@@ -1,5 +1,5 @@
 -- What the words ask for.
-use Rattle.std.proofs.Common.{◌≡◌, ℕ, List, map, string_bytes, String, Global, Vec, Option, Some, None, refl, sym, ap, ◌∙◌}
+use Rattle.std.proofs.Common.{◌≡◌, List, map, string_bytes, String, Global, Vec, Option, Some, None, refl, sym, ap, ◌∙◌}
 use Rattle.std.specs.Option.{option_map, option_and_then}
 use Rattle.smooth.specs.Words.{Text, Read}
 use Rattle.smooth.specs.declared.line.Line.{Line}

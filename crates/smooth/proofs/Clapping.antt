@@ -1,5 +1,5 @@
 -- What `clap` reads of the words as they are put.
-use Rattle.std.proofs.Common.{◌≡◌, ℕ, Bool, true, false, List, ◌∷◌, [], codes, Option, Some, None, refl, ap, ap₂, ◌∙◌}
+use Rattle.std.proofs.Common.{◌≡◌, Bool, true, false, List, codes, Option, Some, None, refl, ap, ap₂, ◌∙◌}
 use Rattle.clap.specs.Words.{App, HasMatchesOf, Row, found_of, first_of, first_value, is_simple, matches_of, one_of, one_text, rows_of, takes}
 use Rattle.clap.specs.declared.parser.matches.ArgMatches.{ArgMatches}
 use Rattle.clap.specs.declared.parser.matches.Found.{Found}

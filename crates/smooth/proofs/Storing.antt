@@ -1,6 +1,6 @@
 -- What a fault of a command on a store means.
-use Rattle.std.proofs.Common.{◌≡◌, ◌⊎◌, inl, inr, ℕ, Bool, Option, List, Result, Ok, Err, refl, sym, subst, ◌∙◌}
-use Rattle.std.specs.Prelude.{IfOk, IsTrue}
+use Rattle.std.proofs.Common.{◌≡◌, ◌⊎◌, inl, inr, ℕ, Bool, Result, Ok, Err, refl, sym, subst}
+use Rattle.std.specs.Prelude.{IfOk}
 use Rattle.sm_model.specs.declared.no_memory.NoMemory.{NoMemory}
 use Rattle.sm_site.specs.Image.{Image}
 use Rattle.sm_site.specs.Meanings.{View}
@@ -10,8 +10,7 @@ use Rattle.sm_store.specs.declared.fault.StoreFault.{StoreFault}
 use Rattle.sm_store.specs.declared.fault.StoreFault.TheVariants as fault
 use Rattle.sm_store.specs.Serving.{Input, TriesLadder, WhyUnread, WhyUnready, outcome_of}
 use Rattle.smooth.specs.declared.answer.Answer.{Answer}
-use Rattle.smooth.specs.declared.answer.Answer.TheVariants.{Starved}
-use Rattle.smooth.specs.Stores.{End, ServeMeans, Tells, clash_line, input_of, ladder_line, or_starved, store_line}
+use Rattle.smooth.specs.Stores.{End, ServeMeans, Tells, input_of, or_starved}
 
 -- a ladder is never answered by damage
 not_damaged : (answer : Declared) → Err fault.Damaged ≡ outcome_of answer → ⊥

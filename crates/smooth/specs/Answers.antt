@@ -10,7 +10,8 @@ use Rattle.sm_model.specs.Body.{body, body_end}
 use Rattle.smooth.specs.declared.answer.Picked.{Picked}
 use Rattle.smooth.specs.declared.answer.Picked.TheVariants as picked
 use Rattle.smooth.specs.declared.answer.Answer.{Answer}
-use Rattle.smooth.specs.declared.answer.Answer.TheVariants.{Found, Words, Unread, TooLong, LongLadder, Refused, NotKept, Clash, Damaged, DiskFault, LinkFault, Starved, Full, NotAStore}
+use Rattle.smooth.specs.declared.answer.Answer.TheVariants.{Found, Words, Unread, TooLong, LongLadder, Refused, NotKept, Clash}
+use Rattle.smooth.specs.declared.answer.Answer.TheVariants.{Damaged, DiskFault, LinkFault, Starved, Full, NotAStore}
 
 -- ---- the statuses and the lines
 

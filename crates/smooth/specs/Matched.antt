@@ -1,5 +1,5 @@
 -- What was read by `clap`.
-use Rattle.std.specs.Prelude.{◌≡◌, Option, Some, string_bytes}
+use Rattle.std.specs.Prelude.{◌≡◌, Some, string_bytes}
 use Rattle.std.specs.Option.{option_map}
 use Rattle.smooth.specs.declared.matched.ServeTexts.{ServeTexts}
 use Rattle.smooth.specs.Words.{ServeTexts as Asked}

@@ -1,5 +1,5 @@
 -- What a command on a store answers.
-use Rattle.std.specs.Prelude.{◌≡◌, ◌⊎◌, ℕ, Bool, List, ◌++◌, codes, decimal, Option, Some, None, IfSome, Result, Ok, Err}
+use Rattle.std.specs.Prelude.{◌≡◌, ◌⊎◌, ℕ, Bool, List, ◌++◌, codes, decimal, Option, IfSome, Result, Ok, Err}
 use Rattle.sm_model.specs.declared.cause.Cause.{Cause}
 use Rattle.sm_model.specs.declared.entry.Entry.{Entry}
 use Rattle.sm_model.specs.declared.no_memory.NoMemory.{NoMemory}
@@ -14,7 +14,8 @@ use Rattle.sm_store.specs.declared.fault.StoreFault.TheVariants as fault
 use Rattle.sm_store.specs.Listing.{WhyUnlisted, lines_of}
 use Rattle.sm_store.specs.Serving.{HasRun, Input, WhyUnready}
 use Rattle.smooth.specs.declared.answer.Answer.{Answer}
-use Rattle.smooth.specs.declared.answer.Answer.TheVariants.{Found, Words, Unread, TooLong, LongLadder, Refused, NotKept, Clash, Damaged, DiskFault, LinkFault, Starved, Full, NotAStore}
+use Rattle.smooth.specs.declared.answer.Answer.TheVariants.{Found, Words, Unread, TooLong, LongLadder, Refused, NotKept, Clash}
+use Rattle.smooth.specs.declared.answer.Answer.TheVariants.{Damaged, DiskFault, LinkFault, Starved, Full, NotAStore}
 
 -- an end before a call and after it: what it tells, and its count of faults
 pub record End : Type 0 where

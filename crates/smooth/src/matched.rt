@@ -82,11 +82,7 @@ fn serve_command<'w>(alloc: Global) -> Result<Command<'w>, NoMemory>
 }
 
 // The text that was read under that name.
-fn text_of(
-    alloc: Global,
-    matches: &ArgMatches<'_>,
-    id: &str,
-) -> Result<Option<String>, NoMemory>
+fn text_of(alloc: Global, matches: &ArgMatches<'_>, id: &str) -> Result<Option<String>, NoMemory>
     ensures { IfOk result (λ text. option_map string_bytes text ≡ first_value (found_of matches.now) id.now) }
 {
     match matches.get_str(id) {

@@ -18,16 +18,11 @@ use std::alloc::Global;
 #[derive(Debug, Drop)]
 pub enum Order {
     /// The first fragment of an input with that track_ID, and that time in ticks of the track's timescale.
-    Pick {
-        track: u32,
-        time: u64,
-    },
+    Pick { track: u32, time: u64 },
     /// To serve a store.
     Serve(ServeOrder),
     /// The list of what the store in a folder keeps.
-    List {
-        store: String,
-    },
+    List { store: String },
 }
 
 /// What is served, and how.

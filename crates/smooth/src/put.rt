@@ -34,11 +34,7 @@ fn put_ladder(alloc: Global, words: &mut Vec<String>, ladder: bool) -> Result<()
     Ok(())
 }
 
-fn put_turns(
-    alloc: Global,
-    words: &mut Vec<String>,
-    turns: Option<&str>,
-) -> Result<(), NoMemory>
+fn put_turns(alloc: Global, words: &mut Vec<String>, turns: Option<&str>) -> Result<(), NoMemory>
     ensures { OnOk result (map string_bytes words.new.items ≡ map string_bytes words.old.items ++ turns_words (option_map (λ text. text.now) turns.entry)) }
 {
     match turns {

@@ -5,6 +5,7 @@ mod ends;
 mod fixtures;
 mod limits;
 mod picks;
+mod records;
 mod sites;
 mod stores;
 mod words;

@@ -1,7 +1,7 @@
 //! Fragments and inputs at their limits, and one beyond.
 
 use super::fixtures::{TEXT, joined};
-use super::{no_site, expect, run, words_of};
+use super::{expect, no_site, run, words_of};
 use crate::tool::tool;
 use sm_ends::{Calls, CountedSource, MemorySink};
 use std::alloc::Global;

@@ -46,12 +46,7 @@ fn script_of(first: u64, events: Vec<Event>) -> Option<Script>
 }
 
 /// Adds the events of a connection that sends these bytes, which are at most 65,536, in one piece.
-pub fn send(
-    alloc: Global,
-    events: &mut Vec<Event>,
-    number: u64,
-    bytes: &[u8],
-) -> Result<(), Fail> {
+pub fn send(alloc: Global, events: &mut Vec<Event>, number: u64, bytes: &[u8]) -> Result<(), Fail> {
     events.push(Event::Opened(number))?;
     events.push(Event::Piece(number, Piece::from_vec(bytes.to_vec(alloc)?)))?;
     Ok(())

@@ -1,23 +1,23 @@
 //! The commands on a store.
 
-use super::fixtures::{encoder_text, fragment, fragment_at, header, joined};
-use super::sites::{file_of, goes_on, push, run_on, send, site_of};
-use sm_site::{Crashing, Disk, MemorySite};
+use super::fixtures::{encoder_text, fragment, header, joined};
+use super::sites::{file_of, push, run_on, send, site_of};
+use sm_site::{Disk, MemorySite};
 use std::alloc::Global;
 use std::process::Abort;
 use std::test::Fail;
 
-const SERVE: [&str; 4] = ["serve", "s", "--port", "8080"];
+pub const SERVE: [&str; 4] = ["serve", "s", "--port", "8080"];
 
-const LIST: [&str; 2] = ["list", "s"];
+pub const LIST: [&str; 2] = ["list", "s"];
 
-const LINES: &[u8] =
+pub const LINES: &[u8] =
     b"keep 1 video 350000 0 20000000 1\nkeep 2 video 700000 0 20000000 1\nkeep 3 audio 64000 0 20000000 1\n";
 
 const HEAD: &[u8] = b"\x01SSLOG\r\n\x1a\0\0\0\x01";
 
-// Asserts what a command on that site prints, and its status.
-fn expect_on(
+/// Asserts what a command on that site prints, and its status.
+pub fn expect_on(
     rt: &impl Abort,
     alloc: Global,
     words: &[&str],
@@ -32,14 +32,19 @@ fn expect_on(
     Ok(())
 }
 
-// A site to whose store three fragments were pushed.
-fn pushed(rt: &impl Abort, alloc: Global) -> Result<MemorySite, Fail> {
+/// A site to whose store three fragments were pushed.
+pub fn pushed(rt: &impl Abort, alloc: Global) -> Result<MemorySite, Fail> {
     let head = header(alloc)?;
     let p1 = fragment(alloc, 1, 0x41)?;
     let p2 = fragment(alloc, 2, 0x42)?;
     let p3 = fragment(alloc, 3, 0x43)?;
     let mut events = Vec::new(alloc);
-    send(alloc, &mut events, 0, &push(alloc, &[&head, &p1, &p2, &p3])?)?;
+    send(
+        alloc,
+        &mut events,
+        0,
+        &push(alloc, &[&head, &p1, &p2, &p3])?,
+    )?;
     let mut site = site_of(alloc, events, &[], &[])?;
     expect_on(rt, alloc, &SERVE, b"", &mut site, 0, b"turns 2\n")?;
     Ok(site)
@@ -90,7 +95,15 @@ fn a_ladder_is_declared_first(rt: HostRuntime) -> Result<(), Fail> {
     expect_on(&rt, alloc, &words, &long, &mut site, 3, line)?;
     let line = b"error: input at 0: 5 BadLiveManifest\n";
     expect_on(&rt, alloc, &words, b"", &mut site, 3, line)?;
-    expect_on(&rt, alloc, &words, text.as_bytes(), &mut site, 0, b"turns 1\n")?;
+    expect_on(
+        &rt,
+        alloc,
+        &words,
+        text.as_bytes(),
+        &mut site,
+        0,
+        b"turns 1\n",
+    )?;
     long.pop();
     expect_on(&rt, alloc, &words, &long, &mut site, 0, b"turns 1\n")?;
     let wide = text.as_bytes().to_vec(alloc)?;

@@ -1,4 +1,4 @@
-use Rattle.std.proofs.Common.{◌≡◌, ◌+◌, refl, sym, arith, ◌∙◌}
+use Rattle.std.proofs.Common.{◌≡◌, ◌+◌, refl, sym, ◌∙◌}
 use denote.Enum.Bare.{sameb}
 use Rattle.smooth.specs.contracts.option.Name.{the_type}
 use Rattle.smooth.specs.declared.option.Name.{Name}

@@ -1,4 +1,4 @@
-use Rattle.std.proofs.Common.{refl, sym, ap, ◌∙◌, arith, List, ℕ}
+use Rattle.std.proofs.Common.{ap, ◌∙◌, arith}
 use Rattle.smooth.specs.Words.{Text, word_at}
 use Rattle.smooth.specs.Line.{read_of, adds_of}
 use Rattle.smooth.proofs.Reading.{line_read, read_none_yet, value_missing, word_read, word_refused}

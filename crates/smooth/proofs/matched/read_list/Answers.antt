@@ -1,6 +1,5 @@
-use Rattle.std.proofs.Common.{◌≡◌, ◌∙◌, codes, Some, List}
-use Rattle.clap.specs.Words.{Row, found_of, matches_of, rows_of}
-use Rattle.smooth.specs.Words.{Text}
+use Rattle.std.proofs.Common.{◌∙◌, codes, Some}
+use Rattle.clap.specs.Words.{found_of, matches_of}
 use Rattle.smooth.specs.Clapped.{list_app, list_words}
 use Rattle.smooth.proofs.Clapping.{list_simple, list_taken, listed_read, rows_read, still_taken, str_read}
 use Rattle.smooth.proofs.matched.read_list.Goals as goal

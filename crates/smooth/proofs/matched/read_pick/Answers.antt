@@ -1,6 +1,5 @@
-use Rattle.std.proofs.Common.{◌≡◌, ◌∙◌, codes, Some, List}
-use Rattle.clap.specs.Words.{Row, found_of, matches_of, rows_of}
-use Rattle.smooth.specs.Words.{Text}
+use Rattle.std.proofs.Common.{◌∙◌, codes, Some}
+use Rattle.clap.specs.Words.{found_of, matches_of}
 use Rattle.smooth.specs.Clapped.{pick_app, pick_words}
 use Rattle.smooth.proofs.Clapping.{pick_simple, pick_taken, rows_read, still_taken, str_read, time_read, track_read}
 use Rattle.smooth.proofs.matched.read_pick.Goals as goal

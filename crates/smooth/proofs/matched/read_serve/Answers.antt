@@ -1,6 +1,5 @@
-use Rattle.std.proofs.Common.{◌≡◌, ◌∙◌, codes, Some, List}
-use Rattle.clap.specs.Words.{Row, found_of, matches_of, rows_of}
-use Rattle.smooth.specs.Words.{ServeTexts}
+use Rattle.std.proofs.Common.{◌∙◌, codes, Some}
+use Rattle.clap.specs.Words.{found_of, matches_of}
 use Rattle.smooth.specs.Clapped.{serve_app, serve_words}
 use Rattle.smooth.proofs.Clapping.{ladder_is, port_read, rows_read, serve_simple, serve_taken, still_taken, store_read, str_read, turns_read}
 use Rattle.smooth.proofs.matched.read_serve.Goals as goal

@@ -1,4 +1,3 @@
-use Rattle.smooth.specs.Words.{Text, only_word}
 use Rattle.smooth.specs.Clapped.{list_words}
 use Rattle.smooth.proofs.Asking.{put_of}
 use Rattle.smooth.proofs.order.list_asked.Goals as goal

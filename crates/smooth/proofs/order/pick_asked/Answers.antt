@@ -1,5 +1,5 @@
 use Rattle.std.proofs.Common.{◌∙◌}
-use Rattle.smooth.specs.Words.{Text, Read, Wanted, pick_by, two_words}
+use Rattle.smooth.specs.Words.{Text, Read, pick_by, two_words}
 use Rattle.smooth.specs.Line.{read_of}
 use Rattle.smooth.specs.Clapped.{pick_words}
 use Rattle.smooth.proofs.Asking.{asked_by, line_is, put_of}
