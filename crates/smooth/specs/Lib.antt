@@ -1,4 +1,10 @@
+pub mod Options
 pub mod Words
+pub mod Line
+pub mod Clapped
+pub mod Matched
+pub mod Orders
 pub mod Answers
 pub mod Search
+pub mod Stores
 pub mod Ran

@@ -5,14 +5,28 @@ mod ends;
 mod fixtures;
 mod limits;
 mod picks;
+mod records;
+mod sites;
+mod stores;
 mod words;
 
 use crate::tool::tool;
 use sm_ends::{Calls, MemorySink, MemorySource};
 use sm_model::Bytes;
+use sm_site::{MemorySite, Numbers, Script};
 use std::alloc::Global;
 use std::process::Abort;
 use std::test::Fail;
+
+// A site with no files, where nothing comes.
+fn no_site(alloc: Global) -> MemorySite {
+    MemorySite::new(
+        alloc,
+        Script::from_vec(Vec::new(alloc)),
+        Numbers::from_vec(Vec::new(alloc)),
+        Numbers::from_vec(Vec::new(alloc)),
+    )
+}
 
 fn words_of(alloc: Global, words: &[&str]) -> Result<Vec<String>, Fail> {
     let mut list = Vec::new(alloc);
@@ -36,7 +50,8 @@ fn run_failing(
         Calls::from_vec(reads.to_vec(alloc)?),
     );
     let mut sink = MemorySink::new(alloc, Calls::from_vec(writes.to_vec(alloc)?));
-    let status = tool(alloc, &words, &mut source, &mut sink);
+    let mut site = no_site(alloc);
+    let status = tool(alloc, &words, &mut source, &mut sink, &mut site);
     Ok((status, Bytes::from_slice(alloc, sink.held())?))
 }
 

@@ -1,0 +1,11 @@
+-- What was read by `clap`.
+use Rattle.std.specs.Prelude.{◌≡◌, Some, string_bytes}
+use Rattle.std.specs.Option.{option_map}
+use Rattle.smooth.specs.declared.matched.ServeTexts.{ServeTexts}
+use Rattle.smooth.specs.Words.{ServeTexts as Asked}
+
+pub record IsReadOf (texts : ServeTexts) (x : Asked) : Type 0 where
+  pub port : option_map string_bytes texts.port ≡ Some x.port
+  pub ladder : texts.ladder ≡ x.ladder
+  pub turns : option_map string_bytes texts.turns ≡ x.turns
+  pub store : option_map string_bytes texts.store ≡ Some x.store
