@@ -73,16 +73,7 @@ impl Folder {
         }
     }
 
-    /// Drops the system's copy of a file that was synced, so that what is read of it from now on is what the disk has. A sync
-    // that failed in an earlier process may have left the copy with bytes that never reached it.
-    fn forget(handle: &File) -> io::Result<()> {
-        match libc::posix_fadvise(handle.as_raw_fd(), 0, 0, libc::POSIX_FADV_DONTNEED) {
-            0 => Ok(()),
-            error => Err(io::Error::from_raw_os_error(error)),
-        }
-    }
-
-    // Fills the buffer from this place of a file on, with 0 past its end.
+    /// Fills the buffer from this place of a file on, with 0 past its end.
     pub fn read_at(
         &self,
         files: &impl Files<File = File>,

@@ -5,8 +5,10 @@
 mod fault;
 mod file_disk;
 mod folder;
+mod limits;
 mod outgoing;
 mod peer;
+mod peers;
 mod real_site;
 mod sockets;
 mod tcp_link;
@@ -15,5 +17,6 @@ mod tests;
 
 pub use fault::OpenFault;
 pub use file_disk::FileDisk;
+pub use limits::Patience;
 pub use real_site::RealSite;
 pub use tcp_link::TcpLink;

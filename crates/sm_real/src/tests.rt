@@ -4,7 +4,8 @@ use sm_site::{Disk, Event, Failed, Link, Site, SiteError};
 use std::io::{Read, Write};
 use std::net::{Ipv4Addr, Shutdown, SocketAddr, TcpListener, TcpStream};
 use std::test::Fail;
-use std::{fs, process};
+use std::time::Duration;
+use std::{fs, process, thread};
 
 // A path that no other run of the tests has.
 fn store(rt: &HostRuntime, name: &str) -> Result<String, Fail> {
@@ -14,6 +15,16 @@ fn store(rt: &HostRuntime, name: &str) -> Result<String, Fail> {
 
 fn any_port() -> SocketAddr {
     SocketAddr::from((Ipv4Addr::LOCALHOST, 0))
+}
+
+// Limits that a test can wait for.
+fn short() -> Patience {
+    Patience {
+        stuck: 200,
+        silent: 200,
+        linger: 200,
+        waiting: 33_554_432,
+    }
 }
 
 fn opens(link: &mut impl Link, number: u64) -> bool {
@@ -127,5 +138,66 @@ fn a_closed_peer_reads_what_was_sent(rt: HostRuntime) -> Result<(), Fail> {
     let mut taken = Vec::new(rt.alloc());
     first.read_to_end(&mut taken)?;
     assert_eq!(rt; taken.as_slice(), b"answer".as_slice());
+    Ok(())
+}
+
+#[test]
+fn a_silent_peer_is_given_up(rt: HostRuntime) -> Result<(), Fail> {
+    let mut link = TcpLink::with(&rt, rt.alloc(), short());
+    link.listen_at(any_port())?;
+    let mut silent = TcpStream::connect(&rt, link.local_addr()?)?;
+    assert!(rt; opens(&mut link, 1));
+    let mut sends = TcpStream::connect(&rt, link.local_addr()?)?;
+    assert!(rt; opens(&mut link, 2));
+    let mut given_up = false;
+    for _ in 0..500 {
+        sends.write_all(b"x")?;
+        match link.next() {
+            Ok(Event::Piece(2, _)) => {}
+            Ok(Event::Closed(1)) => {
+                given_up = true;
+                break;
+            }
+            _ => break,
+        }
+        thread::sleep(&rt, Duration::from_millis(10));
+    }
+    assert!(rt; given_up);
+    assert!(rt; brings(&mut link, 2, b"x"));
+    sends.write_all(b"on")?;
+    assert!(rt; brings(&mut link, 2, b"on"));
+    let mut taken = Vec::new(rt.alloc());
+    assert_eq!(rt; silent.read_to_end(&mut taken)?, 0);
+    Ok(())
+}
+
+#[test]
+fn a_stuck_peer_is_given_up(rt: HostRuntime) -> Result<(), Fail> {
+    let mut link = TcpLink::with(&rt, rt.alloc(), short());
+    link.listen_at(any_port())?;
+    let _stuck = TcpStream::connect(&rt, link.local_addr()?)?;
+    assert!(rt; opens(&mut link, 1));
+    let reply = vec![in rt.alloc(); 7u8; 30_000_000]?;
+    assert_eq!(rt; link.send(1, &reply), Ok(()));
+    assert!(rt; closes(&mut link, 1));
+    assert_eq!(rt; link.send(1, b"more"), Err(Failed));
+    Ok(())
+}
+
+#[test]
+fn where_too_much_waits_the_greatest_is_given_up(rt: HostRuntime) -> Result<(), Fail> {
+    let mut patience = Patience::USUAL;
+    patience.waiting = 33_554_432;
+    let mut link = TcpLink::with(&rt, rt.alloc(), patience);
+    link.listen_at(any_port())?;
+    let _first = TcpStream::connect(&rt, link.local_addr()?)?;
+    assert!(rt; opens(&mut link, 1));
+    let _second = TcpStream::connect(&rt, link.local_addr()?)?;
+    assert!(rt; opens(&mut link, 2));
+    let reply = vec![in rt.alloc(); 7u8; 33_000_000]?;
+    assert_eq!(rt; link.send(1, &reply), Ok(()));
+    assert_eq!(rt; link.send(2, &reply[..22_000_000]), Ok(()));
+    assert_eq!(rt; link.send(1, b"more"), Err(Failed));
+    assert_eq!(rt; link.send(2, b"more"), Ok(()));
     Ok(())
 }
