@@ -2,9 +2,9 @@
 
 import http.client
 import os
-import random
 import shutil
 import socket
+import struct
 import subprocess
 import sys
 import tempfile
@@ -182,24 +182,25 @@ def encode(target, groups, rate=8, first=0):
     return subprocess.Popen(words)
 
 
-class Sample:
-    """The sample push, whose fragments can be pushed at other times."""
+def header():
+    """The header of the sample push, and for each track_ID in it the stream and the bitrate."""
+    front = b""
+    with open(SAMPLE, "rb") as sample:
+        for kind, data in boxes(sample.read()):
+            if kind == b"moof":
+                break
+            front += data
+    text = front[front.index(b"<?xml") : front.index(b"</smil>") + 7]
+    tracks = {}
+    for track in (element for element in xml.fromstring(text).iter() if element.get("systemBitrate")):
+        said = {param.get("name"): param.get("value") for param in track}
+        tracks[int(said["trackID"])] = (said["trackName"], int(track.get("systemBitrate")))
+    return front, tracks
 
-    def __init__(self):
-        self.header, self.fragments, self.period = b"", [], 0
-        with open(SAMPLE, "rb") as sample:
-            for kind, data in boxes(sample.read()):
-                if kind == b"moof":
-                    place = data.index(TFXD) + 20
-                    start, lasts = (int.from_bytes(data[at : at + 8], "big") for at in (place, place + 8))
-                    self.fragments.append([start, data[:place], data[place + 8 :]])
-                    self.period = max(self.period, start + lasts)
-                elif kind == b"mdat" and self.fragments:
-                    self.fragments[-1][2] += data
-                elif not self.fragments:
-                    self.header += data
 
-    def round(self, number):
-        """All fragments, so many periods later."""
-        for start, front, back in self.fragments:
-            yield front + (start + number * self.period).to_bytes(8, "big") + back
+def fragment(track, start, lasts, sample):
+    """A fragment of one sample."""
+    tfhd = box(b"tfhd", struct.pack(">2I", 0, track))
+    trun = box(b"trun", struct.pack(">6I", 0xF00, 1, lasts, len(sample), 0, 0))
+    tfxd = box(b"uuid", TFXD + struct.pack(">I2Q", 0x01000000, start, lasts))
+    return box(b"moof", box(b"mfhd", struct.pack(">2I", 0, 1)) + box(b"traf", tfhd + trun + tfxd)) + box(b"mdat", sample)

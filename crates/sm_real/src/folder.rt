@@ -24,7 +24,8 @@ struct Writing {
 
 /// An open folder. File k is named by k in eight digits, and `.seg`.
 ///
-/// All files but the one that was written last are at rest: before another one is written, that one is synced. Once a sync has
+/// All files but the one that was written last are at rest: before another one is written, that one is synced. A sync of a file
+/// leaves its times out (`fdatasync`), so that a byte written over another costs no entry of the system's journal. Once a sync has
 /// failed nothing is written or synced any more, since the system may have dropped what it could not bring to rest.
 #[derive(Drop)]
 pub struct Folder {
@@ -149,7 +150,7 @@ impl Folder {
                 return Ok(writing);
             }
             if !writing.synced {
-                self.note(writing.handle.sync_all())?;
+                self.note(writing.handle.sync_data())?;
             }
         }
         let name = self.name(alloc, file)?;
@@ -216,7 +217,7 @@ impl Folder {
     {
         match self.writing.take() {
             Some(mut writing) if writing.file == file => {
-                self.note(writing.handle.sync_all())?;
+                self.note(writing.handle.sync_data())?;
                 writing.synced = true;
                 self.writing = Some(writing);
                 Ok(())
@@ -225,7 +226,7 @@ impl Folder {
                 self.writing = writing;
                 match self.look(files, alloc, file)? {
                     Some(handle) => {
-                        self.note(handle.sync_all())?;
+                        self.note(handle.sync_data())?;
                         forget(&handle)
                     }
                     None => Ok(()),

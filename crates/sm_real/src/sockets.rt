@@ -1,6 +1,7 @@
 // Sockets, asked in turn.
 ghost use Rattle.std.specs.Prelude.{◌≡◌, ◌≤◌, ◌<◌, length, IfOk};
 ghost use Rattle.sm_real.specs.Found.{IsPiece};
+ghost use Rattle.sm_real.specs.Waiting.{wait_in_all};
 
 use crate::Patience;
 use crate::peer::{Found, Peer};
@@ -219,7 +220,9 @@ impl Sockets {
     }
 
     /// Sends to one, and gives up those for which most waits where too much does for all together.
-    pub fn send(&mut self, number: u64, bytes: &[u8]) -> Result<(), Failed> {
+    pub fn send(&mut self, number: u64, bytes: &[u8]) -> Result<(), Failed>
+        ensures bounded { wait_in_all self.new.peers.list.items ≤ self.new.patience.waiting }
+    {
         let (alloc, now) = (self.alloc, self.now);
         let sent = match self.peers.find(number) {
             Some(peer) => peer.send(alloc, bytes, now),
