@@ -77,7 +77,9 @@ starts_by None duration count = []
 unfoldable pub line_starts : List ℕ → List ℕ
 line_starts line =
     if is_tag (codes "<c") line
-    then starts_by (wide_in (value_of (codes "<c") (codes " t=") line)) (wide_in (value_of (codes "<c") (codes " d=") line)) (count_in (value_of (codes "<c") (codes " r=") line))
+    then
+    starts_by (wide_in (value_of (codes "<c") (codes " t=") line)) (wide_in (value_of (codes "<c") (codes " d=") line))
+    (count_in (value_of (codes "<c") (codes " r=") line))
     else []
 
 abbrev pub at_bitrates : Open → ℕ → List Address

@@ -49,7 +49,8 @@ same zero m (c ∷ b) p q = absurd (omega (arith, p))
 same (suc n) zero (c ∷ b) p q = absurd (omega (arith, q))
 same (suc n) (suc m) (c ∷ b) p q =
     same_by (c ∷ b) (boxes_in n (drop (box_len (c ∷ b)) (c ∷ b))) (boxes_in m (drop (box_len (c ∷ b)) (c ∷ b))) (starts_whole (c ∷ b)) refl
-    (λ w. same n m (drop (box_len (c ∷ b)) (c ∷ b)) (omega (arith, p, long_box (c ∷ b) w, length-drop (box_len (c ∷ b)) (c ∷ b))) (omega (arith, q, long_box (c ∷ b) w, length-drop (box_len (c ∷ b)) (c ∷ b))))
+    (λ w. same n m (drop (box_len (c ∷ b)) (c ∷ b)) (omega (arith, p, long_box (c ∷ b) w, length-drop (box_len (c ∷ b)) (c ∷ b)))
+    (omega (arith, q, long_box (c ∷ b) w, length-drop (box_len (c ∷ b)) (c ∷ b))))
 
 pub boxes-nil : boxes [] ≡ Some []
 unfolding boxes boxes_in
@@ -59,7 +60,8 @@ pub boxes-whole : (b : List ℕ) → starts_whole b ≡ true → boxes b ≡ opt
 unfolding boxes boxes_in
 boxes-whole [] w = absurd (omega (arith, long_text [] w))
 boxes-whole (c ∷ b) w =
-    rw w (ap (option_map (λ (xs : List Box). box_of (c ∷ b) ∷ xs)) (same (length b) (length (drop (box_len (c ∷ b)) (c ∷ b))) (drop (box_len (c ∷ b)) (c ∷ b)) (omega (arith, long_box (c ∷ b) w, length-drop (box_len (c ∷ b)) (c ∷ b))) (omega arith)))
+    rw w (ap (option_map (λ (xs : List Box). box_of (c ∷ b) ∷ xs)) (same (length b) (length (drop (box_len (c ∷ b)) (c ∷ b))) (drop (box_len (c ∷ b)) (c ∷ b))
+    (omega (arith, long_box (c ∷ b) w, length-drop (box_len (c ∷ b)) (c ∷ b))) (omega arith)))
 
 pub boxes-none : (b : List ℕ) → 0 < length b → starts_whole b ≡ false → boxes b ≡ None
 unfolding boxes boxes_in

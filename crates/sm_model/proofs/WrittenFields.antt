@@ -174,7 +174,12 @@ run_place st signed ss lt =
 
 pub run_body_len : (st : ℕ) (signed : Bool) (ss : List Sample) → length (run_body st signed ss) ≡ 12 + length ss * 16
 run_body_len st signed ss =
-    ap length (run_is st signed ss) ∙ omega (arith, length-append (run_head (text.run_word signed) (length ss) st) (flat_map text.row_text ss), run_head_len (text.run_word signed) (length ss) st, rows_text_len ss)
+    ap length (run_is st signed ss) ∙ omega (
+      arith,
+      length-append (run_head (text.run_word signed) (length ss) st) (flat_map text.row_text ss),
+      run_head_len (text.run_word signed) (length ss) st,
+      rows_text_len ss,
+    )
 
 run_first : (st : ℕ) (signed : Bool) (ss : List Sample) → version (run_body st signed ss) ≡ cond signed 1 0
 unfolding version number32
@@ -206,7 +211,8 @@ run_fits st signed ss lt =
     let p2 : leb (version b) 1 ≡ true = ap (λ (k : ℕ). leb k 1) (run_first st signed ss) ∙ low signed in
     let p3 : eqb (length b) (rows_at (number32_at 0 b) + number32_at 4 b * row_len (number32_at 0 b)) ≡ true
     = eq-eqb _ _ (l ∙ sym (ap (λ (k : ℕ). k + number32_at 4 b * row_len (number32_at 0 b)) r ∙ ap (λ (k : ℕ). 12 + k * row_len (number32_at 0 b)) n ∙ ap (λ (k : ℕ). 12 + length ss * k) m)) in
-    and_from (leb 8 (length b)) (leb (version b) 1 && eqb (length b) (rows_at (number32_at 0 b) + number32_at 4 b * row_len (number32_at 0 b))) p1 (and_from (leb (version b) 1) (eqb (length b) (rows_at (number32_at 0 b) + number32_at 4 b * row_len (number32_at 0 b))) p2 p3)
+    and_from (leb 8 (length b)) (leb (version b) 1 && eqb (length b) (rows_at (number32_at 0 b) + number32_at 4 b * row_len (number32_at 0 b))) p1
+    (and_from (leb (version b) 1) (eqb (length b) (rows_at (number32_at 0 b) + number32_at 4 b * row_len (number32_at 0 b))) p2 p3)
 
 -- below 2^31 the sign is no matter
 pub small_signed : (n : ℕ) → n < 2 ^ 31 → cast_signed w32 n ≡ pos n
@@ -223,5 +229,6 @@ run_rows d st signed ss e n =
     let head = run_head (text.run_word signed) (length ss) st in
     let i = run_is st signed ss in
     ap (λ (b : List ℕ). rows d b (length ss)) i
-    ∙ rows_again d head ss (text.run_word signed) e (ap (number32_at 0) (sym i) ∙ run_first_word st signed ss) (words signed) (run_head_len (text.run_word signed) (length ss) st) n (length ss) (omega arith)
+    ∙ rows_again d head ss (text.run_word signed) e (ap (number32_at 0) (sym i) ∙ run_first_word st signed ss) (words signed) (run_head_len (text.run_word signed) (length ss) st) n (length ss)
+    (omega arith)
     ∙ ap (map row_of) (take_all (length ss) ss (omega arith))

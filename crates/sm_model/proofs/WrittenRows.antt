@@ -25,8 +25,10 @@ fours a b c d rest la lb lc ld =
     let e : (number32 a ++ (number32 b ++ (number32 c ++ number32 d))) ++ rest ≡ number32 a ++ (number32 b ++ (number32 c ++ (number32 d ++ rest))) = simp append_assoc in
     let p0 = front32 a (number32 b ++ (number32 c ++ (number32 d ++ rest))) la in
     let p1 = past32 (number32 a) (number32 b ++ (number32 c ++ (number32 d ++ rest))) 4 0 (omega (arith, len32 a)) ∙ front32 b (number32 c ++ (number32 d ++ rest)) lb in
-    let p2 = past32 (number32 a) (number32 b ++ (number32 c ++ (number32 d ++ rest))) 8 4 (omega (arith, len32 a)) ∙ past32 (number32 b) (number32 c ++ (number32 d ++ rest)) 4 0 (omega (arith, len32 b)) ∙ front32 c (number32 d ++ rest) lc in
-    let p3 = past32 (number32 a) (number32 b ++ (number32 c ++ (number32 d ++ rest))) 12 8 (omega (arith, len32 a)) ∙ past32 (number32 b) (number32 c ++ (number32 d ++ rest)) 8 4 (omega (arith, len32 b)) ∙ past32 (number32 c) (number32 d ++ rest) 4 0 (omega (arith, len32 c)) ∙ front32 d rest ld in
+    let p2 = past32 (number32 a) (number32 b ++ (number32 c ++ (number32 d ++ rest))) 8 4 (omega (arith, len32 a)) ∙ past32 (number32 b) (number32 c ++ (number32 d ++ rest)) 4 0
+    (omega (arith, len32 b)) ∙ front32 c (number32 d ++ rest) lc in
+    let p3 = past32 (number32 a) (number32 b ++ (number32 c ++ (number32 d ++ rest))) 12 8 (omega (arith, len32 a)) ∙ past32 (number32 b) (number32 c ++ (number32 d ++ rest)) 8 4
+    (omega (arith, len32 b)) ∙ past32 (number32 c) (number32 d ++ rest) 4 0 (omega (arith, len32 c)) ∙ front32 d rest ld in
     (ap (number32_at 0) e ∙ p0, ap (number32_at 4) e ∙ p1, ap (number32_at 8) e ∙ p2, ap (number32_at 12) e ∙ p3)
 
 pub row_text_len : (s : Sample) → length (text.row_text s) ≡ 16
@@ -111,7 +113,8 @@ is_row head ss i at s front back e n a f =
 split : (ss : List Sample) (i : ℕ) (e : Sample) → i < length ss → ss ≡ take i ss ++ get_or ss i e ∷ drop (suc i) ss
 split ss i e lt = sym (take-append-drop i ss) ∙ ap (λ (x : List Sample). take i ss ++ x) (drop-cons ss i e lt)
 
-row_again : (d : Defaults) (head : List ℕ) (ss : List Sample) (w i : ℕ) (e : Sample) → number32_at 0 (head ++ flat_map text.row_text ss) ≡ w → IsWord w → length head ≡ 12 → All IsNarrow ss → i < length ss
+row_again : (d : Defaults) (head : List ℕ) (ss : List Sample) (w i : ℕ) (e : Sample) → number32_at 0 (head ++ flat_map text.row_text ss) ≡ w → IsWord w → length head ≡ 12 → All IsNarrow ss → i <
+    length ss
     → row d (head ++ flat_map text.row_text ss) i ≡ row_of (get_or ss i e)
 unfolding row
 row_again d head ss w i e z h l n lt =

@@ -117,11 +117,13 @@ rest_walk s (x ∷ xs) none = rest_walk_at s x xs (decision s (x ∷ xs)) (rest_
 
 -- ---- boxes
 
-step_walk : (s : PushState) (step : Step) (size : ℕ) (go : PushState → Outcome) (go' : PushState → Outcome) → ((next : PushState) → go next ≡ go' next) → stepped s step size (λ next _. go next) ≡ step_gives s step go'
+step_walk : (s : PushState) (step : Step) (size : ℕ) (go : PushState → Outcome) (go' : PushState → Outcome) → ((next : PushState) → go next ≡ go' next) → stepped s step size (λ next _. go next) ≡
+    step_gives s step go'
 step_walk s (Err r) size go go' h = refl
 step_walk s (Ok step) size go go' h = ap (led_by (option_to_list step.0)) (h step.1)
 
-box_walk : (s : PushState) (box more : List ℕ) (d : BoxDecision) → decision s box ≡ d → SizeIs (length box) d × IsMade d → (go' : PushState → Outcome) → ((next : PushState) → walk next 0 more ≡ go' next)
+box_walk : (s : PushState) (box more : List ℕ) (d : BoxDecision) → decision s box ≡ d → SizeIs (length box) d × IsMade d → (go' : PushState → Outcome) →
+    ((next : PushState) → walk next 0 more ≡ go' next)
     → walk s 0 (box ++ more) ≡ box_gives s box d go'
 box_walk s box more Wait e is go' h = absurd is.1
 box_walk s box more (Refuse cause) e is go' h = refuses s box more cause e
@@ -131,10 +133,12 @@ box_walk s box more (Take sort n) e is go' h =
     takes s box more sort n e (sym is.0) ∙ step_walk s (taken s sort box) n (λ next. walk next 0 more) go' h
 
 -- what boxes and a rest give is what their bytes give
-pub boxes_walk : ReadsWhole → (s : PushState) (boxes : List (List ℕ)) (rest : List ℕ) → AllByRecursion IsOneBox boxes → starts_whole rest ≡ false → walk s 0 (bytes_of boxes ++ rest) ≡ boxes_give s boxes rest
+pub boxes_walk : ReadsWhole → (s : PushState) (boxes : List (List ℕ)) (rest : List ℕ) → AllByRecursion IsOneBox boxes → starts_whole rest ≡ false → walk s 0 (bytes_of boxes ++ rest) ≡ boxes_give s
+    boxes rest
 boxes_walk reads s [] rest each last = rest_walk s rest last
 boxes_walk reads s (box ∷ boxes) rest each last =
-    rw (append_assoc box (bytes_of boxes) rest) (box_walk s box (bytes_of boxes ++ rest) (decision s box) refl (box_decision s box (has_size reads box each.0)) (λ next. boxes_give next boxes rest) (λ next. boxes_walk reads next boxes rest each.1 last))
+    rw (append_assoc box (bytes_of boxes) rest) (box_walk s box (bytes_of boxes ++ rest) (decision s box) refl (box_decision s box (has_size reads box each.0)) (λ next. boxes_give next boxes rest)
+    (λ next. boxes_walk reads next boxes rest each.1 last))
 
 -- ---- the box in front of bytes
 

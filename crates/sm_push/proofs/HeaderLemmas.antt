@@ -59,10 +59,12 @@ track_here id ts i x lt e is = let same : eqb x.id id ≡ true = eq-eqb _ _ is i
 pub track_on : (id : ℕ) (ts : List HeaderTrack) (i : ℕ) (x : HeaderTrack) → i < length ts → x ≡ get_or ts i x → x.id ≢ id → track_with id (drop (i + 1) ts) ≡ track_with id (drop i ts)
 track_on id ts i x lt e isnt = let other : eqb x.id id ≡ false = ne_eqb _ _ isnt in rw (front_is ts i x lt e, other) refl
 
-pub name_here : (stream : List ℕ) (bitrate : ℕ) (ts : List HeaderTrack) (i : ℕ) (x : HeaderTrack) → i < length ts → x ≡ get_or ts i x → is_named stream bitrate x ≡ true → id_for stream bitrate (drop i ts) ≡ Some x.id
+pub name_here : (stream : List ℕ) (bitrate : ℕ) (ts : List HeaderTrack) (i : ℕ) (x : HeaderTrack) → i < length ts → x ≡ get_or ts i x → is_named stream bitrate x ≡ true → id_for stream bitrate
+    (drop i ts) ≡ Some x.id
 name_here stream bitrate ts i x lt e is = rw (front_is ts i x lt e, is) refl
 
-pub name_on : (stream : List ℕ) (bitrate : ℕ) (ts : List HeaderTrack) (i : ℕ) (x : HeaderTrack) → i < length ts → x ≡ get_or ts i x → is_named stream bitrate x ≡ false → id_for stream bitrate (drop (i + 1) ts) ≡ id_for stream bitrate (drop i ts)
+pub name_on : (stream : List ℕ) (bitrate : ℕ) (ts : List HeaderTrack) (i : ℕ) (x : HeaderTrack) → i < length ts → x ≡ get_or ts i x → is_named stream bitrate x ≡ false → id_for stream bitrate
+    (drop (i + 1) ts) ≡ id_for stream bitrate (drop i ts)
 name_on stream bitrate ts i x lt e isnt = rw (front_is ts i x lt e, isnt) refl
 
 pub track_end : (id : ℕ) (ts : List HeaderTrack) (i : ℕ) → length ts ≤ i → track_with id (drop i ts) ≡ None
@@ -112,7 +114,8 @@ pub off_here : (ts : List Track) (i : ℕ) (t : Track) → i < length ts → t �
 unfolding has_two_timescales
 off_here ts i t lt e is = rw (front_is ts i t lt e, is) refl
 
-pub off_on : (ts : List Track) (i : ℕ) (t : Track) → i < length ts → t ≡ get_or ts i t → list_any (is_off t) (drop (i + 1) ts) ≡ false → has_two_timescales (drop (i + 1) ts) ≡ has_two_timescales (drop i ts)
+pub off_on : (ts : List Track) (i : ℕ) (t : Track) → i < length ts → t ≡ get_or ts i t → list_any (is_off t) (drop (i + 1) ts) ≡ false → has_two_timescales (drop (i + 1) ts) ≡ has_two_timescales
+    (drop i ts)
 unfolding has_two_timescales
 off_on ts i t lt e isnt = rw (front_is ts i t lt e, isnt) refl
 

@@ -44,17 +44,20 @@ passed_settles s h h' more k k' size here e fits empty left =
     let le : length h ≤ size = rw e at fits in
     rw (here, empty, left) (passes s h more size e le)
 
-pub refused_settles : (s : PushState) (h more : List ℕ) (k : ℕ) (cause : Cause) → k ≡ 0 → decision s h ≡ Refuse cause → walk s k (h ++ more) ≡ refused (header_in s.stage) (record { at = s.at; cause = cause })
+pub refused_settles : (s : PushState) (h more : List ℕ) (k : ℕ) (cause : Cause) → k ≡ 0 → decision s h ≡ Refuse cause → walk s k (h ++ more) ≡ refused (header_in s.stage)
+    (record { at = s.at; cause = cause })
 refused_settles s h more k cause here e = rw here (refuses s h more cause e)
 
-pub taken_settles : (s s' : PushState) (h h' more : List ℕ) (k size : ℕ) (sort : TopBox) (item : Option Given) → k ≡ 0 → decision s h ≡ Take sort size → FitsIn (length h) (decision s h) → size ≤ length h
+pub taken_settles : (s s' : PushState) (h h' more : List ℕ) (k size : ℕ) (sort : TopBox) (item : Option Given) → k ≡ 0 → decision s h ≡ Take sort size → FitsIn (length h) (decision s h) → size ≤
+    length h
     → taken s sort h ≡ Ok (item, s') → h' ≡ [] → walk s k (h ++ more) ≡ led_by (option_to_list item) (walk s' k (h' ++ more))
 taken_settles s s' h h' more k size sort item here e fits whole step empty =
     let le : length h ≤ size = rw e at fits in
     rw (here, empty) (takes s h more sort size e (omega arith) ∙ rw step refl)
 
 -- a step that failed
-pub fault_settles : (old new : Kept) (sort : TopBox) (size : ℕ) (fault : StepFault) → old.skip ≡ 0 → decision old.state old.held ≡ Take sort size → FitsIn (length old.held) (decision old.state old.held) → size ≤ length old.held
+pub fault_settles : (old new : Kept) (sort : TopBox) (size : ℕ) (fault : StepFault) → old.skip ≡ 0 → decision old.state old.held ≡ Take sort size → FitsIn (length old.held)
+    (decision old.state old.held) → size ≤ length old.held
     → Takes new.state (Err fault) (taken old.state sort old.held) → kept_header new ≡ kept_header old → Settles old new (Err fault)
 fault_settles old new sort size (faults.Refused r) here e fits whole step same = λ more.
     let le : length old.held ≤ size = rw e at fits in
@@ -66,7 +69,8 @@ pub empty_partial : (s : PushState) (h : List ℕ) (k : ℕ) → h ≡ [] → Ho
 empty_partial s h k e boxes = record { skipping = λ _. e; due = rw (e, decision-nil s) tt; boxes = boxes }
 
 -- a box that is whole, and read
-pub box_settles : (old new : Kept) (sort : TopBox) (size : ℕ) (r : Result (Option NewItem) StepFault) → old.skip ≡ 0 → decision old.state old.held ≡ Take sort size → FitsIn (length old.held) (decision old.state old.held) → size ≤ length old.held
+pub box_settles : (old new : Kept) (sort : TopBox) (size : ℕ) (r : Result (Option NewItem) StepFault) → old.skip ≡ 0 → decision old.state old.held ≡ Take sort size → FitsIn (length old.held)
+    (decision old.state old.held) → size ≤ length old.held
     → Takes new.state r (taken old.state sort old.held) → OnErr r (kept_header new ≡ kept_header old) → new.held ≡ [] → new.skip ≡ old.skip → Settles old new r
 box_settles old new sort size (Ok item) here e fits whole step header empty same = λ more.
     rw same (taken_settles old.state new.state old.held new.held more old.skip size sort (given_in item) here e fits whole step empty)
@@ -89,7 +93,8 @@ skip_advances k n piece more some p in_skip in_piece =
 -- what is held with the front of the piece, and then the rest of the piece
 pub held_more : (h : List ℕ) (n : ℕ) (piece more : List ℕ) → h ++ (piece ++ more) ≡ (h ++ take n piece) ++ (drop n piece ++ more)
 held_more h n piece more =
-    ap (λ (xs : List ℕ). h ++ xs) (ap (λ (xs : List ℕ). xs ++ more) (sym (take-append-drop n piece)) ∙ append_assoc (take n piece) (drop n piece) more) ∙ sym (append_assoc h (take n piece) (drop n piece ++ more))
+    ap (λ (xs : List ℕ). h ++ xs) (ap (λ (xs : List ℕ). xs ++ more) (sym (take-append-drop n piece)) ∙ append_assoc (take n piece) (drop n piece) more) ∙ sym
+    (append_assoc h (take n piece) (drop n piece ++ more))
 
 pub fault_advances : (old mid new : Kept) (n : ℕ) (piece : List ℕ) (fault : StepFault) → mid.state ≡ old.state → mid.skip ≡ old.skip → mid.held ≡ old.held ++ take n piece
     → Settles mid new (Err fault) → Advances old new piece (Err fault)
@@ -125,7 +130,8 @@ behind-behind : (xs ys : List Given) (o : Outcome) → led_by xs (led_by ys o) �
 behind-behind xs ys o = ap (λ (zs : List Given). record { items = zs; refusal = o.refusal; inside = o.inside; header = o.header }) (sym (append_assoc xs ys o.items))
 
 pub goes_on : (old mid new : Kept) (piece part : List ℕ) (done count : ℕ) (items items' : List Given) (item : Option NewItem)
-    → Taking old mid piece done items → part ≡ drop done piece → Advances mid new part (Ok (count, item)) → items' ≡ items ++ option_to_list (given_in item) → Taking old new piece (done + count) items'
+    → Taking old mid piece done items → part ≡ drop done piece → Advances mid new part (Ok (count, item)) → items' ≡ items ++ option_to_list (given_in item) → Taking old new piece (done + count)
+    items'
 goes_on old mid new piece part done count items items' item before part_is step items_are more =
     let after : rest_of mid (drop done piece ++ more) ≡ led_by (option_to_list (given_in item)) (rest_of new (drop (done + count) piece ++ more)) =
     (rw (part_is, drop-drop count done piece) at (step more)) in
@@ -140,7 +146,8 @@ abbrev pub StageStays : List HeaderTrack → Step → Type 0
 StageStays tracks (Err r) = Unit {0}
 StageStays tracks (Ok step) = step.1.stage ≡ Complete tracks
 
-fragment_stays : (s : PushState) (r : Result RawFragment Cause) (moof : PendingMoof) (size : ℕ) (tracks : List HeaderTrack) → s.stage ≡ Complete tracks → StageStays tracks (fragment_taken r moof s size)
+fragment_stays : (s : PushState) (r : Result RawFragment Cause) (moof : PendingMoof) (size : ℕ) (tracks : List HeaderTrack) → s.stage ≡ Complete tracks → StageStays tracks
+    (fragment_taken r moof s size)
 fragment_stays s (Err cause) moof size tracks e = tt
 fragment_stays s (Ok raw) moof size tracks e = e
 
@@ -218,7 +225,8 @@ abbrev pub IsStarved : StepFault → Type 0
 IsStarved fault = let got : Result (Unit {0}) StepFault = Err fault in let want : Result (Unit {0}) StepFault = Err faults.NoMemory in got ≡ want
 
 -- an item that finds no room
-pub room_gives : (old new : Kept) (piece : List ℕ) (done : ℕ) (items items' : List Given) (fault : StepFault) → Taking old new piece done items → Grows old new → IsStarved fault → PieceGives old new piece items' (Err fault)
+pub room_gives : (old new : Kept) (piece : List ℕ) (done : ℕ) (items items' : List Given) (fault : StepFault) → Taking old new piece done items → Grows old new → IsStarved fault → PieceGives old new
+    piece items' (Err fault)
 room_gives old new piece done items items' (faults.Refused r) before grows e = absurd cc
 room_gives old new piece done items items' faults.NoMemory before grows e = header_stays old new new piece done items before grows refl
 
@@ -326,7 +334,8 @@ pub fed : (headerless : Bool) (old new : Standing) (b piece : List ℕ) (items :
 fed headerless old new b piece items stands partial gives works counted =
     let none : rest_of new.kept [] ≡ ended new.kept.state _ = nothing_due new.kept partial in
     let whole : body headerless (b ++ piece) ≡ led_by ((body headerless b).items ++ items) (rest_of new.kept []) =
-    ap (body headerless) (ap (λ (xs : List ℕ). b ++ xs) (sym (append-nil piece))) ∙ stands.later (piece ++ []) ∙ ap (led_by (body headerless b).items) (gives []) ∙ behind-behind (body headerless b).items items (rest_of new.kept []) in
+    ap (body headerless) (ap (λ (xs : List ℕ). b ++ xs) (sym (append-nil piece))) ∙ stands.later (piece ++ []) ∙ ap (led_by (body headerless b).items) (gives []) ∙ behind-behind
+    (body headerless b).items items (rest_of new.kept []) in
     let now : body headerless (b ++ piece) ≡ led_by ((body headerless b).items ++ items) (ended new.kept.state _) = whole ∙ ap (led_by ((body headerless b).items ++ items)) none in
     let items_are : (body headerless (b ++ piece)).items ≡ (body headerless b).items ++ items = ap (λ (o : Outcome). o.items) now ∙ append-nil _ in (
       record {
@@ -334,24 +343,29 @@ fed headerless old new b piece items stands partial gives works counted =
         clear = ap (λ (o : Outcome). o.refusal) now;
         count = omega (arith, counted, stands.count, length-append b piece);
         header = sym (ap (λ (o : Outcome). o.header) now);
-        later = λ more. ap (body headerless) (append_assoc b piece more) ∙ stands.later (piece ++ more) ∙ ap (led_by (body headerless b).items) (gives more) ∙ behind-behind (body headerless b).items items (rest_of new.kept more) ∙ ap (λ (xs : List Given). led_by xs (rest_of new.kept more)) (sym items_are);
+        later = λ more. ap (body headerless) (append_assoc b piece more) ∙ stands.later (piece ++ more) ∙ ap (led_by (body headerless b).items) (gives more) ∙ behind-behind (body headerless b).items
+            items (rest_of new.kept more) ∙ ap (λ (xs : List Given). led_by xs (rest_of new.kept more)) (sym items_are);
       },
       items_are,
     )
 
 -- after a failure the header of what was kept stays
-pub fed_refused : (headerless : Bool) (old new : Standing) (mid : Kept) (b piece : List ℕ) (items : List Given) (r : Refusal) → Stands headerless old b → PieceGives old.kept mid piece items (Err (faults.Refused r)) → push_header new ≡ kept_header mid
+pub fed_refused : (headerless : Bool) (old new : Standing) (mid : Kept) (b piece : List ℕ) (items : List Given) (r : Refusal) → Stands headerless old b → PieceGives old.kept mid piece items
+    (Err (faults.Refused r)) → push_header new ≡ kept_header mid
     → body headerless (b ++ piece) ≡ led_by ((body headerless b).items ++ items) (refused (push_header new) r)
 fed_refused headerless old new mid b piece items r stands gives same =
-    ap (body headerless) (ap (λ (xs : List ℕ). b ++ xs) (sym (append-nil piece))) ∙ stands.later (piece ++ []) ∙ ap (led_by (body headerless b).items) (gives []) ∙ behind-behind (body headerless b).items items (refused (kept_header mid) r)
+    ap (body headerless) (ap (λ (xs : List ℕ). b ++ xs) (sym (append-nil piece))) ∙ stands.later (piece ++ []) ∙ ap (led_by (body headerless b).items) (gives []) ∙ behind-behind
+    (body headerless b).items items (refused (kept_header mid) r)
     ∙ ap (λ (h : List HeaderTrack). led_by ((body headerless b).items ++ items) (refused h r)) (sym same)
 
-starved_by : (headerless : Bool) (old new : Standing) (mid : Kept) (b piece : List ℕ) → Stands headerless old b → HeaderStays old.kept mid piece → push_header new ≡ kept_header mid → Answers headerless b piece new (Err pushes.NoMemory)
+starved_by : (headerless : Bool) (old new : Standing) (mid : Kept) (b piece : List ℕ) → Stands headerless old b → HeaderStays old.kept mid piece → push_header new ≡ kept_header mid → Answers
+    headerless b piece new (Err pushes.NoMemory)
 starved_by headerless old new mid b piece stands (inl before) same = inl (same ∙ before ∙ stands.header)
 starved_by headerless old new mid b piece stands (inr gives) same =
     inr (same ∙ sym (ap (λ (o : Outcome). o.header) (ap (body headerless) (ap (λ (xs : List ℕ). b ++ xs) (sym (append-nil piece))) ∙ stands.later (piece ++ [])) ∙ gives []))
 
-pub fed_starved : (headerless : Bool) (old new : Standing) (mid : Kept) (b piece : List ℕ) (items : List Given) → Stands headerless old b → PieceGives old.kept mid piece items (Err faults.NoMemory) → push_header new ≡ kept_header mid
+pub fed_starved : (headerless : Bool) (old new : Standing) (mid : Kept) (b piece : List ℕ) (items : List Given) → Stands headerless old b → PieceGives old.kept mid piece items (Err faults.NoMemory)
+    → push_header new ≡ kept_header mid
     → Answers headerless b piece new (Err pushes.NoMemory)
 fed_starved headerless old new mid b piece items stands gives same = starved_by headerless old new mid b piece stands gives same
 
@@ -387,7 +401,8 @@ held_few k n here inside piece le = rw here (one_few k.state (k.held ++ piece) (
 pub skip_few : (k : Kept) → IsPartial k → 0 < k.skip → (piece : List ℕ) → length piece ≤ k.skip → length (rest_of k piece).items ≤ 1
 skip_few k p some piece le = rw (p.skipping some, passed_none k.state k.skip piece le) (omega arith)
 
-pub due_few : (headerless : Bool) (p : Standing) (b piece : List ℕ) → Stands headerless p b → length (rest_of p.kept piece).items ≤ 1 → length (body headerless (b ++ piece)).items ≤ length (body headerless b).items + 1
+pub due_few : (headerless : Bool) (p : Standing) (b piece : List ℕ) → Stands headerless p b → length (rest_of p.kept piece).items ≤ 1 → length (body headerless (b ++ piece)).items ≤ length
+    (body headerless b).items + 1
 due_few headerless p b piece stands few =
     omega (arith, ap (λ (o : Outcome). length o.items) (stands.later piece), length-append (body headerless b).items (rest_of p.kept piece).items, few)
 

@@ -32,9 +32,11 @@ pub fn front()
 /// All bytes are whole boxes and a rest in which no whole box stands in front, and give what these give, one box after the
 /// other. The boxes are those of ISO/IEC 14496-12, 4.2.
 pub fn by_boxes()
-    ensures split { (headerless : Bool) (b : List ℕ) → (boxes : List (List ℕ)) × (rest : List ℕ) × Splits b boxes rest × (body headerless b ≡ boxes_give (Body.push_start headerless) boxes rest) }
+    ensures split { (headerless : Bool) (b : List ℕ) →
+        (boxes : List (List ℕ)) × (rest : List ℕ) × Splits b boxes rest × (body headerless b ≡ boxes_give (Body.push_start headerless) boxes rest) }
     // However they are split.
-    ensures any { (headerless : Bool) (b : List ℕ) (boxes : List (List ℕ)) (rest : List ℕ) → Splits b boxes rest → body headerless b ≡ boxes_give (Body.push_start headerless) boxes rest }
+    ensures any { (headerless : Bool) (b : List ℕ) (boxes : List (List ℕ)) (rest : List ℕ) →
+        Splits b boxes rest → body headerless b ≡ boxes_give (Body.push_start headerless) boxes rest }
 {
     whole_is_read();
 }

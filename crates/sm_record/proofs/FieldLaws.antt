@@ -49,11 +49,13 @@ pub option_takes : (bytes : List ℕ) (o : Option ℕ) (rest : List ℕ) → IsB
 unfolding option_at
 option_takes [] o rest fits e = absurd cc
 option_takes (zero ∷ bytes) o rest fits e =
-    subst (λ (x : Option ℕ × List ℕ). Takes (0 ∷ bytes) (option_text x.0) x.1 × IsNarrowOption x.0) (some_is (None, bytes) (o, rest) e) (record { parts = refl; rest_fits = IsBytes-rest 0 bytes fits }, narrow_none)
+    subst (λ (x : Option ℕ × List ℕ). Takes (0 ∷ bytes) (option_text x.0) x.1 × IsNarrowOption x.0) (some_is (None, bytes) (o, rest) e)
+    (record { parts = refl; rest_fits = IsBytes-rest 0 bytes fits }, narrow_none)
 option_takes (suc zero ∷ bytes) o rest fits e =
     let b = bind_some (number_at w32 bytes) (λ n. Some (Some n.0, n.1)) (o, rest) e in
     let t = takes32 bytes b.0.0 b.0.1 (IsBytes-rest 1 bytes fits) b.1 in
-    subst (λ (x : Option ℕ × List ℕ). Takes (1 ∷ bytes) (option_text x.0) x.1 × IsNarrowOption x.0) (some_is (Some b.0.0, b.0.1) (o, rest) b.2) (record { parts = ap (λ (w : List ℕ). 1 ∷ w) t.0.parts; rest_fits = t.0.rest_fits }, narrow_some b.0.0 t.1)
+    subst (λ (x : Option ℕ × List ℕ). Takes (1 ∷ bytes) (option_text x.0) x.1 × IsNarrowOption x.0) (some_is (Some b.0.0, b.0.1) (o, rest) b.2)
+    (record { parts = ap (λ (w : List ℕ). 1 ∷ w) t.0.parts; rest_fits = t.0.rest_fits }, narrow_some b.0.0 t.1)
 option_takes (suc (suc b) ∷ bytes) o rest fits e = absurd cc
 
 pub option_again : (o : Option ℕ) (rest : List ℕ) → IsNarrowOption o → option_at (option_text o ++ rest) ≡ Some (o, rest)
@@ -64,8 +66,10 @@ option_again (Some n) rest h = rw (again32 n rest (h n refl)) refl
 pub flag_takes : (bytes : List ℕ) (f : Bool) (rest : List ℕ) → IsBytes bytes → flag_at bytes ≡ Some (f, rest) → Takes bytes (flag_text f) rest
 unfolding flag_at
 flag_takes [] f rest fits e = absurd cc
-flag_takes (zero ∷ bytes) f rest fits e = subst (λ (x : Bool × List ℕ). Takes (0 ∷ bytes) (flag_text x.0) x.1) (some_is (false, bytes) (f, rest) e) (record { parts = refl; rest_fits = IsBytes-rest 0 bytes fits })
-flag_takes (suc zero ∷ bytes) f rest fits e = subst (λ (x : Bool × List ℕ). Takes (1 ∷ bytes) (flag_text x.0) x.1) (some_is (true, bytes) (f, rest) e) (record { parts = refl; rest_fits = IsBytes-rest 1 bytes fits })
+flag_takes (zero ∷ bytes) f rest fits e = subst (λ (x : Bool × List ℕ). Takes (0 ∷ bytes) (flag_text x.0) x.1) (some_is (false, bytes) (f, rest) e)
+    (record { parts = refl; rest_fits = IsBytes-rest 0 bytes fits })
+flag_takes (suc zero ∷ bytes) f rest fits e = subst (λ (x : Bool × List ℕ). Takes (1 ∷ bytes) (flag_text x.0) x.1) (some_is (true, bytes) (f, rest) e)
+    (record { parts = refl; rest_fits = IsBytes-rest 1 bytes fits })
 flag_takes (suc (suc b) ∷ bytes) f rest fits e = absurd cc
 
 pub flag_again : (f : Bool) (rest : List ℕ) → flag_at (flag_text f ++ rest) ≡ Some (f, rest)
@@ -77,9 +81,12 @@ pub kind_takes : (bytes : List ℕ) (k : Kind) (rest : List ℕ) → IsBytes byt
 unfolding kind_at
 kind_takes [] k rest fits e = absurd cc
 kind_takes (zero ∷ bytes) k rest fits e = absurd cc
-kind_takes (suc zero ∷ bytes) k rest fits e = subst (λ (x : Kind × List ℕ). Takes (1 ∷ bytes) (kind_byte x.0 ∷ []) x.1) (some_is (Video, bytes) (k, rest) e) (record { parts = refl; rest_fits = IsBytes-rest 1 bytes fits })
-kind_takes (suc (suc zero) ∷ bytes) k rest fits e = subst (λ (x : Kind × List ℕ). Takes (2 ∷ bytes) (kind_byte x.0 ∷ []) x.1) (some_is (Audio, bytes) (k, rest) e) (record { parts = refl; rest_fits = IsBytes-rest 2 bytes fits })
-kind_takes (suc (suc (suc zero)) ∷ bytes) k rest fits e = subst (λ (x : Kind × List ℕ). Takes (3 ∷ bytes) (kind_byte x.0 ∷ []) x.1) (some_is (Text, bytes) (k, rest) e) (record { parts = refl; rest_fits = IsBytes-rest 3 bytes fits })
+kind_takes (suc zero ∷ bytes) k rest fits e = subst (λ (x : Kind × List ℕ). Takes (1 ∷ bytes) (kind_byte x.0 ∷ []) x.1) (some_is (Video, bytes) (k, rest) e)
+    (record { parts = refl; rest_fits = IsBytes-rest 1 bytes fits })
+kind_takes (suc (suc zero) ∷ bytes) k rest fits e = subst (λ (x : Kind × List ℕ). Takes (2 ∷ bytes) (kind_byte x.0 ∷ []) x.1) (some_is (Audio, bytes) (k, rest) e)
+    (record { parts = refl; rest_fits = IsBytes-rest 2 bytes fits })
+kind_takes (suc (suc (suc zero)) ∷ bytes) k rest fits e = subst (λ (x : Kind × List ℕ). Takes (3 ∷ bytes) (kind_byte x.0 ∷ []) x.1) (some_is (Text, bytes) (k, rest) e)
+    (record { parts = refl; rest_fits = IsBytes-rest 3 bytes fits })
 kind_takes (suc (suc (suc (suc b))) ∷ bytes) k rest fits e = absurd cc
 
 pub kind_again : (k : Kind) (rest : List ℕ) → kind_at (kind_byte k ∷ rest) ≡ Some (k, rest)

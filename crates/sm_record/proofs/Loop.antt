@@ -36,7 +36,8 @@ tracks_end faults.Damaged front count i bytes total lt h so_far =
     let one : with_front front (tracks_at (count - i) bytes) ≡ None = rw (k, h) refl in
     sym so_far ∙ one
 
-pub tracks_done : (front : List Track) (count i : ℕ) (bytes : List ℕ) (total : Option (List Track × List ℕ)) → count ≤ i → with_front front (tracks_at (count - i) bytes) ≡ total → total ≡ Some (front, bytes)
+pub tracks_done : (front : List Track) (count i : ℕ) (bytes : List ℕ) (total : Option (List Track × List ℕ)) → count ≤ i → with_front front (tracks_at (count - i) bytes) ≡ total → total ≡ Some
+    (front, bytes)
 unfolding tracks_at
 tracks_done front count i bytes total le so_far =
     let k : count - i ≡ 0 = omega arith in
@@ -45,13 +46,15 @@ tracks_done front count i bytes total le so_far =
 
 -- ---- samples
 
-pub sample_goes_on : (front : List Sample) (count i : ℕ) (table bytes : List ℕ) (row : Row) (behind own after : List ℕ) (total : Option (List Sample × List ℕ)) → i < count → row_at table ≡ Some (row, behind)
+pub sample_goes_on : (front : List Sample) (count i : ℕ) (table bytes : List ℕ) (row : Row) (behind own after : List ℕ) (total : Option (List Sample × List ℕ)) → i < count → row_at table ≡ Some
+    (row, behind)
     → taken row.size bytes ≡ Some (own, after)
     → with_front front (samples_at (count - i) table bytes) ≡ total → with_front (front ++ sample_of row own ∷ []) (samples_at (count - (i + 1)) behind after) ≡ total
 unfolding samples_at
 sample_goes_on front count i table bytes row behind own after total lt h g so_far =
     let k : count - i ≡ suc (count - (i + 1)) = omega arith in
-    let one : with_front front (samples_at (count - i) table bytes) ≡ with_front (front ++ sample_of row own ∷ []) (samples_at (count - (i + 1)) behind after) = rw (k, h, g) (regroup front (sample_of row own) (samples_at (count - (i + 1)) behind after)) in
+    let one : with_front front (samples_at (count - i) table bytes) ≡ with_front (front ++ sample_of row own ∷ []) (samples_at (count - (i + 1)) behind after) = rw (k, h, g)
+    (regroup front (sample_of row own) (samples_at (count - (i + 1)) behind after)) in
     sym one ∙ so_far
 
 pub rows_end : (e : RecordFault) (front : List Sample) (count i : ℕ) (table bytes : List ℕ) (total : Option (List Sample × List ℕ)) → i < count → Fails e (row_at table)
@@ -63,7 +66,8 @@ rows_end faults.Damaged front count i table bytes total lt h so_far =
     let one : with_front front (samples_at (count - i) table bytes) ≡ None = rw (k, h) refl in
     sym so_far ∙ one
 
-pub owns_end : (e : RecordFault) (front : List Sample) (count i : ℕ) (table bytes : List ℕ) (row : Row) (behind : List ℕ) (total : Option (List Sample × List ℕ)) → i < count → row_at table ≡ Some (row, behind)
+pub owns_end : (e : RecordFault) (front : List Sample) (count i : ℕ) (table bytes : List ℕ) (row : Row) (behind : List ℕ) (total : Option (List Sample × List ℕ)) → i < count → row_at table ≡ Some
+    (row, behind)
     → Fails e (taken row.size bytes)
     → with_front front (samples_at (count - i) table bytes) ≡ total → Fails e total
 unfolding samples_at
@@ -73,7 +77,8 @@ owns_end faults.Damaged front count i table bytes row behind total lt h g so_far
     let one : with_front front (samples_at (count - i) table bytes) ≡ None = rw (k, h, g) refl in
     sym so_far ∙ one
 
-pub samples_done : (front : List Sample) (count i : ℕ) (table bytes : List ℕ) (total : Option (List Sample × List ℕ)) → count ≤ i → with_front front (samples_at (count - i) table bytes) ≡ total → total ≡ Some (front, bytes)
+pub samples_done : (front : List Sample) (count i : ℕ) (table bytes : List ℕ) (total : Option (List Sample × List ℕ)) → count ≤ i → with_front front (samples_at (count - i) table bytes) ≡ total →
+    total ≡ Some (front, bytes)
 unfolding samples_at
 samples_done front count i table bytes total le so_far =
     let k : count - i ≡ 0 = omega arith in

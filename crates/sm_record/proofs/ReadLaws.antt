@@ -130,7 +130,8 @@ unsealed_other channel bytes not17 not18 e p =
 one_seal : (a b : List ℕ) → sealed a ≡ sealed b → a ≡ b
 one_seal a b e = sym (sealed_front (sealed b) a (sym e)) ∙ sealed_front (sealed b) b refl
 
-pub sealed_read : (channel : Option (List Track)) (body bytes : List ℕ) (r : Result Entry RecordFault) → body ≡ sealed bytes → Reads (IsEntryOf channel bytes) r → Reads (λ e. IsSealedBody channel e body) r
+pub sealed_read : (channel : Option (List Track)) (body bytes : List ℕ) (r : Result Entry RecordFault) → body ≡ sealed bytes → Reads (IsEntryOf channel bytes) r → Reads
+    (λ e. IsSealedBody channel e body) r
 sealed_read channel body bytes r is h =
     reads_as (IsEntryOf channel bytes) (λ e. IsSealedBody channel e body) r
     (λ e p. record { fields = p.fields; has = p.has; is = is ∙ ap sealed p.is })
@@ -196,12 +197,14 @@ module _ (channel : Option (List Track)) (bytes : List ℕ) (byte : ℕ) (fields
 first_is : (bytes : List ℕ) (byte : ℕ) (fields : List ℕ) → byte_at bytes ≡ Some (byte, fields) → get_or bytes 0 0 ≡ byte
 first_is bytes byte fields e = ap (λ (x : List ℕ). get_or x 0 0) (sym (front_is bytes byte fields e))
 
-pub unsealed_as_other : (channel : Option (List Track)) (bytes : List ℕ) (byte : ℕ) (fields : List ℕ) → byte_at bytes ≡ Some (byte, fields) → (byte ≡ 17 → ⊥) → (byte ≡ 18 → ⊥) → (x : Entry) → IsEntryOf channel bytes x → ⊥
+pub unsealed_as_other : (channel : Option (List Track)) (bytes : List ℕ) (byte : ℕ) (fields : List ℕ) → byte_at bytes ≡ Some (byte, fields) → (byte ≡ 17 → ⊥) → (byte ≡ 18 → ⊥) → (x : Entry) →
+    IsEntryOf channel bytes x → ⊥
 unsealed_as_other channel bytes byte fields e not17 not18 =
     let is = first_is bytes byte fields e in
     unsealed_other channel bytes (λ h. not17 (sym is ∙ h)) (λ h. not18 (sym is ∙ h))
 
-pub body_as_sealed : (channel : Option (List Track)) (bytes : List ℕ) (byte : ℕ) (fields : List ℕ) (r : Result Entry RecordFault) → byte_at bytes ≡ Some (byte, fields) → (byte ≡ 1 → ⊥) → (byte ≡ 2 → ⊥)
+pub body_as_sealed : (channel : Option (List Track)) (bytes : List ℕ) (byte : ℕ) (fields : List ℕ) (r : Result Entry RecordFault) → byte_at bytes ≡ Some (byte, fields) → (byte ≡ 1 → ⊥) →
+    (byte ≡ 2 → ⊥)
     → Reads (λ x. IsSealedBody channel x bytes) r → Reads (λ x. IsBody channel x bytes) r
 body_as_sealed channel bytes byte fields r e not1 not2 h =
     let is = first_is bytes byte fields e in
@@ -254,9 +257,11 @@ versions_differ (Keep f) (Keep g) e = omega (arith, e)
 pub one_entry : (channel : Option (List Track)) (a b : Entry) (body : List ℕ) → IsBody channel a body → IsBody channel b body → a ≡ b
 one_entry channel a b body (inl p) (inl q) =
     let e : plain_byte a ∷ p.fields ≡ plain_byte b ∷ q.fields = sym p.is ∙ q.is in
-    same_fields channel a b p.fields p.has (subst (λ (x : List ℕ). HasFields channel b x) (sym (tail_of (plain_byte a) (plain_byte b) p.fields q.fields e)) q.has) (head_of (plain_byte a) (plain_byte b) p.fields q.fields e)
+    same_fields channel a b p.fields p.has (subst (λ (x : List ℕ). HasFields channel b x) (sym (tail_of (plain_byte a) (plain_byte b) p.fields q.fields e)) q.has)
+    (head_of (plain_byte a) (plain_byte b) p.fields q.fields e)
 one_entry channel a b body (inr p) (inr q) =
     let e : sealed_byte a ∷ p.fields ≡ sealed_byte b ∷ q.fields = one_seal _ _ (sym p.is ∙ q.is) in
-    same_fields channel a b p.fields p.has (subst (λ (x : List ℕ). HasFields channel b x) (sym (tail_of (sealed_byte a) (sealed_byte b) p.fields q.fields e)) q.has) (same_sort a b (head_of (sealed_byte a) (sealed_byte b) p.fields q.fields e))
+    same_fields channel a b p.fields p.has (subst (λ (x : List ℕ). HasFields channel b x) (sym (tail_of (sealed_byte a) (sealed_byte b) p.fields q.fields e)) q.has)
+    (same_sort a b (head_of (sealed_byte a) (sealed_byte b) p.fields q.fields e))
 one_entry channel a b body (inl p) (inr q) = absurd (versions_differ a b (head_of (plain_byte a) (sealed_byte b) p.fields (q.fields ++ sha256 (sealed_byte b ∷ q.fields)) (sym p.is ∙ q.is)))
 one_entry channel a b body (inr p) (inl q) = absurd (versions_differ b a (head_of (plain_byte b) (sealed_byte a) q.fields (p.fields ++ sha256 (sealed_byte a ∷ p.fields)) (sym q.is ∙ p.is)))

@@ -42,7 +42,10 @@ track_takes bytes t rest fits e =
 track_again : (t : Track) (rest : List ℕ) → FitsTrack t → track_at (track_text t ++ rest) ≡ Some (t, rest)
 unfolding track_at track_text
 track_again t rest h =
-    let regrouped : track_text t ++ rest ≡ kind_byte t.kind ∷ (short_text t.name ++ (number32 t.bitrate ++ (number32 t.timescale ++ (short_text t.fourcc ++ (long_text t.private ++ (params_text t.numbers ++ rest)))))) = ap (λ (x : List ℕ). kind_byte t.kind ∷ x) (behind (short_text t.name) _ rest _ (behind (number32 t.bitrate) _ rest _ (behind (number32 t.timescale) _ rest _ (behind (short_text t.fourcc) _ rest _ (behind (long_text t.private) _ rest _ refl))))) in
+    let regrouped : track_text t ++ rest ≡ kind_byte t.kind ∷ (short_text t.name ++ (number32 t.bitrate ++
+    (number32 t.timescale ++ (short_text t.fourcc ++ (long_text t.private ++ (params_text t.numbers ++ rest)))))) = ap (λ (x : List ℕ). kind_byte t.kind ∷ x)
+    (behind (short_text t.name) _ rest _ (behind (number32 t.bitrate) _ rest _ (behind (number32 t.timescale) _ rest _
+    (behind (short_text t.fourcc) _ rest _ (behind (long_text t.private) _ rest _ refl))))) in
     ap track_at regrouped
     ∙ rw (
       kind_again t.kind _,
@@ -54,10 +57,12 @@ track_again t rest h =
       params_again t.numbers rest h.numbers,
     ) refl
 
-tracks_take : (n : ℕ) (bytes : List ℕ) (x : List Track × List ℕ) → IsBytes bytes → tracks_at n bytes ≡ Some x → Takes bytes (flat_map track_text x.0) x.1 × (length x.0 ≡ n) × AllByRecursion FitsTrack x.0
+tracks_take : (n : ℕ) (bytes : List ℕ) (x : List Track × List ℕ) → IsBytes bytes → tracks_at n bytes ≡ Some x → Takes bytes (flat_map track_text x.0) x.1 × (length x.0 ≡ n) × AllByRecursion
+    FitsTrack x.0
 unfolding tracks_at
 tracks_take zero bytes x fits e =
-    subst (λ (y : List Track × List ℕ). Takes bytes (flat_map track_text y.0) y.1 × (length y.0 ≡ 0) × AllByRecursion FitsTrack y.0) (some_is ([], bytes) x e) (record { parts = refl; rest_fits = fits }, refl, tt)
+    subst (λ (y : List Track × List ℕ). Takes bytes (flat_map track_text y.0) y.1 × (length y.0 ≡ 0) × AllByRecursion FitsTrack y.0) (some_is ([], bytes) x e)
+    (record { parts = refl; rest_fits = fits }, refl, tt)
 tracks_take (suc n) bytes x fits e =
     let a = bind_some (track_at bytes) (λ first. tracks_at n first.1 >>= λ others. Some (first.0 ∷ others.0, others.1)) x e in
     let b = bind_some (tracks_at n a.0.1) (λ others. Some (a.0.0 ∷ others.0, others.1)) x a.2 in
@@ -65,13 +70,15 @@ tracks_take (suc n) bytes x fits e =
     let second = tracks_take n a.0.1 b.0 first.0.rest_fits b.1 in
     let both = Takes-then bytes (track_text a.0.0) a.0.1 (flat_map track_text b.0.0) b.0.1 first.0 second.0 in
     let made : List Track × List ℕ = (a.0.0 ∷ b.0.0, b.0.1) in
-    subst (λ (y : List Track × List ℕ). Takes bytes (flat_map track_text y.0) y.1 × (length y.0 ≡ suc n) × AllByRecursion FitsTrack y.0) (some_is made x b.2) (rw flat_map-cons both, ap suc second.1, (first.1, second.2))
+    subst (λ (y : List Track × List ℕ). Takes bytes (flat_map track_text y.0) y.1 × (length y.0 ≡ suc n) × AllByRecursion FitsTrack y.0) (some_is made x b.2)
+    (rw flat_map-cons both, ap suc second.1, (first.1, second.2))
 
 tracks_again : (ts : List Track) (rest : List ℕ) → AllByRecursion FitsTrack ts → tracks_at (length ts) (flat_map track_text ts ++ rest) ≡ Some (ts, rest)
 unfolding tracks_at
 tracks_again [] rest fits = refl
 tracks_again (t ∷ ts) rest fits =
-    let regrouped : flat_map track_text (t ∷ ts) ++ rest ≡ track_text t ++ (flat_map track_text ts ++ rest) = ap (λ (x : List ℕ). x ++ rest) (flat_map-cons track_text t ts) ∙ append_assoc (track_text t) (flat_map track_text ts) rest in
+    let regrouped : flat_map track_text (t ∷ ts) ++ rest ≡ track_text t ++ (flat_map track_text ts ++ rest) = ap (λ (x : List ℕ). x ++ rest) (flat_map-cons track_text t ts) ∙ append_assoc
+    (track_text t) (flat_map track_text ts) rest in
     ap (tracks_at (suc (length ts))) regrouped ∙ rw (track_again t (flat_map track_text ts ++ rest) fits.0, tracks_again ts rest fits.1) refl
 
 pub declare_takes : (bytes : List ℕ) (ts : List Track) → IsBytes bytes → declare_at bytes ≡ Some ts → IsDeclare ts bytes

@@ -105,9 +105,11 @@ finish_case : (form : Form) (tags : List Tag) (name : List ℕ) (at : ℕ) → R
 finish_case form tags name at ih room path other done None over count is = tested (eqb (length (take (length path - 1) path)) 3)
   where
     tested : (b : Bool) → Reached form (Finish name at ∷ tags) room path other done None over
-        (walk_tags form (cond b (record { path = take (length path - 1) path; other = other; done = done ++ []; current = None; over = over }) (record { path = take (length path - 1) path; other = other; done = done; current = None; over = over })) tags)
+        (walk_tags form (cond b (record { path = take (length path - 1) path; other = other; done = done ++ []; current = None; over = over })
+        (record { path = take (length path - 1) path; other = other; done = done; current = None; over = over })) tags)
     tested true =
-        subst (λ (d : List RawTrack). Reached form (Finish name at ∷ tags) room path other done None over (walk_tags form (record { path = take (length path - 1) path; other = other; done = d; current = None; over = over }) tags)) (sym (append_nil done))
+        subst (λ (d : List RawTrack). Reached form (Finish name at ∷ tags) room path other done None over
+        (walk_tags form (record { path = take (length path - 1) path; other = other; done = d; current = None; over = over }) tags)) (sym (append_nil done))
         (ih room (take (length path - 1) path) other done None over count tt)
     tested false = ih room (take (length path - 1) path) other done None over count tt
 finish_case form tags name at ih zero path other done (Some t) over count is = absurd (omega (arith, is.1))
@@ -117,7 +119,8 @@ finish_case form tags name at ih (suc r) path other done (Some t) over count is 
     shorter = omega (arith, length-take (length path - 1) path)
 
     tested : (b : Bool) → eqb (length path) 4 ≡ b → Reached form (Finish name at ∷ tags) (suc r) path other done (Some t) over
-        (walk_tags form (cond (eqb (length (take (length path - 1) path)) 3) (record { path = take (length path - 1) path; other = other; done = done ++ t ∷ []; current = None; over = over }) (record { path = take (length path - 1) path; other = other; done = done; current = Some t; over = over })) tags)
+        (walk_tags form (cond (eqb (length (take (length path - 1) path)) 3) (record { path = take (length path - 1) path; other = other; done = done ++ t ∷ []; current = None; over = over })
+        (record { path = take (length path - 1) path; other = other; done = done; current = Some t; over = over })) tags)
     tested true e =
         let four = eqb-true (length path) 4 e in
         let three : eqb (length (take (length path - 1) path)) 3 ≡ true = eq-eqb (length (take (length path - 1) path)) 3 (omega (arith, shorter, four)) in
@@ -132,7 +135,8 @@ finish_case form tags name at ih (suc r) path other done (Some t) over count is 
 abbrev Begun : Form → List Tag → List ℕ → List Attribute → Bool → ℕ → ℕ → List (List ℕ) → Option ℕ → List RawTrack → Option RawTrack → Option ℕ → Option Kind → Type 0
 Begun form tags name attributes empty at room path other done c over k =
     Walked room done other over
-    (pending form c (record { ancestors = path; tag = Start name attributes empty at } ∷ placed (enters empty name path) tags) ++ (track_from form k attributes at empty (placed (enters empty name path) tags) ++ tracks_in form (placed (enters empty name path) tags)))
+    (pending form c (record { ancestors = path; tag = Start name attributes empty at } ∷ placed (enters empty name path) tags) ++
+    (track_from form k attributes at empty (placed (enters empty name path) tags) ++ tracks_in form (placed (enters empty name path) tags)))
     (other_places (record { ancestors = path; tag = Start name attributes empty at } ∷ placed (enters empty name path) tags))
     (walk_tags form (record (meets form (record { path = path; other = other; done = done; current = c; over = over }) name attributes empty at k) { path = enters empty name path }) tags)
 
@@ -185,13 +189,18 @@ track_case form tags name attributes false at ih (suc r) path other done over k 
     })
 
 -- another element, where no track is open
-free_case : (form : Form) (tags : List Tag) (name : List ℕ) (attributes : List Attribute) (empty : Bool) (at : ℕ) → Reaches form tags → (room : ℕ) (path : List (List ℕ)) (other : Option ℕ) (done : List RawTrack) (over : Option ℕ)
+free_case : (form : Form) (tags : List Tag) (name : List ℕ) (attributes : List Attribute) (empty : Bool) (at : ℕ) → Reaches form tags → (room : ℕ) (path : List (List ℕ)) (other : Option ℕ)
+    (done : List RawTrack) (over : Option ℕ)
     → room + length done ≡ 64 → Begun form tags name attributes empty at room path other done None over None
 free_case form tags name attributes empty at ih room path other done over count =
     tested (eqb (length path) 0) (is_same name (codes "smil")) (eqb (length path) 4 && is_same name (codes "param"))
   where
-    tested : (a b d : Bool) → Walked room done other over (tracks_in form (placed (enters empty name path) tags)) (cond a (cond b [] (at ∷ [])) [] ++ other_places (placed (enters empty name path) tags))
-        (walk_tags form (record (cond a (cond b (record { path = path; other = other; done = done; current = None; over = over }) (record { path = path; other = first_place other at; done = done; current = None; over = over })) (cond d (record { path = path; other = other; done = done; current = None; over = over }) (record { path = path; other = other; done = done; current = None; over = over }))) { path = enters empty name path }) tags)
+    tested : (a b d : Bool) → Walked room done other over (tracks_in form (placed (enters empty name path) tags))
+        (cond a (cond b [] (at ∷ [])) [] ++ other_places (placed (enters empty name path) tags))
+        (walk_tags form (record (cond a (cond b (record { path = path; other = other; done = done; current = None; over = over })
+        (record { path = path; other = first_place other at; done = done; current = None; over = over }))
+        (cond d (record { path = path; other = other; done = done; current = None; over = over }) (record { path = path; other = other; done = done; current = None; over = over })))
+        { path = enters empty name path }) tags)
     tested true true d = ih room (enters empty name path) other done None over count tt
     tested true false d =
         let w = ih room (enters empty name path) (first_place other at) done None over count tt in
@@ -208,8 +217,10 @@ inside_case form tags name attributes empty at ih room path other done t over co
     rw inner (tested (eqb (length path) 4 && is_same name (codes "param")))
   where
     tested : (d : Bool)
-        → Walked room done other over (holding form (cond d (with_element form attributes at t) t) (placed (enters empty name path) tags) ∷ tracks_in form (placed (enters empty name path) tags)) (other_places (placed (enters empty name path) tags))
-        (walk_tags form (record (cond d (record { path = path; other = other; done = done; current = Some (with_element form attributes at t); over = over }) (record { path = path; other = other; done = done; current = Some t; over = over })) { path = enters empty name path }) tags)
+        → Walked room done other over (holding form (cond d (with_element form attributes at t) t) (placed (enters empty name path) tags) ∷ tracks_in form (placed (enters empty name path) tags))
+        (other_places (placed (enters empty name path) tags))
+        (walk_tags form (record (cond d (record { path = path; other = other; done = done; current = Some (with_element form attributes at t); over = over })
+        (record { path = path; other = other; done = done; current = Some t; over = over })) { path = enters empty name path }) tags)
     tested true = ih room (enters empty name path) other done (Some (with_element form attributes at t)) over count (omega (arith, is.0, entered_len empty name path), is.1)
     tested false = ih room (enters empty name path) other done (Some t) over count (omega (arith, is.0, entered_len empty name path), is.1)
 

@@ -201,7 +201,8 @@ collides_none form id j (y ∷ ys) (u ∷ us) x t le are agree is =
 collides_none form id j [] (u ∷ us) x t le are agree is = absurd are
 collides_none form id j (y ∷ ys) [] x t le are agree is = absurd are
 
-faults_push : (form : Form) (earlier xs : List RawTrack) (x : RawTrack) → tracks_faults form earlier xs ≡ [] → inner_faults x ≡ [] → end_faults form (earlier ++ xs) x ≡ [] → tracks_faults form earlier (xs ++ x ∷ []) ≡ []
+faults_push : (form : Form) (earlier xs : List RawTrack) (x : RawTrack) → tracks_faults form earlier xs ≡ [] → inner_faults x ≡ [] → end_faults form (earlier ++ xs) x ≡ [] → tracks_faults form
+    earlier (xs ++ x ∷ []) ≡ []
 faults_push form earlier [] x none inner end =
     let P : List RawTrack → Type 0 = λ l. end_faults form l x ≡ [] in
     let here : end_faults form earlier x ≡ [] = subst P (append_nil earlier) end in
@@ -243,9 +244,12 @@ foot_read : (form : Form) (size : ℕ) (Good : Walk → Type 0) (end : ℕ) (don
 foot_read form size Good end done good =
     let in_body = codes "smil" ∷ codes "body" ∷ [] in
     let in_smil = codes "smil" ∷ [] in
-    finish_line form size Good end (codes "</body>\n</smil>\n") (codes "/switch>\n</body>\n</smil>\n") in_switch (codes "switch") (walk_out done) (_, refl) (refl, refl) (refl, refl) refl (sym (switch_end (codes "</body>\n</smil>\n"))) (λ a.
-    finish_line form size Good end (codes "</smil>\n") (codes "/body>\n</smil>\n") in_body (codes "body") (record { path = in_body; other = None; done = done; current = None; over = None }) (_, refl) (refl, refl) (refl, refl) refl (sym (body_end (codes "</smil>\n"))) (λ b.
-    on_finish form size Good _ _ (codes "smil") (end - length (codes "</smil>\n")) (record { path = in_smil; other = None; done = done; current = None; over = None }) (next_finish size end (codes "/smil>\n") (10 ∷ []) in_smil (codes "smil") (refl, refl) refl (sym smil_end)) (text_end form size Good end _ good)))
+    finish_line form size Good end (codes "</body>\n</smil>\n") (codes "/switch>\n</body>\n</smil>\n") in_switch (codes "switch") (walk_out done) (_, refl) (refl, refl) (refl, refl) refl
+    (sym (switch_end (codes "</body>\n</smil>\n"))) (λ a.
+    finish_line form size Good end (codes "</smil>\n") (codes "/body>\n</smil>\n") in_body (codes "body") (record { path = in_body; other = None; done = done; current = None; over = None })
+    (_, refl) (refl, refl) (refl, refl) refl (sym (body_end (codes "</smil>\n"))) (λ b.
+    on_finish form size Good _ _ (codes "smil") (end - length (codes "</smil>\n")) (record { path = in_smil; other = None; done = done; current = None; over = None })
+    (next_finish size end (codes "/smil>\n") (10 ∷ []) in_smil (codes "smil") (refl, refl) refl (sym smil_end)) (text_end form size Good end _ good)))
 
 -- ---- the tracks
 
@@ -277,7 +281,8 @@ tracks_begin id (t ∷ ts) = rw (append_assoc (track_lines id t) (tracks_lines (
 abbrev walk_end : List RawTrack → Walk
 walk_end done = record { path = []; other = None; done = done; current = None; over = None }
 
-tracks_read : (form : Form) (size : ℕ) (Good : Walk → Type 0) (end : ℕ) (channel : List Track) (done : List RawTrack) (before rest : List Track) (id : ℕ) → before ++ rest ≡ channel → length channel ≤ 64
+tracks_read : (form : Form) (size : ℕ) (Good : Walk → Type 0) (end : ℕ) (channel : List Track) (done : List RawTrack) (before rest : List Track) (id : ℕ) → before ++ rest ≡ channel → length channel
+    ≤ 64
     → ((xs : List RawTrack) → AreRead form 1 xs channel → tracks_faults form [] xs ≡ [] → Good (walk_end xs)) → id ≡ 1 + length before → AreRead form 1 done before → tracks_faults form [] done ≡ []
     → AreWritable id rest → AgreeWith before rest → PairsAgree rest → Leads form Good (left_at size end (tracks_lines id rest ++ foot_lines) in_switch) (walk_out done)
 tracks_read form size Good end channel done before [] id whole few reaches place are none fits with_before agree =
@@ -293,7 +298,8 @@ tracks_read form size Good end channel done before (t ∷ ts) id whole few reach
     (track_read form size Good end (tracks_lines (id + 1) ts ++ foot_lines) id t done (tracks_begin (id + 1) ts) fits.0 room (λ raw stage.
     let is = is_read form id t raw fits.0 stage in
     let free = collides_none form 1 id done before raw t (omega (arith, place)) are with_before.0 is in
-    tracks_read form size Good end channel (done ++ raw ∷ []) (before ++ t ∷ []) ts (id + 1) (append_assoc before (t ∷ []) ts ∙ whole) few reaches more (read_push form 1 id done before raw t place are is)
+    tracks_read form size Good end channel (done ++ raw ∷ []) (before ++ t ∷ []) ts (id + 1) (append_assoc before (t ∷ []) ts ∙ whole) few reaches more
+    (read_push form 1 id done before raw t place are is)
     (faults_push form [] done raw none is.clean (end_none form done raw is.whole free)) fits.1 (with_push before t ts with_before.1 agree.0) agree.1))
 
 -- ---- the head
@@ -320,20 +326,23 @@ lead_second : (cs : List ℕ) → lead_at false (10 ∷ 60 ∷ cs) ≡ (lead.Tag
 unfolding lead_at
 lead_second cs = refl
 
-second_line : (x : List ℕ) → Markups (codes "smil xmlns=\"http://www.w3.org/2001/SMIL20/Language\">\n" ++ behind_second x) (Ok (markup.Start (codes "smil") smil_attributes false, 10 ∷ behind_second x))
+second_line : (x : List ℕ) → Markups (codes "smil xmlns=\"http://www.w3.org/2001/SMIL20/Language\">\n" ++ behind_second x)
+    (Ok (markup.Start (codes "smil") smil_attributes false, 10 ∷ behind_second x))
 second_line x = Starts-again (codes "smil") smil_attributes false (10 ∷ behind_second x) (refl, refl) ((refl, refl), refl, refl, tt)
 
 -- before the first line
 abbrev pub first_left : ℕ → ℕ → List ℕ → Left
 first_left size end text = record { size = size; end = end; rest = text; open_names = []; begun = false; bad = None }
 
-head_next : (size end : ℕ) (x : List ℕ) → Next (first_left size end (head_lines ++ x)) (Start (codes "smil") smil_attributes false (end - length (behind_first x))) (left_at size end (10 ∷ behind_second x) (codes "smil" ∷ []))
+head_next : (size end : ℕ) (x : List ℕ) → Next (first_left size end (head_lines ++ x)) (Start (codes "smil") smil_attributes false (end - length (behind_first x)))
+    (left_at size end (10 ∷ behind_second x) (codes "smil" ∷ []))
 head_next size end x =
     let f : Lead × Markup × ℕ × List ℕ = (lead.Tag, markup.Start (codes "smil") smil_attributes false, length (behind_first x), 10 ∷ behind_second x) in
     let second : Founds false (10 ∷ behind_first x) f = marked (lead_second (codes "smil xmlns=\"http://www.w3.org/2001/SMIL20/Language\">\n" ++ behind_second x)) (second_line x) (λ e. cc e) in
     (f, skipped (lead_first _) (sym (first_line x)) second, refl)
 
-head_read : (form : Form) (size : ℕ) (Good : Walk → Type 0) (end : ℕ) (x : List ℕ) → Begins x → Leads form Good (left_at size end x in_switch) (walk_out []) → Leads form Good (first_left size end (head_lines ++ x)) nothing_met
+head_read : (form : Form) (size : ℕ) (Good : Walk → Type 0) (end : ℕ) (x : List ℕ) → Begins x → Leads form Good (left_at size end x in_switch) (walk_out []) → Leads form Good
+    (first_left size end (head_lines ++ x)) nothing_met
 head_read form size Good end x begins go =
     let in_smil = codes "smil" ∷ [] in
     let in_body = codes "smil" ∷ codes "body" ∷ [] in
@@ -341,8 +350,10 @@ head_read form size Good end x begins go =
     let w2 : Walk = record { path = in_body; other = None; done = []; current = None; over = None } in
     on_start form size Good _ _ (codes "smil") smil_attributes false (end - length (behind_first x)) nothing_met (head_next size end x)
     (feed_read form size Good end (behind_second x) in_smil w1 (_, refl) (refl, refl)
-    (start_line form size Good end (codes "<body>\n<switch>\n" ++ x) in_smil (codes "head") [] true w1 (_, refl) (refl, refl) (refl, refl) (Starts-again (codes "head") [] true (10 ∷ (codes "<body>\n<switch>\n" ++ x)) (refl, refl) tt) (λ a.
-    start_line form size Good end (codes "<switch>\n" ++ x) in_smil (codes "body") [] false w1 (_, refl) (refl, refl) (refl, refl) (Starts-again (codes "body") [] false (10 ∷ (codes "<switch>\n" ++ x)) (refl, refl) tt) (λ b.
+    (start_line form size Good end (codes "<body>\n<switch>\n" ++ x) in_smil (codes "head") [] true w1 (_, refl) (refl, refl) (refl, refl)
+    (Starts-again (codes "head") [] true (10 ∷ (codes "<body>\n<switch>\n" ++ x)) (refl, refl) tt) (λ a.
+    start_line form size Good end (codes "<switch>\n" ++ x) in_smil (codes "body") [] false w1 (_, refl) (refl, refl) (refl, refl)
+    (Starts-again (codes "body") [] false (10 ∷ (codes "<switch>\n" ++ x)) (refl, refl) tt) (λ b.
     start_line form size Good end x in_body (codes "switch") [] false w2 begins (refl, refl) (refl, refl) (Starts-again (codes "switch") [] false (10 ∷ x) (refl, refl) tt) (λ c. go)))))
 
 -- ---- the whole text
@@ -379,7 +390,8 @@ unfolding live_text
 leads_channel form Good channel is narrow reaches =
     let x = tracks_lines 1 channel ++ foot_lines in
     let text = head_lines ++ x in
-    let clean : without_zeros text ≡ text = no_zeros text (head_lines ++ (tracks_lines 1 channel ++ codes "</switch>\n</body>\n</smil>")) (ends_feed head_lines (tracks_lines 1 channel) (codes "</switch>\n</body>\n</smil>")) in
+    let clean : without_zeros text ≡ text = no_zeros text (head_lines ++ (tracks_lines 1 channel ++ codes "</switch>\n</body>\n</smil>"))
+    (ends_feed head_lines (tracks_lines 1 channel) (codes "</switch>\n</body>\n</smil>")) in
     let few = is.few in
     let P : Left → Type 0 = λ s. Leads form Good s nothing_met in
     subst P (sym (begins_first text _ clean refl))
@@ -396,7 +408,8 @@ some_done : (size : ℕ) (done : List RawTrack) → 0 < length done → text_fau
 some_done size [] some = absurd (omega arith)
 some_done size (d ∷ ds) some = refl
 
-no_faults : (form : Form) (channel : List Track) (size : ℕ) (xs : List RawTrack) → IsChannel channel → AreRead form 1 xs channel → tracks_faults form [] xs ≡ [] → least_from None (faults_of form size None (walk_end xs)) ≡ None
+no_faults : (form : Form) (channel : List Track) (size : ℕ) (xs : List RawTrack) → IsChannel channel → AreRead form 1 xs channel → tracks_faults form [] xs ≡ [] → least_from None
+    (faults_of form size None (walk_end xs)) ≡ None
 no_faults form channel size xs is are none =
     let count : length xs ≡ length channel = read_len form 1 xs channel are in
     let last = some_done size xs (omega (arith, count, is.some)) in
@@ -413,7 +426,8 @@ live_text_gives channel is narrow r read =
     (λ xs are none. record { none = no_faults Ladder channel size xs is are none; tracks = ladder_map 1 xs channel are }) in
     one_ladder (live_text channel) r (Ok channel) read (good.0, good.1, sym (given ladder_track Ladder channel size good.0 good.2 good.3))
 
-pub live_text_pushes : (channel : List Track) → IsChannel channel → All IsNarrowTrack channel → (r : Result (List SmilTrack) ℕ) → IsLiveManifest (live_text channel) r → r ≡ Ok (untimed_tracks 1 channel)
+pub live_text_pushes : (channel : List Track) → IsChannel channel → All IsNarrowTrack channel → (r : Result (List SmilTrack) ℕ) → IsLiveManifest (live_text channel) r → r ≡ Ok
+    (untimed_tracks 1 channel)
 live_text_pushes channel is narrow r read =
     let size = length (live_text channel) in
     let wanted = untimed_tracks 1 channel in

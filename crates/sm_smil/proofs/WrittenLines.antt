@@ -31,7 +31,8 @@ on_start form size Good s t name attributes empty at w next (tags, runs, bad, go
 on_text : (form : Form) (size : ℕ) (Good : Walk → Type 0) (s t : Left) (at : ℕ) (w : Walk) → Next s (Text at) t → Leads form Good t w → Leads form Good s w
 on_text form size Good s t at w next (tags, runs, bad, good) = (Text at ∷ tags, follows t next refl runs, bad, good)
 
-pub on_finish : (form : Form) (size : ℕ) (Good : Walk → Type 0) (s t : Left) (name : List ℕ) (at : ℕ) (w : Walk) → Next s (Finish name at) t → Leads form Good t (step form w (Finish name at)) → Leads form Good s w
+pub on_finish : (form : Form) (size : ℕ) (Good : Walk → Type 0) (s t : Left) (name : List ℕ) (at : ℕ) (w : Walk) → Next s (Finish name at) t → Leads form Good t (step form w (Finish name at)) →
+    Leads form Good s w
 on_finish form size Good s t name at w next (tags, runs, bad, good) =
     (Finish name at ∷ tags, follows t next refl runs, bad, good)
 
@@ -60,7 +61,8 @@ pub finish_line : (form : Form) (size : ℕ) (Good : Walk → Type 0) (end : ℕ
     → ((at : ℕ) → Leads form Good (left_at size end x (take (length names - 1) names)) (step form w (Finish name at)))
     → Leads form Good (left_at size end (60 ∷ cs) names) w
 finish_line form size Good end x cs names name w begins open_names after last read go =
-    on_finish form size Good _ _ name (end - length (60 ∷ cs)) w (next_finish size end cs (10 ∷ x) names name open_names last read) (feed_read form size Good end x _ _ begins after (go (end - length (60 ∷ cs))))
+    on_finish form size Good _ _ name (end - length (60 ∷ cs)) w (next_finish size end cs (10 ∷ x) names name open_names last read)
+    (feed_read form size Good end x _ _ begins after (go (end - length (60 ∷ cs))))
 
 -- the attributes of a param
 abbrev pub param_attributes : List ℕ → List ℕ → List Attribute
@@ -89,7 +91,8 @@ pub param_read : (form : Form) (size : ℕ) (Good : Walk → Type 0) (end : ℕ)
 param_read form size Good end x k name value w begins plain_name plain go =
     let P : List ℕ → Type 0 = λ l. Leads form Good (left_at size end l (in_track k)) w in
     let are : AreWritten [] (param_attributes name value) = ((refl, refl), plain_name, refl, ((refl, refl), plain, refl, ((refl, refl), refl, refl, tt))) in
-    subst P (sym (param_text name value x)) (start_line form size Good end x (in_track k) (codes "param") (param_attributes name value) true w begins (refl, refl) (refl, refl) (Starts-again (codes "param") (param_attributes name value) true (10 ∷ x) (refl, refl) are) go)
+    subst P (sym (param_text name value x)) (start_line form size Good end x (in_track k) (codes "param") (param_attributes name value) true w begins (refl, refl) (refl, refl)
+    (Starts-again (codes "param") (param_attributes name value) true (10 ∷ x) (refl, refl) are) go)
 
 -- the attributes of a track
 abbrev pub track_attributes : ℕ → List Attribute
@@ -118,7 +121,8 @@ pub opening_read : (form : Form) (size : ℕ) (Good : Walk → Type 0) (end : �
     → Leads form Good (left_at size end (opening_line k bitrate ++ x) in_switch) w
 opening_read form size Good end x k bitrate w begins plain go =
     let P : List ℕ → Type 0 = λ l. Leads form Good (left_at size end l in_switch) w in
-    subst P (sym (opening_text k bitrate x)) (start_line form size Good end x in_switch (element_name k) (track_attributes bitrate) false w begins (refl, refl) (refl, refl) (opening_markup k bitrate (10 ∷ x) plain) go)
+    subst P (sym (opening_text k bitrate x)) (start_line form size Good end x in_switch (element_name k) (track_attributes bitrate) false w begins (refl, refl) (refl, refl)
+    (opening_markup k bitrate (10 ∷ x) plain) go)
 
 pub closing_begins : (k : Kind) (x : List ℕ) → Begins (closing_line k ++ x)
 unfolding closing_line

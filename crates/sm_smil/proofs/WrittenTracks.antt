@@ -184,13 +184,16 @@ unfolding is_fit
 number_fits n lt = decimal_number n lt
 
 numbers_text : (p : Params) (x : List ℕ)
-    → number_lines p ++ x ≡ option_line (codes "MaxWidth") p.width ++ (option_line (codes "MaxHeight") p.height ++ (option_line (codes "AudioTag") p.tag ++ (option_line (codes "Channels") p.channels ++ (option_line (codes "SamplingRate") p.rate ++ (option_line (codes "BitsPerSample") p.bits ++ (option_line (codes "PacketSize") p.packet ++ x))))))
+    → number_lines p ++ x ≡ option_line (codes "MaxWidth") p.width ++ (option_line (codes "MaxHeight") p.height ++
+    (option_line (codes "AudioTag") p.tag ++ (option_line (codes "Channels") p.channels ++
+    (option_line (codes "SamplingRate") p.rate ++ (option_line (codes "BitsPerSample") p.bits ++ (option_line (codes "PacketSize") p.packet ++ x))))))
 unfolding number_lines
 numbers_text p x = simp append_assoc
 
 numbers_begin : (p : Params) (x : List ℕ) → Begins x → Begins (number_lines p ++ x)
 numbers_begin p x begins =
-    rw (numbers_text p x) (option_begins _ p.width _ (option_begins _ p.height _ (option_begins _ p.tag _ (option_begins _ p.channels _ (option_begins _ p.rate _ (option_begins _ p.bits _ (option_begins _ p.packet x begins)))))))
+    rw (numbers_text p x) (option_begins _ p.width _ (option_begins _ p.height _ (option_begins _ p.tag _
+    (option_begins _ p.channels _ (option_begins _ p.rate _ (option_begins _ p.bits _ (option_begins _ p.packet x begins)))))))
 
 -- the names of the numbers
 is_width : param_name (codes "MaxWidth") ≡ Some MaxWidth
@@ -278,7 +281,9 @@ numbers_stage form size Good end x id t done raw begins narrow stage go =
     option_stage form size Good end x id t done r6 PacketSize (codes "PacketSize") t.numbers.packet begins refl is_packet refl refl n.packet decimal_number s6 go)))))))
 
 track_text : (id : ℕ) (t : Track) (x : List ℕ)
-    → track_lines id t ++ x ≡ opening_line t.kind t.bitrate ++ (number_line (codes "trackID") id ++ (param_line (codes "trackName") t.name ++ (number_line (codes "TimeScale") t.timescale ++ (param_line (codes "FourCC") t.fourcc ++ (param_line (codes "CodecPrivateData") (encode_upper t.private) ++ (number_lines t.numbers ++ (closing_line t.kind ++ x)))))))
+    → track_lines id t ++ x ≡ opening_line t.kind t.bitrate ++ (number_line (codes "trackID") id ++
+    (param_line (codes "trackName") t.name ++ (number_line (codes "TimeScale") t.timescale ++
+    (param_line (codes "FourCC") t.fourcc ++ (param_line (codes "CodecPrivateData") (encode_upper t.private) ++ (number_lines t.numbers ++ (closing_line t.kind ++ x)))))))
 unfolding track_lines
 track_text id t x = simp append_assoc
 
@@ -324,23 +329,30 @@ track_read form size Good end x id t done begins fits room go =
     let c2 = numbers_begin t.numbers _ c1 in
     let c3 = param_begins (codes "CodecPrivateData") (encode_upper t.private) (number_lines t.numbers ++ (closing_line t.kind ++ x)) in
     let c4 = param_begins (codes "FourCC") t.fourcc (param_line (codes "CodecPrivateData") (encode_upper t.private) ++ (number_lines t.numbers ++ (closing_line t.kind ++ x))) in
-    let c5 = param_begins (codes "TimeScale") (decimal t.timescale) (param_line (codes "FourCC") t.fourcc ++ (param_line (codes "CodecPrivateData") (encode_upper t.private) ++ (number_lines t.numbers ++ (closing_line t.kind ++ x)))) in
+    let c5 = param_begins (codes "TimeScale") (decimal t.timescale) (param_line (codes "FourCC") t.fourcc ++
+    (param_line (codes "CodecPrivateData") (encode_upper t.private) ++ (number_lines t.numbers ++ (closing_line t.kind ++ x)))) in
     let c6 =
-    param_begins (codes "trackName") t.name (number_line (codes "TimeScale") t.timescale ++ (param_line (codes "FourCC") t.fourcc ++ (param_line (codes "CodecPrivateData") (encode_upper t.private) ++ (number_lines t.numbers ++ (closing_line t.kind ++ x))))) in
+    param_begins (codes "trackName") t.name (number_line (codes "TimeScale") t.timescale ++
+    (param_line (codes "FourCC") t.fourcc ++ (param_line (codes "CodecPrivateData") (encode_upper t.private) ++ (number_lines t.numbers ++ (closing_line t.kind ++ x))))) in
     let c7 =
-    param_begins (codes "trackID") (decimal id) (param_line (codes "trackName") t.name ++ (number_line (codes "TimeScale") t.timescale ++ (param_line (codes "FourCC") t.fourcc ++ (param_line (codes "CodecPrivateData") (encode_upper t.private) ++ (number_lines t.numbers ++ (closing_line t.kind ++ x)))))) in
+    param_begins (codes "trackID") (decimal id) (param_line (codes "trackName") t.name ++ (number_line (codes "TimeScale") t.timescale ++
+    (param_line (codes "FourCC") t.fourcc ++ (param_line (codes "CodecPrivateData") (encode_upper t.private) ++ (number_lines t.numbers ++ (closing_line t.kind ++ x)))))) in
     let few : leb 64 (length done) ≡ false = lt-leb 64 (length done) room in
     let P : List ℕ → Type 0 = λ l. Leads form Good (left_at size end l in_switch) (walk_out done) in
     subst P (sym (track_text id t x))
     (opening_read form size Good end _ t.kind t.bitrate (walk_out done) c7 (decimal_plain t.bitrate narrow.bitrate) (λ at.
     let Q : Walk → Type 0 =
-    λ w. Leads form Good (left_at size end (number_line (codes "trackID") id ++ (param_line (codes "trackName") t.name ++ (number_line (codes "TimeScale") t.timescale ++ (param_line (codes "FourCC") t.fourcc ++ (param_line (codes "CodecPrivateData") (encode_upper t.private) ++ (number_lines t.numbers ++ (closing_line t.kind ++ x))))))) (in_track t.kind)) w in
+    λ w. Leads form Good (left_at size end (number_line (codes "trackID") id ++ (param_line (codes "trackName") t.name ++
+    (number_line (codes "TimeScale") t.timescale ++ (param_line (codes "FourCC") t.fourcc ++
+    (param_line (codes "CodecPrivateData") (encode_upper t.private) ++ (number_lines t.numbers ++ (closing_line t.kind ++ x))))))) (in_track t.kind)) w in
     let met : step form (walk_out done) (Start (element_name t.kind) (track_attributes t.bitrate) false at) ≡ walk_in t.kind done (opened_track t at) = rw (opened_kind t.kind, few) refl in
     subst Q (sym met)
-    (param_stage form size Good end _ id t done (opened_track t at) TrackId (codes "trackID") (decimal id) c6 refl is_id refl refl (decimal_plain id fits.small) (decimal_number id fits.small) (first_stage form id t at) (λ r2 s2.
+    (param_stage form size Good end _ id t done (opened_track t at) TrackId (codes "trackID") (decimal id) c6 refl is_id refl refl (decimal_plain id fits.small) (decimal_number id fits.small)
+    (first_stage form id t at) (λ r2 s2.
     param_stage form size Good end _ id t done r2 TrackName (codes "trackName") t.name c5 refl is_track_name refl refl (name_plain t.name narrow.name) narrow.name s2 (λ r3 s3.
     scale_stage form size Good end _ id t done r3 c4 fits s3 (λ r4 s4.
     param_stage form size Good end _ id t done r4 FourCc (codes "FourCC") t.fourcc c3 refl is_four_cc refl refl (fourcc_plain t.fourcc fits.track.fourcc) fits.track.fourcc s4 (λ r5 s5.
-    param_stage form size Good end _ id t done r5 CodecPrivateData (codes "CodecPrivateData") (encode_upper t.private) c2 refl is_codec refl refl (private_plain t.private) (private_again t.private narrow.private fits.track.short) s5 (λ r6 s6.
+    param_stage form size Good end _ id t done r5 CodecPrivateData (codes "CodecPrivateData") (encode_upper t.private) c2 refl is_codec refl refl (private_plain t.private)
+    (private_again t.private narrow.private fits.track.short) s5 (λ r6 s6.
     numbers_stage form size Good end _ id t done r6 c1 narrow s6 (λ r s.
     closing_read form size Good end x t.kind (walk_in t.kind done r) begins (λ place. go r s))))))))))

@@ -64,7 +64,8 @@ unfolding name_at
 name_made [] name rest e = cc
 name_made (c ∷ cs) name rest e = tested (is_tag_start c) refl e
   where
-    tested : (t : Bool) → is_tag_start c ≡ t → cond {A = Result (List ℕ × List ℕ) Stop} t (Ok (prefix is_tag_byte (c ∷ cs), remaining is_tag_byte (c ∷ cs))) (Err wrong) ≡ Ok (name, rest) → IsTagName name × (c ∷ cs ≡ name ++ rest)
+    tested : (t : Bool) → is_tag_start c ≡ t → cond {A = Result (List ℕ × List ℕ) Stop} t (Ok (prefix is_tag_byte (c ∷ cs), remaining is_tag_byte (c ∷ cs))) (Err wrong) ≡ Ok (name, rest) → IsTagName
+        name × (c ∷ cs ≡ name ++ rest)
     tested false s f = cc
     tested true s f =
         let one = start_is_byte c s in
@@ -129,7 +130,8 @@ end_made (d ∷ ds) [] x rest e = cc
 end_made [] (c ∷ cs) x rest e = cc
 end_made (d ∷ ds) (c ∷ cs) x rest e = tested (eqb c 59) (is_scalar (decimal_from 0 (d ∷ ds))) refl refl e
   where
-    tested : (s t : Bool) → eqb c 59 ≡ s → is_scalar (decimal_from 0 (d ∷ ds)) ≡ t → cond {A = Result (ℕ × List ℕ) Stop} (s && t) (Ok (decimal_from 0 (d ∷ ds), cs)) (Err wrong) ≡ Ok (x, rest) → IsEnd (d ∷ ds) (c ∷ cs) x rest
+    tested : (s t : Bool) → eqb c 59 ≡ s → is_scalar (decimal_from 0 (d ∷ ds)) ≡ t → cond {A = Result (ℕ × List ℕ) Stop} (s && t) (Ok (decimal_from 0 (d ∷ ds), cs)) (Err wrong) ≡ Ok (x, rest) →
+        IsEnd (d ∷ ds) (c ∷ cs) x rest
     tested true true f g h =
         let is = eqb-true c 59 f in
         let same = pairs _ refl h in
@@ -146,7 +148,8 @@ number_made b rest x e =
     let is = end_made (prefix is_digit after) (remaining is_digit after) x rest w.2 in
     let all : list_all is_digit (is.d ∷ is.ds) ≡ true = subst (λ (l : List ℕ). list_all is_digit l ≡ true) is.digits_are (prefix_all is_digit after) in
     let whole : after ≡ (is.d ∷ is.ds) ++ 59 ∷ rest = split_is is_digit after ∙ appended is.digits_are is.more_is in
-    let made : Reference (codes "&#" ++ (is.d ∷ is.ds ++ codes ";")) x = subst (λ (n : ℕ). Reference (codes "&#" ++ (is.d ∷ is.ds ++ codes ";")) n) is.number_is (grammar.number is.d is.ds all is.scalar) in
+    let made : Reference (codes "&#" ++ (is.d ∷ is.ds ++ codes ";")) x = subst (λ (n : ℕ). Reference (codes "&#" ++ (is.d ∷ is.ds ++ codes ";")) n) is.number_is
+    (grammar.number is.d is.ds all is.scalar) in
     (35 ∷ is.d ∷ is.ds ++ codes ";", made, mark ∙ ap (λ (l : List ℕ). 35 ∷ l) (whole ∙ ap (λ (l : List ℕ). is.d ∷ l) (sym (append_assoc is.ds (59 ∷ []) rest))))
 
 abbrev pub IsMadeReference : List ℕ → List ℕ → ℕ → Type 0
@@ -205,12 +208,15 @@ piece_made q (c ∷ cs) = at_quote (eqb_tells c q)
     at_ampersand nq na (inr (e, nm)) = rw e (c ∷ [], λ inner value v. grammar.byte nq na nm v, refl)
 
     at_angle : c ≢ q → ((eqb c 60 ≡ true) × (c ≡ 60)) ⊎ ((eqb c 60 ≡ false) × (c ≢ 60))
-        → PieceMade q (c ∷ cs) (cond {A = Result (Bool × List ℕ × List ℕ) Stop} (eqb c 60) (Err wrong) (cond {A = Result (Bool × List ℕ × List ℕ) Stop} (eqb c 38) (reference_at cs >>= λ x. Ok (true, encode_utf8 x.0, x.1)) (Ok (true, c ∷ [], cs))))
+        → PieceMade q (c ∷ cs) (cond {A = Result (Bool × List ℕ × List ℕ) Stop} (eqb c 60) (Err wrong)
+        (cond {A = Result (Bool × List ℕ × List ℕ) Stop} (eqb c 38) (reference_at cs >>= λ x. Ok (true, encode_utf8 x.0, x.1)) (Ok (true, c ∷ [], cs))))
     at_angle nq (inl (e, is)) = rw e tt
     at_angle nq (inr (e, na)) = rw e (at_ampersand nq na (eqb_tells c 38))
 
     at_quote : ((eqb c q ≡ true) × (c ≡ q)) ⊎ ((eqb c q ≡ false) × (c ≢ q))
-        → PieceMade q (c ∷ cs) (cond {A = Result (Bool × List ℕ × List ℕ) Stop} (eqb c q) (Ok (false, [], cs)) (cond {A = Result (Bool × List ℕ × List ℕ) Stop} (eqb c 60) (Err wrong) (cond {A = Result (Bool × List ℕ × List ℕ) Stop} (eqb c 38) (reference_at cs >>= λ x. Ok (true, encode_utf8 x.0, x.1)) (Ok (true, c ∷ [], cs)))))
+        → PieceMade q (c ∷ cs) (cond {A = Result (Bool × List ℕ × List ℕ) Stop} (eqb c q) (Ok (false, [], cs))
+        (cond {A = Result (Bool × List ℕ × List ℕ) Stop} (eqb c 60) (Err wrong) (cond {A = Result (Bool × List ℕ × List ℕ) Stop} (eqb c 38)
+        (reference_at cs >>= λ x. Ok (true, encode_utf8 x.0, x.1)) (Ok (true, c ∷ [], cs)))))
     at_quote (inl (e, is)) = rw e (refl, ap (λ (k : ℕ). k ∷ cs) is)
     at_quote (inr (e, nq)) = rw e (at_angle nq (eqb_tells c 60))
 
@@ -251,7 +257,8 @@ opening_made b name rest q e =
     let tail : eq.0 ≡ after ++ quoted.0.0 ∷ quoted.0.1 = split_is is_space eq.0 ∙ ap (λ (l : List ℕ). after ++ l) qs.1 in
     let middle : n.0.1 ≡ before ++ (61 ∷ after ++ quoted.0.0 ∷ quoted.0.1) = split_is is_space n.0.1 ∙ ap (λ (l : List ℕ). before ++ l) (mark ∙ ap (λ (l : List ℕ). 61 ∷ l) tail) in
     let whole : b ≡ n.0.0 ++ (before ++ (61 ∷ after ++ quoted.0.0 ∷ quoted.0.1)) = is.1 ∙ ap (λ (l : List ℕ). n.0.0 ++ l) middle in
-    let P : List ℕ → ℕ → List ℕ → Type 0 = λ x y z. (before : List ℕ) × (after : List ℕ) × IsTagName x × IsSpace before × IsSpace after × ((y ≡ 34) ⊎ (y ≡ 39)) × (b ≡ x ++ (before ++ (61 ∷ after ++ y ∷ z))) in
+    let P : List ℕ → ℕ → List ℕ → Type 0 = λ x y z. (before : List ℕ) × (after : List ℕ) × IsTagName x × IsSpace before × IsSpace after × ((y ≡ 34) ⊎ (y ≡ 39)) ×
+    (b ≡ x ++ (before ++ (61 ∷ after ++ y ∷ z))) in
     subst (λ (x : List ℕ). P x q rest) same.0 (subst (λ (y : ℕ). P n.0.0 y rest) same.1 (subst (λ (z : List ℕ). P n.0.0 quoted.0.0 z) same.2
     (before, after, is.0, prefix_all is_space n.0.1, prefix_all is_space eq.0, qs.0, whole)))
 
@@ -314,7 +321,8 @@ mark_end_made b rest empty e =
     ended_by (c ∷ cs) spaced f = tested (eqb c 62) (eqb c 47) refl refl f
       where
         tested : (s t : Bool) → eqb c 62 ≡ s → eqb c 47 ≡ t
-            → cond {A = Result (Option Bool × List ℕ) Stop} s (Ok (Some false, cs)) (cond {A = Result (Option Bool × List ℕ) Stop} t (slash_end (byte_at 62 cs)) (cond {A = Result (Option Bool × List ℕ) Stop} spaced (Ok (None, c ∷ cs)) (Err wrong))) ≡ Ok (Some empty, rest)
+            → cond {A = Result (Option Bool × List ℕ) Stop} s (Ok (Some false, cs)) (cond {A = Result (Option Bool × List ℕ) Stop} t (slash_end (byte_at 62 cs))
+            (cond {A = Result (Option Bool × List ℕ) Stop} spaced (Ok (None, c ∷ cs)) (Err wrong))) ≡ Ok (Some empty, rest)
             → c ∷ cs ≡ closing empty rest
         tested true t g h k =
             let is = eqb-true c 62 g in
@@ -350,7 +358,8 @@ mark_name_made b rest e =
     name_by (c ∷ cs) spaced f = tested (eqb c 62) (eqb c 47) spaced f
       where
         tested : (s t u : Bool)
-            → cond {A = Result (Option Bool × List ℕ) Stop} s (Ok (Some false, cs)) (cond {A = Result (Option Bool × List ℕ) Stop} t (slash_end (byte_at 62 cs)) (cond {A = Result (Option Bool × List ℕ) Stop} u (Ok (None, c ∷ cs)) (Err wrong))) ≡ Ok (None, rest)
+            → cond {A = Result (Option Bool × List ℕ) Stop} s (Ok (Some false, cs)) (cond {A = Result (Option Bool × List ℕ) Stop} t (slash_end (byte_at 62 cs))
+            (cond {A = Result (Option Bool × List ℕ) Stop} u (Ok (None, c ∷ cs)) (Err wrong))) ≡ Ok (None, rest)
             → (u ≡ true) × (c ∷ cs ≡ rest)
         tested true t u k = let some = (pairs _ refl k).0 in cc
         tested false true u k = absurd (slash (byte_at 62 cs) k)
@@ -360,7 +369,8 @@ mark_name_made b rest e =
 -- what stands behind a name and the attributes seen
 abbrev TailMade : List Attribute → List ℕ → Result (List Attribute × Bool × List ℕ) Stop → Type 0
 TailMade seen b (Ok (attributes, empty, rest)) =
-    (inner : List ℕ) × (others : List Attribute) × (space : List ℕ) × Attributes inner others × AreNew seen others × (attributes ≡ seen ++ others) × IsSpace space × (b ≡ inner ++ (space ++ closing empty rest))
+    (inner : List ℕ) × (others : List Attribute) × (space : List ℕ) × Attributes inner others × AreNew seen others × (attributes ≡ seen ++ others) × IsSpace space ×
+    (b ≡ inner ++ (space ++ closing empty rest))
 TailMade seen b (Err e) = Unit {0}
 
 tail_further : (seen : List Attribute) (a : Attribute) (b rest more : List ℕ) (r : Result (List Attribute × Bool × List ℕ) Stop)

@@ -104,7 +104,8 @@ name_more (x ∷ xs) more n c cs e = tested (is_tag_start x) refl e
     tested true s f =
         let same = pairs _ refl f in
         let w = class_more is_tag_byte (x ∷ xs) more c cs same.1 in
-        ap (λ (t : Bool). cond {A = Result (List ℕ × List ℕ) Stop} t (named_rest (prefix is_tag_byte ((x ∷ xs) ++ more)) (remaining is_tag_byte ((x ∷ xs) ++ more))) (Err wrong)) s ∙ two (w.0 ∙ same.0) w.1
+        ap (λ (t : Bool). cond {A = Result (List ℕ × List ℕ) Stop} t (named_rest (prefix is_tag_byte ((x ∷ xs) ++ more)) (remaining is_tag_byte ((x ∷ xs) ++ more))) (Err wrong)) s ∙ two
+        (w.0 ∙ same.0) w.1
 
 byte_wrong : (k : ℕ) (b more : List ℕ) → byte_at k b ≡ Err wrong → byte_at k (b ++ more) ≡ Err wrong
 byte_wrong k [] more e = cc
@@ -174,8 +175,10 @@ word_wrong word b more e = tested (starts_with nat_eq b word) (starts_with nat_e
         by_test false h = h
         by_test true h = absurd (not_in_front word b (more ++ drop (length (b ++ more)) word) (starts_made word (b ++ more) h ∙ append_assoc b more (drop (length (b ++ more)) word)) g)
 
-    tested : (s t : Bool) → starts_with nat_eq b word ≡ s → starts_with nat_eq word b ≡ t → cond {A = Result (List ℕ) Stop} s (Ok (drop (length word) b)) (cond {A = Result (List ℕ) Stop} t (Err short) (Err wrong)) ≡ Err wrong
-        → cond {A = Result (List ℕ) Stop} (starts_with nat_eq (b ++ more) word) (Ok (drop (length word) (b ++ more))) (cond {A = Result (List ℕ) Stop} (starts_with nat_eq word (b ++ more)) (Err short) (Err wrong)) ≡ Err wrong
+    tested : (s t : Bool) → starts_with nat_eq b word ≡ s → starts_with nat_eq word b ≡ t → cond {A = Result (List ℕ) Stop} s (Ok (drop (length word) b))
+        (cond {A = Result (List ℕ) Stop} t (Err short) (Err wrong)) ≡ Err wrong
+        → cond {A = Result (List ℕ) Stop} (starts_with nat_eq (b ++ more) word) (Ok (drop (length word) (b ++ more)))
+        (cond {A = Result (List ℕ) Stop} (starts_with nat_eq word (b ++ more)) (Err short) (Err wrong)) ≡ Err wrong
     tested true t f g h = cc
     tested false true f g h = cc
     tested false false f g h =
@@ -196,7 +199,8 @@ unfolding number_end
 end_wrong [] more c cs e = refl
 end_wrong (d ∷ ds) more c cs e = tested (eqb c 59 && is_scalar (decimal_from 0 (d ∷ ds))) e
   where
-    tested : (t : Bool) → cond {A = Result (ℕ × List ℕ) Stop} t (Ok (decimal_from 0 (d ∷ ds), cs)) (Err wrong) ≡ Err wrong → cond {A = Result (ℕ × List ℕ) Stop} t (Ok (decimal_from 0 (d ∷ ds), cs ++ more)) (Err wrong) ≡ Err wrong
+    tested : (t : Bool) → cond {A = Result (ℕ × List ℕ) Stop} t (Ok (decimal_from 0 (d ∷ ds), cs)) (Err wrong) ≡ Err wrong → cond {A = Result (ℕ × List ℕ) Stop} t
+        (Ok (decimal_from 0 (d ∷ ds), cs ++ more)) (Err wrong) ≡ Err wrong
     tested true f = cc
     tested false f = refl
 
@@ -259,8 +263,10 @@ piece_wrong q (c ∷ cs) more e = tested (eqb c q) (eqb c 60) (eqb c 38) e
         rw h refl
 
     tested : (s t u : Bool)
-        → cond {A = Result (Bool × List ℕ × List ℕ) Stop} s (Ok (false, [], cs)) (cond {A = Result (Bool × List ℕ × List ℕ) Stop} t (Err wrong) (cond {A = Result (Bool × List ℕ × List ℕ) Stop} u (reference_at cs >>= going) (Ok (true, c ∷ [], cs)))) ≡ Err wrong
-        → cond {A = Result (Bool × List ℕ × List ℕ) Stop} s (Ok (false, [], cs ++ more)) (cond {A = Result (Bool × List ℕ × List ℕ) Stop} t (Err wrong) (cond {A = Result (Bool × List ℕ × List ℕ) Stop} u (reference_at (cs ++ more) >>= going) (Ok (true, c ∷ [], cs ++ more)))) ≡ Err wrong
+        → cond {A = Result (Bool × List ℕ × List ℕ) Stop} s (Ok (false, [], cs)) (cond {A = Result (Bool × List ℕ × List ℕ) Stop} t (Err wrong)
+        (cond {A = Result (Bool × List ℕ × List ℕ) Stop} u (reference_at cs >>= going) (Ok (true, c ∷ [], cs)))) ≡ Err wrong
+        → cond {A = Result (Bool × List ℕ × List ℕ) Stop} s (Ok (false, [], cs ++ more)) (cond {A = Result (Bool × List ℕ × List ℕ) Stop} t (Err wrong)
+        (cond {A = Result (Bool × List ℕ × List ℕ) Stop} u (reference_at (cs ++ more) >>= going) (Ok (true, c ∷ [], cs ++ more)))) ≡ Err wrong
     tested true t u f = cc
     tested false true u f = refl
     tested false false true f = replaced (reference_at cs) refl f
@@ -279,8 +285,10 @@ piece_more q (c ∷ cs) more piece rest e = tested (eqb c q) (eqb c 60) (eqb c 3
         rw (h, same.1, same.2) refl
 
     tested : (s t u : Bool)
-        → cond {A = Result (Bool × List ℕ × List ℕ) Stop} s (Ok (false, [], cs)) (cond {A = Result (Bool × List ℕ × List ℕ) Stop} t (Err wrong) (cond {A = Result (Bool × List ℕ × List ℕ) Stop} u (reference_at cs >>= going) (Ok (true, c ∷ [], cs)))) ≡ Ok (true, piece, rest)
-        → cond {A = Result (Bool × List ℕ × List ℕ) Stop} s (Ok (false, [], cs ++ more)) (cond {A = Result (Bool × List ℕ × List ℕ) Stop} t (Err wrong) (cond {A = Result (Bool × List ℕ × List ℕ) Stop} u (reference_at (cs ++ more) >>= going) (Ok (true, c ∷ [], cs ++ more)))) ≡ Ok (true, piece, rest ++ more)
+        → cond {A = Result (Bool × List ℕ × List ℕ) Stop} s (Ok (false, [], cs)) (cond {A = Result (Bool × List ℕ × List ℕ) Stop} t (Err wrong)
+        (cond {A = Result (Bool × List ℕ × List ℕ) Stop} u (reference_at cs >>= going) (Ok (true, c ∷ [], cs)))) ≡ Ok (true, piece, rest)
+        → cond {A = Result (Bool × List ℕ × List ℕ) Stop} s (Ok (false, [], cs ++ more)) (cond {A = Result (Bool × List ℕ × List ℕ) Stop} t (Err wrong)
+        (cond {A = Result (Bool × List ℕ × List ℕ) Stop} u (reference_at (cs ++ more) >>= going) (Ok (true, c ∷ [], cs ++ more)))) ≡ Ok (true, piece, rest ++ more)
     tested true t u f = let none = (triples _ refl f).0 in cc
     tested false true u f = cc
     tested false false true f = replaced (reference_at cs) refl f
@@ -352,7 +360,8 @@ opening_wrong b more e = by_name (wrong_part (name_at b) _ e)
     by_quote n eq (inl f) = let g = space_wrong quote_at eq more quote_some quote_wrong f in rw g refl
     by_quote n eq (inr w) = let h = w.2 in cc
 
-    by_byte : (n : List ℕ × List ℕ) → name_at b ≡ Ok n → ((byte_at 61 (remaining is_space n.1) ≡ Err wrong) ⊎ ((eq : List ℕ) × (byte_at 61 (remaining is_space n.1) ≡ Ok eq) × ((quote_at (remaining is_space eq) >>= quoted n.0) ≡ Err wrong)))
+    by_byte : (n : List ℕ × List ℕ) → name_at b ≡ Ok n → ((byte_at 61 (remaining is_space n.1) ≡ Err wrong) ⊎
+        ((eq : List ℕ) × (byte_at 61 (remaining is_space n.1) ≡ Ok eq) × ((quote_at (remaining is_space eq) >>= quoted n.0) ≡ Err wrong)))
         → opening_at (b ++ more) ≡ Err wrong
     by_byte n is (inl f) =
         let name = name_then_more b more n.0 n.1 is (left_some is_space n.1 (byte_some 61 (remaining is_space n.1) f)) in
@@ -363,7 +372,8 @@ opening_wrong b more e = by_name (wrong_part (name_at b) _ e)
         let byte = space_byte 61 n.1 more w.0 w.1 in
         rw (name, byte) (by_quote n w.0 (wrong_part (quote_at (remaining is_space w.0)) _ w.2))
 
-    by_name : ((name_at b ≡ Err wrong) ⊎ ((n : List ℕ × List ℕ) × (name_at b ≡ Ok n) × ((byte_at 61 (remaining is_space n.1) >>= λ eq. (quote_at (remaining is_space eq) >>= quoted n.0)) ≡ Err wrong))) → opening_at (b ++ more) ≡ Err wrong
+    by_name : ((name_at b ≡ Err wrong) ⊎ ((n : List ℕ × List ℕ) × (name_at b ≡ Ok n) × ((byte_at 61 (remaining is_space n.1) >>= λ eq. (quote_at (remaining is_space eq) >>= quoted n.0)) ≡ Err
+        wrong))) → opening_at (b ++ more) ≡ Err wrong
     by_name (inl f) = let g = name_wrong b more f in rw g refl
     by_name (inr w) = by_byte w.0 w.1 (wrong_part (byte_at 61 (remaining is_space w.0.1)) _ w.2)
 
@@ -408,8 +418,10 @@ behind_wrong spaced (c ∷ cs) more e = tested (eqb c 62) (eqb c 47) spaced e
         rw h refl
 
     tested : (s t u : Bool)
-        → cond {A = Result (Option Bool × List ℕ) Stop} s (Ok (Some false, cs)) (cond {A = Result (Option Bool × List ℕ) Stop} t (byte_at 62 cs >>= slashed) (cond {A = Result (Option Bool × List ℕ) Stop} u (Ok (None, c ∷ cs)) (Err wrong))) ≡ Err wrong
-        → cond {A = Result (Option Bool × List ℕ) Stop} s (Ok (Some false, cs ++ more)) (cond {A = Result (Option Bool × List ℕ) Stop} t (byte_at 62 (cs ++ more) >>= slashed) (cond {A = Result (Option Bool × List ℕ) Stop} u (Ok (None, c ∷ cs ++ more)) (Err wrong))) ≡ Err wrong
+        → cond {A = Result (Option Bool × List ℕ) Stop} s (Ok (Some false, cs)) (cond {A = Result (Option Bool × List ℕ) Stop} t (byte_at 62 cs >>= slashed)
+        (cond {A = Result (Option Bool × List ℕ) Stop} u (Ok (None, c ∷ cs)) (Err wrong))) ≡ Err wrong
+        → cond {A = Result (Option Bool × List ℕ) Stop} s (Ok (Some false, cs ++ more)) (cond {A = Result (Option Bool × List ℕ) Stop} t (byte_at 62 (cs ++ more) >>= slashed)
+        (cond {A = Result (Option Bool × List ℕ) Stop} u (Ok (None, c ∷ cs ++ more)) (Err wrong))) ≡ Err wrong
     tested true t u f = cc
     tested false true u f = slash (byte_at 62 cs) refl f
     tested false false true f = cc
@@ -424,8 +436,10 @@ behind_more spaced (c ∷ cs) more rest e = tested (eqb c 62) (eqb c 47) spaced 
     slash (Err s) g = cc
 
     tested : (s t u : Bool)
-        → cond {A = Result (Option Bool × List ℕ) Stop} s (Ok (Some false, cs)) (cond {A = Result (Option Bool × List ℕ) Stop} t (byte_at 62 cs >>= slashed) (cond {A = Result (Option Bool × List ℕ) Stop} u (Ok (None, c ∷ cs)) (Err wrong))) ≡ Ok (None, rest)
-        → cond {A = Result (Option Bool × List ℕ) Stop} s (Ok (Some false, cs ++ more)) (cond {A = Result (Option Bool × List ℕ) Stop} t (byte_at 62 (cs ++ more) >>= slashed) (cond {A = Result (Option Bool × List ℕ) Stop} u (Ok (None, c ∷ cs ++ more)) (Err wrong))) ≡ Ok (None, rest ++ more)
+        → cond {A = Result (Option Bool × List ℕ) Stop} s (Ok (Some false, cs)) (cond {A = Result (Option Bool × List ℕ) Stop} t (byte_at 62 cs >>= slashed)
+        (cond {A = Result (Option Bool × List ℕ) Stop} u (Ok (None, c ∷ cs)) (Err wrong))) ≡ Ok (None, rest)
+        → cond {A = Result (Option Bool × List ℕ) Stop} s (Ok (Some false, cs ++ more)) (cond {A = Result (Option Bool × List ℕ) Stop} t (byte_at 62 (cs ++ more) >>= slashed)
+        (cond {A = Result (Option Bool × List ℕ) Stop} u (Ok (None, c ∷ cs ++ more)) (Err wrong))) ≡ Ok (None, rest ++ more)
     tested true t u f = let none = (pairs _ refl f).0 in cc
     tested false true u f = absurd (slash (byte_at 62 cs) f)
     tested false false true f = let same = (pairs _ refl f).1 in ap (λ (l : List ℕ). at_name (l ++ more)) same
@@ -504,7 +518,8 @@ finish_wrong : (b more : List ℕ) → finish_at b ≡ Err wrong → finish_at (
 unfolding finish_at
 finish_wrong b more e = by_name (wrong_part (name_at b) _ e)
   where
-    by_byte : (n : List ℕ × List ℕ) → name_at b ≡ Ok n → ((byte_at 62 (remaining is_space n.1) ≡ Err wrong) ⊎ ((r : List ℕ) × (byte_at 62 (remaining is_space n.1) ≡ Ok r) × (finishing n.0 r ≡ Err wrong))) → finish_at (b ++ more) ≡ Err wrong
+    by_byte : (n : List ℕ × List ℕ) → name_at b ≡ Ok n → ((byte_at 62 (remaining is_space n.1) ≡ Err wrong) ⊎
+        ((r : List ℕ) × (byte_at 62 (remaining is_space n.1) ≡ Ok r) × (finishing n.0 r ≡ Err wrong))) → finish_at (b ++ more) ≡ Err wrong
     by_byte n is (inl f) =
         let name = name_then_more b more n.0 n.1 is (left_some is_space n.1 (byte_some 62 (remaining is_space n.1) f)) in
         let byte = space_wrong (byte_at 62) n.1 more (byte_some 62) (byte_wrong 62) f in

@@ -15,7 +15,8 @@ fn named_or<'a>(
     c: char,
     bytes: &'a [u8],
 ) -> Result<(char, &'a [u8]), Halt>
-    ensures read { (r : Result (ℕ × List ℕ) Stop) → Gives (λ x. (x.0, x.1.now)) found.entry r → Gives (λ x. (x.0, x.1.now)) result (or_else r (entity_at word.now c bytes.now)) }
+    ensures read { (r : Result (ℕ × List ℕ) Stop) → Gives (λ x. (x.0, x.1.now)) found.entry r →
+        Gives (λ x. (x.0, x.1.now)) result (or_else r (entity_at word.now c bytes.now)) }
     ensures shorter { IfOk found.entry (λ x. length x.1.now ≤ length bytes.now) → IfOk result (λ x. length x.1.now ≤ length bytes.now) }
 {
     match found {

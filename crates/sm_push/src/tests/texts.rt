@@ -5,8 +5,41 @@ use sm_smil::read_ladder;
 use std::test::Fail;
 
 // The live manifest of three tracks as an encoder writes it.
-pub const ENCODED: &[u8] =
-    b"<?xml version=\"1.0\" encoding=\"utf-8\"?>\n<smil xmlns=\"http://www.w3.org/2001/SMIL20/Language\">\n  <head>\n    <meta name=\"creator\" content=\"encoder\" />\n  </head>\n  <body>\n    <switch>\n      <video src=\"Streams\" systemBitrate=\"350000\">\n        <param name=\"trackID\" value=\"1\" valuetype=\"data\" />\n        <param name=\"FourCC\" value=\"H264\" valuetype=\"data\" />\n        <param name=\"CodecPrivateData\" value=\"000000016742\" valuetype=\"data\" />\n        <param name=\"MaxWidth\" value=\"640\" valuetype=\"data\" />\n        <param name=\"MaxHeight\" value=\"360\" valuetype=\"data\" />\n      </video>\n      <video src=\"Streams\" systemBitrate=\"700000\">\n        <param name=\"trackID\" value=\"2\" valuetype=\"data\" />\n        <param name=\"FourCC\" value=\"H264\" valuetype=\"data\" />\n        <param name=\"CodecPrivateData\" value=\"000000016742\" valuetype=\"data\" />\n        <param name=\"MaxWidth\" value=\"1280\" valuetype=\"data\" />\n        <param name=\"MaxHeight\" value=\"720\" valuetype=\"data\" />\n      </video>\n      <audio src=\"Streams\" systemBitrate=\"64000\">\n        <param name=\"trackID\" value=\"3\" valuetype=\"data\" />\n        <param name=\"FourCC\" value=\"AACL\" valuetype=\"data\" />\n        <param name=\"CodecPrivateData\" value=\"1210\" valuetype=\"data\" />\n        <param name=\"AudioTag\" value=\"255\" valuetype=\"data\" />\n        <param name=\"Channels\" value=\"2\" valuetype=\"data\" />\n        <param name=\"SamplingRate\" value=\"44100\" valuetype=\"data\" />\n        <param name=\"BitsPerSample\" value=\"16\" valuetype=\"data\" />\n        <param name=\"PacketSize\" value=\"4\" valuetype=\"data\" />\n      </audio>\n    </switch>\n  </body>\n</smil>\n";
+pub const ENCODED: &[u8] = br#"<?xml version="1.0" encoding="utf-8"?>
+<smil xmlns="http://www.w3.org/2001/SMIL20/Language">
+  <head>
+    <meta name="creator" content="encoder" />
+  </head>
+  <body>
+    <switch>
+      <video src="Streams" systemBitrate="350000">
+        <param name="trackID" value="1" valuetype="data" />
+        <param name="FourCC" value="H264" valuetype="data" />
+        <param name="CodecPrivateData" value="000000016742" valuetype="data" />
+        <param name="MaxWidth" value="640" valuetype="data" />
+        <param name="MaxHeight" value="360" valuetype="data" />
+      </video>
+      <video src="Streams" systemBitrate="700000">
+        <param name="trackID" value="2" valuetype="data" />
+        <param name="FourCC" value="H264" valuetype="data" />
+        <param name="CodecPrivateData" value="000000016742" valuetype="data" />
+        <param name="MaxWidth" value="1280" valuetype="data" />
+        <param name="MaxHeight" value="720" valuetype="data" />
+      </video>
+      <audio src="Streams" systemBitrate="64000">
+        <param name="trackID" value="3" valuetype="data" />
+        <param name="FourCC" value="AACL" valuetype="data" />
+        <param name="CodecPrivateData" value="1210" valuetype="data" />
+        <param name="AudioTag" value="255" valuetype="data" />
+        <param name="Channels" value="2" valuetype="data" />
+        <param name="SamplingRate" value="44100" valuetype="data" />
+        <param name="BitsPerSample" value="16" valuetype="data" />
+        <param name="PacketSize" value="4" valuetype="data" />
+      </audio>
+    </switch>
+  </body>
+</smil>
+"#;
 
 pub const FTYP: &[u8] = b"\0\0\0\x14ftypisml\0\0\0\x01isml";
 
@@ -61,7 +94,9 @@ pub const MDAT: &[u8] = b"\0\0\0\x09mdatA";
 
 // A moof of 128 bytes with these, and the mdat with its byte.
 pub const FRAGMENT: &[u8] =
-    b"\0\0\0\x80moof\0\0\0\x10mfhd\0\0\0\0\0\0\0\x01\0\0\0\x68traf\0\0\0\x10tfhd\0\0\0\0\0\0\0\x01\0\0\0\x24trun\0\0\x0f\x01\0\0\0\x01\0\0\0\x88\0\0\0\x02\0\0\0\x01\0\0\0\0\0\0\0\0\0\0\0\x2cuuid\x6d\x1d\x9b\x05\x42\xd5\x44\xe6\x80\xe2\x14\x1d\xaf\xf7\x57\xb2\x01\0\0\0\0\0\0\0\0\0\0\0\0\0\0\0\0\0\0\x02\0\0\0\x09mdatA";
+    b"\0\0\0\x80moof\0\0\0\x10mfhd\0\0\0\0\0\0\0\x01\0\0\0\x68traf\0\0\0\x10tfhd\0\0\0\0\0\0\0\x01\0\0\0\x24trun\0\0\x0f\
+        \x01\0\0\0\x01\0\0\0\x88\0\0\0\x02\0\0\0\x01\0\0\0\0\0\0\0\0\0\0\0\x2cuuid\x6d\x1d\x9b\x05\x42\xd5\x44\xe6\x80\xe2\
+        \x14\x1d\xaf\xf7\x57\xb2\x01\0\0\0\0\0\0\0\0\0\0\0\0\0\0\0\0\0\0\x02\0\0\0\x09mdatA";
 
 pub const FREE: &[u8] = b"\0\0\0\x08free";
 

@@ -3,17 +3,52 @@ use std::alloc::Global;
 use std::test::Fail;
 
 // The live manifest of three tracks as an encoder writes it: up to the width of the first, behind it, and its end.
-const ENCODED: &[u8] =
-    b"<?xml version=\"1.0\" encoding=\"utf-8\"?>\n<smil xmlns=\"http://www.w3.org/2001/SMIL20/Language\">\n  <head>\n    <meta name=\"creator\" content=\"encoder\" />\n  </head>\n  <body>\n    <switch>\n      <video src=\"Streams\" systemBitrate=\"350000\">\n        <param name=\"trackID\" value=\"1\" valuetype=\"data\" />\n        <param name=\"FourCC\" value=\"H264\" valuetype=\"data\" />\n        <param name=\"CodecPrivateData\" value=\"000000016742\" valuetype=\"data\" />\n        <param name=\"MaxWidth\" value=\"";
+const ENCODED: &[u8] = br#"<?xml version="1.0" encoding="utf-8"?>
+<smil xmlns="http://www.w3.org/2001/SMIL20/Language">
+  <head>
+    <meta name="creator" content="encoder" />
+  </head>
+  <body>
+    <switch>
+      <video src="Streams" systemBitrate="350000">
+        <param name="trackID" value="1" valuetype="data" />
+        <param name="FourCC" value="H264" valuetype="data" />
+        <param name="CodecPrivateData" value="000000016742" valuetype="data" />
+        <param name="MaxWidth" value=""#;
 
-const ENCODED_MORE: &[u8] =
-    b"\" valuetype=\"data\" />\n        <param name=\"MaxHeight\" value=\"360\" valuetype=\"data\" />\n      </video>\n      <video src=\"Streams\" systemBitrate=\"700000\">\n        <param name=\"trackID\" value=\"2\" valuetype=\"data\" />\n        <param name=\"FourCC\" value=\"H264\" valuetype=\"data\" />\n        <param name=\"CodecPrivateData\" value=\"000000016742\" valuetype=\"data\" />\n        <param name=\"MaxWidth\" value=\"1280\" valuetype=\"data\" />\n        <param name=\"MaxHeight\" value=\"720\" valuetype=\"data\" />\n      </video>\n      <audio src=\"Streams\" systemBitrate=\"64000\">\n        <param name=\"trackID\" value=\"3\" valuetype=\"data\" />\n        <param name=\"FourCC\" value=\"AACL\" valuetype=\"data\" />\n        <param name=\"CodecPrivateData\" value=\"1210\" valuetype=\"data\" />\n        <param name=\"AudioTag\" value=\"255\" valuetype=\"data\" />\n        <param name=\"Channels\" value=\"2\" valuetype=\"data\" />\n        <param name=\"SamplingRate\" value=\"44100\" valuetype=\"data\" />\n        <param name=\"BitsPerSample\" value=\"16\" valuetype=\"data\" />\n        <param name=\"PacketSize\" value=\"4\" valuetype=\"data\" />\n      </audio>\n";
+const ENCODED_MORE: &[u8] = br#"" valuetype="data" />
+        <param name="MaxHeight" value="360" valuetype="data" />
+      </video>
+      <video src="Streams" systemBitrate="700000">
+        <param name="trackID" value="2" valuetype="data" />
+        <param name="FourCC" value="H264" valuetype="data" />
+        <param name="CodecPrivateData" value="000000016742" valuetype="data" />
+        <param name="MaxWidth" value="1280" valuetype="data" />
+        <param name="MaxHeight" value="720" valuetype="data" />
+      </video>
+      <audio src="Streams" systemBitrate="64000">
+        <param name="trackID" value="3" valuetype="data" />
+        <param name="FourCC" value="AACL" valuetype="data" />
+        <param name="CodecPrivateData" value="1210" valuetype="data" />
+        <param name="AudioTag" value="255" valuetype="data" />
+        <param name="Channels" value="2" valuetype="data" />
+        <param name="SamplingRate" value="44100" valuetype="data" />
+        <param name="BitsPerSample" value="16" valuetype="data" />
+        <param name="PacketSize" value="4" valuetype="data" />
+      </audio>
+"#;
 
 const ENCODED_END: &[u8] = b"    </switch>\n  </body>\n</smil>\n";
 
 // A third quality of video, as an encoder writes it.
-const ENCODED_HIGH: &[u8] =
-    b"      <video src=\"Streams\" systemBitrate=\"1400000\">\n        <param name=\"trackID\" value=\"4\" valuetype=\"data\" />\n        <param name=\"FourCC\" value=\"H264\" valuetype=\"data\" />\n        <param name=\"CodecPrivateData\" value=\"000000016742\" valuetype=\"data\" />\n        <param name=\"MaxWidth\" value=\"1920\" valuetype=\"data\" />\n        <param name=\"MaxHeight\" value=\"1080\" valuetype=\"data\" />\n      </video>\n";
+const ENCODED_HIGH: &[u8] = br#"      <video src="Streams" systemBitrate="1400000">
+        <param name="trackID" value="4" valuetype="data" />
+        <param name="FourCC" value="H264" valuetype="data" />
+        <param name="CodecPrivateData" value="000000016742" valuetype="data" />
+        <param name="MaxWidth" value="1920" valuetype="data" />
+        <param name="MaxHeight" value="1080" valuetype="data" />
+      </video>
+"#;
 
 const FTYP: &[u8] = b"\0\0\0\x14ftypisml\0\0\0\x01isml";
 
@@ -34,16 +69,34 @@ const SENC: &[u8] = b"\0\0\0\x10senc\0\0\0\0\0\0\0\0";
 pub const MFRA: &[u8] = b"\0\0\0\x08mfra";
 
 // The manifest once one fragment of each track is kept.
-pub const M1: &[u8] =
-    b"<?xml version=\"1.0\" encoding=\"utf-8\"?>\n<SmoothStreamingMedia MajorVersion=\"2\" MinorVersion=\"2\" TimeScale=\"10000000\" Duration=\"0\" IsLive=\"TRUE\" LookAheadFragmentCount=\"2\" DVRWindowLength=\"0\">\n<StreamIndex Type=\"video\" Name=\"video\" TimeScale=\"10000000\" Chunks=\"1\" QualityLevels=\"2\" Url=\"QualityLevels({bitrate})/Fragments(video={start time})\">\n<QualityLevel Index=\"0\" Bitrate=\"350000\" FourCC=\"H264\" CodecPrivateData=\"000000016742\" MaxWidth=\"640\" MaxHeight=\"360\"/>\n<QualityLevel Index=\"1\" Bitrate=\"700000\" FourCC=\"H264\" CodecPrivateData=\"000000016742\" MaxWidth=\"1280\" MaxHeight=\"720\"/>\n<c t=\"0\" d=\"20000000\"/>\n</StreamIndex>\n<StreamIndex Type=\"audio\" Name=\"audio\" TimeScale=\"10000000\" Chunks=\"1\" QualityLevels=\"1\" Url=\"QualityLevels({bitrate})/Fragments(audio={start time})\">\n<QualityLevel Index=\"0\" Bitrate=\"64000\" FourCC=\"AACL\" CodecPrivateData=\"1210\" AudioTag=\"255\" Channels=\"2\" SamplingRate=\"44100\" BitsPerSample=\"16\" PacketSize=\"4\"/>\n<c t=\"0\" d=\"20000000\"/>\n</StreamIndex>\n</SmoothStreamingMedia>\n";
+pub const M1: &[u8] = br#"<?xml version="1.0" encoding="utf-8"?>
+<SmoothStreamingMedia MajorVersion="2" MinorVersion="2" TimeScale="10000000" Duration="0" IsLive="TRUE" LookAheadFragmentCount="2" DVRWindowLength="0">
+<StreamIndex Type="video" Name="video" TimeScale="10000000" Chunks="1" QualityLevels="2" Url="QualityLevels({bitrate})/Fragments(video={start time})">
+<QualityLevel Index="0" Bitrate="350000" FourCC="H264" CodecPrivateData="000000016742" MaxWidth="640" MaxHeight="360"/>
+<QualityLevel Index="1" Bitrate="700000" FourCC="H264" CodecPrivateData="000000016742" MaxWidth="1280" MaxHeight="720"/>
+<c t="0" d="20000000"/>
+</StreamIndex>
+<StreamIndex Type="audio" Name="audio" TimeScale="10000000" Chunks="1" QualityLevels="1" Url="QualityLevels({bitrate})/Fragments(audio={start time})">
+<QualityLevel Index="0" Bitrate="64000" FourCC="AACL" CodecPrivateData="1210" AudioTag="255" Channels="2" SamplingRate="44100" BitsPerSample="16" PacketSize="4"/>
+<c t="0" d="20000000"/>
+</StreamIndex>
+</SmoothStreamingMedia>
+"#;
 
 // A manifest in parts: up to the number of times of the video, up to the times, up to the number of times of the audio, up to these,
 // and its end.
 const LISTED: [&[u8]; 5] = [
-    b"<?xml version=\"1.0\" encoding=\"utf-8\"?>\n<SmoothStreamingMedia MajorVersion=\"2\" MinorVersion=\"2\" TimeScale=\"10000000\" Duration=\"0\" IsLive=\"TRUE\" LookAheadFragmentCount=\"2\" DVRWindowLength=\"0\">\n<StreamIndex Type=\"video\" Name=\"video\" TimeScale=\"10000000\" Chunks=\"",
-    b"\" QualityLevels=\"2\" Url=\"QualityLevels({bitrate})/Fragments(video={start time})\">\n<QualityLevel Index=\"0\" Bitrate=\"350000\" FourCC=\"H264\" CodecPrivateData=\"000000016742\" MaxWidth=\"640\" MaxHeight=\"360\"/>\n<QualityLevel Index=\"1\" Bitrate=\"700000\" FourCC=\"H264\" CodecPrivateData=\"000000016742\" MaxWidth=\"1280\" MaxHeight=\"720\"/>\n",
+    br#"<?xml version="1.0" encoding="utf-8"?>
+<SmoothStreamingMedia MajorVersion="2" MinorVersion="2" TimeScale="10000000" Duration="0" IsLive="TRUE" LookAheadFragmentCount="2" DVRWindowLength="0">
+<StreamIndex Type="video" Name="video" TimeScale="10000000" Chunks=""#,
+    br#"" QualityLevels="2" Url="QualityLevels({bitrate})/Fragments(video={start time})">
+<QualityLevel Index="0" Bitrate="350000" FourCC="H264" CodecPrivateData="000000016742" MaxWidth="640" MaxHeight="360"/>
+<QualityLevel Index="1" Bitrate="700000" FourCC="H264" CodecPrivateData="000000016742" MaxWidth="1280" MaxHeight="720"/>
+"#,
     b"</StreamIndex>\n<StreamIndex Type=\"audio\" Name=\"audio\" TimeScale=\"10000000\" Chunks=\"",
-    b"\" QualityLevels=\"1\" Url=\"QualityLevels({bitrate})/Fragments(audio={start time})\">\n<QualityLevel Index=\"0\" Bitrate=\"64000\" FourCC=\"AACL\" CodecPrivateData=\"1210\" AudioTag=\"255\" Channels=\"2\" SamplingRate=\"44100\" BitsPerSample=\"16\" PacketSize=\"4\"/>\n",
+    br#"" QualityLevels="1" Url="QualityLevels({bitrate})/Fragments(audio={start time})">
+<QualityLevel Index="0" Bitrate="64000" FourCC="AACL" CodecPrivateData="1210" AudioTag="255" Channels="2" SamplingRate="44100" BitsPerSample="16" PacketSize="4"/>
+"#,
     b"</StreamIndex>\n</SmoothStreamingMedia>\n",
 ];
 

@@ -6,7 +6,8 @@ use Rattle.sm_model.proofs.channel.are_tracks.Goals as goal
 
 pub loop-track-preserved : goal.loop-track-preserved
 loop-track-preserved c = λ k d lt.
-    let there : c.track-item.result ≡ slice_index_or c.args.tracks.now c.loop-track.track-index d = get_or_read_under c.args.tracks.now c.loop-track.track-index (length c.args.tracks.now) c.track-item.result d c.track-item.is (omega (arith, c.loop-track-test.true)) refl in
+    let there : c.track-item.result ≡ slice_index_or c.args.tracks.now c.loop-track.track-index d = get_or_read_under c.args.tracks.now c.loop-track.track-index (length c.args.tracks.now)
+    c.track-item.result d c.track-item.is (omega (arith, c.loop-track-test.true)) refl in
     let now : IsTrack c.track-item.result = search rules in
     elim (cases_lt k c.loop-track.track-index) [
       | inl before ↦ c.loop-track.invariant k d before

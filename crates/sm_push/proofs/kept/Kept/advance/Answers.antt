@@ -11,10 +11,12 @@ pub returns-in_err-item-clause-advances : goal.returns-in_err-item-clause-advanc
 returns-in_err-item-clause-advances c =
     let p = err_from_is_err_and c.from_residual-in_err-item.result c.from_residual-in_err-item.ensures.1 in
     let held : c.extend.new.self ≡ c.args.self.now.held ++ take c.wanted-count.result c.args.piece.now = grind (arith, c.in_ok-extend.ensures) in
-    rw (p.1, p.2) (fault_advances c.args.self.now (record { state = c.args.self.now.state; held = c.extend.new.self; skip = c.args.self.now.skip }) c.settle.new.self c.wanted-count.result c.args.piece.now c.in_err-item.field-0.0 refl refl held c.in_err-item.ensures.settles)
+    rw (p.1, p.2) (fault_advances c.args.self.now (record { state = c.args.self.now.state; held = c.extend.new.self; skip = c.args.self.now.skip }) c.settle.new.self c.wanted-count.result
+    c.args.piece.now c.in_err-item.field-0.0 refl refl held c.in_err-item.ensures.settles)
 
 pub returns-clause-advances : goal.returns-clause-advances
 returns-clause-advances c more =
     let held : c.extend.new.self ≡ c.args.self.now.held ++ take c.wanted-count.result c.args.piece.now = grind (arith, c.in_ok-extend.ensures) in
-    ap (λ (xs : List ℕ). walk c.args.self.now.state c.args.self.now.skip xs) (held_more c.args.self.now.held c.wanted-count.result c.args.piece.now more ∙ ap (λ (xs : List ℕ). xs ++ (drop c.wanted-count.result c.args.piece.now ++ more)) (sym held))
+    ap (λ (xs : List ℕ). walk c.args.self.now.state c.args.self.now.skip xs) (held_more c.args.self.now.held c.wanted-count.result c.args.piece.now more ∙ ap
+    (λ (xs : List ℕ). xs ++ (drop c.wanted-count.result c.args.piece.now ++ more)) (sym held))
     ∙ c.in_ok-item.ensures.settles (drop c.wanted-count.result c.args.piece.now ++ more)

@@ -32,7 +32,8 @@ returns-in-Refuse-clause-settles c =
 pub returns-in-Pass-clause-settles : goal.returns-in-Pass-clause-settles
 returns-in-Pass-clause-settles c more =
     let e : decision c.args.self.now.state c.args.self.now.held ≡ Pass c.in-Pass.size = cc in
-    rw c.pass.ensures (passed_settles c.args.self.now.state c.args.self.now.held c.clear.new.self more c.args.self.now.skip _ c.in-Pass.size c.requires.here e c.requires.fits c.clear.ensures (omega arith))
+    rw c.pass.ensures (passed_settles c.args.self.now.state c.args.self.now.held c.clear.new.self more c.args.self.now.skip _ c.in-Pass.size c.requires.here e c.requires.fits c.clear.ensures
+    (omega arith))
 
 pub returns-in-Pass-clause-partial : goal.returns-in-Pass-clause-partial
 returns-in-Pass-clause-partial c =
@@ -43,7 +44,8 @@ pub returns-else-len-size-clause-settles : goal.returns-else-len-size-clause-set
 returns-else-len-size-clause-settles c =
     let e : decision c.args.self.now.state c.args.self.now.held ≡ Take c.in-Take.sort c.in-Take.size = cc in
     let step : Takes c.take.new.state c.take.result (taken c.args.self.now.state c.in-Take.sort c.args.self.now.held) = rw c.take-whole.ensures.taken at c.take.ensures.takes in
-    box_settles c.args.self.now (record { state = c.take.new.state; held = c.take-whole.new.self; skip = c.args.self.now.skip }) c.in-Take.sort c.in-Take.size c.take.result c.requires.here e c.requires.fits (omega arith) step c.take.ensures.header c.take-whole.ensures.left refl
+    box_settles c.args.self.now (record { state = c.take.new.state; held = c.take-whole.new.self; skip = c.args.self.now.skip }) c.in-Take.sort c.in-Take.size c.take.result c.requires.here e
+    c.requires.fits (omega arith) step c.take.ensures.header c.take-whole.ensures.left refl
 
 pub returns-else-len-size-clause-partial : goal.returns-else-len-size-clause-partial
 returns-else-len-size-clause-partial c = box_partial c.take.new.state c.take-whole.new.self c.args.self.now.skip c.take.result c.take-whole.ensures.left c.take.ensures.boxes

@@ -16,7 +16,8 @@ returns-clause-fits c = elim c.match-decide.branch [
       let due : IsOpen (length c.args.self.now.held) (Take w.in-Take.field-0 w.in-Take.size) = rw e at c.requires.partial.due in
       subst (λ (n : ℕ). StaysInside c.args.self.now n) (sym w.result-is) (wanted_rest c.args.self.now w.in-Take.field-0 w.in-Take.size w.min.result e (omega (arith, due)))
   | in_default w ↦
-      subst (λ (n : ℕ). StaysInside c.args.self.now n) (sym w.result-is) (wanted_one c.args.self.now c.requires.partial (λ sort size e. w.in_default.not-Take sort size (c.decide.ensures ∙ ap (decision c.args.self.now.state) c.as_slice.ensures ∙ e)))
+      subst (λ (n : ℕ). StaysInside c.args.self.now n) (sym w.result-is) (wanted_one c.args.self.now c.requires.partial
+      (λ sort size e. w.in_default.not-Take sort size (c.decide.ensures ∙ ap (decision c.args.self.now.state) c.as_slice.ensures ∙ e)))
 ]
 
 pub returns-clause-least : goal.returns-clause-least
