@@ -1,5 +1,5 @@
 //! Tracks in memory.
-ghost use Rattle.std.specs.Prelude.{◌≡◌, ◌≢◌, ◌++◌, ◌⊎◌, ℕ, [], false, Some, IsTrue, IfOk, IsErr, OnOk, OnErr, Contains};
+ghost use Rattle.std.specs.Prelude.{◌≡◌, ◌≢◌, ◌++◌, ◌⊎◌, ℕ, [], false, Some, IsTrue, IfOk, nat_eq, position, IsErr, OnOk, OnErr, Contains};
 ghost use Rattle.std.specs.Io.KnownBytes.{Appends, Keeps};
 ghost use Rattle.sm_ends.specs.Faults.{HasCause};
 ghost use Rattle.sm_ends.specs.Memory.{one_more};
@@ -24,6 +24,23 @@ impl Model for TrackBytes {
     ghost Value = { TrackHeld };
 
     ghost view = { λ t. record { track = t.track; bytes = t.bytes.items } };
+}
+
+impl TrackBytes {
+    fn number(&self) -> u32
+        ensures { result ≡ self.now.track }
+    {
+        self.track
+    }
+
+    fn add(&mut self, bytes: &[u8]) -> Result<(), NoMemory>
+        ensures track { self.new.track ≡ self.old.track }
+        ensures ok { OnOk result (self.new.bytes ≡ self.old.bytes ++ bytes.now) }
+        ensures bad { OnErr result (self.new ≡ self.old) }
+    {
+        self.bytes.extend_from_slice(bytes)?;
+        Ok(())
+    }
 }
 
 /// Holds what is added to each track, in memory.
@@ -64,24 +81,11 @@ fn bytes_of(tracks: &[TrackBytes], track: u32) -> &[u8]
     }
 }
 
-// Adds to the track of that number, where there is one.
-fn add_to(tracks: &mut [TrackBytes], track: u32, bytes: &[u8]) -> Result<bool, NoMemory>
-    ensures found { result ≡ Ok true → held_at tracks.new track ≡ held_at tracks.old track ++ bytes.now }
-    ensures others { (k : ℕ) → k ≢ track → held_at tracks.new k ≡ held_at tracks.old k }
-    ensures absent { result ≡ Ok false → (tracks.new ≡ tracks.old) × (held_at tracks.old track ≡ []) }
-    ensures bad { OnErr result (tracks.new ≡ tracks.old) }
+// The place of the track of that number.
+fn place_of(tracks: &Vec<TrackBytes>, track: u32) -> Option<usize>
+    ensures { result ≡ position (λ t. nat_eq t.track track) tracks.now.items }
 {
-    match tracks {
-        [] => Ok(false),
-        [first, rest @ ..] => {
-            if first.track == track {
-                first.bytes.extend_from_slice(bytes)?;
-                Ok(true)
-            } else {
-                add_to(rest, track, bytes)
-            }
-        }
-    }
+    tracks.iter().position(|t| t.number() == track)
 }
 
 // A track that holds these bytes.
@@ -95,17 +99,24 @@ fn track_of(alloc: Global, track: u32, bytes: &[u8]) -> Result<TrackBytes, NoMem
 }
 
 // Adds to the track of that number, which begins here where there is none.
-fn add(alloc: Global, tracks: &mut Vec<TrackBytes>, track: u32, bytes: &[u8]) -> Result<(), NoMemory>
+fn add(
+    alloc: Global,
+    tracks: &mut Vec<TrackBytes>,
+    track: u32,
+    bytes: &[u8],
+) -> Result<(), NoMemory>
     ensures ok { OnOk result (held_at tracks.new.items track ≡ held_at tracks.old.items track ++ bytes.now) }
     ensures others { (k : ℕ) → k ≢ track → held_at tracks.new.items k ≡ held_at tracks.old.items k }
     ensures bad { OnErr result (tracks.new.items ≡ tracks.old.items) }
 {
-    if add_to(tracks, track, bytes)? {
-        return Ok(());
+    match place_of(tracks, track) {
+        Some(place) => tracks[place].add(bytes),
+        None => {
+            let begun = track_of(alloc, track, bytes)?;
+            tracks.insert(0, begun)?;
+            Ok(())
+        }
     }
-    let begun = track_of(alloc, track, bytes)?;
-    tracks.insert(0, begun)?;
-    Ok(())
 }
 
 impl MemoryTracks {
