@@ -62,12 +62,11 @@ def box(kind, body):
 class Origin:
     """An origin on a store in a folder of its own."""
 
-    def __init__(self, ladder=None, at=None):
+    def __init__(self, at=None):
         self.folder = tempfile.mkdtemp(prefix="smooth-", dir=at)
         self.store = os.path.join(self.folder, "store")
         self.port = free_port()
         self.process = None
-        self.ladder = ladder
 
     def __enter__(self):
         self.start()

@@ -1,6 +1,7 @@
 // A folder in the system's own for such, and peers in the same thread.
 use super::*;
 use sm_site::{Disk, Event, Failed, Link, Site, SiteError};
+use std::alloc::{AllocError, Global};
 use std::io::{Read, Write};
 use std::net::{Ipv4Addr, Shutdown, SocketAddr, TcpListener, TcpStream};
 use std::test::Fail;
@@ -25,6 +26,10 @@ fn short() -> Patience {
         linger: 200,
         waiting: 33_554_432,
     }
+}
+
+fn long_reply(alloc: Global, length: usize) -> Result<Vec<u8>, AllocError> {
+    vec![in alloc; 7u8; length]
 }
 
 fn opens(link: &mut impl Link, number: u64) -> bool {
@@ -177,7 +182,7 @@ fn a_stuck_peer_is_given_up(rt: HostRuntime) -> Result<(), Fail> {
     link.listen_at(any_port())?;
     let _stuck = TcpStream::connect(&rt, link.local_addr()?)?;
     assert!(rt; opens(&mut link, 1));
-    let reply = vec![in rt.alloc(); 7u8; 30_000_000]?;
+    let reply = long_reply(rt.alloc(), 30_000_000)?;
     assert_eq!(rt; link.send(1, &reply), Ok(()));
     assert!(rt; closes(&mut link, 1));
     assert_eq!(rt; link.send(1, b"more"), Err(Failed));
@@ -194,9 +199,12 @@ fn where_too_much_waits_the_greatest_is_given_up(rt: HostRuntime) -> Result<(), 
     assert!(rt; opens(&mut link, 1));
     let _second = TcpStream::connect(&rt, link.local_addr()?)?;
     assert!(rt; opens(&mut link, 2));
-    let reply = vec![in rt.alloc(); 7u8; 33_000_000]?;
-    assert_eq!(rt; link.send(1, &reply), Ok(()));
-    assert_eq!(rt; link.send(2, &reply[..22_000_000]), Ok(()));
+    let (long, short) = (
+        long_reply(rt.alloc(), 33_000_000)?,
+        long_reply(rt.alloc(), 22_000_000)?,
+    );
+    assert_eq!(rt; link.send(1, &long), Ok(()));
+    assert_eq!(rt; link.send(2, &short), Ok(()));
     assert_eq!(rt; link.send(1, b"more"), Err(Failed));
     assert_eq!(rt; link.send(2, b"more"), Ok(()));
     Ok(())
