@@ -1,5 +1,5 @@
 // Tracks in files.
-ghost use Rattle.std.specs.Prelude.{None};
+ghost use Rattle.std.specs.Prelude.{◌≡◌, None};
 
 use sm_ends::{Failed, Tracks};
 use std::alloc::Global;
@@ -36,7 +36,9 @@ impl<R: Files<File = File> + Drop> FileTracks<R> {
     }
 
     // A file that bytes can be added to.
-    fn open(&mut self, number: u32) -> io::Result<Track> {
+    fn open(&mut self, number: u32) -> io::Result<Track>
+        ensures faults { self.new.faults ≡ self.old.faults }
+    {
         match self.last.take() {
             Some(track) if track.number == number => return Ok(track),
             _ => {}

@@ -78,21 +78,21 @@ impl<R: Net<Stream = TcpStream> + Clock + Drop> TcpDial<R> {
     }
 
     // What comes up to the end, the limit or a failure, and whether it was one of the first two.
-    fn take(&self, mut stream: &TcpStream, limit: u64) -> Result<(Vec<u8>, bool), OpenFault>
+    fn take(&self, stream: &TcpStream, limit: u64) -> Result<(Vec<u8>, bool), OpenFault>
         ensures within { IfOk result (λ r. vec_len r.0 ≤ limit) }
     {
         let mut buffer = Box::new(self.alloc, [0u8; PIECE]).map_err(AllocError::from)?;
         let mut taken = Vec::new(self.alloc);
         let mut silent = 0u32;
         'reading: for _ in 0..u64::MAX {
-            let room = (limit - taken.len() as u64).min(PIECE as u64) as usize;
+            let room = limit - taken.len() as u64;
             if room == 0 {
                 return Ok((taken, true));
             }
-            match stream.read(&mut buffer[..room]) {
+            match receive(stream, buffer.as_mut_slice(), room) {
                 Ok(0) => return Ok((taken, true)),
                 Ok(n) => {
-                    taken.extend_from_slice(&buffer[..n])?;
+                    taken.extend_from_slice(&buffer[..n.min(PIECE)])?;
                     silent = 0;
                 }
                 Err(e) => match e.kind() {
@@ -117,6 +117,14 @@ impl<R: Net<Stream = TcpStream> + Clock + Drop> TcpDial<R> {
             Reply::Whole { .. } | Reply::Bad { .. } => Ok(true),
         }
     }
+}
+
+// Reads once, at most so many bytes.
+fn receive(mut stream: &TcpStream, buffer: &mut [u8], room: u64) -> io::Result<usize>
+    ensures within { IfOk result (λ n. n ≤ room) }
+{
+    let most = room.min(buffer.len() as u64) as usize;
+    stream.read(&mut buffer[..most])
 }
 
 // All addresses of a host, at least one.
