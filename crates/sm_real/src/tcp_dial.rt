@@ -1,5 +1,6 @@
 // The dial over sockets.
 ghost use Rattle.std.specs.Prelude.{◌≤◌, ◌<◌, length, vec_len, None, IfOk};
+ghost use Rattle.sm_fetch.specs.Exchanges.{Rose};
 
 use crate::OpenFault;
 use sm_fetch::{Answer, Dial, DialError, Reply, read_reply};
@@ -41,6 +42,13 @@ impl<R: Net<Stream = TcpStream> + Clock + Drop> TcpDial<R> {
             addresses: Vec::new(alloc),
             faults: 0,
         }
+    }
+
+    fn fail(&mut self)
+        ensures rose { Rose self.old.faults self.new.faults }
+        ensures later { self.old.faults ≤ self.new.faults }
+    {
+        self.faults = self.faults.saturating_add(1);
     }
 
     // The first address that takes a connection.
@@ -158,7 +166,7 @@ impl<R: Net<Stream = TcpStream> + Clock + Drop> Dial for TcpDial<R> {
             Err(e) => match OpenFault::of(&e) {
                 OpenFault::NoMemory => Err(DialError::NoMemory),
                 OpenFault::Failed => {
-                    self.faults = self.faults.saturating_add(1);
+                    self.fail();
                     Err(DialError::Failed)
                 }
             },
@@ -170,7 +178,7 @@ impl<R: Net<Stream = TcpStream> + Clock + Drop> Dial for TcpDial<R> {
             Ok(bytes) => Answer::Bytes(bytes),
             Err(OpenFault::NoMemory) => Answer::NoMemory,
             Err(OpenFault::Failed) => {
-                self.faults = self.faults.saturating_add(1);
+                self.fail();
                 Answer::Lost
             }
         }
