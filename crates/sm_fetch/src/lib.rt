@@ -8,6 +8,7 @@ mod get;
 mod got;
 mod memory_dial;
 mod place;
+pub mod plain;
 mod push;
 mod reply;
 mod request;

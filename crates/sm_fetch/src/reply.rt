@@ -1,6 +1,7 @@
 //! The reply that an answer begins with.
-ghost use Rattle.std.specs.Prelude.{◌≡◌, ◌≤◌, IfOk, length, drop};
+ghost use Rattle.std.specs.Prelude.{◌≤◌, ◌-◌, IfOk, length, take, drop};
 ghost use Rattle.sm_fetch.specs.Answered.{BeginsWith, IsHeadEnd};
+ghost use Rattle.sm_fetch.specs.Framed.{FramedAs};
 
 use crate::body::{Body, Framed, read_body};
 use sm_body::Framing;
@@ -26,26 +27,27 @@ pub enum Reply<'a> {
     Bad { at: u64 },
 }
 
-// The reply whose head ends there.
-fn behind_head<'a>(
-    alloc: Global,
+// The reply whose head ends there, by what stands behind that.
+pub(crate) fn reply_behind<'a>(
     bytes: &'a [u8],
     status: u16,
     at: usize,
     framing: Framing,
-) -> Result<Reply<'a>, NoMemory>
+    framed: Framed<'a>,
+) -> Reply<'a>
     requires head { IsHeadEnd bytes.now status at framing }
     requires within { at ≤ length bytes.now }
-    ensures { IfOk result (λ reply. BeginsWith bytes.now reply) }
+    requires body { FramedAs framing (take (length bytes.now - at) (drop at bytes.now)) framed }
+    ensures { BeginsWith bytes.now result }
 {
-    match read_body(alloc, framing, &bytes[at..])? {
-        Framed::Whole(body) => Ok(Reply::Whole {
+    match framed {
+        Framed::Whole(body) => Reply::Whole {
             status,
             at: at as u64,
             body,
-        }),
-        Framed::Cut => Ok(Reply::Cut),
-        Framed::Bad => Ok(Reply::Bad { at: at as u64 }),
+        },
+        Framed::Cut => Reply::Cut,
+        Framed::Bad => Reply::Bad { at: at as u64 },
     }
 }
 
@@ -64,7 +66,8 @@ pub fn read_reply<'a>(alloc: Global, bytes: &'a [u8]) -> Result<Reply<'a>, NoMem
             }) => {
                 let end = at + length as usize;
                 if status >= 200 {
-                    return behind_head(alloc, bytes, status, end, framing);
+                    let framed = read_body(alloc, framing, &bytes[end..])?;
+                    return Ok(reply_behind(bytes, status, end, framing, framed));
                 }
                 at = end;
             }

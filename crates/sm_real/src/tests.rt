@@ -1,5 +1,7 @@
 // A folder in the system's own for such, and peers in the same thread.
 use super::*;
+use sm_ends::Tracks;
+use sm_fetch::{Answer, Dial, DialError};
 use sm_site::{Disk, Event, Failed, Link, Site, SiteError};
 use std::alloc::{AllocError, Global};
 use std::io::{Read, Write};
@@ -207,5 +209,62 @@ fn where_too_much_waits_the_greatest_is_given_up(rt: HostRuntime) -> Result<(), 
     assert_eq!(rt; link.send(2, &short), Ok(()));
     assert_eq!(rt; link.send(1, b"more"), Err(Failed));
     assert_eq!(rt; link.send(2, b"more"), Ok(()));
+    Ok(())
+}
+
+// Answers one request with these bytes, and closes.
+fn answer_once(listener: &TcpListener, bytes: &[u8]) -> bool {
+    let mut taken = [0u8; 64];
+    match listener.accept() {
+        Ok((mut peer, _)) => peer.read(&mut taken).is_ok() && peer.write_all(bytes).is_ok(),
+        Err(_) => false,
+    }
+}
+
+#[test]
+fn an_exchange_takes_what_comes(rt: HostRuntime) -> Result<(), Fail> {
+    let mut dial = TcpDial::new(&rt, rt.alloc());
+    assert!(rt; matches!(dial.exchange(b"ask", 9), Answer::Lost));
+    assert_eq!(rt;
+        dial.select("no.such.host.invalid", 80),
+        Err(DialError::Failed)
+    );
+    let listener = TcpListener::bind(&rt, any_port())?;
+    assert_eq!(rt;
+        dial.select("127.0.0.1", listener.local_addr()?.port()),
+        Ok(())
+    );
+    // (what comes, how much is wanted, what is taken)
+    let rows = [
+        (b"HTTP/1.1 200", 99, b"HTTP/1.1 200"),
+        (b"HTTP/1.1 200", 12, b"HTTP/1.1 200"),
+    ];
+    for (comes, limit, taken) in rows {
+        let (answer, answered) = thread::join(
+            &rt,
+            || dial.exchange(b"ask", limit),
+            || answer_once(&listener, comes),
+        );
+        assert!(rt; answered);
+        match answer {
+            Answer::Bytes(bytes) => assert_eq!(rt; bytes.as_slice(), taken.as_slice()),
+            _ => assert!(rt; false),
+        }
+    }
+    drop(listener);
+    assert!(rt; matches!(dial.exchange(b"ask", 9), Answer::Lost));
+    Ok(())
+}
+
+#[test]
+fn tracks_are_appended_to(rt: HostRuntime) -> Result<(), Fail> {
+    let number = process::id(rt.process());
+    let name = format!(in rt.alloc(); "track-{number}.frag")?;
+    let mut tracks = FileTracks::new(&rt, rt.alloc());
+    assert_eq!(rt; tracks.append(number, b"one"), Ok(()));
+    assert_eq!(rt; tracks.append(number, b" two"), Ok(()));
+    let held = fs::read(&rt, &name)?;
+    fs::remove_file(&rt, &name)?;
+    assert_eq!(rt; held.as_slice(), b"one two".as_slice());
     Ok(())
 }

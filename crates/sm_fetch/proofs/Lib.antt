@@ -1,0 +1,7 @@
+pub mod Framing
+pub mod Heads
+pub mod Filling
+pub mod Chunks
+pub mod Pairs
+pub mod Fronts
+pub mod Origin
