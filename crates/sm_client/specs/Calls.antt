@@ -1,0 +1,184 @@
+-- What the parts of a play do.
+use Rattle.std.specs.Prelude.{◌≡◌, ◌<◌, ◌≤◌, ◌+◌, ◌⊎◌, ◌&&◌, ℕ, true, List, [], ◌∷◌, ◌++◌, length, nat_le, Option, Some, None, IfSome}
+use Rattle.std.specs.Io.KnownBytes.{Appends, Keeps}
+use Rattle.sm_policy.specs.declared.policy.Heard.{Heard}
+use Rattle.sm_model.specs.declared.run.RawFragment.{RawFragment}
+use Rattle.sm_model.specs.Fragments.{IsValid}
+use Rattle.sm_manin.specs.declared.listing.Listing.{Listing}
+use Rattle.sm_manin.specs.declared.listing.StreamListing.{StreamListing}
+use Rattle.sm_fetch.specs.declared.dial.Exchange.{Exchange}
+use Rattle.sm_fetch.specs.declared.got.Got.{Got}
+use Rattle.sm_fetch.specs.declared.got.Got.TheVariants as got
+use Rattle.sm_fetch.specs.Exchanges.{with_one, with_all}
+use Rattle.sm_fetch.specs.Requests.{manifest_request, manifest_limit, fragment_request, fragment_limit}
+use Rattle.sm_fetch.specs.Spelt.{SpellsManifest, SpellsFragment, given}
+use Rattle.sm_client.specs.declared.plan.Plan.{Plan}
+use Rattle.sm_client.specs.declared.report.Miss.{Miss}
+use Rattle.sm_client.specs.declared.report.End.{End}
+use Rattle.sm_client.specs.declared.report.End.TheVariants as ends
+use Rattle.sm_client.specs.declared.list.Listed.{Listed}
+use Rattle.sm_client.specs.declared.list.Listed.TheVariants as listed_once
+use Rattle.sm_client.specs.declared.list.Manifest.{Manifest}
+use Rattle.sm_client.specs.declared.list.Manifest.TheVariants as manifest
+use Rattle.sm_client.specs.declared.piece.Asked.{Asked}
+use Rattle.sm_client.specs.declared.piece.Asked.TheVariants as asked
+use Rattle.sm_client.specs.declared.standing.Standing as code
+use Rattle.sm_client.specs.Turns.{Meaning, Turn, Continues, Behaves}
+use Rattle.sm_client.specs.Starts.{has, starts, Falls, AreAfter}
+use Rattle.sm_client.specs.Stands.{Item, list, piece, Piece, Standing, Stand, standing, State, listed, listed_starts, ladder_of, address_at, read_at, miss_of, state_after, written_at}
+use Rattle.sm_client.specs.Asks.{MayList, MadeList, Asks, AsksLast, IsRead, heard_of, turn_after, exchanges}
+use Rattle.sm_client.specs.Ends.{EndsAt, IsTail, piece_text}
+
+-- ---- where a stream stands
+
+-- a stream that is listed has 1 to 64 qualities
+abbrev pub HasLevels : Option StreamListing → Type 0
+HasLevels listing = IfSome listing (λ s. (0 < length s.levels) × (length s.levels ≤ 64))
+
+-- of all these starts, each of those that aren't before the expected one, once
+pub record KnowsFrom (expected : ℕ) (all known : List ℕ) : Type 0 where
+  pub once : Falls known
+  pub are : (k : ℕ) → has k known ≡ (nat_le expected k && has k all)
+
+pub record Holds (s : code.Standing) (p : Standing) : Type 0 where
+  pub listing : s.listing ≡ p.listing
+  pub expected : s.expected ≡ p.expected
+  pub known : KnowsFrom p.expected p.known s.known
+  pub written : s.written ≡ length p.written
+  pub manifests : s.manifests ≡ p.manifests
+  pub levels : HasLevels p.listing
+  pub same : 0 < p.manifests → p.known ≡ listed_starts p.listing
+  pub unlisted : p.listing ≡ None → p.known ≡ []
+
+-- a fragment that ends at this start, and names these times ahead, was written
+pub record Follows (p q : Standing) (expected : ℕ) (ahead : List (ℕ × ℕ)) : Type 0 where
+  pub later : p.expected ≤ expected
+  pub listed : p.listing ≡ q.listing
+  pub is_listed : (s : StreamListing) × (q.listing ≡ Some s)
+  pub expects : q.expected ≡ expected
+  pub knows : q.known ≡ p.known ++ starts ahead
+  pub more : length q.written ≡ length p.written + 1
+  pub anew : q.manifests ≡ 0
+
+abbrev pub at : Stand → List Miss → State
+at stand missed = record { stand = stand; missed = missed }
+
+-- ---- a manifest
+
+-- it was asked for once
+pub record ListMade (plan : Plan) (old new : Option (List Exchange)) (g : Got) : Type 0 where
+  pub exchange : Exchange
+  pub log : new ≡ with_one old exchange
+  pub request : exchange.request ≡ manifest_request plan.place
+  pub limit : exchange.limit ≡ manifest_limit
+  pub spells : SpellsManifest exchange.answer g
+
+pub record ListFound (plan : Plan) (name : List ℕ) (old new : Option (List Exchange)) (found : Option StreamListing) : Type 0 where
+  pub listing : Listing
+  pub made : ListMade plan old new (got.Manifest listing)
+  pub is : found ≡ listed name listing.streams
+
+pub record ListMissed (plan : Plan) (old new : Option (List Exchange)) (m : Miss) : Type 0 where
+  pub came : Got
+  pub made : ListMade plan old new came
+  pub is : miss_of came ≡ Some m
+
+abbrev pub ListedOnce : Plan → List ℕ → Option (List Exchange) → Option (List Exchange) → Listed → Type 0
+ListedOnce plan name old new (listed_once.Found found) = ListFound plan name old new found × HasLevels found
+ListedOnce plan name old new (listed_once.Missed m) = ListMissed plan old new m
+ListedOnce plan name old new listed_once.NoMemory = (new ≡ old) ⊎ ListMade plan old new got.NoMemory
+
+-- Exchanges for manifests alone.
+abbrev pub AsksLists : Plan → List ℕ → State → List Item → Type 0
+AsksLists plan name s [] = Unit {0}
+AsksLists plan name s (list x g ∷ more) = MadeList plan s x g × IsRead g × AsksLists plan name (state_after plan name s (list x g ∷ [])) more
+AsksLists plan name s (piece x g level ∷ more) = ⊥
+
+abbrev pub AsksListLast : Plan → State → List Item → Type 0
+AsksListLast plan s [] = Unit {0}
+AsksListLast plan s (list x g ∷ []) = MadeList plan s x g
+AsksListLast plan s (list x g ∷ y ∷ more) = ⊥
+AsksListLast plan s (piece x g level ∷ more) = ⊥
+
+-- such exchanges lead from one state to another, where a last one may have wanted memory
+pub record ListWent (plan : Plan) (name : List ℕ) (from to : State) (last : List Item) (old new : Option (List Exchange)) : Type 0 where
+  pub made : List Item
+  pub log : new ≡ with_all old (exchanges (made ++ last))
+  pub asks : AsksLists plan name from made
+  pub state : state_after plan name from made ≡ to
+  pub asks_last : AsksListLast plan to last
+
+-- want of memory, wherever it came
+pub record ListStopped (plan : Plan) (name : List ℕ) (from : State) (old new : Option (List Exchange)) : Type 0 where
+  pub to : State
+  pub last : List Item
+  pub went : ListWent plan name from to last old new
+  pub written : written_at to.stand ≡ written_at from.stand
+
+abbrev pub ListedBy : Plan → List ℕ → Stand → Option (List Exchange) → Option (List Exchange) → Manifest → Type 0
+ListedBy plan name stand old new (manifest.Read found) =
+    ListWent plan name (at stand []) (at (read_at plan stand found) []) [] old new × HasLevels found
+ListedBy plan name stand old new (manifest.GaveUp outcomes) = ListWent plan name (at stand []) (at stand outcomes) [] old new × (length outcomes ≡ plan.tries)
+ListedBy plan name stand old new manifest.NoMemory = ListStopped plan name (at stand []) old new
+
+-- ---- until the expected start is known
+
+pub record SoughtFound (plan : Plan) (name : List ℕ) (p : Standing) (new : code.Standing) (log log' : Option (List Exchange)) : Type 0 where
+  pub to : Standing
+  pub holds : Holds new to
+  pub known : has to.expected to.known ≡ true
+  pub written : to.written ≡ p.written
+  pub went : ListWent plan name (at (standing p) []) (at (standing to) []) [] log log'
+
+pub record ListEnded (plan : Plan) (name : List ℕ) (number : ℕ) (from : State) (end : End) (log log' : Option (List Exchange)) : Type 0 where
+  pub to : State
+  pub last : List Item
+  pub went : ListWent plan name from to last log log'
+  pub written : written_at to.stand ≡ written_at from.stand
+  pub ends : EndsAt plan number end to
+  pub tail : IsTail plan name end to last []
+
+abbrev pub Sought : Plan → List ℕ → ℕ → Standing → code.Standing → Option (List Exchange) → Option (List Exchange) → Option End → Type 0
+Sought plan name number p new log log' None = SoughtFound plan name p new log log'
+Sought plan name number p new log log' (Some end) = ListEnded plan name number (at (standing p) []) end log log'
+
+-- ---- a fragment
+
+-- it was asked for once, as the policy chose
+pub record PieceMade {P : Type 0} (m : Meaning P) (plan : Plan) (name : List ℕ) (s : StreamListing) (start ahead : ℕ) (who : P) (old new : Option (List Exchange)) (g : Got) (level : ℕ) : Type 0 where
+  pub exchange : Exchange
+  pub log : new ≡ with_one old exchange
+  pub chosen : level ≡ m.pick who [] (ladder_of s.levels) ahead
+  pub within : level < length s.levels
+  pub request : exchange.request ≡ fragment_request plan.place s.pattern (address_at name s start level)
+  pub limit : exchange.limit ≡ fragment_limit
+  pub spells : SpellsFragment start exchange.answer g
+
+-- and the policy has heard of it
+pub record PieceHeard {P : Type 0} (m : Meaning P) (plan : Plan) (name : List ℕ) (s : StreamListing) (start ahead : ℕ) (who now : P) (old new : Option (List Exchange)) (g : Got) (level : ℕ) : Type 0 where
+  pub made : PieceMade m plan name s start ahead who old new g level
+  pub heard : Continues m who now (heard_of g made.exchange level)
+
+pub record PieceMissed {P : Type 0} (m : Meaning P) (plan : Plan) (name : List ℕ) (s : StreamListing) (start ahead : ℕ) (who now : P) (old new : Option (List Exchange)) (miss : Miss) : Type 0 where
+  pub came : Got
+  pub level : ℕ
+  pub heard : PieceHeard m plan name s start ahead who now old new came level
+  pub is : miss_of came ≡ Some miss
+
+pub record PieceLost {P : Type 0} (m : Meaning P) (plan : Plan) (name : List ℕ) (s : StreamListing) (start ahead : ℕ) (who now : P) (old new : Option (List Exchange)) : Type 0 where
+  pub same : now ≡ who
+  pub made : (new ≡ old) ⊎ ((level : ℕ) × PieceMade m plan name s start ahead who old new got.NoMemory level)
+
+abbrev pub PieceOnce : {P : Type 0} → Meaning P → Plan → List ℕ → StreamListing → ℕ → ℕ → P → P → Option (List Exchange) → Option (List Exchange) → Asked → Type 0
+PieceOnce m plan name s start ahead who now old new (asked.Took raw level) = PieceHeard m plan name s start ahead who now old new (got.Fragment raw) level
+PieceOnce m plan name s start ahead who now old new (asked.Missed outcome) = PieceMissed m plan name s start ahead who now old new outcome
+PieceOnce m plan name s start ahead who now old new asked.NoMemory = PieceLost m plan name s start ahead who now old new
+
+-- Exchanges lead from one turn and state to another, where a last one may have come to nothing.
+pub record Went {P : Type 0} (m : Meaning P) (plan : Plan) (name : List ℕ) (start now : Turn P) (from to : State) (last : List Item) (old new : Option (List Exchange)) : Type 0 where
+  pub made : List Item
+  pub log : new ≡ with_all old (exchanges (made ++ last))
+  pub asks : Asks m plan name start from made
+  pub state : state_after plan name from made ≡ to
+  pub asks_last : AsksLast m plan name (turn_after m start made) to last
+  pub turn : Behaves m (turn_after m start (made ++ last)) now

@@ -1,0 +1,54 @@
+//! The policies of a play.
+ghost use Rattle.std.specs.Prelude.{◌≡◌, ◌<◌, [], length, vec_len, slice_index_or, remove};
+
+use sm_policy::{Heard, Policy};
+
+/// The policy that acts, and those after it.
+#[derive(Drop)]
+pub struct Policies {
+    pub acting: Box<dyn Policy>,
+    pub rest: Vec<Box<dyn Policy>>,
+}
+
+impl Policies {
+    ghost use Rattle.sm_client.specs.Turns.{Continues, settle, fresh};
+
+    /// The first of the list acts, even if it has retired.
+    pub fn new(mut policies: Vec<Box<dyn Policy>>) -> Policies
+        requires { 0 < vec_len policies }
+        ensures first { result.acting ≡ slice_index_or policies.items 0 result.acting }
+        ensures rest { result.rest.items ≡ remove policies.items 0 }
+    {
+        let acting = policies.remove(0);
+        Policies {
+            acting,
+            rest: policies,
+        }
+    }
+
+    /// The place in the ladder to ask for, by the one that acts.
+    pub fn choose(&self, ladder: &[u32], ahead: u64) -> usize
+        requires { 0 < length ladder.now }
+        ensures pick { result ≡ pick_after self.now.acting [] ladder.now ahead }
+        ensures within { result < length ladder.now }
+    {
+        self.acting.choose(ladder, ahead)
+    }
+
+    /// The one that acts takes in what came of a request.
+    pub fn hear(&mut self, heard: Heard)
+        ensures heard { Continues (record { pick = pick_after; retired = retired_after }) self.old.acting self.new.acting heard }
+        ensures rest { self.new.rest.items ≡ self.old.rest.items }
+    {
+        self.acting.hear(heard);
+    }
+
+    /// Until one acts that hasn't retired, or is the last, the next one acts.
+    pub fn settle(&mut self)
+        ensures { settle (record { pick = pick_after; retired = retired_after }) self.old.acting [] self.old.rest.items ≡ fresh self.new.acting self.new.rest.items }
+    {
+        while self.acting.retired() && !self.rest.is_empty() {
+            self.acting = self.rest.remove(0);
+        }
+    }
+}
