@@ -1,7 +1,7 @@
 -- The texts of requests, and how long a reply to each may be. RFC 9112, sections 3 and 7.1; RFC 9110, section 7.2; [MS-SSTR] 2.2.1, 2.2.3.
 use Rattle.std.specs.Prelude.{ℕ, zero, suc, List, [], ◌∷◌, ◌++◌, length, take, drop, codes, decimal, false}
 use Rattle.std.specs.List.{flat_map}
-use Rattle.core.specs.Fmt.{digits}
+use Rattle.std.specs.Fmt.{digits}
 use Rattle.sm_model.specs.declared.address.Address.{Address}
 use Rattle.sm_model.specs.declared.target.Target.TheVariants as target
 use Rattle.sm_addr.specs.Paths.{isml}
@@ -71,10 +71,15 @@ last_chunk = codes "0" ++ crlf ++ crlf
 abbrev pub chunked : List ℕ → List ℕ
 chunked body = flat_map chunk (pieces body) ++ last_chunk
 
-abbrev pub push_head : Place → List ℕ → List ℕ
-push_head place id =
-    request_line (codes "POST") (target_written place.path (target.Streams id)) ++ host_line place.host place.port
-    ++ (codes "Transfer-Encoding: chunked" ++ crlf) ++ close_line ++ crlf
+abbrev pub coding_line : List ℕ
+coding_line = codes "Transfer-Encoding: chunked" ++ crlf
+
+-- the head of a push to a target
+abbrev pub post_head : List ℕ → ℕ → List ℕ → List ℕ
+post_head host port named = request_line (codes "POST") named ++ host_line host port ++ coding_line ++ close_line ++ crlf
+
+abbrev pub push_target : Place → List ℕ → List ℕ
+push_target place id = target_written place.path (target.Streams id)
 
 abbrev pub push_request : Place → List ℕ → List ℕ → List ℕ
-push_request place id body = push_head place id ++ chunked body
+push_request place id body = post_head place.host place.port (push_target place id) ++ chunked body

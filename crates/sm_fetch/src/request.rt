@@ -1,10 +1,10 @@
 //! Requests, written.
 ghost use Rattle.std.specs.Prelude.{◌≡◌, ◌++◌, ◌<◌, decimal, drop, false, length, IfOk, OnOk};
 ghost use Rattle.std.specs.List.{flat_map};
-ghost use Rattle.core.specs.Fmt.{digits};
+ghost use Rattle.std.specs.Fmt.{digits};
 ghost use Rattle.sm_manin.specs.Patterns.{begins_with, is_bitrate_field, is_start_field};
 ghost use Rattle.sm_fetch.specs.Patterns.{filled_behind, filled};
-ghost use Rattle.sm_fetch.specs.Requests.{request_line, host_line, close_line, get_text, manifest_request, fragment_target, fragment_request, chunk, pieces, push_head, push_request};
+ghost use Rattle.sm_fetch.specs.Requests.{request_line, host_line, close_line, get_text, manifest_request, fragment_target, fragment_request, chunk, pieces, chunked, coding_line, post_head, push_target, push_request};
 
 use crate::Place;
 use sm_addr::put_target;
@@ -194,15 +194,35 @@ fn put_chunks(alloc: Global, out: &mut Vec<u8>, body: &[u8]) -> Result<(), NoMem
     Ok(())
 }
 
-fn put_push_head(alloc: Global, out: &mut Vec<u8>, place: &Place, id: &Name) -> Result<(), NoMemory>
-    ensures { OnOk result (out.new.items ≡ out.old.items ++ push_head place.now id.now) }
+fn put_coding(out: &mut Vec<u8>) -> Result<(), NoMemory>
+    ensures { OnOk result (out.new.items ≡ out.old.items ++ coding_line) }
 {
-    let target = put_target(alloc, place.path.as_slice(), &Target::Streams(id.copy(alloc)?))?;
-    put_line(out, b"POST", target.as_slice())?;
-    put_host(alloc, out, place)?;
     put(out, b"Transfer-Encoding: chunked")?;
-    put(out, b"\r\n")?;
+    put(out, b"\r\n")
+}
+
+fn put_post(alloc: Global, out: &mut Vec<u8>, place: &Place, target: &[u8]) -> Result<(), NoMemory>
+    ensures { OnOk result (out.new.items ≡ out.old.items ++ post_head place.now.host place.now.port target.now) }
+{
+    put_line(out, b"POST", target)?;
+    put_host(alloc, out, place)?;
+    put_coding(out)?;
     put_close(out)?;
+    put(out, b"\r\n")
+}
+
+fn push_target(alloc: Global, place: &Place, id: &Name) -> Result<Bytes, NoMemory>
+    ensures { IfOk result (λ target. target ≡ push_target place.now id.now) }
+{
+    put_target(alloc, place.path.as_slice(), &Target::Streams(id.copy(alloc)?))
+}
+
+fn put_chunked(alloc: Global, out: &mut Vec<u8>, body: &[u8]) -> Result<(), NoMemory>
+    ensures { OnOk result (out.new.items ≡ out.old.items ++ chunked body.now) }
+{
+    put_chunks(alloc, out, body)?;
+    put(out, b"0")?;
+    put(out, b"\r\n")?;
     put(out, b"\r\n")
 }
 
@@ -210,11 +230,9 @@ fn put_push_head(alloc: Global, out: &mut Vec<u8>, place: &Place, id: &Name) -> 
 pub(crate) fn put_push_request(alloc: Global, place: &Place, id: &Name, body: &[u8]) -> Result<Bytes, NoMemory>
     ensures { IfOk result (λ text. text ≡ push_request place.now id.now body.now) }
 {
+    let target = push_target(alloc, place, id)?;
     let mut out = Vec::new(alloc);
-    put_push_head(alloc, &mut out, place, id)?;
-    put_chunks(alloc, &mut out, body)?;
-    put(&mut out, b"0")?;
-    put(&mut out, b"\r\n")?;
-    put(&mut out, b"\r\n")?;
+    put_post(alloc, &mut out, place, target.as_slice())?;
+    put_chunked(alloc, &mut out, body)?;
     Ok(Bytes::from_vec(out))
 }

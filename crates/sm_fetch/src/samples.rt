@@ -1,12 +1,12 @@
 //! The fragment that a body is.
-ghost use Rattle.std.specs.Prelude.{◌≡◌, ◌↔◌, ◌×◌, IfOk, MatchOption, IsTrue, codes, nat_le};
+ghost use Rattle.std.specs.Prelude.{◌≡◌, IfOk, MatchOption, codes, nat_le};
 ghost use Rattle.sm_model.specs.Boxes.{IsOneBox, box_of};
 ghost use Rattle.sm_model.specs.Found.{is_kind};
 ghost use Rattle.sm_model.specs.Fragments.{sample_bytes};
-ghost use Rattle.sm_model.specs.declared.run.RawFragment.{RawFragment};
 ghost use Rattle.sm_fetch.specs.Spelt.{IsFragmentAt};
 ghost use Rattle.sm_fetch.specs.TwoBoxes.{IsPair, HasNoPair, HasNoFragment};
 
+use sm_box::law::whole_stays;
 use sm_box::whole_at;
 use sm_model::law::read_is_sound;
 use sm_model::{Defaults, NoMemory, RawFragment, Sample};
@@ -21,6 +21,7 @@ const NO_DEFAULTS: Defaults = Defaults {
 };
 
 // Whether it is a `moof`.
+#[tactic(auto, using(sm_moof::proofs::WholeLemmas::long_one), unfolding(sm_model::specs::Boxes::box_of))]
 fn is_moof(bytes: &[u8]) -> bool
     requires { IsOneBox bytes.now }
     ensures { result ≡ is_kind (codes "moof") (box_of bytes.now) }
@@ -34,10 +35,14 @@ fn is_moof(bytes: &[u8]) -> bool
 fn two_boxes(body: &[u8]) -> Option<(&[u8], &[u8])>
     ensures { MatchOption result (HasNoPair body.now) (λ x. IsPair body.now x.0.now x.1.now) }
 {
+    whole_stays();
     let Some((_, size)) = whole_at(body) else {
         return None;
     };
     let (moof, mdat) = body.split_at(size as usize);
+    if !is_one_box(moof) {
+        return None;
+    }
     if !is_moof(moof) {
         return None;
     }
