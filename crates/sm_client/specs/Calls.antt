@@ -23,9 +23,13 @@ use Rattle.sm_client.specs.declared.list.Manifest.TheVariants as manifest
 use Rattle.sm_client.specs.declared.piece.Asked.{Asked}
 use Rattle.sm_client.specs.declared.piece.Asked.TheVariants as asked
 use Rattle.sm_client.specs.declared.standing.Standing as code
+use Rattle.sm_client.specs.declared.seek.Begun.{Begun}
+use Rattle.sm_client.specs.declared.seek.Begun.TheVariants as begun_as
+use Rattle.sm_client.specs.declared.piece.Pieces.{Pieces}
+use Rattle.sm_client.specs.declared.piece.Pieces.TheVariants as pieces
 use Rattle.sm_client.specs.Turns.{Meaning, Turn, Continues, Behaves}
 use Rattle.sm_client.specs.Starts.{has, starts, Falls, AreAfter}
-use Rattle.sm_client.specs.Stands.{Item, list, piece, Piece, Standing, Stand, standing, State, listed, listed_starts, ladder_of, address_at, read_at, miss_of, state_after, written_at}
+use Rattle.sm_client.specs.Stands.{Item, list, piece, Piece, Standing, Stand, unread, standing, State, listed, listed_starts, ladder_of, address_at, read_at, miss_of, state_after, written_at}
 use Rattle.sm_client.specs.Asks.{MayList, MadeList, Asks, AsksLast, IsRead, heard_of, turn_after, exchanges}
 use Rattle.sm_client.specs.Ends.{EndsAt, IsTail, piece_text}
 
@@ -174,6 +178,22 @@ PieceOnce m plan name s start ahead who now old new (asked.Took raw level) = Pie
 PieceOnce m plan name s start ahead who now old new (asked.Missed outcome) = PieceMissed m plan name s start ahead who now old new outcome
 PieceOnce m plan name s start ahead who now old new asked.NoMemory = PieceLost m plan name s start ahead who now old new
 
+-- what a request for a fragment got, for the caller
+abbrev pub IsAskedOf : Got → ℕ → Asked → Type 0
+IsAskedOf g level (asked.Took raw place) = (g ≡ got.Fragment raw) × (place ≡ level)
+IsAskedOf g level (asked.Missed outcome) = miss_of g ≡ Some outcome
+IsAskedOf g level asked.NoMemory = (g ≡ got.NoMemory) ⊎ ((l : Listing) × (g ≡ got.Manifest l))
+
+-- this start of this stream is to be asked for, and so many starts are known behind it
+pub record MayPiece (plan : Plan) (p : Standing) (s : StreamListing) (start ahead : ℕ) : Type 0 where
+  pub last : p.listing ≡ Some s
+  pub expects : start ≡ p.expected
+  pub known : has p.expected p.known ≡ true
+  pub more : length p.written < plan.count
+  pub after : List ℕ
+  pub behind : AreAfter p.known p.expected after
+  pub counted : length after ≡ ahead
+
 -- Exchanges lead from one turn and state to another, where a last one may have come to nothing.
 pub record Went {P : Type 0} (m : Meaning P) (plan : Plan) (name : List ℕ) (start now : Turn P) (from to : State) (last : List Item) (old new : Option (List Exchange)) : Type 0 where
   pub made : List Item
@@ -182,3 +202,35 @@ pub record Went {P : Type 0} (m : Meaning P) (plan : Plan) (name : List ℕ) (st
   pub state : state_after plan name from made ≡ to
   pub asks_last : AsksLast m plan name (turn_after m start made) to last
   pub turn : Behaves m (turn_after m start (made ++ last)) now
+
+-- all exchanges but the last one missed the start, and the last one gave it
+pub record PieceTaken {P : Type 0} (m : Meaning P) (plan : Plan) (name : List ℕ) (p : Standing) (s : StreamListing) (start now : Turn P) (old new : Option (List Exchange)) (raw : RawFragment) (level : ℕ) : Type 0 where
+  pub missed : List Miss
+  pub exchange : Exchange
+  pub went : Went m plan name start now (at (standing p) []) (at (standing p) missed) (piece exchange (got.Fragment raw) level ∷ []) old new
+  pub within : level < length s.levels
+  pub valid : IsValid (given name 0 raw)
+  pub time : raw.time ≡ p.expected
+
+pub record PieceStopped {P : Type 0} (m : Meaning P) (plan : Plan) (name : List ℕ) (p : Standing) (start now : Turn P) (old new : Option (List Exchange)) : Type 0 where
+  pub missed : List Miss
+  pub last : List Item
+  pub went : Went m plan name start now (at (standing p) []) (at (standing p) missed) last old new
+
+abbrev pub PiecesBy : {P : Type 0} → Meaning P → Plan → List ℕ → Standing → StreamListing → Turn P → Turn P → Option (List Exchange) → Option (List Exchange) → Pieces → Type 0
+PiecesBy m plan name p s start now old new (pieces.Took raw level) = PieceTaken m plan name p s start now old new raw level
+PiecesBy m plan name p s start now old new (pieces.GaveUp outcomes) =
+    Went m plan name start now (at (standing p) []) (at (standing p) outcomes) [] old new × (length outcomes ≡ plan.tries)
+PiecesBy m plan name p s start now old new pieces.NoMemory = PieceStopped m plan name p start now old new
+
+-- ---- the first manifest of a stream
+
+pub record BegunStanding (plan : Plan) (name : List ℕ) (new : code.Standing) (log log' : Option (List Exchange)) : Type 0 where
+  pub to : Standing
+  pub holds : Holds new to
+  pub written : to.written ≡ []
+  pub went : ListWent plan name (at unread []) (at (standing to) []) [] log log'
+
+abbrev pub Began : Plan → List ℕ → ℕ → Option (List Exchange) → Option (List Exchange) → Begun → Type 0
+Began plan name number log log' (begun_as.Stands new) = BegunStanding plan name new log log'
+Began plan name number log log' (begun_as.Ended end) = ListEnded plan name number (at unread []) end log log'

@@ -1,5 +1,5 @@
 //! Starts that are known.
-ghost use Rattle.std.specs.Prelude.{◌≡◌, ◌≤◌, ◌<◌, ◌+◌, ◌==◌, ◌||◌, ◌&&◌, ℕ, true, [], length, nat_le, IfSome, IfNone, OnOk, OnErr};
+ghost use Rattle.std.specs.Prelude.{◌≡◌, ◌≤◌, ◌<◌, ◌+◌, ◌==◌, ◌||◌, ◌&&◌, ℕ, true, false, [], length, nat_le, IfSome, IfNone, IfErr, IsOk, OnOk, OnErr};
 ghost use Rattle.sm_client.specs.Starts.{has, Falls, place_in};
 
 use sm_model::NoMemory;
@@ -31,6 +31,20 @@ fn place_of(starts: &[u64], start: u64) -> usize
     starts.partition_point(|s| *s > start)
 }
 
+// Whether that start is there, or else where it belongs.
+fn find(starts: &[u64], start: u64) -> Result<usize, usize>
+    requires { Falls starts.now }
+    ensures found { IsOk result → has start starts.now ≡ true }
+    ensures absent { IfErr result (λ i. (i ≡ place_in start starts.now) × (i ≤ length starts.now) × (has start starts.now ≡ false)) }
+{
+    let place = place_of(starts, start);
+    if place < starts.len() && starts[place] == start {
+        Ok(place)
+    } else {
+        Err(place)
+    }
+}
+
 impl Known {
     /// None.
     pub fn new(alloc: Global) -> Known
@@ -46,25 +60,23 @@ impl Known {
         ensures has { OnOk result ((k : ℕ) → has k self.new ≡ (has k self.old || start == k)) }
         ensures err { OnErr result (self.new ≡ self.old) }
     {
-        let place = place_of(&self.starts, start);
-        if place < self.starts.len() && self.starts[place] == start {
-            return Ok(());
+        match find(&self.starts, start) {
+            Ok(_) => Ok(()),
+            Err(place) => {
+                self.starts.insert(place, start)?;
+                Ok(())
+            }
         }
-        self.starts.insert(place, start)?;
-        Ok(())
     }
 
     /// Lets go those before a start.
     pub fn forget(&mut self, before: u64)
         ensures { (k : ℕ) → has k self.new ≡ (nat_le before k && has k self.old) }
     {
-        let place = place_of(&self.starts, before);
-        let rest = if place < self.starts.len() && self.starts[place] == before {
-            place + 1
-        } else {
-            place
-        };
-        self.starts.truncate(rest);
+        if before > 0 {
+            let kept = place_of(&self.starts, before - 1);
+            self.starts.truncate(kept);
+        }
     }
 
     /// The lowest one.

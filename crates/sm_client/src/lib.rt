@@ -1,12 +1,12 @@
 //! A client: plays streams of a live presentation from an origin, one after another, into tracks ([MS-SSTR] 3.2).
 #![tactic(auto)]
 
+mod call;
 mod known;
 mod list;
 mod outcomes;
 mod piece;
 mod plan;
-mod play;
 mod policies;
 mod report;
 mod seek;
@@ -16,7 +16,7 @@ mod stream;
 mod tests;
 mod write;
 
+pub use call::play;
 pub use outcomes::Outcomes;
 pub use plan::{Names, Plan};
-pub use play::play;
 pub use report::{End, Miss, Report};

@@ -5,7 +5,9 @@ ghost use Rattle.sm_client.specs.Turns.{fresh};
 ghost use Rattle.sm_client.specs.Starts.{has, AreAfter};
 ghost use Rattle.sm_client.specs.Stands.{Standing, address_at, ladder_of, miss_of};
 ghost use Rattle.sm_client.specs.Asks.{outcome_of};
-ghost use Rattle.sm_client.specs.Calls.{PieceOnce, PiecesBy};
+ghost use Rattle.sm_fetch.specs.declared.dial.Exchange.{Exchange};
+ghost use Rattle.sm_fetch.specs.Exchanges.{answer_len};
+ghost use Rattle.sm_client.specs.Calls.{PieceOnce, PiecesBy, MayPiece, IsAskedOf};
 
 use crate::list::miss_of;
 use crate::policies::Policies;
@@ -46,14 +48,25 @@ pub fn ladder_of(alloc: Global, levels: &[Level]) -> Result<Vec<u32>, NoMemory>
 }
 
 // What the policy hears: a fragment that was read was taken, with the length of the whole answer.
-fn outcome_of(fetched: &Fetched) -> Outcome
-    ensures { result ≡ outcome_by fetched.now.got fetched.now.bytes }
+fn outcome_of(got: &Got, bytes: u64) -> Outcome
+    ensures { (x : Exchange) → bytes ≡ answer_len x.answer → result ≡ outcome_of got.now x }
 {
-    match &fetched.got {
-        Got::Fragment(_) => Outcome::Took {
-            bytes: fetched.bytes,
-        },
+    match got {
+        Got::Fragment(_) => Outcome::Took { bytes },
         _ => Outcome::Missed,
+    }
+}
+
+// What was got, for the caller. A manifest is never got here.
+fn asked_of(got: Got, level: usize) -> Asked
+    ensures { IsAskedOf got level result }
+{
+    match got {
+        Got::Fragment(raw) => Asked::Took(raw, level),
+        other => match miss_of(&other) {
+            Some(miss) => Asked::Missed(miss),
+            None => Asked::NoMemory,
+        },
     }
 }
 
@@ -85,21 +98,14 @@ fn ask_once<C: Dial>(
         bitrate: ladder[level],
         time: start,
     };
-    let fetched = fetch_fragment(alloc, dial, &plan.place, stream.pattern.as_slice(), &address);
-    if let Got::NoMemory = &fetched.got {
+    let Fetched { got, bytes } =
+        fetch_fragment(alloc, dial, &plan.place, stream.pattern.as_slice(), &address);
+    if let Got::NoMemory = &got {
         return Asked::NoMemory;
     }
-    policies.hear(Heard {
-        level,
-        outcome: outcome_of(&fetched),
-    });
-    match fetched.got {
-        Got::Fragment(raw) => Asked::Took(raw, level),
-        other => match miss_of(&other) {
-            Some(miss) => Asked::Missed(miss),
-            None => Asked::NoMemory,
-        },
-    }
+    let outcome = outcome_of(&got, bytes);
+    policies.hear(Heard { level, outcome });
+    asked_of(got, level)
 }
 
 /// As many requests for that start as there are tries, until the fragment is read. Between them a policy that has retired
