@@ -1,5 +1,5 @@
 //! The policies of a play.
-ghost use Rattle.std.specs.Prelude.{◌≡◌, ◌<◌, [], length, vec_len, slice_index_or, remove};
+ghost use Rattle.std.specs.Prelude.{◌≡◌, ◌<◌, [], true, false, length, vec_len, slice_index_or, remove};
 
 use sm_policy::{Heard, Policy};
 
@@ -43,12 +43,33 @@ impl Policies {
         self.acting.hear(heard);
     }
 
+    // Whether the one that acts has retired, and isn't the last.
+    fn is_over(&self) -> bool
+        ensures yes { result ≡ true → (retired_after self.now.acting [] ≡ true) × (0 < length self.now.rest.items) }
+        ensures no { result ≡ false → retired_after self.now.acting [] ≡ true → self.now.rest.items ≡ [] }
+    {
+        if self.rest.is_empty() {
+            return false;
+        }
+        self.acting.retired()
+    }
+
+    // The next one acts.
+    fn take_over(&mut self)
+        requires { 0 < length self.old.rest.items }
+        ensures who { self.new.acting ≡ slice_index_or self.old.rest.items 0 self.new.acting }
+        ensures rest { self.new.rest.items ≡ remove self.old.rest.items 0 }
+        ensures fewer { vec_len self.new.rest < vec_len self.old.rest }
+    {
+        self.acting = self.rest.remove(0);
+    }
+
     /// Until one acts that hasn't retired, or is the last, the next one acts.
     pub fn settle(&mut self)
         ensures { settle (record { pick = pick_after; retired = retired_after }) self.old.acting [] self.old.rest.items ≡ fresh self.new.acting self.new.rest.items }
     {
-        while self.acting.retired() && !self.rest.is_empty() {
-            self.acting = self.rest.remove(0);
+        while self.is_over() {
+            self.take_over();
         }
     }
 }
