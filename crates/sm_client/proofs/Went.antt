@@ -4,13 +4,22 @@ use Rattle.sm_manin.specs.declared.listing.StreamListing.{StreamListing}
 use Rattle.sm_fetch.specs.declared.dial.Exchange.{Exchange}
 use Rattle.sm_fetch.specs.declared.got.Got.{Got}
 use Rattle.sm_fetch.specs.declared.got.Got.TheVariants as got
-use Rattle.sm_fetch.specs.Exchanges.{with_one, with_all}
+use Rattle.sm_fetch.specs.declared.dial.Answer.{Answer}
+use Rattle.sm_fetch.specs.declared.dial.Answer.TheVariants as answers
+use Rattle.sm_fetch.specs.Exchanges.{with_one, with_all, logged}
+use Rattle.sm_fetch.specs.Requests.{manifest_request, manifest_limit}
+use Rattle.sm_fetch.specs.Spelt.{SpellsManifest}
+use Rattle.sm_fetch.specs.Fetched.{FetchedManifest}
 use Rattle.sm_client.specs.declared.plan.Plan.{Plan}
 use Rattle.sm_client.specs.declared.report.Miss.{Miss}
 use Rattle.sm_client.specs.Turns.{Meaning, Turn, fresh, settle, hears, Behaves}
 use Rattle.sm_client.specs.Stands.{Item, list, piece, Standing, Stand, standing, State, ladder_of, listed, read_at, miss_of, missed_by, after_list, after_piece, state_by, state_after, written_at}
 use Rattle.sm_client.specs.Asks.{MayList, MadeList, Made, MadePiece, Asks, AsksLast, IsRead, got_of, exchange_of, exchanges, heard_of, hears_got, turn_by, turn_after}
-use Rattle.sm_client.specs.Calls.{at, AsksLists, AsksListLast, ListWent, ListMade, ListFound, ListMissed, Went, MayPiece, PieceMade, PieceHeard}
+use Rattle.sm_client.specs.Calls.{at, AsksLists, AsksListLast, ListWent, ListMade, ListFound, ListMissed, ListedOnce, IsListedOf, Went, MayPiece, PieceMade, PieceHeard}
+use Rattle.sm_model.specs.declared.run.RawFragment.{RawFragment}
+use Rattle.sm_client.specs.declared.list.Listed.{Listed}
+use Rattle.sm_client.specs.declared.list.Listed.TheVariants as listed_once
+use Rattle.sm_client.proofs.Levels.{spelled-levels}
 use Rattle.sm_client.proofs.Turns.{behaves-refl, behaves-trans, behaves-same, heard-behaves, turn_after-behaves, asks-behaves, last-behaves, turn_after-append, state_after-append, asks-append}
 
 -- ---- logs
@@ -171,19 +180,18 @@ list-missed {plan = plan} {m = m} name stand missed may tries f =
     let is = missed-is plan name (at stand missed) f.came m f.is in list-one name _ may tries f.made is.0 is.1
 
 -- want of memory, with an exchange or without one
-pub ListLost : Plan → List ℕ → State → Option (List Exchange) → Option (List Exchange) → Type 0
+abbrev pub ListLost : Plan → List ℕ → State → Option (List Exchange) → Option (List Exchange) → Type 0
 ListLost plan name s old new = (last : List Item) × ListWent plan name s s last old new
 
 pub list-lost : {plan : Plan} {old new : Option (List Exchange)} (name : List ℕ) (stand : Stand) (missed : List Miss)
     → MayList plan stand → length missed < plan.tries → (new ≡ old) ⊎ ListMade plan old new got.NoMemory
     → ListLost plan name (at stand missed) old new
-unfolding ListLost
 list-lost {plan = plan} {old = old} name stand missed may tries (inl e) = ([], rw e (lists-start plan name (at stand missed) old))
 list-lost name stand missed may tries (inr made) = (list made.exchange got.NoMemory ∷ [], list-last name may tries made)
 
 -- ---- one request for a fragment
 
-piece_missed-is : (name : List ℕ) (s : State) (g : Got) (level : ℕ) (m : Miss) → miss_of g ≡ Some m → (IsRead g) × (after_piece name s g level ≡ at s.stand (s.missed ++ m ∷ []))
+pub piece_missed-is : (name : List ℕ) (s : State) (g : Got) (level : ℕ) (m : Miss) → miss_of g ≡ Some m → (IsRead g) × (after_piece name s g level ≡ at s.stand (s.missed ++ m ∷ []))
 piece_missed-is name s (got.Manifest l) level m e = absurd (cc)
 piece_missed-is name s (got.Fragment raw) level m e = absurd (cc)
 piece_missed-is name s (got.Status status) level m e = (tt, ap (missed_by s) e)
@@ -201,7 +209,7 @@ hears-read m t (got.Unreadable at) x level r = refl
 hears-read m t got.Lost x level r = refl
 hears-read m t got.NoMemory x level r = absurd r
 
-made-piece : {P : Type 0} {m : Meaning P} {plan : Plan} {name : List ℕ} {s : StreamListing} {start ahead : ℕ} {who : P} {old new : Option (List Exchange)} {g : Got} {level : ℕ}
+pub made-piece : {P : Type 0} {m : Meaning P} {plan : Plan} {name : List ℕ} {s : StreamListing} {start ahead : ℕ} {who : P} {old new : Option (List Exchange)} {g : Got} {level : ℕ}
     (p : Standing) (missed : List Miss) (ps : List P) → MayPiece plan p s start ahead → length missed < plan.tries
     → (made : PieceMade m plan name s start ahead who old new g level) → MadePiece m plan name (fresh who ps) (at (standing p) missed) made.exchange g level
 made-piece {m = m} {name = name} {s = s} {who = who} {level = level} p missed ps may tries made = record {
@@ -234,3 +242,51 @@ piece-last {m = m} {who = who} {old = old} {g = g} {level = level} p missed ps k
   asks_last = made-piece p missed ps may tries heard.made;
   turn = behaves-same _ (hears-read m (fresh who ps) g heard.made.exchange level read) (heard-behaves kept heard.heard same settled);
 }
+
+-- ---- as calls tell them
+
+fetched-made : {plan : Plan} {old new : Option (List Exchange)} {g : Got} → (answer : Answer) → new ≡ logged old (manifest_request plan.place) manifest_limit answer
+    → SpellsManifest answer g → ((new ≡ old) × (g ≡ got.NoMemory)) ⊎ ListMade plan old new g
+fetched-made {plan = plan} (answers.Bytes bytes) log s =
+    inr (record { exchange = record { request = manifest_request plan.place; limit = manifest_limit; answer = answers.Bytes bytes }; log = log; request = refl; limit = refl; spells = s })
+fetched-made {plan = plan} answers.Lost log s =
+    inr (record { exchange = record { request = manifest_request plan.place; limit = manifest_limit; answer = answers.Lost }; log = log; request = refl; limit = refl; spells = s })
+fetched-made answers.NoMemory log s = inl (log, s)
+
+pub list-made : {plan : Plan} {old new : Option (List Exchange)} {g : Got} → FetchedManifest plan.place old new g → ((new ≡ old) × (g ≡ got.NoMemory)) ⊎ ListMade plan old new g
+list-made f = fetched-made f.answer f.log f.spells
+
+made-same : {plan : Plan} {old new : Option (List Exchange)} {g : Got} (h : Got) → g ≡ h → ((new ≡ old) × (g ≡ got.NoMemory)) ⊎ ListMade plan old new g
+    → ((new ≡ old) × (h ≡ got.NoMemory)) ⊎ ListMade plan old new h
+made-same h e m = rw (← e) m
+
+not_lost : {plan : Plan} {old new : Option (List Exchange)} {g : Got} → (g ≡ got.NoMemory → ⊥) → ((new ≡ old) × (g ≡ got.NoMemory)) ⊎ ListMade plan old new g → ListMade plan old new g
+not_lost n (inl e) = absurd (n e.1)
+not_lost n (inr m) = m
+
+lost : {plan : Plan} {old new : Option (List Exchange)} → ((new ≡ old) × (got.NoMemory ≡ got.NoMemory)) ⊎ ListMade plan old new got.NoMemory → (new ≡ old) ⊎ ListMade plan old new got.NoMemory
+lost (inl e) = inl e.0
+lost (inr m) = inr m
+
+no_fragment : {plan : Plan} {old new : Option (List Exchange)} (raw : RawFragment) → ListMade plan old new (got.Fragment raw) → ⊥
+no_fragment raw m = no m.exchange.answer m.spells
+  where
+    no : (answer : Answer) → SpellsManifest answer (got.Fragment raw) → ⊥
+    no (answers.Bytes bytes) s = s
+    no answers.Lost s = cc
+    no answers.NoMemory s = cc
+
+missed-not : (g : Got) (m : Miss) → miss_of g ≡ Some m → g ≡ got.NoMemory → ⊥
+missed-not g m e is = let n : miss_of g ≡ None = ap miss_of is in cc
+
+lost-by : {plan : Plan} {old new : Option (List Exchange)} (g : Got) → ((new ≡ old) × (g ≡ got.NoMemory)) ⊎ ListMade plan old new g
+    → (g ≡ got.NoMemory) ⊎ ((raw : RawFragment) × (g ≡ got.Fragment raw)) → (new ≡ old) ⊎ ListMade plan old new got.NoMemory
+lost-by g m (inl e) = lost (made-same got.NoMemory e m)
+lost-by g m (inr f) = absurd (no_fragment f.0 (not_lost (λ e. cc) (made-same (got.Fragment f.0) f.1 m)))
+
+pub listed-once : (plan : Plan) {old new : Option (List Exchange)} {g : Got} (name : List ℕ) (r : Listed) → FetchedManifest plan.place old new g → IsListedOf g name r → ListedOnce plan name old new r
+listed-once plan name (listed_once.Found found) f is =
+    let made = not_lost (λ e. cc) (made-same (got.Manifest is.0) is.1 (list-made f)) in
+    (record { listing = is.0; made = made; is = is.2 }, rw is.2 (spelled-levels name made.exchange.answer is.0 made.spells))
+listed-once plan {g = g} name (listed_once.Missed m) f is = record { came = g; made = not_lost (missed-not g m is) (list-made f); is = is }
+listed-once plan {g = g} name listed_once.NoMemory f is = lost-by g (list-made f) is

@@ -92,6 +92,12 @@ ListedOnce plan name old new (listed_once.Found found) = ListFound plan name old
 ListedOnce plan name old new (listed_once.Missed m) = ListMissed plan old new m
 ListedOnce plan name old new listed_once.NoMemory = (new ≡ old) ⊎ ListMade plan old new got.NoMemory
 
+-- what a request for a manifest got, of the stream of this name
+abbrev pub IsListedOf : Got → List ℕ → Listed → Type 0
+IsListedOf g name (listed_once.Found found) = (l : Listing) × (g ≡ got.Manifest l) × (found ≡ listed name l.streams)
+IsListedOf g name (listed_once.Missed m) = miss_of g ≡ Some m
+IsListedOf g name listed_once.NoMemory = (g ≡ got.NoMemory) ⊎ ((raw : RawFragment) × (g ≡ got.Fragment raw))
+
 -- Exchanges for manifests alone.
 abbrev pub AsksLists : Plan → List ℕ → State → List Item → Type 0
 AsksLists plan name s [] = Unit {0}
@@ -125,14 +131,7 @@ ListedBy plan name stand old new (manifest.Read found) =
 ListedBy plan name stand old new (manifest.GaveUp outcomes) = ListWent plan name (at stand []) (at stand outcomes) [] old new × (length outcomes ≡ plan.tries)
 ListedBy plan name stand old new manifest.NoMemory = ListStopped plan name (at stand []) old new
 
--- ---- until the expected start is known
-
-pub record SoughtFound (plan : Plan) (name : List ℕ) (p : Standing) (new : code.Standing) (log log' : Option (List Exchange)) : Type 0 where
-  pub to : Standing
-  pub holds : Holds new to
-  pub known : has to.expected to.known ≡ true
-  pub written : to.written ≡ p.written
-  pub went : ListWent plan name (at (standing p) []) (at (standing to) []) [] log log'
+-- ---- ends
 
 pub record ListEnded (plan : Plan) (name : List ℕ) (number : ℕ) (from : State) (end : End) (log log' : Option (List Exchange)) : Type 0 where
   pub to : State
@@ -141,6 +140,31 @@ pub record ListEnded (plan : Plan) (name : List ℕ) (number : ℕ) (from : Stat
   pub written : written_at to.stand ≡ written_at from.stand
   pub ends : EndsAt plan number end to
   pub tail : IsTail plan name end to last []
+
+-- ---- one manifest more
+
+pub record RelistedTo (plan : Plan) (name : List ℕ) (p : Standing) (new : code.Standing) (log log' : Option (List Exchange)) : Type 0 where
+  pub to : Standing
+  pub holds : Holds new to
+  pub written : to.written ≡ p.written
+  pub went : ListWent plan name (at (standing p) []) (at (standing to) []) [] log log'
+
+-- want of memory, or none of the tries gave one
+pub record RelistEnded (plan : Plan) (name : List ℕ) (p : Standing) (end : End) (log log' : Option (List Exchange)) : Type 0 where
+  pub ended : (number : ℕ) → ListEnded plan name number (at (standing p) []) end log log'
+
+abbrev pub Relisted : Plan → List ℕ → Standing → code.Standing → Option (List Exchange) → Option (List Exchange) → Option End → Type 0
+Relisted plan name p new log log' None = RelistedTo plan name p new log log'
+Relisted plan name p new log log' (Some end) = RelistEnded plan name p end log log'
+
+-- ---- until the expected start is known
+
+pub record SoughtFound (plan : Plan) (name : List ℕ) (p : Standing) (new : code.Standing) (log log' : Option (List Exchange)) : Type 0 where
+  pub to : Standing
+  pub holds : Holds new to
+  pub known : has to.expected to.known ≡ true
+  pub written : to.written ≡ p.written
+  pub went : ListWent plan name (at (standing p) []) (at (standing to) []) [] log log'
 
 abbrev pub Sought : Plan → List ℕ → ℕ → Standing → code.Standing → Option (List Exchange) → Option (List Exchange) → Option End → Type 0
 Sought plan name number p new log log' None = SoughtFound plan name p new log log'

@@ -22,7 +22,7 @@ pub record IsNoMore (plan : Plan) (expected : ℕ) (s : State) : Type 0 where
   pub more : length at.written < plan.count
   pub start : expected ≡ at.expected
   pub unknown : has expected at.known ≡ false
-  pub manifests : at.manifests ≡ plan.refresh
+  pub manifests : plan.refresh ≤ at.manifests
   pub nothing : (k : ℕ) → has k (listed_starts at.listing) ≡ true → k < expected
 
 -- the last manifest is of this start, doesn't list it, and lists a later one, of which this is the first

@@ -59,6 +59,7 @@ impl Known {
     pub fn add(&mut self, start: u64) -> Result<(), NoMemory>
         ensures has { OnOk result ((k : ℕ) → has k self.new ≡ (has k self.old || start == k)) }
         ensures err { OnErr result (self.new ≡ self.old) }
+        ensures falls { Falls self.new }
     {
         match find(&self.starts, start) {
             Ok(_) => Ok(()),
@@ -71,7 +72,8 @@ impl Known {
 
     /// Lets go those before a start.
     pub fn forget(&mut self, before: u64)
-        ensures { (k : ℕ) → has k self.new ≡ (nat_le before k && has k self.old) }
+        ensures has { (k : ℕ) → has k self.new ≡ (nat_le before k && has k self.old) }
+        ensures falls { Falls self.new }
     {
         if before > 0 {
             let kept = place_of(&self.starts, before - 1);

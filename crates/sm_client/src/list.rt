@@ -3,7 +3,7 @@ ghost use Rattle.std.specs.Prelude.{◌≡◌, ◌≤◌, ℕ};
 ghost use Rattle.sm_fetch.specs.Origins.{Grows};
 ghost use Rattle.sm_client.specs.Stands.{Stand, listed, miss_of};
 ghost use Rattle.sm_client.specs.Asks.{MayList};
-ghost use Rattle.sm_client.specs.Calls.{ListedOnce, ListedBy};
+ghost use Rattle.sm_client.specs.Calls.{ListedOnce, ListedBy, IsListedOf};
 
 use crate::{Miss, Outcomes, Plan};
 use sm_fetch::{Dial, Got, get_manifest};
@@ -54,17 +54,25 @@ pub fn miss_of(got: &Got) -> Option<Miss>
     }
 }
 
-// One request.
-fn list_once<C: Dial>(alloc: Global, dial: &mut C, plan: &Plan, name: &Name) -> Listed
-    ensures { ListedOnce plan.now name.now (C.log dial.old) (C.log dial.new) result }
+// What was got, of the stream of that name. A fragment is never got here.
+fn listed_of(got: Got, name: &Name) -> Listed
+    ensures { IsListedOf got name.now result }
 {
-    match get_manifest(alloc, dial, &plan.place) {
+    match got {
         Got::Manifest(listing) => Listed::Found(stream_of(listing, name)),
         other => match miss_of(&other) {
             Some(miss) => Listed::Missed(miss),
             None => Listed::NoMemory,
         },
     }
+}
+
+// One request.
+fn list_once<C: Dial>(alloc: Global, dial: &mut C, plan: &Plan, name: &Name) -> Listed
+    ensures { ListedOnce plan.now name.now (C.log dial.old) (C.log dial.new) result }
+{
+    let got = get_manifest(alloc, dial, &plan.place);
+    listed_of(got, name)
 }
 
 /// As many requests as there are tries, until a manifest is read.
@@ -76,9 +84,9 @@ pub fn list<C: Dial>(alloc: Global, dial: &mut C, plan: &Plan, name: &Name) -> M
         match list_once(alloc, dial, plan, name) {
             Listed::Found(found) => return Manifest::Read(found),
             Listed::Missed(miss) => {
-                if outcomes.add(miss).is_err() {
+                let Ok(()) = outcomes.add(miss) else {
                     return Manifest::NoMemory;
-                }
+                };
             }
             Listed::NoMemory => return Manifest::NoMemory,
         }

@@ -128,14 +128,16 @@ pub fn ask<C: Dial>(
 {
     let mut outcomes = Outcomes::new(alloc);
     for _ in 0..plan.tries {
-        let asked = ask_once(alloc, dial, policies, plan, name, stream, start, ahead);
-        policies.settle();
-        match asked {
-            Asked::Took(raw, level) => return Pieces::Took(raw, level),
+        match ask_once(alloc, dial, policies, plan, name, stream, start, ahead) {
+            Asked::Took(raw, level) => {
+                policies.settle();
+                return Pieces::Took(raw, level);
+            }
             Asked::Missed(miss) => {
-                if outcomes.add(miss).is_err() {
+                policies.settle();
+                let Ok(()) = outcomes.add(miss) else {
                     return Pieces::NoMemory;
-                }
+                };
             }
             Asked::NoMemory => return Pieces::NoMemory,
         }

@@ -1,5 +1,5 @@
 //! Where a stream stands, once its first manifest was read.
-ghost use Rattle.std.specs.Prelude.{◌≡◌, ◌≤◌, ◌<◌, ◌+◌, ◌-◌, ◌^◌, ℕ, List, [], ◌++◌, true, false, length, Some, None, IfOk, IfSome, OnOk, IsTrue, ◌↔◌};
+ghost use Rattle.std.specs.Prelude.{◌≡◌, ◌≤◌, ◌<◌, ◌+◌, ◌-◌, ◌^◌, ℕ, List, [], ◌∷◌, ◌++◌, true, false, length, Some, None, IfOk, IfSome, OnOk, IsTrue, ◌↔◌};
 ghost use Rattle.sm_manin.specs.declared.listing.StreamListing.{StreamListing};
 ghost use Rattle.sm_client.specs.Starts.{has, starts, AreAfter};
 ghost use Rattle.sm_client.specs.Stands as stand;
@@ -47,6 +47,19 @@ fn first_start(from: Option<u64>, times: &[(u64, u64)]) -> u64
     }
 }
 
+// One start more, if it isn't before the expected one.
+fn add_from(known: &mut Known, expected: u64, start: u64) -> Result<(), NoMemory>
+    ensures { (all : List ℕ) → KnowsFrom expected all known.old → OnOk result (KnowsFrom expected (start ∷ all) known.new) }
+{
+    if start < expected {
+        return Ok(());
+    }
+    match known.add(start) {
+        Ok(()) => Ok(()),
+        Err(_) => Err(NoMemory),
+    }
+}
+
 // The starts of these times that aren't before the expected one. The times are gone through from the last one on, since
 // the lowest start stands last.
 fn known_of(alloc: Global, times: &[(u64, u64)], expected: u64) -> Result<Known, NoMemory>
@@ -56,10 +69,9 @@ fn known_of(alloc: Global, times: &[(u64, u64)], expected: u64) -> Result<Known,
     let mut left = times.len();
     while left > 0 {
         left -= 1;
-        let start = times[left].0;
-        if start >= expected {
-            known.add(start)?;
-        }
+        let Ok(()) = add_from(&mut known, expected, times[left].0) else {
+            return Err(NoMemory);
+        };
     }
     Ok(known)
 }
@@ -68,10 +80,10 @@ fn known_of(alloc: Global, times: &[(u64, u64)], expected: u64) -> Result<Known,
 fn add_all(known: &mut Known, expected: u64, times: &[(u64, u64)]) -> Result<(), NoMemory>
     ensures { (all : List ℕ) → KnowsFrom expected all known.old → OnOk result (KnowsFrom expected (all ++ starts times.now) known.new) }
 {
-    for (start, _) in times {
-        if *start >= expected {
-            known.add(*start)?;
-        }
+    for time in times {
+        let Ok(()) = add_from(known, expected, time.0) else {
+            return Err(NoMemory);
+        };
     }
     Ok(())
 }
@@ -118,7 +130,10 @@ impl Standing {
         self.written += 1;
         self.manifests = 0;
         self.known.forget(expected);
-        add_all(&mut self.known, expected, ahead)
+        match add_all(&mut self.known, expected, ahead) {
+            Ok(()) => Ok(()),
+            Err(_) => Err(NoMemory),
+        }
     }
 
     /// Whether the expected start is known.
