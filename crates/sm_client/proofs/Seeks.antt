@@ -4,16 +4,16 @@ use Rattle.sm_manin.specs.declared.listing.StreamListing.{StreamListing}
 use Rattle.sm_fetch.specs.declared.dial.Exchange.{Exchange}
 use Rattle.sm_client.specs.declared.plan.Plan.{Plan}
 use Rattle.sm_client.specs.declared.report.Miss.{Miss}
+use Rattle.sm_client.specs.declared.report.End.{End}
 use Rattle.sm_client.specs.declared.report.End.TheVariants as ends
 use Rattle.sm_client.specs.declared.list.Manifest.TheVariants as manifest
 use Rattle.sm_client.specs.declared.standing.Standing as code
 use Rattle.sm_client.specs.Starts.{has, starts}
 use Rattle.sm_client.specs.Stands.{Stand, unread, absent, standing, Standing, relisted, first_start, listed_starts, read_at, written_at}
 use Rattle.sm_client.specs.Asks.{MayList, Relists}
-use Rattle.sm_client.specs.Ends.{EndsAt, IsHole, IsNoMore}
+use Rattle.sm_client.specs.Ends.{EndsAt, IsTail}
 use Rattle.sm_client.specs.Calls.{at, Holds, HasLevels, KnowsFrom, ListWent, ListedBy, ListStopped, ListEnded, BegunStanding, RelistedTo, RelistEnded, SoughtFound, Sought}
 use Rattle.sm_client.proofs.Went.{lists-start, lists-more}
-use Rattle.sm_client.proofs.Knows.{known_low, known_has, has_known}
 
 -- ---- the first manifest
 
@@ -82,50 +82,59 @@ pub relist-stopped : {plan : Plan} {name : List ℕ} {old new : Option (List Exc
     → ((stand : Stand) → MayList plan stand → ListedBy plan name stand old new manifest.NoMemory) → RelistEnded plan name p ends.NoMemory old new
 relist-stopped {p = p} may r = record { ended = λ number. listed-stopped number (standing p) (r (standing p) may) }
 
--- ---- what the last manifest settles
+-- ---- one after another
 
-pub settled-hole : {plan : Plan} {s : code.Standing} {p : Standing} {next : ℕ} → Holds s p → has p.expected p.known ≡ false → length p.written < plan.count → s.manifests ≢ 0
-    → has next s.known ≡ true → ((k : ℕ) → has k s.known ≡ true → next ≤ k) → IsHole plan s.expected next (at (standing p) [])
-settled-hole {p = p} {next = next} h unknown more some there lowest =
-    let one : 0 < p.manifests = omega (arith, h.manifests, some) in
-    let same = h.same one in
-    let known : has next p.known ≡ true = known_has h.known next there in
-    let over : p.expected ≤ next = known_low h.known next there in
-    record {
-      at = p;
-      stands = refl;
-      more = more;
-      start = h.expected;
-      unknown = rw h.expected unknown;
-      manifests = one;
-      unlisted = rw (h.expected, ← same) unknown;
-      lists = rw (← same) known;
-      after = rw h.expected (less p.expected next over (λ e. let yes : has p.expected p.known ≡ true = rw e known in cc));
-      first = λ k listed behind. lowest k (has_known h.known k (omega (arith, h.expected, behind)) (rw same listed));
-    }
-  where
-    less : (a b : ℕ) → a ≤ b → a ≢ b → a < b
-    less a b le ne = omega (arith, le, ne)
+-- what holds before each further manifest
+pub record Seeking (plan : Plan) (name : List ℕ) (old now : code.Standing) (log log' : Option (List Exchange)) : Type 0 where
+  pub led : (p : Standing) → Holds old p → length p.written < plan.count → RelistedTo plan name p now log log'
+  pub written : now.written ≡ old.written
+  pub levels : HasLevels now.listing
 
-pub settled-no_more : {plan : Plan} {s : code.Standing} {p : Standing} → Holds s p → has p.expected p.known ≡ false → length p.written < plan.count → s.manifests ≢ 0
-    → s.known ≡ [] → plan.refresh ≤ s.manifests → IsNoMore plan s.expected (at (standing p) [])
-settled-no_more {p = p} h unknown more some none all =
-    let one : 0 < p.manifests = omega (arith, h.manifests, some) in
-    record {
-      at = p;
-      stands = refl;
-      more = more;
-      start = h.expected;
-      unknown = rw h.expected unknown;
-      manifests = rw (← h.manifests) all;
-      nothing = λ k listed. nothing-listed h one none k listed;
-    }
-  where
-    nothing-listed : {s : code.Standing} {p : Standing} → Holds s p → 0 < p.manifests → s.known ≡ [] → (k : ℕ) → has k (listed_starts p.listing) ≡ true → k < s.expected
-    nothing-listed {s = s} {p = p} h one none k listed = by_order (omega-order k p.expected)
-      where
-        omega-order : (a b : ℕ) → (a < b) ⊎ (b ≤ a)
-        omega-order a b = grind arith
-        by_order : (k < p.expected) ⊎ (p.expected ≤ k) → k < s.expected
-        by_order (inl l) = omega (arith, l, h.expected)
-        by_order (inr g) = absurd (let there : has k s.known ≡ true = has_known h.known k g (rw (h.same one) listed) in let n : has k s.known ≡ false = rw none refl in cc)
+pub seeking-start : (plan : Plan) (name : List ℕ) (s : code.Standing) (log : Option (List Exchange)) → HasLevels s.listing → Seeking plan name s s log log
+seeking-start plan name s log levels = record {
+  led = λ p h more. record { to = p; holds = h; written = refl; went = lists-start plan name (at (standing p) []) log };
+  written = refl;
+  levels = levels;
+}
+
+pub seeking-more : {plan : Plan} {name : List ℕ} {old now : code.Standing} {log mid new : Option (List Exchange)} (then : code.Standing) → Seeking plan name old now log mid
+    → ((q : Standing) → Holds now q → length q.written < plan.count → Relists plan q)
+    → ((q : Standing) → Holds now q → Relists plan q → RelistedTo plan name q then mid new) → then.written ≡ now.written → HasLevels then.listing → Seeking plan name old then log new
+seeking-more then k settled more same levels = record {
+  led = λ p h wanted.
+      let a = k.led p h wanted in
+      let b = more a.to a.holds (settled a.to a.holds (rw a.written wanted)) in
+      record { to = b.to; holds = b.holds; written = b.written ∙ a.written; went = lists-more a.went b.went };
+  written = same ∙ k.written;
+  levels = levels;
+}
+
+pub seeking-found : {plan : Plan} {name : List ℕ} {old now : code.Standing} {log new : Option (List Exchange)} {known : Bool} → Seeking plan name old now log new → known ≡ true
+    → ((q : Standing) → Holds now q → known ≡ has q.expected q.known)
+    → (p : Standing) → Holds old p → length p.written < plan.count → SoughtFound plan name p now log new
+seeking-found k known is p h wanted = let a = k.led p h wanted in
+    record { to = a.to; holds = a.holds; known = sym (is a.to a.holds) ∙ known; written = a.written; went = a.went }
+
+ended-more : {plan : Plan} {name : List ℕ} {p q : Standing} {end : End} {log mid new : Option (List Exchange)} (number : ℕ)
+    → q.written ≡ p.written → ListWent plan name (at (standing p) []) (at (standing q) []) [] log mid → ListEnded plan name number (at (standing q) []) end mid new
+    → ListEnded plan name number (at (standing p) []) end log new
+ended-more number same w e = record { to = e.to; last = e.last; went = lists-more w e.went; written = e.written ∙ same; ends = e.ends; tail = e.tail }
+
+pub seeking-ended : {plan : Plan} {name : List ℕ} {old now : code.Standing} {log mid new : Option (List Exchange)} {end : End} → Seeking plan name old now log mid
+    → ((q : Standing) → Holds now q → length q.written < plan.count → Relists plan q)
+    → ((q : Standing) → Holds now q → Relists plan q → RelistEnded plan name q end mid new)
+    → (p : Standing) (number : ℕ) → Holds old p → length p.written < plan.count → ListEnded plan name number (at (standing p) []) end log new
+seeking-ended k settled more p number h wanted =
+    let a = k.led p h wanted in
+    ended-more number a.written a.went ((more a.to a.holds (settled a.to a.holds (rw a.written wanted))).ended number)
+
+-- how an end that the last manifest settles ends
+pub record Settled (plan : Plan) (now : code.Standing) (end : End) : Type 0 where
+  pub ends : (q : Standing) (number : ℕ) → Holds now q → length q.written < plan.count → EndsAt plan number end (at (standing q) [])
+  pub tail : (q : Standing) (name : List ℕ) → IsTail plan name end (at (standing q) []) [] []
+
+pub seeking-settled : {plan : Plan} {name : List ℕ} {old now : code.Standing} {log new : Option (List Exchange)} {end : End} → Seeking plan name old now log new → Settled plan now end
+    → (p : Standing) (number : ℕ) → Holds old p → length p.written < plan.count → ListEnded plan name number (at (standing p) []) end log new
+seeking-settled {name = name} k s p number h wanted =
+    let a = k.led p h wanted in
+    record { to = at (standing a.to) []; last = []; went = a.went; written = a.written; ends = s.ends a.to number a.holds (rw a.written wanted); tail = s.tail a.to name }

@@ -13,7 +13,7 @@ use Rattle.sm_client.specs.declared.piece.Pieces.TheVariants as pieces
 use Rattle.sm_client.specs.Turns.{Meaning, Turn, fresh, settle}
 use Rattle.sm_client.specs.Stands.{Stand, Standing, standing, piece}
 use Rattle.sm_client.specs.Asks.{MayList, IsRead}
-use Rattle.sm_client.specs.Calls.{at, ListWent, ListedOnce, ListedBy, ListStopped, ListMissed, Went, MayPiece, PieceHeard, PieceMissed, PieceLost, PiecesBy}
+use Rattle.sm_client.specs.Calls.{at, ListWent, ListedOnce, ListedBy, ListStopped, ListMissed, Went, MayPiece, PieceHeard, PieceMissed, PieceLost, PiecesBy, TookValid}
 use Rattle.sm_client.proofs.Went.{lists-start, lists-more, list-found, list-missed, list-lost, ListLost, went-start, went-more, went-took, piece-last, piece_missed-is}
 use Rattle.sm_client.proofs.Pieces.{spelled-fragment, valid-named, lost-went}
 
@@ -129,3 +129,7 @@ pub piece_tried-end : {P : Type 0} {m : Meaning P} {plan : Plan} {name : List �
     → PieceTried m plan name s start ahead begin now outcomes tries old new → tries ≡ plan.tries
     → (p : Standing) → MayPiece plan p s start ahead → PiecesBy m plan name p s begin now old new (pieces.GaveUp outcomes)
 piece_tried-end t all p may = (t.went p may, t.count ∙ all)
+
+pub took-valid : {P : Type 0} {m : Meaning P} {plan : Plan} {name : List ℕ} {s : StreamListing} {start ahead : ℕ} {who now : P} {old new : Option (List Exchange)} {raw : RawFragment} {level : ℕ}
+    → PieceHeard m plan name s start ahead who now old new (got.Fragment raw) level → TookValid s start (pieces.Took raw level)
+took-valid {start = start} {raw = raw} h = let v = spelled-fragment start h.made.exchange.answer raw h.made.spells in (h.made.within, v.0, v.1)

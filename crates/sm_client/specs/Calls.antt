@@ -1,5 +1,5 @@
 -- What the parts of a play do.
-use Rattle.std.specs.Prelude.{◌≡◌, ◌<◌, ◌≤◌, ◌+◌, ◌⊎◌, ◌&&◌, ℕ, true, List, [], ◌∷◌, ◌++◌, length, nat_le, Option, Some, None, IfSome}
+use Rattle.std.specs.Prelude.{◌≡◌, ◌<◌, ◌≤◌, ◌+◌, ◌⊎◌, ◌&&◌, ℕ, true, List, [], ◌∷◌, ◌++◌, length, take, nat_le, Option, Some, None, IfSome}
 use Rattle.std.specs.Io.KnownBytes.{Appends, Keeps}
 use Rattle.sm_policy.specs.declared.policy.Heard.{Heard}
 use Rattle.sm_model.specs.declared.run.RawFragment.{RawFragment}
@@ -31,7 +31,7 @@ use Rattle.sm_client.specs.Turns.{Meaning, Turn, Continues, Behaves}
 use Rattle.sm_client.specs.Starts.{has, starts, Falls, AreAfter}
 use Rattle.sm_client.specs.Stands.{Item, list, piece, Piece, Standing, Stand, unread, standing, State, listed, listed_starts, ladder_of, address_at, read_at, miss_of, state_after, written_at}
 use Rattle.sm_client.specs.Asks.{MayList, MadeList, Asks, AsksLast, IsRead, heard_of, turn_after, exchanges}
-use Rattle.sm_client.specs.Ends.{EndsAt, IsTail, piece_text}
+use Rattle.sm_client.specs.Ends.{EndsAt, IsTail, piece_text, texts}
 
 -- ---- where a stream stands
 
@@ -247,6 +247,12 @@ PiecesBy m plan name p s start now old new (pieces.GaveUp outcomes) =
     Went m plan name start now (at (standing p) []) (at (standing p) outcomes) [] old new × (length outcomes ≡ plan.tries)
 PiecesBy m plan name p s start now old new pieces.NoMemory = PieceStopped m plan name p start now old new
 
+-- a fragment that was taken is valid, of the time asked, and at a place of the ladder
+abbrev pub TookValid : StreamListing → ℕ → Pieces → Type 0
+TookValid s start (pieces.Took raw level) = (level < length s.levels) × IsValid (given [] 0 raw) × (raw.time ≡ start)
+TookValid s start (pieces.GaveUp outcomes) = Unit {0}
+TookValid s start pieces.NoMemory = Unit {0}
+
 -- ---- the first manifest of a stream
 
 pub record BegunStanding (plan : Plan) (name : List ℕ) (new : code.Standing) (log log' : Option (List Exchange)) : Type 0 where
@@ -258,3 +264,48 @@ pub record BegunStanding (plan : Plan) (name : List ℕ) (new : code.Standing) (
 abbrev pub Began : Plan → List ℕ → ℕ → Option (List Exchange) → Option (List Exchange) → Begun → Type 0
 Began plan name number log log' (begun_as.Stands new) = BegunStanding plan name new log log'
 Began plan name number log log' (begun_as.Ended end) = ListEnded plan name number (at unread []) end log log'
+
+-- ---- a stream goes on
+
+-- exchanges lead from one turn and state to another, and the track gets the texts of the fragments between them, and this behind
+pub record Streams {P : Type 0} (m : Meaning P) (plan : Plan) (name : List ℕ) (start now : Turn P) (from to : State) (last : List Item) (tail : List ℕ)
+    (log log' : Option (List Exchange)) (track track' : Option (List ℕ)) : Type 0 where
+  pub went : Went m plan name start now from to last log log'
+  pub added : List Piece
+  pub written : written_at to.stand ≡ written_at from.stand ++ added
+  pub text : Appends track track' (texts (length (written_at from.stand) + 1) added ++ tail)
+
+-- one fragment more
+pub record StreamsOn {P : Type 0} (m : Meaning P) (plan : Plan) (name : List ℕ) (p : Standing) (start now : Turn P) (new : code.Standing)
+    (log log' : Option (List Exchange)) (track track' : Option (List ℕ)) : Type 0 where
+  pub to : Standing
+  pub holds : Holds new to
+  pub more : length to.written ≡ length p.written + 1
+  pub streams : Streams m plan name start now (at (standing p) []) (at (standing to) []) [] [] log log' track track'
+
+-- or an end, with so many fragments written
+pub record StreamsEnd {P : Type 0} (m : Meaning P) (plan : Plan) (name : List ℕ) (number : ℕ) (from : State) (start now : Turn P) (count : ℕ) (end : End)
+    (log log' : Option (List Exchange)) (track track' : Option (List ℕ)) : Type 0 where
+  pub to : State
+  pub last : List Item
+  pub tail : List ℕ
+  pub streams : Streams m plan name start now from to last tail log log' track track'
+  pub ends : EndsAt plan number end to
+  pub behind : IsTail plan name end to last tail
+  pub counted : count ≡ length (written_at to.stand)
+
+abbrev pub StreamsBy : {P : Type 0} → Meaning P → Plan → List ℕ → ℕ → Standing → Turn P → Turn P → code.Standing
+    → Option (List Exchange) → Option (List Exchange) → Option (List ℕ) → Option (List ℕ) → Option End → Type 0
+StreamsBy m plan name number p start now new log log' track track' None = StreamsOn m plan name p start now new log log' track track'
+StreamsBy m plan name number p start now new log log' track track' (Some end) = StreamsEnd m plan name number (at (standing p) []) start now new.written end log log' track track'
+
+-- what writing a text may end with: the track got a front of it and failed, or memory ran out before
+abbrev pub WritesFront : Option (List ℕ) → Option (List ℕ) → List ℕ → End → Type 0
+WritesFront track track' text ends.WriteFault = (n : ℕ) × Appends track track' (take n text)
+WritesFront track track' text ends.NoMemory = Appends track track' []
+WritesFront track track' text ends.Done = ⊥
+WritesFront track track' text (ends.NoMore expected) = ⊥
+WritesFront track track' text (ends.Hole expected next) = ⊥
+WritesFront track track' text (ends.GaveUp time outcomes) = ⊥
+WritesFront track track' text (ends.NoManifest outcomes) = ⊥
+WritesFront track track' text (ends.NoStream index) = ⊥

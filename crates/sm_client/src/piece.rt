@@ -7,7 +7,7 @@ ghost use Rattle.sm_client.specs.Stands.{Standing, address_at, ladder_of, miss_o
 ghost use Rattle.sm_client.specs.Asks.{outcome_of};
 ghost use Rattle.sm_fetch.specs.declared.dial.Exchange.{Exchange};
 ghost use Rattle.sm_fetch.specs.Exchanges.{answer_len};
-ghost use Rattle.sm_client.specs.Calls.{PieceOnce, PiecesBy, MayPiece, IsAskedOf};
+ghost use Rattle.sm_client.specs.Calls.{PieceOnce, PiecesBy, MayPiece, IsAskedOf, TookValid};
 
 use crate::list::miss_of;
 use crate::policies::Policies;
@@ -121,7 +121,8 @@ pub fn ask<C: Dial>(
     ahead: u64,
 ) -> Pieces
     requires { 0 < length stream.now.levels }
-    ensures { (p : Standing) → MayPiece plan.now p stream.now start ahead →
+    ensures took { TookValid stream.now start result }
+    ensures made { (p : Standing) → MayPiece plan.now p stream.now start ahead →
         PiecesBy (record { pick = pick_after; retired = retired_after }) plan.now name.now p stream.now
         (fresh policies.old.acting policies.old.rest.items) (fresh policies.new.acting policies.new.rest.items)
         (C.log dial.old) (C.log dial.new) result }

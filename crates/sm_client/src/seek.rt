@@ -1,10 +1,10 @@
 //! Manifests are read until the expected start is known.
-ghost use Rattle.std.specs.Prelude.{◌≡◌, ◌≤◌, ◌<◌, ◌^◌, ◌+◌, ◌-◌, ℕ, ◌⊎◌, [], length, false, Some, IfSome, IfNone};
+ghost use Rattle.std.specs.Prelude.{◌≡◌, ◌≤◌, ◌<◌, ◌^◌, ◌+◌, ◌-◌, ℕ, ◌⊎◌, List, [], length, false, Some, IfSome, IfNone};
 ghost use Rattle.sm_client.specs.Starts.{has};
 ghost use Rattle.sm_client.specs.Stands as stand;
 ghost use Rattle.sm_client.specs.Asks.{Relists};
-ghost use Rattle.sm_client.specs.Ends.{EndsAt};
-ghost use Rattle.sm_client.specs.Calls.{Holds, Sought, Began, Relisted, at};
+ghost use Rattle.sm_client.specs.Ends.{EndsAt, IsTail};
+ghost use Rattle.sm_client.specs.Calls.{Holds, HasLevels, Sought, Began, Relisted, at};
 
 use crate::list::{Manifest, list};
 use crate::standing::Standing;
@@ -41,6 +41,8 @@ fn settled(plan: &Plan, standing: &Standing) -> Option<End>
         → IfSome result (λ end. EndsAt plan.now number end (at (stand.standing p) [])) }
     ensures none { (p : stand.Standing) → Holds standing.now p → has p.expected p.known ≡ false → length p.written < plan.now.count
         → IfNone result (Relists plan.now p) }
+    ensures tail { (p : stand.Standing) (name : List ℕ) → IfSome result (λ end. IsTail plan.now name end (at (stand.standing p) []) [] []) }
+    ensures narrow { IfNone result (standing.now.manifests < 2 ^ 32 - 1) }
     ensures few { IfNone result (standing.now.manifests ≡ 0 ⊎ standing.now.manifests < plan.now.refresh) }
 {
     if standing.manifests == 0 {
@@ -71,6 +73,7 @@ fn relist<C: Dial>(
         Relisted plan.now name.now p standing.new (C.log dial.old) (C.log dial.new) result }
     ensures written { standing.new.written ≡ standing.old.written }
     ensures manifests { IfNone result (standing.new.manifests ≡ standing.old.manifests + 1) }
+    ensures levels { IfNone result (HasLevels standing.new.listing) }
 {
     dial.pause();
     match list(alloc, dial, plan, name) {
@@ -91,9 +94,11 @@ pub fn seek<C: Dial>(
     name: &Name,
     standing: &mut Standing,
 ) -> Option<End>
+    requires levels { HasLevels standing.old.listing }
     ensures sought { (p : stand.Standing) (number : ℕ) → Holds standing.old p → length p.written < plan.now.count
         → Sought plan.now name.now number p standing.new (C.log dial.old) (C.log dial.new) result }
     ensures written { standing.new.written ≡ standing.old.written }
+    ensures levels { IfNone result (HasLevels standing.new.listing) }
 {
     while !standing.is_known() {
         if let Some(end) = settled(plan, standing) {

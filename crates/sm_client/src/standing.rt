@@ -112,6 +112,7 @@ impl Standing {
         requires few { self.old.manifests < 2 ^ 32 - 1 }
         ensures holds { (p : stand.Standing) → Holds self.old p → OnOk result (Holds self.new (relisted p listing)) }
         ensures written { self.new.written ≡ self.old.written }
+        ensures listing { OnOk result (self.new.listing ≡ listing) }
         ensures manifests { OnOk result (self.new.manifests ≡ self.old.manifests + 1) }
     {
         self.known = known_of(alloc, times_of(&listing), self.expected)?;
@@ -124,6 +125,7 @@ impl Standing {
     pub fn wrote(&mut self, expected: u64, ahead: &[(u64, u64)]) -> Result<(), NoMemory>
         requires { self.old.written < 2 ^ 64 - 1 }
         ensures written { self.new.written ≡ self.old.written + 1 }
+        ensures listing { self.new.listing ≡ self.old.listing }
         ensures holds { (p q : stand.Standing) → Holds self.old p → Follows p q expected ahead.now → OnOk result (Holds self.new q) }
     {
         self.expected = expected;

@@ -1,7 +1,11 @@
 //! Fragments, written.
-ghost use Rattle.std.specs.Prelude.{◌≡◌, ◌≤◌, ◌<◌, ◌+◌, ◌^◌, ℕ, List, take, IfSome, IfNone, IfOk};
+ghost use Rattle.std.specs.Prelude.{◌≡◌, ◌≢◌, ◌≤◌, ℕ, [], IfSome, IfNone};
 ghost use Rattle.std.specs.Io.KnownBytes.{Appends, Keeps};
 ghost use Rattle.sm_ends.specs.Faults.{Rose};
+
+ghost use Rattle.sm_model.specs.Fragments.{IsValid};
+ghost use Rattle.sm_model.specs.FragText.{frag_text};
+ghost use Rattle.sm_client.specs.Calls.{WritesFront};
 
 use crate::End;
 use sm_ends::Tracks;

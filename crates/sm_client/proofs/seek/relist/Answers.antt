@@ -16,3 +16,6 @@ returns-in-GaveUp-clause-relists g c p h may = rw (← c.pause.ensures.log) (rel
 
 pub returns-in-NoMemory-clause-relists : goal.returns-in-NoMemory-clause-relists
 returns-in-NoMemory-clause-relists g c p h may = rw (← c.pause.ensures.log) (relist-stopped may c.in-NoMemory.ensures)
+
+pub returns-in-Ok-clause-levels : goal.returns-in-Ok-clause-levels
+returns-in-Ok-clause-levels g c = rw c.in-Ok.ensures.listing (found-levels _ c.in-Read.ensures refl)
