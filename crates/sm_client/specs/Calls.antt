@@ -309,3 +309,7 @@ WritesFront track track' text (ends.Hole expected next) = ⊥
 WritesFront track track' text (ends.GaveUp time outcomes) = ⊥
 WritesFront track track' text (ends.NoManifest outcomes) = ⊥
 WritesFront track track' text (ends.NoStream index) = ⊥
+
+-- the play of one stream, from its first exchange to its end
+abbrev pub Streamed : {P : Type 0} → Meaning P → Plan → List ℕ → ℕ → Turn P → Turn P → ℕ → End → Option (List Exchange) → Option (List Exchange) → Option (List ℕ) → Option (List ℕ) → Type 0
+Streamed m plan name number start now count end log log' track track' = StreamsEnd m plan name number (at unread []) start now count end log log' track track'

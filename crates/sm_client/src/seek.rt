@@ -1,5 +1,5 @@
 //! Manifests are read until the expected start is known.
-ghost use Rattle.std.specs.Prelude.{◌≡◌, ◌≤◌, ◌<◌, ◌^◌, ◌+◌, ◌-◌, ℕ, ◌⊎◌, List, [], length, false, Some, IfSome, IfNone};
+ghost use Rattle.std.specs.Prelude.{◌≡◌, ◌≢◌, ◌≤◌, ◌<◌, ◌^◌, ◌+◌, ◌-◌, ℕ, ◌⊎◌, List, [], length, false, Some, IfSome, IfNone};
 ghost use Rattle.sm_client.specs.Starts.{has};
 ghost use Rattle.sm_client.specs.Stands as stand;
 ghost use Rattle.sm_client.specs.Asks.{Relists};
@@ -22,7 +22,8 @@ pub enum Begun {
 
 /// The first manifest of the stream of that name, whose number in the plan this is.
 pub fn begin<C: Dial>(alloc: Global, dial: &mut C, plan: &Plan, name: &Name, number: u32) -> Begun
-    ensures { Began plan.now name.now number (C.log dial.old) (C.log dial.new) result }
+    ensures began { Began plan.now name.now number (C.log dial.old) (C.log dial.new) result }
+    ensures whole { result ≢ Begun.Ended End.WriteFault }
 {
     match list(alloc, dial, plan, name) {
         Manifest::Read(None) => Begun::Ended(End::NoStream { index: number }),
@@ -42,6 +43,7 @@ fn settled(plan: &Plan, standing: &Standing) -> Option<End>
     ensures none { (p : stand.Standing) → Holds standing.now p → has p.expected p.known ≡ false → length p.written < plan.now.count
         → IfNone result (Relists plan.now p) }
     ensures tail { (p : stand.Standing) (name : List ℕ) → IfSome result (λ end. IsTail plan.now name end (at (stand.standing p) []) [] []) }
+    ensures whole { result ≢ Some End.WriteFault }
     ensures narrow { IfNone result (standing.now.manifests < 2 ^ 32 - 1) }
     ensures few { IfNone result (standing.now.manifests ≡ 0 ⊎ standing.now.manifests < plan.now.refresh) }
 {
@@ -74,6 +76,7 @@ fn relist<C: Dial>(
     ensures written { standing.new.written ≡ standing.old.written }
     ensures manifests { IfNone result (standing.new.manifests ≡ standing.old.manifests + 1) }
     ensures levels { IfNone result (HasLevels standing.new.listing) }
+    ensures whole { result ≢ Some End.WriteFault }
 {
     dial.pause();
     match list(alloc, dial, plan, name) {
@@ -99,6 +102,7 @@ pub fn seek<C: Dial>(
         → Sought plan.now name.now number p standing.new (C.log dial.old) (C.log dial.new) result }
     ensures written { standing.new.written ≡ standing.old.written }
     ensures levels { IfNone result (HasLevels standing.new.listing) }
+    ensures whole { result ≢ Some End.WriteFault }
 {
     while !standing.is_known() {
         if let Some(end) = settled(plan, standing) {
