@@ -80,6 +80,11 @@ pub piece-came : {P : Type 0} {m : Meaning P} {name : List ℕ} {s : StreamListi
     → FetchedFragment plan.place s.pattern address old new g bytes → ((new ≡ old) × (g ≡ got.NoMemory)) ⊎ PieceCame m plan name s start ahead who old new g level bytes
 piece-came {plan = plan} k f = came-by plan k f.answer f.log f.spells f.length_is
 
+pub spelled-no_manifest : (l : Listing) (start : ℕ) (answer : Answer) → SpellsFragment start answer (got.Manifest l) → ⊥
+spelled-no_manifest l start (answers.Bytes b) x = x
+spelled-no_manifest l start answers.Lost x = cc
+spelled-no_manifest l start answers.NoMemory x = cc
+
 module _ {P : Type 0} {m : Meaning P} {plan : Plan} {name : List ℕ} {s : StreamListing} {start ahead : ℕ} {who : P} {old new : Option (List Exchange)} {level bytes : ℕ} where
   came-same : {g : Got} (h : Got) → g ≡ h → ((new ≡ old) × (g ≡ got.NoMemory)) ⊎ PieceCame m plan name s start ahead who old new g level bytes
       → ((new ≡ old) × (h ≡ got.NoMemory)) ⊎ PieceCame m plan name s start ahead who old new h level bytes
@@ -95,12 +100,7 @@ module _ {P : Type 0} {m : Meaning P} {plan : Plan} {name : List ℕ} {s : Strea
   heard c is k = record { made = c.made; heard = rw (← (is c.made.exchange c.len)) k }
 
   no_manifest : (l : Listing) → PieceCame m plan name s start ahead who old new (got.Manifest l) level bytes → ⊥
-  no_manifest l c = no c.made.exchange.answer c.made.spells
-    where
-      no : (answer : Answer) → SpellsFragment start answer (got.Manifest l) → ⊥
-      no (answers.Bytes b) x = x
-      no answers.Lost x = cc
-      no answers.NoMemory x = cc
+  no_manifest l c = spelled-no_manifest l start c.made.exchange.answer c.made.spells
 
   pub piece-once : {g : Got} {now : P} {outcome : Outcome} (r : Asked) → ((new ≡ old) × (g ≡ got.NoMemory)) ⊎ PieceCame m plan name s start ahead who old new g level bytes
       → (g ≡ got.NoMemory → ⊥) → ((x : Exchange) → bytes ≡ answer_len x.answer → outcome ≡ outcome_of g x)

@@ -268,13 +268,13 @@ lost : {plan : Plan} {old new : Option (List Exchange)} → ((new ≡ old) × (g
 lost (inl e) = inl e.0
 lost (inr m) = inr m
 
+pub spelled-no_fragment : (raw : RawFragment) (answer : Answer) → SpellsManifest answer (got.Fragment raw) → ⊥
+spelled-no_fragment raw (answers.Bytes bytes) s = s
+spelled-no_fragment raw answers.Lost s = cc
+spelled-no_fragment raw answers.NoMemory s = cc
+
 no_fragment : {plan : Plan} {old new : Option (List Exchange)} (raw : RawFragment) → ListMade plan old new (got.Fragment raw) → ⊥
-no_fragment raw m = no m.exchange.answer m.spells
-  where
-    no : (answer : Answer) → SpellsManifest answer (got.Fragment raw) → ⊥
-    no (answers.Bytes bytes) s = s
-    no answers.Lost s = cc
-    no answers.NoMemory s = cc
+no_fragment raw m = spelled-no_fragment raw m.exchange.answer m.spells
 
 missed-not : (g : Got) (m : Miss) → miss_of g ≡ Some m → g ≡ got.NoMemory → ⊥
 missed-not g m e is = let n : miss_of g ≡ None = ap miss_of is in cc
