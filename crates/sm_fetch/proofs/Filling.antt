@@ -1,6 +1,6 @@
 -- The fields of a Url, filled byte by byte.
-use Rattle.std.proofs.Common.{zero, suc, length-drop, ◌≡◌, ◌<◌, ◌≤◌, ℕ, ◌+◌, ◌-◌, Bool, true, false, List, [], ◌∷◌, ◌++◌, length, take, drop, get_or, refl, ap, ◌∙◌, sym, arith, append_assoc}
-use Rattle.std.specs.Prelude.{decimal, nat_lt}
+use Rattle.std.proofs.Common.{zero, suc, length-drop, ◌≡◌, ◌<◌, ◌≤◌, ℕ, ◌+◌, ◌-◌, true, false, List, [], ◌∷◌, ◌++◌, length, take, drop, get_or, refl, ap, ◌∙◌, sym, arith}
+use Rattle.std.specs.Prelude.{decimal}
 use Rattle.std.proofs.lemmas.Bool.Decides.{nat_tests}
 use Rattle.std.proofs.lemmas.List.{drop-drop}
 use Rattle.sm_fetch.proofs.Framing.{tail_is}
@@ -15,6 +15,7 @@ short_head (h ∷ head) [] (suc i) low past = nothing_begins (drop i head) (some
   where
     some_left : (xs : List ℕ) (i : ℕ) → i < length xs → 0 < length (drop i xs)
     some_left xs i low = let l = length-drop i xs in omega arith
+
     nothing_begins : (xs : List ℕ) → 0 < length xs → begins_with xs [] ≡ false
     nothing_begins [] some = absurd (omega arith)
     nothing_begins (x ∷ xs) some = refl

@@ -1,15 +1,16 @@
 -- Bodies read step by step.
-use Rattle.std.proofs.Common.{zero, suc, suc-add, zero-add, ◌≡◌, ◌≢◌, ◌<◌, ◌≤◌, ℕ, ◌+◌, ◌-◌, ◌⊎◌, ◌==◌, if◌then◌else◌, Bool, true, false, List, [], ◌∷◌, ◌++◌, length, take, drop, get_or, refl, ap, ◌∙◌, sym, subst, arith, inl, inr, ⊎_elim, append_assoc, length-take, take-append-drop, length-drop, length-append}
+use Rattle.std.proofs.Common.{zero, suc, suc-add, zero-add, ◌≡◌, ◌≢◌, ◌<◌, ◌≤◌, ℕ, ◌+◌, ◌-◌, ◌⊎◌, ◌==◌, if◌then◌else◌, Bool, true, false, List, []}
+use Rattle.std.proofs.Common.{◌∷◌, ◌++◌, length, take, drop, get_or, refl, ap, ◌∙◌, sym, subst, arith, inl, inr, ⊎_elim, append_assoc, length-take, take-append-drop, length-drop}
 use Rattle.std.proofs.lemmas.List.{append-nil, take_all}
 use Rattle.std.proofs.lemmas.Grind.{common_steps}
 use Rattle.sm_model.specs.declared.framing.Framing.{Framing}
 use Rattle.sm_model.specs.declared.framing.Framing.TheVariants as framing
 use Rattle.sm_body.specs.declared.place.Place.{Place}
-use Rattle.sm_body.specs.declared.place.Place.TheVariants.{Ended, Failed, Counted, Digits}
-use Rattle.sm_body.specs.declared.framer.Step.TheVariants.{Skip, Body, End, More, Bad}
+use Rattle.sm_body.specs.declared.place.Place.TheVariants.{Ended, Failed, Counted}
+use Rattle.sm_body.specs.declared.framer.Step.TheVariants.{Skip, Body, End, Bad}
 use Rattle.sm_body.specs.Places.{start, place_after, body_from, is_data, next_place}
 use Rattle.sm_body.specs.Steps.{StepGives}
-use Rattle.sm_fetch.specs.Framed.{IsFramedWhole, IsFramedCut, IsFramedBad}
+use Rattle.sm_fetch.specs.Framed.{IsFramedWhole, IsFramedBad}
 
 -- so many bytes are read: they lead to this place, before a byte that fits nowhere, and this is the body of them
 pub record IsReadTo (f : Framing) (bytes : List ℕ) (at : ℕ) (place : Place) (body : List ℕ) : Type 0 where
@@ -103,7 +104,7 @@ read_end f bytes at n p q b r s =
     record { framed = take (at + n) bytes; rest = drop (at + n) bytes; joined = sym (take-append-drop (at + n) bytes); ends = done.place_is; body_is = done.body_is }
 
 -- a front of a list that two splits give
-split : (a b c d : List ℕ) → a ++ b ≡ c ++ d → ((k : List ℕ) × (c ≡ a ++ k) × (b ≡ k ++ d)) ⊎ ((k : List ℕ) × (a ≡ c ++ k) × (d ≡ k ++ b))
+pub split : (a b c d : List ℕ) → a ++ b ≡ c ++ d → ((k : List ℕ) × (c ≡ a ++ k) × (b ≡ k ++ d)) ⊎ ((k : List ℕ) × (a ≡ c ++ k) × (d ≡ k ++ b))
 split [] b c d same = inl (c, refl, same)
 split (x ∷ a) b [] d same = inr (x ∷ a, refl, sym same)
 split (x ∷ a) b (y ∷ c) d same =
@@ -128,12 +129,13 @@ bad_at f bytes front tail c p joined leads fine unended fails = record {
   where
     behind : (framed k : List ℕ) → front ≡ framed ++ k → place_after (start f) framed ≡ Ended → place_after Ended k ≡ p
     behind framed k is ended = ap (λ (o : Place). place_after o k) (sym ended) ∙ sym (place_on (start f) framed k) ∙ ap (place_after (start f)) (sym is) ∙ leads
+
     inside : (framed rest k : List ℕ) → framed ≡ front ++ k → c ∷ tail ≡ k ++ rest → place_after (start f) framed ≡ Ended → ⊥
     inside framed rest [] is at ended = unended (sym leads ∙ ap (place_after (start f)) (sym (is ∙ append-nil front)) ∙ ended)
     inside framed rest (x ∷ k) is at ended =
         let head : c ≡ x = cc in
         let all : Ended ≡ Failed = sym ended ∙ ap (place_after (start f)) is ∙ place_on (start f) front (x ∷ k) ∙ ap (λ (o : Place). place_after o (x ∷ k)) leads
-            ∙ ap (λ y. place_after (next_place p y) k) (sym head) ∙ ap (λ (o : Place). place_after o k) fails ∙ failed_stays k in
+        ∙ ap (λ y. place_after (next_place p y) k) (sym head) ∙ ap (λ (o : Place). place_after o k) fails ∙ failed_stays k in
         absurd (cc)
 
 pub read_bad : (f : Framing) (bytes : List ℕ) (at : ℕ) (p q : Place) (b : List ℕ) → IsReadTo f bytes at p b
@@ -143,8 +145,10 @@ read_bad f bytes at p q b r (frame, now, inr (unended, some, fails)) = at_tail (
   where
     some_left : 0 < length (drop at bytes)
     some_left = subst (λ (x : List ℕ). 0 < length x) (tail_is bytes at) some
+
     fails_left : next_place p (get_or (drop at bytes) 0 0) ≡ Failed
     fails_left = subst (λ (x : List ℕ). next_place p (get_or x 0 0) ≡ Failed) (tail_is bytes at) fails
+
     at_tail : (tail : List ℕ) → bytes ≡ take at bytes ++ tail → 0 < length tail → next_place p (get_or tail 0 0) ≡ Failed → IsFramedBad f bytes
     at_tail [] joined some fails = absurd (omega arith)
     at_tail (c ∷ tail) joined some fails = bad_at f bytes (take at bytes) tail c p joined r.place_is r.fine unended fails

@@ -1,10 +1,10 @@
 -- Heads in front of a reply.
-use Rattle.std.proofs.Common.{◌≡◌, ◌<◌, ◌≤◌, ℕ, ◌+◌, ◌-◌, List, ◌++◌, length, take, drop, refl, sym, subst, arith, inl, inr, length-drop, length-take}
+use Rattle.std.proofs.Common.{◌≡◌, ◌<◌, ◌≤◌, ℕ, ◌+◌, ◌-◌, List, ◌++◌, length, take, drop, refl, subst, inl, inr}
 use Rattle.std.specs.Prelude.{Some, Err}
 use Rattle.sm_model.specs.declared.framing.Framing.{Framing}
 use Rattle.sm_head.specs.declared.response.RespFault.TheVariants as fault
 use Rattle.sm_head.specs.Responses.{IsReplyAt, IsUnfinished, IsRespAnswer}
-use Rattle.sm_fetch.specs.Answered.{IsBehindInterim, first, next, IsHeadEnd, IsWholeReply, IsCutReply, IsNoReply}
+use Rattle.sm_fetch.specs.Answered.{IsBehindInterim, next, IsHeadEnd, IsWholeReply, IsCutReply, IsNoReply}
 use Rattle.sm_fetch.specs.Framed.{IsFramedWhole, IsFramedCut, IsFramedBad}
 use Rattle.sm_fetch.proofs.Framing.{tail_is, tail_len}
 
@@ -25,7 +25,12 @@ interim bytes at len status f behind head low = next bytes at len status f (at +
 pub head_end : (bytes : List ℕ) (at len status : ℕ) (f : Framing) → IsBehindInterim bytes at
     → IsReplyAt (take (length bytes - at) (drop at bytes)) len status (Some f) → 200 ≤ status → IsHeadEnd bytes status (at + len) f
 head_end bytes at len status f behind head final = record {
-  from = at; behind = behind; len = len; head = at_tail bytes at len status f head; final = final; at_is = refl;
+  from = at;
+  behind = behind;
+  len = len;
+  head = at_tail bytes at len status f head;
+  final = final;
+  at_is = refl;
 }
 
 pub cut_head : (bytes : List ℕ) (at : ℕ) → IsBehindInterim bytes at → IsUnfinished (take (length bytes - at) (drop at bytes)) → IsCutReply bytes

@@ -1,5 +1,5 @@
 -- A body of a `moof` and one box behind it, and the fragment that it is.
-use Rattle.std.proofs.Common.{◌≡◌, ◌≢◌, ◌≤◌, ℕ, Bool, true, false, List, [], ◌∷◌, ◌++◌, length, take, drop, refl, ap, ◌∙◌, sym, subst, arith, take-append-drop, length-take}
+use Rattle.std.proofs.Common.{◌≡◌, ◌≢◌, ◌≤◌, ℕ, Bool, true, false, List, [], ◌∷◌, ◌++◌, length, take, drop, refl, ap, ◌∙◌, sym, subst, arith, take-append-drop}
 use Rattle.std.specs.Prelude.{Ok, Err, Result, nat_le, codes, IsTrue}
 use Rattle.std.proofs.lemmas.Bool.Decides.{nat_tests}
 use Rattle.sm_model.specs.declared.cause.Cause.{Cause}
@@ -36,12 +36,13 @@ no_front stays body none moof mdat p =
 pub cut_at : Stays → (body moof mdat : List ℕ) (head size : ℕ) → IsFront body head size → IsPair body moof mdat → (take size body ≡ moof) × (drop size body ≡ mdat)
 cut_at stays body moof mdat head size front p =
     let len : size ≡ length moof = front.size_is ∙ ap (λ (b : List ℕ). (box_of b).size) p.body_is
-        ∙ ap (λ (x : Box). x.size) (stays.same moof mdat p.moof_whole.whole) ∙ size_of moof ∙ p.moof_whole.all in
+    ∙ ap (λ (x : Box). x.size) (stays.same moof mdat p.moof_whole.whole) ∙ size_of moof ∙ p.moof_whole.all in
     (ap (λ n. take n body) len ∙ ap (take (length moof)) p.body_is ∙ take_front moof mdat, ap (λ n. drop n body) len ∙ ap (drop (length moof)) p.body_is ∙ drop_front moof mdat)
   where
     take_front : (xs ys : List ℕ) → take (length xs) (xs ++ ys) ≡ xs
     take_front [] ys = refl
     take_front (x ∷ xs) ys = ap (λ t. x ∷ t) (take_front xs ys)
+
     drop_front : (xs ys : List ℕ) → drop (length xs) (xs ++ ys) ≡ ys
     drop_front [] ys = refl
     drop_front (x ∷ xs) ys = drop_front xs ys

@@ -1,5 +1,5 @@
 -- What the bytes of an answer begin with: heads with a status below 200, which are passed over, and then a reply. RFC 9110, section 15.2; RFC 9112, sections 4, 6, 7.1.
-use Rattle.std.specs.Prelude.{◌≡◌, ◌≢◌, ◌<◌, ◌≤◌, ◌+◌, ◌⊎◌, ℕ, List, ◌++◌, drop, Some, Err}
+use Rattle.std.specs.Prelude.{◌≡◌, ◌≢◌, ◌<◌, ◌≤◌, ◌+◌, ◌⊎◌, ℕ, List, [], ◌++◌, drop, Some, Err}
 use Rattle.sm_model.specs.declared.framing.Framing.{Framing}
 use Rattle.sm_body.specs.declared.place.Place.TheVariants.{Ended, Failed}
 use Rattle.sm_body.specs.Places.{start, place_after, body_from}
@@ -35,6 +35,11 @@ pub record IsWholeReply (bytes : List ℕ) (status at : ℕ) (body : List ℕ) :
   pub behind : drop at bytes ≡ framed ++ rest
   pub ends : place_after (start framing) framed ≡ Ended
   pub body_is : body ≡ body_from (start framing) framed
+
+-- a reply and nothing else
+pub record IsReply (bytes : List ℕ) (status at : ℕ) (body : List ℕ) : Type 0 where
+  pub whole : IsWholeReply bytes status at body
+  pub alone : whole.rest ≡ []
 
 -- the front of a head
 pub record IsCutHead (bytes : List ℕ) : Type 0 where

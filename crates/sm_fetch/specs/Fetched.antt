@@ -1,9 +1,11 @@
 -- What one call makes of one exchange.
-use Rattle.std.specs.Prelude.{◌≡◌, ℕ, List, Option, Some, IfSome, Contains}
+use Rattle.std.specs.Prelude.{◌≡◌, ◌<◌, ℕ, List, length, All, Option, IfSome, Contains}
 use Rattle.sm_model.specs.declared.address.Address.{Address}
 use Rattle.sm_model.specs.declared.entry.Entry.{Entry}
 use Rattle.sm_model.specs.declared.entry.Entry.TheVariants.{Keep}
 use Rattle.sm_model.specs.declared.target.Target.TheVariants as target
+use Rattle.sm_manin.specs.declared.listing.Listing.{Listing}
+use Rattle.sm_manin.specs.declared.listing.StreamListing.{StreamListing}
 use Rattle.sm_addr.specs.Targets.{target_of}
 use Rattle.sm_fetch.specs.declared.dial.Answer.{Answer}
 use Rattle.sm_fetch.specs.declared.dial.Exchange.{Exchange}
@@ -48,3 +50,16 @@ IsKeptAt place url address store got.Cut = Unit {0}
 IsKeptAt place url address store (got.Unreadable at) = Unit {0}
 IsKeptAt place url address store got.Lost = Unit {0}
 IsKeptAt place url address store got.NoMemory = Unit {0}
+
+-- each stream that is listed has a quality
+abbrev pub StreamsHaveLevels : Listing → Type 0
+StreamsHaveLevels listing = All (λ (s : StreamListing). 0 < length s.levels) listing.streams
+
+abbrev pub HasLevels : Got → Type 0
+HasLevels (got.Manifest listing) = StreamsHaveLevels listing
+HasLevels (got.Fragment raw) = Unit {0}
+HasLevels (got.Status status) = Unit {0}
+HasLevels got.Cut = Unit {0}
+HasLevels (got.Unreadable at) = Unit {0}
+HasLevels got.Lost = Unit {0}
+HasLevels got.NoMemory = Unit {0}

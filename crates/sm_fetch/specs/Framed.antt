@@ -1,5 +1,5 @@
 -- What the bytes behind a head have of a body.
-use Rattle.std.specs.Prelude.{◌≡◌, ◌≢◌, ◌≤◌, ℕ, List, ◌++◌}
+use Rattle.std.specs.Prelude.{◌≡◌, ◌≢◌, ℕ, List, ◌++◌}
 use Rattle.sm_model.specs.declared.framing.Framing.{Framing}
 use Rattle.sm_body.specs.declared.place.Place.TheVariants.{Ended, Failed}
 use Rattle.sm_body.specs.Places.{start, place_after, body_from}

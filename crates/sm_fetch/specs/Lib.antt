@@ -7,4 +7,5 @@ pub mod Answered
 pub mod Framed
 pub mod Spelt
 pub mod Fetched
+pub mod OneReading
 pub mod TwoBoxes

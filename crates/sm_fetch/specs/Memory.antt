@@ -1,5 +1,5 @@
 -- What contracts see of a dial in memory: its exchanges, how often it has failed and was asked to pause, and the answers that are to come.
-use Rattle.std.specs.Prelude.{◌≡◌, ◌+◌, ◌-◌, ◌^◌, ◌⊎◌, ℕ, List, [], ◌∷◌, ◌++◌, min, take}
+use Rattle.std.specs.Prelude.{◌+◌, ◌-◌, ◌^◌, ℕ, List, [], ◌∷◌, ◌++◌, min, take}
 use Rattle.sm_fetch.specs.declared.dial.Answer.{Answer}
 use Rattle.sm_fetch.specs.declared.dial.Answer.TheVariants as answers
 use Rattle.sm_fetch.specs.declared.dial.Exchange.{Exchange}

@@ -1,5 +1,5 @@
 -- The store of an origin behind a dial, which only grows, and the replies that it may give.
-use Rattle.std.specs.Prelude.{◌≡◌, ◌<◌, ◌^◌, ℕ, Bool, List, ◌++◌, length, Option, Some, None, Contains}
+use Rattle.std.specs.Prelude.{◌≡◌, ◌<◌, ◌≤◌, ◌^◌, ℕ, Bool, List, ◌++◌, length, Option, Some, None, Contains}
 use Rattle.http.specs.StatusCode.{IsStatusCode}
 use Rattle.sm_model.specs.declared.address.Address.{Address}
 use Rattle.sm_model.specs.declared.entry.Entry.{Entry}
@@ -35,6 +35,7 @@ pub record IsOriginReply (log : List Entry) (named reply : List ℕ) : Type 0 wh
   pub body : List ℕ
   pub close : Bool
   pub code : IsStatusCode status
+  pub final : 200 ≤ status
   pub short : length body < 10 ^ 18
   pub text : reply ≡ reply_text status kind body close
   pub fragment : (a : Address) → target_of named ≡ target.Fragment a → status ≡ 200 → IsKeptText log a body

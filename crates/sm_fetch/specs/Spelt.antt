@@ -1,5 +1,5 @@
 -- What an answer spells to who asked. [MS-SSTR] 2.2.2, 2.2.4; ISO/IEC 14496-12, 8.8.
-use Rattle.std.specs.Prelude.{◌≡◌, ◌≢◌, ◌≤◌, ◌⊎◌, ℕ, List, [], ◌++◌, true, codes, Ok, Err}
+use Rattle.std.specs.Prelude.{◌≡◌, ◌≢◌, ◌⊎◌, ℕ, List, [], ◌++◌, true, codes, Ok, Err}
 use Rattle.sm_model.specs.declared.fragment.Fragment.{Fragment}
 use Rattle.sm_model.specs.declared.run.RawFragment.{RawFragment}
 use Rattle.sm_model.specs.Boxes.{box_of, IsOneBox}
@@ -45,10 +45,10 @@ pub record IsFragmentAt (time : ℕ) (body : List ℕ) (raw : RawFragment) : Typ
 
 -- a reply with another status than 200
 abbrev pub IsOther : List ℕ → ℕ → Type 0
-IsOther bytes status = (at : ℕ) (body : List ℕ) × IsWholeReply bytes status at body × (status ≢ 200)
+IsOther bytes status = (at : ℕ) × (body : List ℕ) × IsWholeReply bytes status at body × (status ≢ 200)
 
 abbrev pub SpellsListing : List ℕ → Got → Type 0
-SpellsListing bytes (got.Manifest listing) = (at : ℕ) (body : List ℕ) × IsWholeReply bytes 200 at body × IsManifest body (Ok listing)
+SpellsListing bytes (got.Manifest listing) = (at : ℕ) × (body : List ℕ) × IsWholeReply bytes 200 at body × IsManifest body (Ok listing)
 SpellsListing bytes (got.Fragment raw) = ⊥
 SpellsListing bytes (got.Status status) = IsOther bytes status
 SpellsListing bytes got.Cut = IsCutReply bytes
@@ -59,7 +59,7 @@ SpellsListing bytes got.NoMemory = Unit {0}
 
 abbrev pub SpellsSamples : ℕ → List ℕ → Got → Type 0
 SpellsSamples time bytes (got.Manifest listing) = ⊥
-SpellsSamples time bytes (got.Fragment raw) = (at : ℕ) (body : List ℕ) × IsWholeReply bytes 200 at body × IsFragmentAt time body raw
+SpellsSamples time bytes (got.Fragment raw) = (at : ℕ) × (body : List ℕ) × IsWholeReply bytes 200 at body × IsFragmentAt time body raw
 SpellsSamples time bytes (got.Status status) = IsOther bytes status
 SpellsSamples time bytes got.Cut = IsCutReply bytes
 SpellsSamples time bytes (got.Unreadable at) =

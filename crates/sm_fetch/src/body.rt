@@ -55,7 +55,11 @@ fn with_piece<'a>(alloc: Global, body: Body<'a>, piece: &'a [u8]) -> Result<Body
 }
 
 /// The body that the bytes behind a head of this framing begin with. A body of one piece isn't copied.
-pub(crate) fn read_body<'a>(alloc: Global, framing: Framing, bytes: &'a [u8]) -> Result<Framed<'a>, NoMemory>
+pub(crate) fn read_body<'a>(
+    alloc: Global,
+    framing: Framing,
+    bytes: &'a [u8],
+) -> Result<Framed<'a>, NoMemory>
     ensures { IfOk result (λ framed. FramedAs framing bytes.now framed) }
 {
     let mut framer = Framer::new(framing);

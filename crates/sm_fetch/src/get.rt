@@ -2,7 +2,7 @@
 ghost use Rattle.std.specs.Prelude.{◌≡◌, ◌≤◌, ℕ};
 ghost use Rattle.sm_fetch.specs.Exchanges.{Rose};
 ghost use Rattle.sm_fetch.specs.Origins.{Grows};
-ghost use Rattle.sm_fetch.specs.Fetched.{FetchedManifest, FetchedFragment, IsKeptAt};
+ghost use Rattle.sm_fetch.specs.Fetched.{FetchedManifest, FetchedFragment, IsKeptAt, HasLevels};
 ghost use Rattle.sm_fetch.specs.Spelt.{SpellsListing, SpellsSamples};
 
 use crate::reply::{Reply, read_reply};
@@ -15,6 +15,7 @@ use std::alloc::Global;
 
 // How many bytes of a whole reply are taken.
 const MANIFEST_LIMIT: u64 = 67_108_864;
+
 const FRAGMENT_LIMIT: u64 = 70_254_592;
 
 // What the bytes of an answer are to who asked for a manifest.
@@ -66,6 +67,7 @@ pub fn get_manifest<C: Dial>(alloc: Global, dial: &mut C, place: &Place) -> Got
     ensures later { C.dial_faults dial.old ≤ C.dial_faults dial.new }
     ensures lost { result ≡ Got.Lost → Rose (C.dial_faults dial.old) (C.dial_faults dial.new) }
     ensures grows { Grows (C.store dial.old) (C.store dial.new) }
+    ensures levels { HasLevels result }
 {
     let Ok(request) = put_manifest_request(alloc, place) else {
         return Got::NoMemory;

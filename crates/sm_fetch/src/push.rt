@@ -35,11 +35,13 @@ fn read_line(alloc: Global, bytes: &[u8]) -> Pushed
     ensures { SpellsLine bytes.now result }
 {
     match read_reply(alloc, bytes) {
-        Ok(Reply::Whole {
-            status,
-            at: _,
-            body,
-        }) => match Bytes::from_slice(alloc, body.as_slice()) {
+        Ok(
+            Reply::Whole {
+                status,
+                at: _,
+                body,
+            },
+        ) => match Bytes::from_slice(alloc, body.as_slice()) {
             Ok(line) => Pushed::Status { status, line },
             Err(NoMemory) => Pushed::NoMemory,
         },

@@ -1,6 +1,7 @@
 //! The reply that an answer begins with.
-ghost use Rattle.std.specs.Prelude.{◌≡◌, ◌≤◌, IfOk, length, drop};
+ghost use Rattle.std.specs.Prelude.{◌≤◌, ◌-◌, IfOk, length, take, drop};
 ghost use Rattle.sm_fetch.specs.Answered.{BeginsWith, IsHeadEnd};
+ghost use Rattle.sm_fetch.specs.Framed.{FramedAs};
 
 use crate::body::{Body, Framed, read_body};
 use sm_body::Framing;
@@ -23,29 +24,32 @@ pub enum Reply<'a> {
     Cut,
     /// No reply. `at` counts from the answer's first byte: it is the first byte of a head that is bad, else the first one behind
     /// the reply's head.
-    Bad { at: u64 },
+    Bad {
+        at: u64,
+    },
 }
 
-// The reply whose head ends there.
-fn behind_head<'a>(
-    alloc: Global,
+// The reply whose head ends there, by what stands behind that.
+pub(crate) fn reply_behind<'a>(
     bytes: &'a [u8],
     status: u16,
     at: usize,
     framing: Framing,
-) -> Result<Reply<'a>, NoMemory>
+    framed: Framed<'a>,
+) -> Reply<'a>
     requires head { IsHeadEnd bytes.now status at framing }
     requires within { at ≤ length bytes.now }
-    ensures { IfOk result (λ reply. BeginsWith bytes.now reply) }
+    requires body { FramedAs framing (take (length bytes.now - at) (drop at bytes.now)) framed }
+    ensures { BeginsWith bytes.now result }
 {
-    match read_body(alloc, framing, &bytes[at..])? {
-        Framed::Whole(body) => Ok(Reply::Whole {
+    match framed {
+        Framed::Whole(body) => Reply::Whole {
             status,
             at: at as u64,
             body,
-        }),
-        Framed::Cut => Ok(Reply::Cut),
-        Framed::Bad => Ok(Reply::Bad { at: at as u64 }),
+        },
+        Framed::Cut => Reply::Cut,
+        Framed::Bad => Reply::Bad { at: at as u64 },
     }
 }
 
@@ -57,14 +61,17 @@ pub fn read_reply<'a>(alloc: Global, bytes: &'a [u8]) -> Result<Reply<'a>, NoMem
     let mut at = 0;
     loop {
         match read_response(alloc, &bytes[at..]) {
-            Ok(RespHead::Whole {
-                length,
-                status,
-                framing,
-            }) => {
+            Ok(
+                RespHead::Whole {
+                    length,
+                    status,
+                    framing,
+                },
+            ) => {
                 let end = at + length as usize;
                 if status >= 200 {
-                    return behind_head(alloc, bytes, status, end, framing);
+                    let framed = read_body(alloc, framing, &bytes[end..])?;
+                    return Ok(reply_behind(bytes, status, end, framing, framed));
                 }
                 at = end;
             }

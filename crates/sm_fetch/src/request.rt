@@ -4,7 +4,8 @@ ghost use Rattle.std.specs.List.{flat_map};
 ghost use Rattle.std.specs.Fmt.{digits};
 ghost use Rattle.sm_manin.specs.Patterns.{begins_with, is_bitrate_field, is_start_field};
 ghost use Rattle.sm_fetch.specs.Patterns.{filled_behind, filled};
-ghost use Rattle.sm_fetch.specs.Requests.{request_line, host_line, close_line, get_text, manifest_request, fragment_target, fragment_request, chunk, pieces, chunked, coding_line, post_head, push_target, push_request};
+ghost use Rattle.sm_fetch.specs.Requests.{request_line, host_line, close_line, get_text, manifest_request, fragment_target, fragment_request};
+ghost use Rattle.sm_fetch.specs.Requests.{chunk, pieces, chunked, coding_line, post_head, push_target, push_request};
 
 use crate::Place;
 use sm_addr::put_target;
@@ -129,7 +130,12 @@ fn put_next(
 }
 
 // The Url with the bitrate and the start in the places of its fields.
-fn put_filled(alloc: Global, out: &mut Vec<u8>, url: &[u8], address: &Address) -> Result<(), NoMemory>
+fn put_filled(
+    alloc: Global,
+    out: &mut Vec<u8>,
+    url: &[u8],
+    address: &Address,
+) -> Result<(), NoMemory>
     ensures { OnOk result (out.new.items ≡ out.old.items ++ filled address.now.bitrate address.now.time url.now) }
 {
     let mut skip: u64 = 0;
@@ -214,7 +220,11 @@ fn put_post(alloc: Global, out: &mut Vec<u8>, place: &Place, target: &[u8]) -> R
 fn push_target(alloc: Global, place: &Place, id: &Name) -> Result<Bytes, NoMemory>
     ensures { IfOk result (λ target. target ≡ push_target place.now id.now) }
 {
-    put_target(alloc, place.path.as_slice(), &Target::Streams(id.copy(alloc)?))
+    put_target(
+        alloc,
+        place.path.as_slice(),
+        &Target::Streams(id.copy(alloc)?),
+    )
 }
 
 fn put_chunked(alloc: Global, out: &mut Vec<u8>, body: &[u8]) -> Result<(), NoMemory>
@@ -227,7 +237,12 @@ fn put_chunked(alloc: Global, out: &mut Vec<u8>, body: &[u8]) -> Result<(), NoMe
 }
 
 /// The request that pushes a whole body under a name.
-pub(crate) fn put_push_request(alloc: Global, place: &Place, id: &Name, body: &[u8]) -> Result<Bytes, NoMemory>
+pub(crate) fn put_push_request(
+    alloc: Global,
+    place: &Place,
+    id: &Name,
+    body: &[u8],
+) -> Result<Bytes, NoMemory>
     ensures { IfOk result (λ text. text ≡ push_request place.now id.now body.now) }
 {
     let target = push_target(alloc, place, id)?;

@@ -69,7 +69,11 @@ fn are_short(samples: &[Sample]) -> bool
 
 /// The fragment that a body is: one `moof` and one `mdat`, a valid fragment that starts then, where no default holds for its
 /// samples. Their bytes are copied once.
-pub(crate) fn read_samples(alloc: Global, time: u64, body: &[u8]) -> Result<Option<RawFragment>, NoMemory>
+pub(crate) fn read_samples(
+    alloc: Global,
+    time: u64,
+    body: &[u8],
+) -> Result<Option<RawFragment>, NoMemory>
     ensures { IfOk result (λ found. MatchOption found (HasNoFragment time body.now) (λ raw. IsFragmentAt time body.now raw)) }
 {
     read_is_sound();
