@@ -71,5 +71,12 @@ pub fn play<C: Dial, T: Tracks>(
 {
     let mut policies = Policies::new(policies);
     policies.settle();
-    play_all(alloc, dial, tracks, &mut policies, plan, plan.streams.as_slice())
+    play_all(
+        alloc,
+        dial,
+        tracks,
+        &mut policies,
+        plan,
+        plan.streams.as_slice(),
+    )
 }

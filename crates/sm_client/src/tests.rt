@@ -43,8 +43,8 @@ enum Step {
 
 const WIDTH: u64 = 20_000_000;
 
-fn runs(runs: Runs) -> &'static str {
-    match runs {
+fn listed_times(lists: Runs) -> &'static str {
+    match lists {
         Runs::Nothing | Runs::Other => "",
         Runs::First => "<c t=\"0\" d=\"20000000\"/>\n",
         Runs::Holed => "<c t=\"0\" d=\"20000000\"/>\n<c t=\"40000000\" d=\"20000000\"/>\n",
@@ -61,7 +61,7 @@ fn stream_name(lists: Runs) -> &'static str {
 }
 
 fn manifest(alloc: Global, lists: Runs) -> Result<Given, Fail> {
-    let (name, times) = (stream_name(lists), runs(lists));
+    let (name, times) = (stream_name(lists), listed_times(lists));
     let body = format!(in alloc;
         "<?xml version=\"1.0\" encoding=\"utf-8\"?>\n<SmoothStreamingMedia MajorVersion=\"2\" MinorVersion=\"2\" TimeScale=\"10000000\" \
         Duration=\"0\" IsLive=\"TRUE\" LookAheadFragmentCount=\"2\" DVRWindowLength=\"0\">\n\
@@ -69,13 +69,16 @@ fn manifest(alloc: Global, lists: Runs) -> Result<Given, Fail> {
         Url=\"QualityLevels({{bitrate}})/Fragments({name}={{start time}})\">\n\
         <QualityLevel Index=\"0\" Bitrate=\"350000\" FourCC=\"H264\" CodecPrivateData=\"000000016742\" MaxWidth=\"640\" MaxHeight=\"360\"/>\n\
         <QualityLevel Index=\"1\" Bitrate=\"700000\" FourCC=\"H264\" CodecPrivateData=\"000000016742\" MaxWidth=\"1280\" MaxHeight=\"720\"/>\n\
-        {times}</StreamIndex>\n</SmoothStreamingMedia>\n")?;
+        {times}</StreamIndex>\n</SmoothStreamingMedia>\n"
+    )?;
     reply(alloc, "200 OK", "text/xml", body.as_bytes())
 }
 
 fn reply(alloc: Global, status: &str, kind: &str, body: &[u8]) -> Result<Given, Fail> {
     let len = body.len();
-    let head = format!(in alloc; "HTTP/1.1 {status}\r\nContent-Type: {kind}\r\nContent-Length: {len}\r\n\r\n")?;
+    let head = format!(in alloc;
+        "HTTP/1.1 {status}\r\nContent-Type: {kind}\r\nContent-Length: {len}\r\n\r\n"
+    )?;
     let mut bytes = Vec::from_slice(alloc, head.as_bytes())?;
     bytes.extend_from_slice(body)?;
     Ok(Given::Bytes(Bytes::from_vec(bytes)))
@@ -203,23 +206,127 @@ fn lowest(alloc: Global) -> Result<Vec<Box<dyn Policy>>, Fail> {
 #[test]
 fn each_end_comes_where_it_is_due(rt: HostRuntime) -> Result<(), Fail> {
     let alloc = rt.alloc();
-    let (first, holed, three, late) = (Step::Lists(Runs::First), Step::Lists(Runs::Holed), Step::Lists(Runs::Three), Step::Lists(Runs::Late));
-    let (a, b, c, over) = (Step::Serves(0), Step::Serves(20_000_000), Step::Serves(40_000_000), Step::Over);
+    let (first, holed, three, late) = (
+        Step::Lists(Runs::First),
+        Step::Lists(Runs::Holed),
+        Step::Lists(Runs::Three),
+        Step::Lists(Runs::Late),
+    );
+    let (a, b, c, over) = (
+        Step::Serves(0),
+        Step::Serves(20_000_000),
+        Step::Serves(40_000_000),
+        Step::Over,
+    );
     let rows: [([Step; 5], u64, u32, &str, u64, usize, u64); 14] = [
         ([first, a, over, over, over], 1, 3, "Done", 1, 2, 0),
         ([first, over, over, over, over], 0, 3, "Done", 0, 1, 0),
-        ([first, b, over, over, over], 1, 1, "GaveUp 0 Unreadable-65", 0, 2, 0),
+        (
+            [first, b, over, over, over],
+            1,
+            1,
+            "GaveUp 0 Unreadable-65",
+            0,
+            2,
+            0,
+        ),
         ([three, a, b, c, over], 3, 3, "Done", 3, 4, 0),
-        ([holed, a, holed, over, over], 2, 3, "Hole 20000000 40000000", 1, 3, 1),
-        ([first, a, first, first, first], 2, 3, "NoMore 20000000", 1, 5, 3),
-        ([Step::Lists(Runs::Other), over, over, over, over], 1, 3, "NoStream 0", 0, 1, 0),
-        ([first, Step::Cuts(0), Step::Cuts(0), over, over], 1, 2, "GaveUp 0 Cut Cut", 0, 3, 0),
-        ([Step::Loses, Step::Loses, over, over, over], 1, 2, "NoManifest Lost Lost", 0, 2, 0),
-        ([late, a, late, over, over], 2, 3, "Hole 20000000 30000000", 1, 3, 1),
-        ([Step::Refuses, first, Step::Refuses, a, over], 1, 2, "Done", 1, 4, 0),
-        ([first, Step::Names(0), b, over, over], 2, 3, "Done", 2, 3, 0),
-        ([first, a, Step::Lists(Runs::Other), three, b], 2, 3, "Done", 2, 5, 2),
-        ([Step::Lists(Runs::Nothing), Step::Lists(Runs::Nothing), three, a, over], 1, 1, "Done", 1, 4, 2),
+        (
+            [holed, a, holed, over, over],
+            2,
+            3,
+            "Hole 20000000 40000000",
+            1,
+            3,
+            1,
+        ),
+        (
+            [first, a, first, first, first],
+            2,
+            3,
+            "NoMore 20000000",
+            1,
+            5,
+            3,
+        ),
+        (
+            [Step::Lists(Runs::Other), over, over, over, over],
+            1,
+            3,
+            "NoStream 0",
+            0,
+            1,
+            0,
+        ),
+        (
+            [first, Step::Cuts(0), Step::Cuts(0), over, over],
+            1,
+            2,
+            "GaveUp 0 Cut Cut",
+            0,
+            3,
+            0,
+        ),
+        (
+            [Step::Loses, Step::Loses, over, over, over],
+            1,
+            2,
+            "NoManifest Lost Lost",
+            0,
+            2,
+            0,
+        ),
+        (
+            [late, a, late, over, over],
+            2,
+            3,
+            "Hole 20000000 30000000",
+            1,
+            3,
+            1,
+        ),
+        (
+            [Step::Refuses, first, Step::Refuses, a, over],
+            1,
+            2,
+            "Done",
+            1,
+            4,
+            0,
+        ),
+        (
+            [first, Step::Names(0), b, over, over],
+            2,
+            3,
+            "Done",
+            2,
+            3,
+            0,
+        ),
+        (
+            [first, a, Step::Lists(Runs::Other), three, b],
+            2,
+            3,
+            "Done",
+            2,
+            5,
+            2,
+        ),
+        (
+            [
+                Step::Lists(Runs::Nothing),
+                Step::Lists(Runs::Nothing),
+                three,
+                a,
+                over,
+            ],
+            1,
+            1,
+            "Done",
+            1,
+            4,
+            2,
+        ),
     ];
     for (script, count, tries, end, played, exchanges, pauses) in rows {
         let mut dial = dial(alloc, &script)?;
@@ -238,12 +345,20 @@ fn each_end_comes_where_it_is_due(rt: HostRuntime) -> Result<(), Fail> {
 #[test]
 fn what_is_written_is_canonical(rt: HostRuntime) -> Result<(), Fail> {
     let alloc = rt.alloc();
-    let mut dial = dial(alloc, &[Step::Lists(Runs::Three), Step::Serves(0), Step::Names(20_000_000)])?;
+    let mut dial = dial(
+        alloc,
+        &[
+            Step::Lists(Runs::Three),
+            Step::Serves(0),
+            Step::Names(20_000_000),
+        ],
+    )?;
     let mut tracks = tracks(alloc, Vec::new(alloc));
     let plan = plan(alloc, 1, 2, 1)?;
     let report = play(alloc, &mut dial, &mut tracks, lowest(alloc)?, &plan);
     assert_eq!(rt; report.played, 2);
-    let first = b"\x00\x00\x00\x80moof\x00\x00\x00\x10mfhd\x00\x00\x00\x00\x00\x00\x00\x01\x00\x00\x00\x68traf\
+    let first =
+        b"\x00\x00\x00\x80moof\x00\x00\x00\x10mfhd\x00\x00\x00\x00\x00\x00\x00\x01\x00\x00\x00\x68traf\
         \x00\x00\x00\x10tfhd\x00\x00\x00\x00\x00\x00\x00\x01\x00\x00\x00\x24trun\x00\x00\x0f\x01\x00\x00\x00\x01\x00\x00\x00\x88\
         \x01\x31\x2d\x00\x00\x00\x00\x01\x00\x00\x00\x00\x00\x00\x00\x00\
         \x00\x00\x00\x2cuuid\x6d\x1d\x9b\x05\x42\xd5\x44\xe6\x80\xe2\x14\x1d\xaf\xf7\x57\xb2\x01\x00\x00\x00\
@@ -259,7 +374,14 @@ fn what_is_written_is_canonical(rt: HostRuntime) -> Result<(), Fail> {
 #[test]
 fn a_track_that_fails_ends_the_play(rt: HostRuntime) -> Result<(), Fail> {
     let alloc = rt.alloc();
-    let mut dial = dial(alloc, &[Step::Lists(Runs::Three), Step::Serves(0), Step::Serves(20_000_000)])?;
+    let mut dial = dial(
+        alloc,
+        &[
+            Step::Lists(Runs::Three),
+            Step::Serves(0),
+            Step::Serves(20_000_000),
+        ],
+    )?;
     let mut tracks = tracks(alloc, vec![in alloc; 2]?);
     let plan = plan(alloc, 1, 3, 1)?;
     let report = play(alloc, &mut dial, &mut tracks, lowest(alloc)?, &plan);
