@@ -1,13 +1,13 @@
 -- Known starts, as they are taken in.
-use Rattle.std.proofs.Common.{◌≡◌, ◌<◌, ◌≤◌, ◌+◌, ◌-◌, ℕ, zero, suc, Bool, true, false, cond, eqb, ltb, leb, ◌||◌, ◌&&◌, List, [], ◌∷◌, ◌++◌, length, map, get_or, take, drop, Option, Some, None, refl, ap, sym, ◌∙◌, arith, drop-cons, add-one, append-nil, append_assoc}
+use Rattle.std.proofs.Common.{◌≡◌, ◌<◌, ◌≤◌, ◌+◌, ◌-◌, ℕ, zero, suc, Bool, true, false, cond, eqb, ltb, leb, ◌||◌, ◌&&◌, List, [], ◌∷◌, ◌++◌, length, get_or, take, drop, Some, refl, ap, sym, ◌∙◌, arith, drop-cons, add-one, append-nil, append_assoc}
 use Rattle.std.proofs.lemmas.List.{take_more}
-use Rattle.std.proofs.lemmas.Bool.{eqb-true, leb-true, leb-false, ltb-true, ltb-false}
+use Rattle.std.proofs.lemmas.Bool.{eqb-true, leb-true, ltb-true, ltb-false}
 use Rattle.std.specs.List.{AllByRecursion}
 use Rattle.sm_client.specs.Starts.{has, starts, Falls, AreAfter}
 use Rattle.sm_client.specs.declared.standing.Standing as code
 use Rattle.sm_client.specs.Stands.{Standing}
 use Rattle.sm_client.specs.Calls.{KnowsFrom, Holds, Follows}
-use Rattle.sm_client.proofs.Rows.{by_bool, no_eqb, same_eqb, all_below}
+use Rattle.sm_client.proofs.Rows.{by_bool, no_eqb, same_eqb}
 
 -- ---- tests
 
@@ -93,6 +93,7 @@ knows-later {e = e} {all = all} f now r h falls is = record {
   where
     le_leb : (m n : ℕ) → m ≤ n → leb m n ≡ true
     le_leb m n h = grind arith
+
     both : (k : ℕ) → (leb f k && (leb e k && has k all)) ≡ (leb f k && has k all)
     both k =
         by_bool (leb f k) (λ b. leb f k ≡ b → (b && (leb e k && has k all)) ≡ (b && has k all))
@@ -233,8 +234,10 @@ ahead-is {e = e} {all = all} {xs = xs} n r h is =
   where
     le_leb : (m : ℕ) → leb m m ≡ true
     le_leb m = grind arith
+
     lt_leb : (m n : ℕ) → m < n → leb m n ≡ true
     lt_leb m n h = grind arith
+
     both : (k : ℕ) → (ltb e k && (leb e k && has k all)) ≡ (ltb e k && has k all)
     both k =
         by_bool (ltb e k) (λ b. ltb e k ≡ b → (b && (leb e k && has k all)) ≡ (b && has k all))

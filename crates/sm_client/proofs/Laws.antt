@@ -1,17 +1,16 @@
 -- What follows of the exchanges of a stream.
-use Rattle.std.proofs.Common.{◌≡◌, ◌≢◌, ◌<◌, ◌≤◌, ◌+◌, ◌-◌, ◌*◌, ◌⊎◌, ℕ, List, [], ◌∷◌, ◌++◌, length, Option, Some, None, refl, ap, sym, ◌∙◌, subst, arith, inl, inr, length-append, add-mul, one-mul, mul-le-mul_right, mul_right_comm, add_assoc}
+use Rattle.std.proofs.Common.{◌≡◌, ◌<◌, ◌≤◌, ◌+◌, ◌*◌, ℕ, List, [], ◌∷◌, ◌++◌, length, Option, Some, None, refl, ap, sym, ◌∙◌, subst, arith, inl, inr, length-append, add-mul, one-mul, mul-le-mul_right, mul_right_comm, add_assoc}
 use Rattle.sm_model.specs.declared.run.RawFragment.{RawFragment}
 use Rattle.sm_manin.specs.declared.listing.StreamListing.{StreamListing}
 use Rattle.sm_fetch.specs.declared.dial.Exchange.{Exchange}
-use Rattle.sm_fetch.specs.declared.got.Got.{Got}
 use Rattle.sm_fetch.specs.declared.got.Got.TheVariants as got
 use Rattle.sm_client.specs.declared.plan.Plan.{Plan}
 use Rattle.sm_client.specs.declared.report.Miss.{Miss}
 use Rattle.sm_client.specs.declared.report.Miss.TheVariants as miss
 use Rattle.sm_client.specs.Turns.{Meaning, Turn}
 use Rattle.sm_client.specs.Starts.{starts}
-use Rattle.sm_client.specs.Stands.{Item, list, piece, Piece, unread, absent, standing, Standing, State, Stand, listed, first_start, nothing_read, state_by, state_after, written_at, piece_of, wrote, wrote_by, begun, relisted, times_of}
-use Rattle.sm_client.specs.Asks.{IsStale, Asks, AsksLast, Made, MadeList, MadePiece, turn_by, turn_after}
+use Rattle.sm_client.specs.Stands.{Item, list, piece, Piece, unread, absent, standing, Standing, State, listed, first_start, nothing_read, state_after, piece_of, wrote, wrote_by, begun, relisted, times_of}
+use Rattle.sm_client.specs.Asks.{IsStale, Asks, AsksLast, Made, MadePiece, turn_after}
 use Rattle.sm_client.specs.Ends.{written_after}
 use Rattle.sm_client.specs.Plays.{Gapless, first_times}
 use Rattle.sm_client.proofs.Pieces.{spelled-fragment, spelled-no_manifest}
@@ -180,7 +179,7 @@ module _ {P : Type 0} (m : Meaning P) (plan : Plan) (name : List ℕ) (last : Li
       → MadePiece m plan name t (record { stand = standing p; missed = missed }) x (got.Fragment raw) level → p.manifests ≤ plan.refresh
       → (o : Option StreamListing) → o ≡ p.listing
       → (length (wrote_by name p o level raw).written ≤ plan.count → (wrote_by name p o level raw).manifests ≤ plan.refresh
-          → length xs + (length last + ((length (wrote_by name p o level raw).written * (plan.refresh + 1) + (wrote_by name p o level raw).manifests) * plan.tries + 0)) ≤ most)
+      → length xs + (length last + ((length (wrote_by name p o level raw).written * (plan.refresh + 1) + (wrote_by name p o level raw).manifests) * plan.tries + 0)) ≤ most)
       → length xs + 1 + (length last + ((length p.written * (plan.refresh + 1) + p.manifests) * plan.tries + length missed)) ≤ most
   wrote-few t p missed x raw level xs k fewer None is rest =
       absurd (let same : p ≡ k.at = same-standing' p k.at k.stands in let some : p.listing ≡ Some k.listing = ap (λ (q : Standing). q.listing) same ∙ k.last in cc)
@@ -200,8 +199,11 @@ module _ {P : Type 0} (m : Meaning P) (plan : Plan) (name : List ℕ) (last : Li
 
   standing-few : 0 < plan.refresh → (xs : List Item) (t : Turn P) (p : Standing) (missed : List Miss) → StandingFew t p missed xs
   standing-few some [] t p missed w mr h a b =
-      omega (arith, with-last t (record { stand = standing p; missed = missed }) ((length p.written * (plan.refresh + 1) + p.manifests) * plan.tries) h b
-      (λ k kt. bound (length p.written) p.manifests k plan.count plan.refresh plan.tries w mr kt))
+      omega (
+        arith,
+        with-last t (record { stand = standing p; missed = missed }) ((length p.written * (plan.refresh + 1) + p.manifests) * plan.tries) h b
+            (λ k kt. bound (length p.written) p.manifests k plan.count plan.refresh plan.tries w mr kt),
+      )
   standing-few some (list x (got.Manifest l) ∷ xs) t p missed w mr h a b =
       let r = standing-few some xs t (relisted p (listed name l.streams)) [] w (relist-few p a.0.may.stale some) (omega arith) a.2 b in
       omega (arith, r, manifest-more (length p.written * (plan.refresh + 1) + p.manifests) (length missed) plan.tries a.0.tries, add_assoc (length p.written * (plan.refresh + 1)) p.manifests 1)

@@ -1,5 +1,5 @@
 -- A stream that a manifest lists has 1 to 64 qualities.
-use Rattle.std.proofs.Common.{◌≡◌, ◌+◌, ◌<◌, ◌≤◌, ℕ, Bool, true, false, not, cond, eqb, leb, ltb, ◌||◌, List, [], ◌∷◌, ◌++◌, length, map, Option, Some, None, Result, Ok, Err, min, refl, ap, sym, ◌∙◌, arith, bytes_eq, IfSome}
+use Rattle.std.proofs.Common.{◌≡◌, ◌+◌, ◌<◌, ◌≤◌, ℕ, Bool, true, false, not, cond, eqb, ltb, ◌||◌, List, [], ◌∷◌, ◌++◌, length, map, Option, Some, None, Ok, min, refl, sym, arith, bytes_eq}
 use Rattle.std.proofs.lemmas.Bool.{leb-false, eqb-false}
 use Rattle.std.proofs.lemmas.List.{length-append}
 use Rattle.std.specs.List.{AllByRecursion}
@@ -13,7 +13,7 @@ use Rattle.sm_manin.specs.declared.raw.RawLevel.{RawLevel}
 use Rattle.sm_manin.specs.declared.raw.RawStream.{RawStream}
 use Rattle.sm_manin.specs.ManifestWalk.{Walk, none_met, walk}
 use Rattle.sm_manin.specs.ManifestFaults.{at_if, root_faults, is_stream_at_fault, is_level_at_fault, level_faults, lacks_levels, stream_faults, streams_faults, open_faults, faults_of}
-use Rattle.sm_manin.specs.Listings.{with_level, level_in, levels_from, levels_of, listing_of, timescale_of, read_of}
+use Rattle.sm_manin.specs.Listings.{with_level, level_in, levels_from, listing_of, timescale_of, read_of}
 use Rattle.sm_manin.specs.ManifestRead.{IsManifest, judged}
 use Rattle.sm_fetch.specs.declared.dial.Answer.{Answer}
 use Rattle.sm_fetch.specs.declared.dial.Answer.TheVariants as answers

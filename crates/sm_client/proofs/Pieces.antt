@@ -1,7 +1,6 @@
 -- Requests for fragments.
-use Rattle.std.proofs.Common.{◌≡◌, ◌≢◌, ◌<◌, ◌≤◌, ◌+◌, ◌⊎◌, ℕ, List, [], ◌∷◌, ◌++◌, length, map, slice_index, get_or, Option, Some, None, refl, ap, sym, ◌∙◌, arith, length-append, inl, inr}
+use Rattle.std.proofs.Common.{◌≡◌, ◌<◌, ◌⊎◌, ℕ, List, [], ◌∷◌, length, slice_index, get_or, Option, refl, ap, sym, ◌∙◌, arith, inl, inr}
 use Rattle.std.proofs.lemmas.List.{get_or_default}
-use Rattle.sm_policy.specs.declared.policy.Heard.{Heard}
 use Rattle.sm_policy.specs.declared.policy.Outcome.{Outcome}
 use Rattle.sm_model.specs.declared.address.Address.{Address}
 use Rattle.sm_model.specs.declared.run.RawFragment.{RawFragment}
@@ -14,7 +13,7 @@ use Rattle.sm_fetch.specs.declared.dial.Answer.TheVariants as answers
 use Rattle.sm_fetch.specs.declared.dial.Exchange.{Exchange}
 use Rattle.sm_fetch.specs.declared.got.Got.{Got}
 use Rattle.sm_fetch.specs.declared.got.Got.TheVariants as got
-use Rattle.sm_fetch.specs.Exchanges.{with_one, with_all, logged, answer_len}
+use Rattle.sm_fetch.specs.Exchanges.{with_one, logged, answer_len}
 use Rattle.sm_fetch.specs.Requests.{fragment_request, fragment_limit}
 use Rattle.sm_fetch.specs.Spelt.{SpellsFragment, given}
 use Rattle.sm_fetch.specs.Fetched.{FetchedFragment}
@@ -22,13 +21,12 @@ use Rattle.sm_client.specs.declared.plan.Plan.{Plan}
 use Rattle.sm_client.specs.declared.report.Miss.{Miss}
 use Rattle.sm_client.specs.declared.piece.Asked.{Asked}
 use Rattle.sm_client.specs.declared.piece.Asked.TheVariants as asked
-use Rattle.sm_client.specs.declared.piece.Pieces.TheVariants as pieces
-use Rattle.sm_client.specs.Turns.{Meaning, Turn, fresh, settle, Continues, Behaves}
-use Rattle.sm_client.specs.Stands.{Item, piece, Standing, standing, State, ladder_of, address_at, miss_of, after_piece}
-use Rattle.sm_client.specs.Asks.{IsRead, heard_of, outcome_of, turn_after, exchanges}
-use Rattle.sm_client.specs.Calls.{at, Went, MayPiece, PieceMade, PieceHeard, PieceMissed, PieceLost, PieceOnce, IsAskedOf, PieceTaken, PieceStopped, PiecesBy}
-use Rattle.sm_client.proofs.Turns.{behaves-refl, behaves-same, unheard-behaves}
-use Rattle.sm_client.proofs.Went.{with_all-nil, with_all-one, went-start, went-more, went-took, piece-last, made-piece, piece_missed-is}
+use Rattle.sm_client.specs.Turns.{Meaning, Turn, fresh, Continues}
+use Rattle.sm_client.specs.Stands.{Item, piece, Standing, standing, ladder_of, address_at}
+use Rattle.sm_client.specs.Asks.{outcome_of}
+use Rattle.sm_client.specs.Calls.{at, Went, MayPiece, PieceMade, PieceHeard, PieceLost, PieceOnce, IsAskedOf}
+use Rattle.sm_client.proofs.Turns.{behaves-refl}
+use Rattle.sm_client.proofs.Went.{with_all-one, went-more, made-piece}
 
 pub length-ladder : (levels : List Level) → length (ladder_of levels) ≡ length levels
 length-ladder [] = refl

@@ -1,5 +1,5 @@
 -- Streams one after another.
-use Rattle.std.proofs.Common.{◌≡◌, ◌≢◌, ◌<◌, ◌≤◌, ◌+◌, ◌-◌, ◌*◌, ◌⊎◌, ℕ, zero, suc, List, [], ◌∷◌, ◌++◌, length, take, drop, get_or, Option, Some, None, refl, ap, sym, ◌∙◌, subst, arith, inl, inr, append_assoc, append-nil, length-append, slice_index_or, remove, add-one, drop-cons}
+use Rattle.std.proofs.Common.{◌≡◌, ◌≢◌, ◌<◌, ◌≤◌, ◌+◌, ◌⊎◌, ℕ, zero, suc, List, [], ◌∷◌, ◌++◌, length, drop, get_or, Option, Some, None, refl, ap, sym, ◌∙◌, arith, inl, inr, append_assoc, append-nil, length-append, slice_index_or, remove, add-one, drop-cons}
 use Rattle.std.specs.Io.KnownBytes.{Appends, Keeps}
 use Rattle.std.proofs.KnownBytes.{Keeps-refl, Keeps-trans, Appends-kept}
 use Rattle.sm_fetch.specs.declared.dial.Exchange.{Exchange}
@@ -9,12 +9,12 @@ use Rattle.sm_client.specs.declared.report.End.{End}
 use Rattle.sm_client.specs.declared.report.End.TheVariants as ends
 use Rattle.sm_client.specs.declared.report.Report.{Report}
 use Rattle.sm_client.specs.Turns.{Meaning, Turn, fresh, settle, Behaves}
-use Rattle.sm_client.specs.Stands.{Item, Piece, unread, State, nothing_read, state_after, written_at}
-use Rattle.sm_client.specs.Asks.{Asks, AsksLast, turn_after, exchanges}
-use Rattle.sm_client.specs.Ends.{EndsAt, IsTail, texts, written_after}
+use Rattle.sm_client.specs.Stands.{Item, State, nothing_read, state_after, written_at}
+use Rattle.sm_client.specs.Asks.{AsksLast, turn_after, exchanges}
+use Rattle.sm_client.specs.Ends.{IsTail}
 use Rattle.sm_client.specs.Plays.{Part, IsPart, PlaysAll, PlaysFrom, Played, count_of, all_exchanges, written_of}
-use Rattle.sm_client.specs.Calls.{StreamsEnd, Streamed}
-use Rattle.sm_client.proofs.Turns.{behaves-refl, behaves-trans, behaves-same, turn_after-behaves, asks-behaves, last-behaves}
+use Rattle.sm_client.specs.Calls.{StreamsEnd}
+use Rattle.sm_client.proofs.Turns.{behaves-same, turn_after-behaves, asks-behaves, last-behaves}
 use Rattle.sm_client.proofs.Went.{with_all-all, with_all-nil}
 use Rattle.sm_client.proofs.Laws.{gapless-law, few-law}
 
@@ -165,6 +165,7 @@ module _ {P : Type 0} {m : Meaning P} {plan : Plan} {start now then : Turn P} {n
     where
       done-last : (s : State) (last : List Item) (tail : List ℕ) (e : End) → e ≡ ends.Done → IsTail plan name e s last tail → last ≡ []
       done-last s last tail e is t = (rw is at t).last_is
+
       counted-more : (n r : ℕ) → count ≡ n → played + (n + r) ≡ played + count + r
       counted-more n r is = omega (arith, is)
 
@@ -188,8 +189,10 @@ module _ {P : Type 0} {m : Meaning P} {plan : Plan} {start now then : Turn P} {n
           none : (ns : List (List ℕ)) → count_of plan ns [] ≡ 0
           none [] = refl
           none (n ∷ ns) = refl
+
           no_more : (r : ℕ) → r ≡ 0 → played + (length (written_of plan name b.part) + r) ≡ played + count
           no_more r z = omega (arith, z, b.counted)
+
       others-past : (j : ℕ) → (j + 1 ≤ 0) ⊎ (0 + length (k.parts ++ b.part ∷ []) ≤ j) → Keeps (held j) (held' j)
       others-past j (inl h) = absurd (omega (arith, h))
       others-past j (inr h) = Keeps-trans _ _ _ (k.others j (omega (arith, len, h))) (others j (λ e. omega (arith, len, h, e)))
@@ -214,6 +217,7 @@ playing-done {plan = plan} {names = names} {number = number} {played = played} {
     drop_past [] (suc i) h = refl
     drop_past (n ∷ ns) zero h = absurd (omega (arith, h))
     drop_past (n ∷ ns) (suc i) h = drop_past ns i (omega (arith, h))
+
     past : (j : ℕ) → (j + 1 ≤ 0) ⊎ (0 + length k.parts ≤ j) → Keeps (held j) (held' j)
     past j (inl h) = absurd (omega (arith, h))
     past j (inr h) = k.others j (omega (arith, k.count, h))

@@ -1,5 +1,5 @@
 -- Manifests, read until the expected start is known.
-use Rattle.std.proofs.Common.{◌≡◌, ◌≢◌, ◌<◌, ◌≤◌, ◌+◌, ◌-◌, ◌⊎◌, ℕ, Bool, true, false, List, [], ◌∷◌, length, Option, Some, None, refl, ap, sym, ◌∙◌, arith, inl, inr, IfSome, IfNone}
+use Rattle.std.proofs.Common.{◌≡◌, ◌<◌, ℕ, Bool, true, List, [], length, Option, Some, None, refl, sym, ◌∙◌}
 use Rattle.sm_manin.specs.declared.listing.StreamListing.{StreamListing}
 use Rattle.sm_fetch.specs.declared.dial.Exchange.{Exchange}
 use Rattle.sm_client.specs.declared.plan.Plan.{Plan}
@@ -9,10 +9,10 @@ use Rattle.sm_client.specs.declared.report.End.TheVariants as ends
 use Rattle.sm_client.specs.declared.list.Manifest.TheVariants as manifest
 use Rattle.sm_client.specs.declared.standing.Standing as code
 use Rattle.sm_client.specs.Starts.{has, starts}
-use Rattle.sm_client.specs.Stands.{Stand, unread, absent, standing, Standing, relisted, first_start, listed_starts, read_at, written_at}
+use Rattle.sm_client.specs.Stands.{Stand, unread, absent, standing, Standing, relisted, first_start}
 use Rattle.sm_client.specs.Asks.{MayList, Relists}
 use Rattle.sm_client.specs.Ends.{EndsAt, IsTail}
-use Rattle.sm_client.specs.Calls.{at, Holds, HasLevels, KnowsFrom, ListWent, ListedBy, ListStopped, ListEnded, BegunStanding, RelistedTo, RelistEnded, SoughtFound, Sought}
+use Rattle.sm_client.specs.Calls.{at, Holds, HasLevels, ListWent, ListedBy, ListEnded, BegunStanding, RelistedTo, RelistEnded, SoughtFound}
 use Rattle.sm_client.proofs.Went.{lists-start, lists-more}
 
 -- ---- the first manifest

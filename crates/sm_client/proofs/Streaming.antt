@@ -1,6 +1,6 @@
 -- A stream goes on.
-use Rattle.std.proofs.Common.{◌≡◌, ◌≢◌, ◌<◌, ◌≤◌, ◌+◌, ◌-◌, ◌⊎◌, ℕ, Bool, true, false, List, [], ◌∷◌, ◌++◌, length, take, Option, Some, None, refl, ap, sym, ◌∙◌, subst, arith, inl, inr, IfSome, IfNone, append_assoc, append-nil, length-append}
-use Rattle.std.specs.Io.KnownBytes.{Appends, Keeps}
+use Rattle.std.proofs.Common.{◌≡◌, ◌<◌, ◌+◌, ℕ, true, false, List, [], ◌∷◌, ◌++◌, length, take, Option, Some, None, refl, ap, sym, ◌∙◌, subst, arith, append_assoc, append-nil, length-append}
+use Rattle.std.specs.Io.KnownBytes.{Appends}
 use Rattle.std.proofs.KnownBytes.{Appends-nil, Appends-trans}
 use Rattle.sm_model.specs.declared.fragment.Fragment.{Fragment}
 use Rattle.sm_model.specs.declared.run.RawFragment.{RawFragment}
@@ -14,13 +14,12 @@ use Rattle.sm_client.specs.declared.report.End.{End}
 use Rattle.sm_client.specs.declared.report.End.TheVariants as ends
 use Rattle.sm_client.specs.declared.piece.Pieces.TheVariants as pieces
 use Rattle.sm_client.specs.declared.standing.Standing as code
-use Rattle.sm_client.specs.Turns.{Meaning, Turn, fresh, Behaves}
-use Rattle.sm_client.specs.Starts.{has, starts, AreAfter}
-use Rattle.sm_client.specs.Stands.{Item, piece, Piece, Stand, unread, standing, Standing, State, piece_of, wrote, wrote_by, after_piece, written_at}
-use Rattle.sm_client.specs.Ends.{EndsAt, IsTail, IsFront, IsDone, texts, piece_text}
-use Rattle.sm_client.specs.Calls.{at, Holds, HasLevels, Went, ListWent, ListEnded, BegunStanding, SoughtFound, MayPiece, PieceTaken, PieceStopped, PiecesBy, Follows, Streams, StreamsOn, StreamsEnd, StreamsBy, WritesFront}
-use Rattle.sm_client.proofs.Turns.{behaves-refl}
-use Rattle.sm_client.proofs.Went.{went-start, went-more, went-took, went-lists}
+use Rattle.sm_client.specs.Turns.{Meaning, Turn}
+use Rattle.sm_client.specs.Starts.{has, AreAfter}
+use Rattle.sm_client.specs.Stands.{Item, Piece, unread, standing, Standing, State, piece_of, wrote, wrote_by, after_piece, written_at}
+use Rattle.sm_client.specs.Ends.{texts, piece_text}
+use Rattle.sm_client.specs.Calls.{at, Holds, HasLevels, Went, ListEnded, BegunStanding, SoughtFound, MayPiece, PiecesBy, Follows, Streams, StreamsOn, StreamsEnd, StreamsBy, WritesFront}
+use Rattle.sm_client.proofs.Went.{went-more, went-took, went-lists}
 
 -- ---- texts
 
@@ -69,8 +68,8 @@ written-text : (track track' : Option (List ℕ)) {name : List ℕ} {seq id : �
 written-text track track' {name = name} {seq = seq} {id = id} {f = f} listing raw level ps same place one w =
     let one' = piece_of name listing level raw in
     let e : frag_text seq id f [] ≡ texts (length ps + 1) (one' ∷ []) ++ [] =
-        ap (λ (g : Fragment). frag_text seq id g []) one ∙ (ap (λ n. frag_text n id one'.fragment []) same ∙ (ap (λ n. frag_text (length ps + 1) n one'.fragment []) place
-        ∙ (sym (append-nil (piece_text (length ps + 1) one')) ∙ sym (append-nil (texts (length ps + 1) (one' ∷ [])))))) in
+    ap (λ (g : Fragment). frag_text seq id g []) one ∙ (ap (λ n. frag_text n id one'.fragment []) same ∙ (ap (λ n. frag_text (length ps + 1) n one'.fragment []) place
+    ∙ (sym (append-nil (piece_text (length ps + 1) one')) ∙ sym (append-nil (texts (length ps + 1) (one' ∷ [])))))) in
     let A : List ℕ → Type 0 = λ l. Appends track track' l in
     subst A e w
 
@@ -94,7 +93,7 @@ module _ {P : Type 0} {m : Meaning P} {plan : Plan} {name : List ℕ} where
             let first : Appends track there (texts n r.added) = rw append-nil at r.text in
             let both : Appends track track' (texts n r.added ++ (texts (length (written_at by.stand) + 1) s.added ++ tail)) = Appends-trans track there track' (texts n r.added) _ first s.text in
             let same : texts n (r.added ++ s.added) ++ tail ≡ texts n r.added ++ (texts (length (written_at by.stand) + 1) s.added ++ tail) =
-                ap (λ l. l ++ tail) (texts-append n r.added s.added) ∙ (append_assoc (texts n r.added) (texts (n + length r.added) s.added) tail ∙ ap (λ k. texts n r.added ++ (texts k s.added ++ tail)) (sym len)) in
+            ap (λ l. l ++ tail) (texts-append n r.added s.added) ∙ (append_assoc (texts n r.added) (texts (n + length r.added) s.added) tail ∙ ap (λ k. texts n r.added ++ (texts k s.added ++ tail)) (sym len)) in
             rw same both;
       }
 
@@ -209,7 +208,6 @@ module _ {P : Type 0} {m : Meaning P} {plan : Plan} {name : List ℕ} where
     behind = refl;
     counted = is ∙ sym (length-append p.written (piece_of name listing level raw ∷ []));
   }
-
 
 -- ---- seeking, and then one fragment
 

@@ -1,5 +1,5 @@
 -- What holds at each try.
-use Rattle.std.proofs.Common.{◌≡◌, ◌<◌, ◌≤◌, ◌+◌, ◌⊎◌, ℕ, List, [], ◌∷◌, ◌++◌, length, Option, Some, None, refl, ap, sym, ◌∙◌, arith, length-append, inl, inr}
+use Rattle.std.proofs.Common.{◌≡◌, ◌<◌, ◌+◌, ℕ, List, [], ◌∷◌, ◌++◌, length, Option, refl, ◌∙◌, arith, length-append}
 use Rattle.sm_manin.specs.declared.listing.StreamListing.{StreamListing}
 use Rattle.sm_fetch.specs.declared.dial.Exchange.{Exchange}
 use Rattle.sm_fetch.specs.declared.got.Got.TheVariants as got
@@ -13,8 +13,8 @@ use Rattle.sm_client.specs.declared.piece.Pieces.TheVariants as pieces
 use Rattle.sm_client.specs.Turns.{Meaning, Turn, fresh, settle}
 use Rattle.sm_client.specs.Stands.{Stand, Standing, standing, piece}
 use Rattle.sm_client.specs.Asks.{MayList, IsRead}
-use Rattle.sm_client.specs.Calls.{at, ListWent, ListedOnce, ListedBy, ListStopped, ListMissed, Went, MayPiece, PieceHeard, PieceMissed, PieceLost, PiecesBy, TookValid}
-use Rattle.sm_client.proofs.Went.{lists-start, lists-more, list-found, list-missed, list-lost, ListLost, went-start, went-more, went-took, piece-last, piece_missed-is}
+use Rattle.sm_client.specs.Calls.{at, ListWent, ListedOnce, ListedBy, ListMissed, Went, MayPiece, PieceHeard, PieceMissed, PieceLost, PiecesBy, TookValid}
+use Rattle.sm_client.proofs.Went.{lists-start, lists-more, list-found, list-missed, list-lost, went-start, went-more, went-took, piece-last, piece_missed-is}
 use Rattle.sm_client.proofs.Pieces.{spelled-fragment, valid-named, lost-went}
 
 -- so many requests for the manifest missed

@@ -1,5 +1,5 @@
 -- Turns that do the same, and what they ask.
-use Rattle.std.proofs.Common.{◌≡◌, ◌<◌, ◌≤◌, ℕ, Bool, true, false, cond, List, [], ◌∷◌, ◌++◌, length, slice_index_or, remove, refl, ap, sym, ◌∙◌, append_assoc, append-nil, arith}
+use Rattle.std.proofs.Common.{◌≡◌, ◌<◌, ℕ, true, cond, List, [], ◌∷◌, ◌++◌, length, slice_index_or, remove, refl, ap, sym, ◌∙◌, append_assoc, append-nil, arith}
 use Rattle.sm_policy.specs.declared.policy.Heard.{Heard}
 use Rattle.sm_fetch.specs.declared.dial.Exchange.{Exchange}
 use Rattle.sm_fetch.specs.declared.got.Got.{Got}
@@ -7,7 +7,7 @@ use Rattle.sm_fetch.specs.declared.got.Got.TheVariants as got
 use Rattle.sm_client.specs.declared.plan.Plan.{Plan}
 use Rattle.sm_client.specs.Turns.{Meaning, Turn, fresh, settle, hears, Continues, Alike, Behaves}
 use Rattle.sm_client.specs.Stands.{Item, list, piece, State, ladder_of, state_by, state_after}
-use Rattle.sm_client.specs.Asks.{Made, MadePiece, Asks, AsksLast, IsRead, got_of, heard_of, hears_got, turn_by, turn_after}
+use Rattle.sm_client.specs.Asks.{Made, Asks, AsksLast, hears_got, turn_by, turn_after}
 use Rattle.sm_client.proofs.Rows.{by_bool}
 
 pub behaves-refl : {P : Type 0} (m : Meaning P) (t : Turn P) → Behaves m t t

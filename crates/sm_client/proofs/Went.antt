@@ -1,5 +1,5 @@
 -- Exchanges one after another.
-use Rattle.std.proofs.Common.{◌≡◌, ◌<◌, ◌≤◌, ◌+◌, ◌⊎◌, ℕ, List, [], ◌∷◌, ◌++◌, length, map, Option, Some, None, refl, ap, sym, ◌∙◌, subst, append_assoc, append-nil, arith, inl, inr}
+use Rattle.std.proofs.Common.{◌≡◌, ◌<◌, ◌⊎◌, ℕ, List, [], ◌∷◌, ◌++◌, length, Option, Some, None, refl, ap, sym, ◌∙◌, append_assoc, append-nil, inl, inr}
 use Rattle.sm_manin.specs.declared.listing.StreamListing.{StreamListing}
 use Rattle.sm_fetch.specs.declared.dial.Exchange.{Exchange}
 use Rattle.sm_fetch.specs.declared.got.Got.{Got}
@@ -13,8 +13,8 @@ use Rattle.sm_fetch.specs.Fetched.{FetchedManifest}
 use Rattle.sm_client.specs.declared.plan.Plan.{Plan}
 use Rattle.sm_client.specs.declared.report.Miss.{Miss}
 use Rattle.sm_client.specs.Turns.{Meaning, Turn, fresh, settle, hears, Behaves}
-use Rattle.sm_client.specs.Stands.{Item, list, piece, Standing, Stand, standing, State, ladder_of, listed, read_at, miss_of, missed_by, after_list, after_piece, state_by, state_after, written_at}
-use Rattle.sm_client.specs.Asks.{MayList, MadeList, Made, MadePiece, Asks, AsksLast, IsRead, got_of, exchange_of, exchanges, heard_of, hears_got, turn_by, turn_after}
+use Rattle.sm_client.specs.Stands.{Item, list, piece, Standing, Stand, standing, State, read_at, miss_of, missed_by, after_list, after_piece, state_by, state_after}
+use Rattle.sm_client.specs.Asks.{MayList, MadePiece, Asks, AsksLast, IsRead, got_of, exchange_of, exchanges, heard_of, hears_got, turn_after}
 use Rattle.sm_client.specs.Calls.{at, AsksLists, AsksListLast, ListWent, ListMade, ListFound, ListMissed, ListedOnce, IsListedOf, Went, MayPiece, PieceMade, PieceHeard}
 use Rattle.sm_model.specs.declared.run.RawFragment.{RawFragment}
 use Rattle.sm_client.specs.declared.list.Listed.{Listed}
@@ -64,7 +64,7 @@ went-more {m = m} {plan = plan} {name = name} {start = start} {mid = mid} {now =
       asks_last = rw turn_after-append (last-behaves plan name to last (turn_after-behaves s.made there) s.asks_last);
       turn =
           let both : turn_after m start ((r.made ++ s.made) ++ last) ≡ turn_after m (turn_after m start r.made) (s.made ++ last) =
-              ap (turn_after m start) (append_assoc r.made s.made last) ∙ turn_after-append m start r.made (s.made ++ last) in
+          ap (turn_after m start) (append_assoc r.made s.made last) ∙ turn_after-append m start r.made (s.made ++ last) in
           behaves-same _ both (behaves-trans (turn_after-behaves (s.made ++ last) there) s.turn);
     }
 
@@ -109,7 +109,7 @@ pub went-lists : {P : Type 0} (m : Meaning P) {plan : Plan} {name : List ℕ} (t
     → ListWent plan name from to last old new → Went m plan name t t from to last old new
 went-lists m {plan = plan} {name = name} t {from = from} {to = to} {last = last} r =
     let stays : turn_after m t (r.made ++ last) ≡ t =
-        turn_after-append m t r.made last ∙ (ap (λ u. turn_after m u last) (lists-turn m plan name t from r.made r.asks) ∙ last-turn m plan t to last r.asks_last) in
+    turn_after-append m t r.made last ∙ (ap (λ u. turn_after m u last) (lists-turn m plan name t from r.made r.asks) ∙ last-turn m plan t to last r.asks_last) in
     record {
       made = r.made;
       log = r.log;

@@ -1,7 +1,6 @@
 -- What the parts of a play do.
 use Rattle.std.specs.Prelude.{◌≡◌, ◌<◌, ◌≤◌, ◌+◌, ◌⊎◌, ◌&&◌, ℕ, true, List, [], ◌∷◌, ◌++◌, length, take, nat_le, Option, Some, None, IfSome}
-use Rattle.std.specs.Io.KnownBytes.{Appends, Keeps}
-use Rattle.sm_policy.specs.declared.policy.Heard.{Heard}
+use Rattle.std.specs.Io.KnownBytes.{Appends}
 use Rattle.sm_model.specs.declared.run.RawFragment.{RawFragment}
 use Rattle.sm_model.specs.Fragments.{IsValid}
 use Rattle.sm_manin.specs.declared.listing.Listing.{Listing}
@@ -30,8 +29,8 @@ use Rattle.sm_client.specs.declared.piece.Pieces.TheVariants as pieces
 use Rattle.sm_client.specs.Turns.{Meaning, Turn, Continues, Behaves}
 use Rattle.sm_client.specs.Starts.{has, starts, Falls, AreAfter}
 use Rattle.sm_client.specs.Stands.{Item, list, piece, Piece, Standing, Stand, unread, standing, State, listed, listed_starts, ladder_of, address_at, read_at, miss_of, state_after, written_at}
-use Rattle.sm_client.specs.Asks.{MayList, MadeList, Asks, AsksLast, IsRead, heard_of, turn_after, exchanges}
-use Rattle.sm_client.specs.Ends.{EndsAt, IsTail, piece_text, texts}
+use Rattle.sm_client.specs.Asks.{MadeList, Asks, AsksLast, IsRead, heard_of, turn_after, exchanges}
+use Rattle.sm_client.specs.Ends.{EndsAt, IsTail, texts}
 
 -- ---- where a stream stands
 

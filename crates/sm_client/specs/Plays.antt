@@ -1,6 +1,5 @@
 -- What a whole call of `play` made and wrote.
-use Rattle.std.specs.Prelude.{◌≡◌, ◌≢◌, ◌≤◌, ◌+◌, ◌*◌, ◌⊎◌, ℕ, List, [], ◌∷◌, ◌++◌, length, map, Option}
-use Rattle.std.specs.List.{sum_by}
+use Rattle.std.specs.Prelude.{◌≡◌, ◌≢◌, ◌≤◌, ◌+◌, ◌*◌, ◌⊎◌, ℕ, List, [], ◌∷◌, ◌++◌, length, Option}
 use Rattle.std.specs.Io.KnownBytes.{Appends, Keeps}
 use Rattle.sm_fetch.specs.declared.dial.Exchange.{Exchange}
 use Rattle.sm_fetch.specs.declared.got.Got.TheVariants as got
@@ -10,7 +9,7 @@ use Rattle.sm_client.specs.declared.report.End.{End}
 use Rattle.sm_client.specs.declared.report.End.TheVariants as ends
 use Rattle.sm_client.specs.declared.report.Report.{Report}
 use Rattle.sm_client.specs.Turns.{Meaning, Turn, settle}
-use Rattle.sm_client.specs.Stands.{Item, list, piece, Piece, listed, times_of, first_start, nothing_read, state_after, written_at}
+use Rattle.sm_client.specs.Stands.{Item, list, piece, Piece, listed, times_of, first_start, nothing_read, state_after}
 use Rattle.sm_client.specs.Asks.{Asks, AsksLast, turn_after, exchanges}
 use Rattle.sm_client.specs.Ends.{EndsAt, IsTail, texts, written_after}
 
@@ -59,7 +58,7 @@ PlaysAll m plan start number [] held held' (part ∷ rest) end = ⊥
 PlaysAll m plan start number (name ∷ names) held held' (part ∷ rest) end =
     IsPart m plan name number start (held number) (held' number) part ×
     (((part.end ≡ ends.Done) × PlaysAll m plan (turn_after m start part.made) (number + 1) names held held' rest end)
-        ⊎ ((part.end ≢ ends.Done) × (rest ≡ []) × (end ≡ part.end)))
+    ⊎ ((part.end ≢ ends.Done) × (rest ≡ []) × (end ≡ part.end)))
 
 -- how many fragments were written, over all streams
 abbrev pub count_of : Plan → List (List ℕ) → List Part → ℕ

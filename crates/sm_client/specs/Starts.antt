@@ -1,5 +1,5 @@
 -- Starts that are known.
-use Rattle.std.specs.Prelude.{◌≡◌, ◌<◌, ◌==◌, ◌||◌, ◌&&◌, ℕ, Bool, true, false, List, [], ◌∷◌, map, nat_lt, if◌then◌else◌, ◌+◌}
+use Rattle.std.specs.Prelude.{◌≡◌, ◌<◌, ◌==◌, ◌||◌, ◌&&◌, ℕ, Bool, false, List, [], ◌∷◌, map, nat_lt, if◌then◌else◌, ◌+◌}
 use Rattle.std.specs.List.{AllByRecursion}
 
 -- whether it is one of them

@@ -1,5 +1,5 @@
 //! Streams, played one after another.
-ghost use Rattle.std.specs.Prelude.{◌≡◌, ◌≤◌, ◌<◌, ◌-◌, ◌^◌, ℕ, length, vec_len};
+ghost use Rattle.std.specs.Prelude.{◌≡◌, ◌≤◌, ◌<◌, ◌-◌, ◌^◌, ℕ, length};
 ghost use Rattle.sm_ends.specs.Faults.{Rose};
 ghost use Rattle.sm_client.specs.Turns.{fresh, settle};
 ghost use Rattle.sm_client.specs.Plays.{Played, PlaysFrom};
@@ -59,7 +59,7 @@ pub fn play<C: Dial, T: Tracks>(
     policies: Vec<Box<dyn Policy>>,
     plan: &Plan,
 ) -> Report
-    requires policy { 0 < vec_len policies }
+    requires policy { 0 < length policies.items }
     requires streams { length plan.now.streams ≤ 16 }
     requires count { plan.now.count ≤ 2 ^ 32 - 1 }
     requires tries { 0 < plan.now.tries }
@@ -71,5 +71,12 @@ pub fn play<C: Dial, T: Tracks>(
 {
     let mut policies = Policies::new(policies);
     policies.settle();
-    play_all(alloc, dial, tracks, &mut policies, plan, plan.streams.as_slice())
+    play_all(
+        alloc,
+        dial,
+        tracks,
+        &mut policies,
+        plan,
+        plan.streams.as_slice(),
+    )
 }

@@ -98,8 +98,13 @@ fn ask_once<C: Dial>(
         bitrate: ladder[level],
         time: start,
     };
-    let Fetched { got, bytes } =
-        fetch_fragment(alloc, dial, &plan.place, stream.pattern.as_slice(), &address);
+    let Fetched { got, bytes } = fetch_fragment(
+        alloc,
+        dial,
+        &plan.place,
+        stream.pattern.as_slice(),
+        &address,
+    );
     if let Got::NoMemory = &got {
         return Asked::NoMemory;
     }

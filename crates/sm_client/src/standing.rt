@@ -90,7 +90,11 @@ fn add_all(known: &mut Known, expected: u64, times: &[(u64, u64)]) -> Result<(),
 
 impl Standing {
     /// After the first manifest, which lists this of the stream.
-    pub fn begin(alloc: Global, from: Option<u64>, stream: StreamListing) -> Result<Standing, NoMemory>
+    pub fn begin(
+        alloc: Global,
+        from: Option<u64>,
+        stream: StreamListing,
+    ) -> Result<Standing, NoMemory>
         requires { HasLevels (Some stream) }
         ensures { IfOk result (λ new. Holds new
             (record { listing = Some stream; expected = first_start from stream.times; known = starts stream.times; written = []; manifests = 1 })) }

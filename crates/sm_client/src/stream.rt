@@ -81,7 +81,16 @@ fn add_piece<C: Dial, T: Tracks>(
         return Some(End::NoMemory);
     };
     let ahead = standing.ahead();
-    match ask(alloc, dial, policies, plan, name, stream, standing.expected, ahead) {
+    match ask(
+        alloc,
+        dial,
+        policies,
+        plan,
+        name,
+        stream,
+        standing.expected,
+        ahead,
+    ) {
         Pieces::Took(raw, level) => {
             let Ok((fragment, ahead)) = fragment_of(alloc, name, stream, level, raw) else {
                 return Some(End::NoMemory);
@@ -157,8 +166,16 @@ pub fn play_stream<C: Dial, T: Tracks>(
         Begun::Ended(end) => return Count { written: 0, end },
     };
     for _ in 0..plan.count {
-        if let Some(end) = play_one(alloc, dial, tracks, policies, plan, name, number, &mut standing)
-        {
+        if let Some(end) = play_one(
+            alloc,
+            dial,
+            tracks,
+            policies,
+            plan,
+            name,
+            number,
+            &mut standing,
+        ) {
             return Count {
                 written: standing.written,
                 end,

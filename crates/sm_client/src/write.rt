@@ -2,7 +2,6 @@
 ghost use Rattle.std.specs.Prelude.{◌≡◌, ◌≢◌, ◌≤◌, ℕ, [], IfSome, IfNone};
 ghost use Rattle.std.specs.Io.KnownBytes.{Appends, Keeps};
 ghost use Rattle.sm_ends.specs.Faults.{Rose};
-
 ghost use Rattle.sm_model.specs.Fragments.{IsValid};
 ghost use Rattle.sm_model.specs.FragText.{frag_text};
 ghost use Rattle.sm_client.specs.Calls.{WritesFront};
@@ -14,7 +13,14 @@ use sm_moof::put_fragment;
 use std::alloc::Global;
 
 /// Adds the canonical text of a fragment to a track.
-pub fn write<T: Tracks>(alloc: Global, tracks: &mut T, track: u32, seq: u32, id: u32, fragment: &Fragment) -> Option<End>
+pub fn write<T: Tracks>(
+    alloc: Global,
+    tracks: &mut T,
+    track: u32,
+    seq: u32,
+    id: u32,
+    fragment: &Fragment,
+) -> Option<End>
     requires valid { IsValid fragment.now }
     ensures ok { IfNone result (Appends (T.held tracks.old track) (T.held tracks.new track) (frag_text seq id fragment.now [])) }
     ensures bad { IfSome result (λ end. WritesFront (T.held tracks.old track) (T.held tracks.new track) (frag_text seq id fragment.now []) end) }

@@ -14,5 +14,5 @@ invariant-loop-name g l = record {
       l.names l.number l.played (g.C.Dial.log l.fn.dial) (g.C.Dial.log l.dial) (g.T.Tracks.held l.fn.tracks) (g.T.Tracks.held l.tracks);
   place : l.number ≡ l.name-index;
   few : l.played ≤ l.number * 4294967295;
-  later : g.T.Tracks.faults l.fn.tracks ≤ g.T.Tracks.faults l.tracks
+  later : g.T.Tracks.faults l.fn.tracks ≤ g.T.Tracks.faults l.tracks;
 }

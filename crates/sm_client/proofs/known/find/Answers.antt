@@ -1,4 +1,4 @@
-use Rattle.std.proofs.Common.{◌≡◌, ◌<◌, ℕ, length, get_or, arith, refl, sym, ◌∙◌, subst}
+use Rattle.std.proofs.Common.{◌≡◌, arith, ◌∙◌}
 use Rattle.std.proofs.lemmas.List.{get_or_default}
 use Rattle.sm_client.specs.Starts.{place_in}
 use Rattle.sm_client.proofs.Rows.{has_at, absent_at, place_within}
@@ -17,7 +17,7 @@ returns-else-place-starts-clause-absent c =
       omega (arith, place_within start xs, at),
       absent_at start xs c.requires
           (elim c.else-place-starts.branch [
-            else-place-starts-via-then-place-starts+else-starts-place w ↦ λ d h e. w.if-starts-place.false (rw at (get_or_default xs (place_in start xs) 0 d h ∙ e))
-          | else-place-starts-via-else-place-starts w ↦ λ d h e. absurd (omega (arith, w.if-place-starts.false, at, h))
+            | else-place-starts-via-then-place-starts+else-starts-place w ↦ λ d h e. w.if-starts-place.false (rw at (get_or_default xs (place_in start xs) 0 d h ∙ e))
+            | else-place-starts-via-else-place-starts w ↦ λ d h e. absurd (omega (arith, w.if-place-starts.false, at, h))
           ]),
     )

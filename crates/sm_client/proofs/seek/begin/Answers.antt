@@ -1,4 +1,4 @@
-use Rattle.std.proofs.Common.{refl, ◌∙◌, sym}
+use Rattle.std.proofs.Common.{refl}
 use Rattle.sm_client.specs.Stands.{unread}
 use Rattle.sm_client.proofs.Seeks.{found-levels, began-absent, began-standing, began-lost, listed-gave_up, listed-stopped}
 use Rattle.sm_client.proofs.seek.begin.Goals as goal

@@ -1,5 +1,5 @@
 use Rattle.std.proofs.Common.{sym, ◌∙◌}
-use Rattle.sm_client.proofs.Seeks.{seeking-start, seeking-more, seeking-found, seeking-ended, seeking-settled}
+use Rattle.sm_client.proofs.Seeks.{seeking-start, seeking-more, seeking-found, seeking-ended}
 use Rattle.sm_client.proofs.seek.seek.Goals as goal
 
 pub loop-alloc-init : goal.loop-alloc-init

@@ -1,6 +1,3 @@
-use Rattle.std.proofs.Common.{◌≡◌, ◌≤◌, length, drop}
-use Rattle.sm_client.specs.Starts.{starts}
-use Rattle.sm_client.specs.Calls.{KnowsFrom}
 use Rattle.sm_client.proofs.Knows.{Taken}
 use Rattle.sm_client.proofs.standing.known_of.Given as goal
 

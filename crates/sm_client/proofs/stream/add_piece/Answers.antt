@@ -1,6 +1,6 @@
-use Rattle.std.proofs.Common.{refl, ◌∙◌, sym, ap, arith, ◌≡◌, ◌+◌}
+use Rattle.std.proofs.Common.{refl, ◌∙◌, sym, ap, ◌+◌}
 use Rattle.sm_model.specs.declared.fragment.Fragment.{Fragment}
-use Rattle.sm_client.proofs.Streaming.{may-piece, not-listed, ends-gave_up, ends-stopped, ends-untold, ends-unwritten, ends-written, streams-on, follows}
+use Rattle.sm_client.proofs.Streaming.{may-piece, ends-gave_up, ends-stopped, ends-untold, ends-unwritten, ends-written, streams-on, follows}
 use Rattle.sm_client.proofs.stream.add_piece.Goals as goal
 
 pub returns-clause-added : goal.returns-clause-added

@@ -1,4 +1,4 @@
-use Rattle.std.proofs.Common.{refl, ◌∙◌, sym}
+use Rattle.std.proofs.Common.{◌∙◌}
 use Rattle.sm_client.proofs.Streaming.{sought-on, ends-lists}
 use Rattle.sm_client.proofs.stream.play_one.Goals as goal
 

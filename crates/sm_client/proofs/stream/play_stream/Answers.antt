@@ -1,4 +1,4 @@
-use Rattle.std.proofs.Common.{refl, ◌∙◌, sym, ap, arith, ◌+◌}
+use Rattle.std.proofs.Common.{refl, ◌∙◌, ap, arith, ◌+◌}
 use Rattle.std.proofs.KnownBytes.{Keeps-refl, Keeps-trans}
 use Rattle.sm_client.proofs.Streaming.{streaming-start, streaming-more, streaming-ended, streaming-done, ends-lists, begun-levels, begun-written}
 use Rattle.sm_client.proofs.stream.play_stream.Goals as goal

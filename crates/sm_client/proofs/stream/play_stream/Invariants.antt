@@ -17,5 +17,5 @@ invariant-loop g l = record {
   levels : HasLevels l.standing.listing;
   written : l.standing.written ≡ l.counter;
   others : (k : ℕ) → k ≢ l.number → Keeps (g.T.Tracks.held l.fn.tracks k) (g.T.Tracks.held l.tracks k);
-  later : g.T.Tracks.faults l.fn.tracks ≤ g.T.Tracks.faults l.tracks
+  later : g.T.Tracks.faults l.fn.tracks ≤ g.T.Tracks.faults l.tracks;
 }

@@ -1,4 +1,3 @@
-use Rattle.std.proofs.Common.{sym, ◌∙◌}
 use Rattle.sm_client.proofs.Rows.{put_has, put_falls}
 use Rattle.sm_client.proofs.known.Known.add.Goals as goal
 

@@ -1,6 +1,4 @@
-use Rattle.std.proofs.Common.{rules, true, false}
 use Rattle.sm_client.proofs.Turns.{settles-start, settles-more, settles-end}
-use Rattle.sm_client.proofs.Went.{went-start}
 use Rattle.sm_client.proofs.policies.Policies.settle.Goals as goal
 
 pub loop-self-init : goal.loop-self-init

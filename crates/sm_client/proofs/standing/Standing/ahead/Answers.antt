@@ -1,4 +1,4 @@
-use Rattle.std.proofs.Common.{◌∙◌, ◌-◌, ap, arith, length}
+use Rattle.std.proofs.Common.{◌∙◌, ◌-◌, ap}
 use Rattle.sm_client.proofs.Knows.{ahead-is}
 use Rattle.sm_client.proofs.standing.Standing.ahead.Goals as goal
 
