@@ -23,6 +23,9 @@ const REPORTS: usize = 256;
 /// The rest after a round without an event.
 const REST: u64 = 1;
 
+/// What is taken at the start and given back with the first round.
+const SPARE: usize = 33_000_000;
+
 const LISTENER: Token = Token(0);
 
 /// What asking comes to.
@@ -53,6 +56,9 @@ pub struct Sockets {
     busy: bool,
     now: Instant,
     buffer: Box<[u8; PIECE]>,
+    // The C library asks the system anew for each large piece of memory, and gives each back at once, until one as large as this
+    // has come back; then it keeps them. Without that a long reply spends most of its time in page faults.
+    spare: Vec<u8>,
     // Bytes of the buffer that are still to be given, and whose they are.
     held: usize,
     holder: u64,
@@ -81,6 +87,7 @@ impl Sockets {
             busy: false,
             now,
             buffer: Box::new(alloc, [0; PIECE])?,
+            spare: Vec::with_capacity(alloc, SPARE)?,
             held: 0,
             holder: 0,
             alloc,
@@ -112,6 +119,9 @@ impl Sockets {
         let rest = if self.busy { 0 } else { REST };
         self.busy = false;
         self.turn = 0;
+        if self.spare.capacity() > 0 {
+            self.spare = Vec::new(self.alloc);
+        }
         self.poll
             .poll(&mut self.events, Some(Duration::from_millis(rest)))?;
         self.now = Instant::now(rt)?;
