@@ -1,8 +1,11 @@
 // Sockets, asked in turn.
 ghost use Rattle.std.specs.Prelude.{◌≡◌, ◌≤◌, ◌<◌, length, IfOk};
 ghost use Rattle.sm_real.specs.Found.{IsPiece};
+ghost use Rattle.sm_real.specs.Waiting.{wait_in_all};
 
+use crate::Patience;
 use crate::peer::{Found, Peer};
+use crate::peers::Peers;
 use mio::net::TcpListener;
 use mio::{Events, Interest, Poll, Token};
 use sm_site::{Failed, Piece};
@@ -13,9 +16,6 @@ use std::time::{Clock, Duration, Instant};
 
 /// The most bytes of a piece.
 const PIECE: usize = 65_536;
-
-/// The most sockets at once. Beyond that, new ones wait until some are gone.
-const PEERS: usize = 256;
 
 /// The most reports of one wait.
 const REPORTS: usize = 256;
@@ -44,8 +44,9 @@ pub struct Sockets {
     listener: TcpListener,
     // A connection may wait to be taken.
     waiting: bool,
-    // Their numbers rise.
-    peers: Vec<Peer>,
+    // Beyond a number of them, new ones wait until some are gone.
+    peers: Peers,
+    patience: Patience,
     // The place of the next one to ask.
     turn: usize,
     // This round has given an event.
@@ -62,6 +63,7 @@ impl Sockets {
         rt: &(impl Net + Clock),
         alloc: Global,
         address: SocketAddr,
+        patience: Patience,
     ) -> io::Result<Sockets> {
         let poll = Poll::new(rt)?;
         let mut listener = TcpListener::bind(rt, address)?;
@@ -73,7 +75,8 @@ impl Sockets {
             events: Events::with_capacity(alloc, REPORTS)?,
             listener,
             waiting: true,
-            peers: Vec::with_capacity(alloc, PEERS)?,
+            peers: Peers::new(alloc)?,
+            patience,
             turn: 0,
             busy: false,
             now,
@@ -86,13 +89,6 @@ impl Sockets {
 
     pub fn local_addr(&self) -> io::Result<SocketAddr> {
         self.listener.local_addr()
-    }
-
-    fn find(&mut self, number: u64) -> Option<&mut Peer> {
-        match self.peers.binary_search_by_key(&number, |peer| peer.number) {
-            Ok(place) => self.peers.get_mut(place),
-            Err(_) => None,
-        }
     }
 
     /// Goes on in rounds up to the next event. Where no round has one, or the system fails, this comes to nothing.
@@ -125,11 +121,7 @@ impl Sockets {
                 self.waiting = true;
                 continue;
             }
-            let number = token.0 as u64;
-            let found = self.peers.binary_search_by_key(&number, |peer| peer.number);
-            if let Ok(place) = found
-                && let Some(peer) = self.peers.get_mut(place)
-            {
+            if let Some(peer) = self.peers.find(token.0 as u64) {
                 peer.note(readiness);
             }
         }
@@ -145,15 +137,16 @@ impl Sockets {
         }
         for _ in 0..self.peers.len() {
             let place = self.turn;
-            let Some(peer) = self.peers.get_mut(place) else {
+            let Some(peer) = self.peers.at(place) else {
                 break;
             };
             self.turn = place + 1;
-            if !peer.is_due(self.now) {
+            if !peer.is_due(self.now, &self.patience) {
                 continue;
             }
             let holder = peer.number;
-            match peer.visit(self.alloc, self.buffer.as_mut_slice(), self.now) {
+            let buffer = self.buffer.as_mut_slice();
+            match peer.visit(self.alloc, buffer, self.now, &self.patience) {
                 Found::Nothing => {}
                 Found::Bytes(n) => {
                     self.busy = true;
@@ -167,9 +160,7 @@ impl Sockets {
                 }
                 Found::Gone => {
                     self.turn = place;
-                    if place < self.peers.len() {
-                        let _gone = self.peers.remove(place);
-                    }
+                    self.peers.remove(place);
                 }
             }
         }
@@ -197,7 +188,7 @@ impl Sockets {
     fn accept(&mut self, number: u64) -> Asked
         ensures piece { IsPiece result }
     {
-        if !self.waiting || self.peers.len() >= PEERS {
+        if !self.waiting || self.peers.is_full() {
             return Asked::Nothing;
         }
         let mut stream = match self.listener.accept() {
@@ -221,23 +212,28 @@ impl Sockets {
             return Asked::Nothing;
         }
         let peer = Peer::new(self.alloc, number, stream, self.now);
-        if self.peers.push(peer).is_err() {
+        if self.peers.add(peer).is_err() {
             return Asked::NoMemory;
         }
         self.busy = true;
         Asked::Opened
     }
 
-    pub fn send(&mut self, number: u64, bytes: &[u8]) -> Result<(), Failed> {
+    /// Sends to one, and gives up those for which most waits where too much does for all together.
+    pub fn send(&mut self, number: u64, bytes: &[u8]) -> Result<(), Failed>
+        ensures bounded { wait_in_all self.new.peers.list.items ≤ self.new.patience.waiting }
+    {
         let (alloc, now) = (self.alloc, self.now);
-        match self.find(number) {
+        let sent = match self.peers.find(number) {
             Some(peer) => peer.send(alloc, bytes, now),
             None => Err(Failed),
-        }
+        };
+        self.peers.relieve(alloc, self.patience.waiting);
+        sent
     }
 
     pub fn close(&mut self, number: u64) {
-        if let Some(peer) = self.find(number) {
+        if let Some(peer) = self.peers.find(number) {
             peer.close();
         }
     }
