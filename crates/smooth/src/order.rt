@@ -181,7 +181,8 @@ fn push_asked(alloc: Global, words: &[String]) -> Result<Option<Order>, NoMemory
         return Ok(None);
     };
     let texts = read_push(alloc, &words)?;
-    push_order(alloc, texts)
+    let order = push_order(alloc, texts)?;
+    Ok(order)
 }
 
 fn list_asked(alloc: Global, words: &[String]) -> Result<Option<Order>, NoMemory>

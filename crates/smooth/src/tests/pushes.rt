@@ -43,14 +43,7 @@ fn run_at(
     };
     let mut dial = MemoryDial::new(alloc, Answers::from_vec(vec![in alloc; given]?));
     let mut site = no_site(alloc);
-    let status = tool(
-        alloc,
-        &words,
-        &mut source,
-        &mut sink,
-        &mut site,
-        &mut dial,
-    );
+    let status = tool(alloc, &words, &mut source, &mut sink, &mut site, &mut dial);
     let mut sent = Vec::new(alloc);
     for made in dial.exchanges() {
         sent.push(Bytes::from_slice(alloc, made.request.as_slice())?)?;
@@ -68,7 +61,11 @@ fn the_input_is_sent_whole_and_once(rt: HostRuntime) -> Result<(), Fail> {
     let rows: [(&[u8], &[u8], &[u8]); 3] = [
         (b"", b"", b"0\r\n\r\n"),
         (b"abc", b"3\r\nabc\r\n", b"0\r\n\r\n"),
-        (b"abcdefghijklmnop", b"10\r\nabcdefghijklmnop\r\n", b"0\r\n\r\n"),
+        (
+            b"abcdefghijklmnop",
+            b"10\r\nabcdefghijklmnop\r\n",
+            b"0\r\n\r\n",
+        ),
     ];
     for (input, chunk, end) in rows {
         let ran = run_at(alloc, &PUSH, input, &[], Some(KEPT))?;
