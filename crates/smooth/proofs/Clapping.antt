@@ -5,8 +5,8 @@ use Rattle.clap.specs.declared.parser.matches.ArgMatches.{ArgMatches}
 use Rattle.clap.specs.declared.parser.matches.Found.{Found}
 use Rattle.clap.proofs.OnLiterals.{clap_on_literals}
 use Rattle.clap.proofs.WalkLemmas.{first_value-rows, one_text-rows}
-use Rattle.smooth.specs.Words.{Text, ServeTexts}
-use Rattle.smooth.specs.Clapped.{list_app, list_words, pick_app, pick_words, serve_app, serve_words}
+use Rattle.smooth.specs.Words.{Text, PushTexts, ServeTexts}
+use Rattle.smooth.specs.Clapped.{list_app, list_words, pick_app, pick_words, push_app, push_words, serve_app, serve_words}
 
 -- the rows of a command that is known, at words that are known
 pub rows_read : (a b : App) (words ws : List Text) (m : ArgMatches) → a ≡ b → words ≡ ws → is_simple b ≡ true → HasMatchesOf a words m
@@ -53,6 +53,32 @@ list_taken store = refl
 pub listed_read : (store : Text) → first_of (codes "STORE") (matches_of list_app (list_words store)) ≡ Some store
 unfolding clap_on_literals
 listed_read store = refl
+
+-- ---- push
+
+pub push_simple : is_simple push_app ≡ true
+unfolding clap_on_literals
+push_simple = refl
+
+pub push_taken : (x : PushTexts) → takes push_app (push_words x) ≡ true
+unfolding clap_on_literals
+push_taken x = refl
+
+pub host_read : (x : PushTexts) → first_of (codes "HOST") (matches_of push_app (push_words x)) ≡ Some x.host
+unfolding clap_on_literals
+host_read x = refl
+
+pub to_port_read : (x : PushTexts) → first_of (codes "PORT") (matches_of push_app (push_words x)) ≡ Some x.port
+unfolding clap_on_literals
+to_port_read x = refl
+
+pub path_read : (x : PushTexts) → first_of (codes "PATH") (matches_of push_app (push_words x)) ≡ Some x.path
+unfolding clap_on_literals
+path_read x = refl
+
+pub id_read : (x : PushTexts) → first_of (codes "ID") (matches_of push_app (push_words x)) ≡ Some x.id
+unfolding clap_on_literals
+id_read x = refl
 
 -- ---- serve
 

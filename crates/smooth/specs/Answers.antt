@@ -10,7 +10,7 @@ use Rattle.sm_model.specs.Body.{body, body_end}
 use Rattle.smooth.specs.declared.answer.Picked.{Picked}
 use Rattle.smooth.specs.declared.answer.Picked.TheVariants as picked
 use Rattle.smooth.specs.declared.answer.Answer.{Answer}
-use Rattle.smooth.specs.declared.answer.Answer.TheVariants.{Found, Words, Unread, TooLong, LongLadder, Refused, NotKept, Clash}
+use Rattle.smooth.specs.declared.answer.Answer.TheVariants.{Found, Words, Unread, TooLong, LongLadder, Refused, NotKept, Clash, Undone}
 use Rattle.smooth.specs.declared.answer.Answer.TheVariants.{Damaged, DiskFault, LinkFault, Starved, Full, NotAStore}
 
 -- ---- the statuses and the lines
@@ -23,6 +23,7 @@ status_of LongLadder = 3
 status_of (Refused line) = 3
 status_of NotKept = 4
 status_of (Clash line) = 4
+status_of (Undone line) = 4
 status_of Damaged = 4
 status_of DiskFault = 5
 status_of Unread = 6
@@ -39,6 +40,7 @@ line_of LongLadder = codes "error: input at 1048576: too long\n"
 line_of (Refused line) = line
 line_of NotKept = codes "error: 47 NotKept\n"
 line_of (Clash line) = line
+line_of (Undone line) = line
 line_of Damaged = codes "error: 32 Damaged\n"
 line_of DiskFault = codes "error: disk\n"
 line_of Unread = codes "error: read\n"
@@ -56,6 +58,7 @@ unwritten_status_of LongLadder = 3
 unwritten_status_of (Refused line) = 3
 unwritten_status_of NotKept = 4
 unwritten_status_of (Clash line) = 4
+unwritten_status_of (Undone line) = 4
 unwritten_status_of Damaged = 4
 unwritten_status_of DiskFault = 5
 unwritten_status_of Unread = 6

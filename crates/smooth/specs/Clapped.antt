@@ -2,7 +2,7 @@
 use Rattle.std.specs.Prelude.{Bool, true, false, List, [], ◌∷◌, ◌++◌, codes, Option, Some, None}
 use Rattle.clap.specs.Words.{App, Rule, new_app, new_rule, with_rule}
 use Rattle.clap.specs.declared.builder.action.ArgAction.TheVariants.{Set, SetTrue}
-use Rattle.smooth.specs.Words.{Text, ServeTexts}
+use Rattle.smooth.specs.Words.{Text, PushTexts, ServeTexts}
 
 abbrev pub option_rule : Text → Rule
 option_rule id = record (new_rule id) { long = Some id; action = Some Set }
@@ -21,6 +21,16 @@ pick_app = with_rule (with_rule (without_help (new_app (codes "pick"))) (word_ru
 
 abbrev pub list_app : App
 list_app = with_rule (without_help (new_app (codes "list"))) (word_rule (codes "STORE"))
+
+abbrev pub push_app : App
+push_app =
+    with_rule
+    (with_rule
+    (with_rule
+    (with_rule (without_help (new_app (codes "push"))) (word_rule (codes "HOST")))
+    (word_rule (codes "PORT")))
+    (word_rule (codes "PATH")))
+    (word_rule (codes "ID"))
 
 abbrev pub serve_app : App
 serve_app =
@@ -50,3 +60,6 @@ pick_words x = codes "pick" ∷ codes "--" ∷ x.0 ∷ x.1 ∷ []
 
 abbrev pub list_words : Text → List Text
 list_words store = codes "list" ∷ codes "--" ∷ store ∷ []
+
+abbrev pub push_words : PushTexts → List Text
+push_words x = codes "push" ∷ codes "--" ∷ x.host ∷ x.port ∷ x.path ∷ x.id ∷ []

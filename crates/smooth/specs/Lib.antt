@@ -1,4 +1,5 @@
 pub mod Options
+pub mod Places
 pub mod Words
 pub mod Line
 pub mod Clapped
@@ -7,4 +8,5 @@ pub mod Orders
 pub mod Answers
 pub mod Search
 pub mod Stores
+pub mod Origins
 pub mod Ran

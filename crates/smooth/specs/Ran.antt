@@ -7,11 +7,13 @@ use Rattle.sm_site.specs.Image.{Image}
 use Rattle.sm_site.specs.Meanings.{View}
 use Rattle.smooth.specs.declared.answer.Picked.TheVariants as picked
 use Rattle.smooth.specs.declared.answer.Answer.{Answer}
-use Rattle.smooth.specs.declared.answer.Answer.TheVariants.{Found, Words, Unread, TooLong, LongLadder, Refused, NotKept, Clash}
+use Rattle.smooth.specs.declared.answer.Answer.TheVariants.{Found, Words, Unread, TooLong, LongLadder, Refused, NotKept, Clash, Undone}
 use Rattle.smooth.specs.declared.answer.Answer.TheVariants.{Damaged, DiskFault, LinkFault, Starved, Full, NotAStore}
-use Rattle.smooth.specs.Words.{Wanted, Pick, Serve, Listing, asked}
+use Rattle.smooth.specs.Words.{Wanted, Pick, Serve, Push, Listing, asked}
 use Rattle.smooth.specs.Answers.{IsAnswered, limit, status_of, unwritten_status_of, line_of}
+use Rattle.sm_visit.specs.Pushing.{Line}
 use Rattle.smooth.specs.Stores.{End, ListMeans, ServeMeans}
+use Rattle.smooth.specs.Origins.{PushMeans}
 
 -- ---- pick
 
@@ -34,6 +36,7 @@ PickMeans track time old new Words = ⊥
 PickMeans track time old new TooLong = IsTooLong old new
 PickMeans track time old new LongLadder = ⊥
 PickMeans track time old new (Clash line) = ⊥
+PickMeans track time old new (Undone line) = ⊥
 PickMeans track time old new Damaged = ⊥
 PickMeans track time old new DiskFault = ⊥
 PickMeans track time old new Unread = IsUnread old new
@@ -44,25 +47,30 @@ PickMeans track time old new (NotAStore line) = ⊥
 
 -- ---- a command
 
--- nothing was read and nothing was done
-pub record IsIdle {D : Type 0} (input input' : End) (d d' : D) : Type 0 where
+-- nothing was read, nothing was sent and nothing was done
+pub record IsIdle {D : Type 0} (input input' : End) (dial dial' : Line) (d d' : D) : Type 0 where
   pub input_is : input' ≡ input
+  pub dial_is : dial' ≡ dial
   pub site_is : d' ≡ d
 
--- The answer that words, input and site have. Words that ask for nothing have no other than that, but for want of memory.
+-- The answer that words, input, dial and site have. Words that ask for nothing have no other than that, but for want of memory.
 abbrev pub MeansBy : {D : Type 0} (view : D → View) (leave : D → Image → Type 0) (left_at : D → ℕ → Image → Type 0) → Option Wanted → End → End
-    → D → D → Answer → Type 0
-MeansBy view leave left_at None input input' d d' answer = answer ≡ Words
-MeansBy view leave left_at (Some (Pick track time)) input input' d d' answer = PickMeans track time input input' answer × (d' ≡ d)
-MeansBy view leave left_at (Some (Serve store port ladder turns)) input input' d d' answer =
-    ServeMeans view leave left_at ladder turns input input' d d' answer
-MeansBy view leave left_at (Some (Listing store)) input input' d d' answer = ListMeans view d d' answer × (input' ≡ input)
+    → Line → Line → D → D → Answer → Type 0
+MeansBy view leave left_at None input input' dial dial' d d' answer = answer ≡ Words
+MeansBy view leave left_at (Some (Pick track time)) input input' dial dial' d d' answer =
+    PickMeans track time input input' answer × (dial' ≡ dial) × (d' ≡ d)
+MeansBy view leave left_at (Some (Serve store port ladder turns)) input input' dial dial' d d' answer =
+    ServeMeans view leave left_at ladder turns input input' d d' answer × (dial' ≡ dial)
+MeansBy view leave left_at (Some (Push host port path id)) input input' dial dial' d d' answer =
+    PushMeans (record { host = host; port = port; path = path }) id input input' dial dial' answer × (d' ≡ d)
+MeansBy view leave left_at (Some (Listing store)) input input' dial dial' d d' answer =
+    ListMeans view d d' answer × (input' ≡ input) × (dial' ≡ dial)
 
 abbrev pub Means : {D : Type 0} (view : D → View) (leave : D → Image → Type 0) (left_at : D → ℕ → Image → Type 0) → List (List ℕ) → End → End
-    → D → D → Answer → Type 0
-Means view leave left_at words input input' d d' answer =
-    MeansBy view leave left_at (asked words) input input' d d' answer
-    ⊎ ((answer ≡ Starved) × IsIdle input input' d d')
+    → Line → Line → D → D → Answer → Type 0
+Means view leave left_at words input input' dial dial' d d' answer =
+    MeansBy view leave left_at (asked words) input input' dial dial' d d' answer
+    ⊎ ((answer ≡ Starved) × IsIdle input input' dial dial' d d')
 
 -- the whole line went out, or a front of it where the sink failed
 abbrev pub Prints : Answer → End → End → ℕ → Type 0
@@ -70,15 +78,17 @@ Prints answer old new status =
     ((status ≡ status_of answer) × Appends old.told new.told (line_of answer))
     ⊎ ((status ≡ unwritten_status_of answer) × AppendsFront old.told new.told (line_of answer) × Rose old.faults new.faults)
 
--- The words, the input and the site have an answer, its line was printed, and the status tells it.
+-- The words, the input, the dial and the site have an answer, its line was printed, and the status tells it.
 pub record IsRun {D : Type 0} (view : D → View) (leave : D → Image → Type 0) (left_at : D → ℕ → Image → Type 0) (words : List (List ℕ))
-    (input input' output output' : End) (d d' : D) (status : ℕ) : Type 0 where
+    (input input' output output' : End) (dial dial' : Line) (d d' : D) (status : ℕ) : Type 0 where
   pub answer : Answer
-  pub means : Means view leave left_at words input input' d d' answer
+  pub means : Means view leave left_at words input input' dial dial' d d' answer
   pub prints : Prints answer output output' status
 
 -- A program ended with the status of a run; where there was no memory for its words, that alone was told.
 abbrev pub EndsAs : {D : Type 0} (view : D → View) (leave : D → Image → Type 0) (left_at : D → ℕ → Image → Type 0) → Option (List (List ℕ))
-    → End → End → End → End → D → D → ℕ → Type 0
-EndsAs view leave left_at None input input' output output' d d' status = Prints Starved output output' status × IsIdle input input' d d'
-EndsAs view leave left_at (Some words) input input' output output' d d' status = IsRun view leave left_at words input input' output output' d d' status
+    → End → End → End → End → Line → Line → D → D → ℕ → Type 0
+EndsAs view leave left_at None input input' output output' dial dial' d d' status =
+    Prints Starved output output' status × IsIdle input input' dial dial' d d'
+EndsAs view leave left_at (Some words) input input' output output' dial dial' d d' status =
+    IsRun view leave left_at words input input' output output' dial dial' d d' status

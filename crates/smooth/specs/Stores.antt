@@ -14,7 +14,7 @@ use Rattle.sm_store.specs.declared.fault.StoreFault.TheVariants as fault
 use Rattle.sm_store.specs.Listing.{WhyUnlisted, lines_of}
 use Rattle.sm_store.specs.Serving.{HasRun, Input, WhyUnready}
 use Rattle.smooth.specs.declared.answer.Answer.{Answer}
-use Rattle.smooth.specs.declared.answer.Answer.TheVariants.{Found, Words, Unread, TooLong, LongLadder, Refused, NotKept, Clash}
+use Rattle.smooth.specs.declared.answer.Answer.TheVariants.{Found, Words, Unread, TooLong, LongLadder, Refused, NotKept, Clash, Undone}
 use Rattle.smooth.specs.declared.answer.Answer.TheVariants.{Damaged, DiskFault, LinkFault, Starved, Full, NotAStore}
 
 -- an end before a call and after it: what it tells, and its count of faults
@@ -90,6 +90,7 @@ ServeMeans view leave left_at ladder turns input input' d d' (Refused line) =
 ServeMeans view leave left_at ladder turns input input' d d' NotKept = ⊥
 ServeMeans view leave left_at ladder turns input input' d d' (Clash line) =
     (cause : Cause) × (line ≡ clash_line cause) × WhyUnready view leave left_at ladder (input_of input) (input_of input') d d' (fault.Refused cause)
+ServeMeans view leave left_at ladder turns input input' d d' (Undone line) = ⊥
 ServeMeans view leave left_at ladder turns input input' d d' Damaged = ⊥
 ServeMeans view leave left_at ladder turns input input' d d' DiskFault =
     WhyUnready view leave left_at ladder (input_of input) (input_of input') d d' fault.DiskFault
@@ -118,6 +119,7 @@ ListMeans view d d' LongLadder = ⊥
 ListMeans view d d' (Refused line) = ⊥
 ListMeans view d d' NotKept = ⊥
 ListMeans view d d' (Clash line) = ⊥
+ListMeans view d d' (Undone line) = ⊥
 ListMeans view d d' Damaged = WhyUnlisted (view d) (view d') fault.Damaged
 ListMeans view d d' DiskFault = WhyUnlisted (view d) (view d') fault.DiskFault
 ListMeans view d d' LinkFault = WhyUnlisted (view d) (view d') fault.LinkFault

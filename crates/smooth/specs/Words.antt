@@ -5,11 +5,13 @@ use Rattle.std.specs.List.{list_all}
 use Rattle.std.specs.Cmp.Lexicographic.{pointwise}
 use Rattle.std.specs.Option.{option_and_then, option_map, option_or}
 use Rattle.sm_model.specs.Digits.{is_digit, decimal_from}
+use Rattle.sm_model.specs.Names.{is_name}
 use Rattle.smooth.specs.declared.option.Name.{Name}
 use Rattle.smooth.specs.declared.option.Name.TheVariants.{Port, Ladder, Turns}
 use Rattle.smooth.specs.declared.line.Place.{Place}
 use Rattle.smooth.specs.declared.line.Place.TheVariants.{Free, Behind, Bare}
 use Rattle.smooth.specs.Options.{text_of, has_value, is_same, serve_options}
+use Rattle.smooth.specs.Places.{is_host, is_path}
 
 abbrev pub Text : Type 0
 Text = List ℕ
@@ -136,11 +138,28 @@ two_words (first ∷ []) = None
 two_words (first ∷ second ∷ []) = Some (first, second)
 two_words (first ∷ second ∷ more ∷ words) = None
 
+-- the texts that `push` is given
+pub record PushTexts : Type 0 where
+  pub host : Text
+  pub port : Text
+  pub path : Text
+  pub id : Text
+
+abbrev pub push_texts : List Text → Option PushTexts
+push_texts [] = None
+push_texts (host ∷ []) = None
+push_texts (host ∷ port ∷ []) = None
+push_texts (host ∷ port ∷ path ∷ []) = None
+push_texts (host ∷ port ∷ path ∷ id ∷ []) = Some (record { host = host; port = port; path = path; id = id })
+push_texts (host ∷ port ∷ path ∷ id ∷ more ∷ words) = None
+
 pub data Wanted : Type 0 where
   -- a track_ID and a time
   Pick : ℕ → ℕ → Wanted
   -- a folder, a port, whether a ladder is read, and the most events
   Serve : Text → ℕ → Bool → ℕ → Wanted
+  -- a host, a port, the path of a channel, and the name of a stream
+  Push : Text → ℕ → Text → Text → Wanted
   -- a folder
   Listing : Text → Wanted
 
@@ -193,11 +212,20 @@ serve_of r = option_and_then serve_by (serve_texts r)
 abbrev pub list_of : Read → Option Wanted
 list_of r = option_and_then (λ store. option_map Listing (folder store)) (only_word r.words)
 
--- what the words ask for: `pick TRACK TIME`, `serve STORE --port N [--ladder] [--turns N]` or `list STORE`
+abbrev pub push_by : PushTexts → Option Wanted
+push_by x =
+    option_and_then (λ port. if is_host x.host && (is_path x.path && is_name x.id) then Some (Push x.host port x.path x.id) else None)
+    (numeral 1 65535 x.port)
+
+abbrev pub push_of : Read → Option Wanted
+push_of r = option_and_then push_by (push_texts r.words)
+
+-- what the words ask for: `pick TRACK TIME`, `serve STORE --port N [--ladder] [--turns N]`, `push HOST PORT PATH ID` or `list STORE`
 unfoldable pub asked : List Text → Option Wanted
 asked [] = None
 asked (command ∷ words) =
     if is command (codes "pick") then option_and_then pick_of (read [] words)
     else if is command (codes "serve") then option_and_then serve_of (read serve_options words)
+    else if is command (codes "push") then option_and_then push_of (read [] words)
     else if is command (codes "list") then option_and_then list_of (read [] words)
     else None

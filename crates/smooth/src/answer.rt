@@ -32,6 +32,8 @@ pub enum Answer {
     NotKept,
     /// The channel that stands differs from the ladder. The line says how.
     Clash(Bytes),
+    /// What was asked of an origin came to another end. The line says which.
+    Undone(Bytes),
     /// What was read of the store is not what was written.
     Damaged,
     /// The disk failed.

@@ -2,9 +2,10 @@
 ghost use Rattle.std.specs.Prelude.{◌≡◌, ◌∷◌, [], map, string_bytes, codes, IfOk, Some, Option, false, true};
 ghost use Rattle.std.specs.Option.{option_map};
 ghost use Rattle.clap.specs.Words.{HasMatchesOf, app_of, found_of, first_value, new_app, rule_of, takes, with_rule};
-ghost use Rattle.smooth.specs.Words.{ServeTexts as Asked, Text};
-ghost use Rattle.smooth.specs.Clapped.{list_app, list_words, option_rule, pick_app, pick_words, serve_app, serve_words, switch_rule, without_help, word_rule};
-ghost use Rattle.smooth.specs.Matched.{IsReadOf};
+ghost use Rattle.smooth.specs.Words.{PushTexts as Sent, ServeTexts as Asked, Text};
+ghost use Rattle.smooth.specs.Clapped.{list_app, list_words, option_rule, pick_app, pick_words, push_app, push_words, serve_app, serve_words};
+ghost use Rattle.smooth.specs.Clapped.{switch_rule, without_help, word_rule};
+ghost use Rattle.smooth.specs.Matched.{IsPushRead, IsReadOf};
 
 use clap::error::ErrorKind;
 use clap::{Arg, ArgAction, ArgMatches, Command};
@@ -18,6 +19,15 @@ pub struct ServeTexts {
     pub ladder: bool,
     pub turns: Option<String>,
     pub store: Option<String>,
+}
+
+/// The texts that `push` is given.
+#[derive(Debug, Drop)]
+pub struct PushTexts {
+    pub host: Option<String>,
+    pub port: Option<String>,
+    pub path: Option<String>,
+    pub id: Option<String>,
 }
 
 // An option that has a value.
@@ -70,6 +80,15 @@ fn list_command<'w>(alloc: Global) -> Result<Command<'w>, NoMemory>
     ensures { IfOk result (λ command. app_of command ≡ list_app) }
 {
     with(command(alloc, "list"), word(alloc, "STORE"))
+}
+
+fn push_command<'w>(alloc: Global) -> Result<Command<'w>, NoMemory>
+    ensures { IfOk result (λ command. app_of command ≡ push_app) }
+{
+    let command = with(command(alloc, "push"), word(alloc, "HOST"))?;
+    let command = with(command, word(alloc, "PORT"))?;
+    let command = with(command, word(alloc, "PATH"))?;
+    with(command, word(alloc, "ID"))
 }
 
 fn serve_command<'w>(alloc: Global) -> Result<Command<'w>, NoMemory>
@@ -145,5 +164,23 @@ pub fn read_serve(alloc: Global, words: &[String]) -> Result<ServeTexts, NoMemor
         ladder,
         turns,
         store,
+    })
+}
+
+/// Reads the words of `push`.
+pub fn read_push(alloc: Global, words: &[String]) -> Result<PushTexts, NoMemory>
+    requires put { (x : Sent) × (map string_bytes words.now ≡ push_words x) }
+    ensures { IfOk result (λ texts. (x : Sent) → map string_bytes words.now ≡ push_words x → IsPushRead texts x) }
+{
+    let matches = matched(push_command(alloc)?, words)?;
+    let host = text_of(alloc, &matches, "HOST")?;
+    let port = text_of(alloc, &matches, "PORT")?;
+    let path = text_of(alloc, &matches, "PATH")?;
+    let id = text_of(alloc, &matches, "ID")?;
+    Ok(PushTexts {
+        host,
+        port,
+        path,
+        id,
     })
 }

@@ -2,16 +2,18 @@
 ghost use Rattle.std.specs.Prelude.{◌≡◌, ◌≤◌, ◌<◌, ◌^◌, map, string_bytes, IfOk, IfSome, Some, [], List, ℕ};
 ghost use Rattle.std.specs.Option.{option_map, option_and_then};
 ghost use Rattle.smooth.specs.Options.{serve_options};
-ghost use Rattle.smooth.specs.Words.{Listing, ServeTexts as Asked, asked, folder, list_of, number_or, pick_by, pick_of, read, serve_by, serve_of};
-ghost use Rattle.smooth.specs.Matched.{IsReadOf};
+ghost use Rattle.smooth.specs.Words.{Listing, PushTexts as Sent, ServeTexts as Asked, asked, folder, list_of, number_or};
+ghost use Rattle.smooth.specs.Words.{pick_by, pick_of, push_by, push_of, read, serve_by, serve_of};
+ghost use Rattle.smooth.specs.Matched.{IsPushRead, IsReadOf};
 ghost use Rattle.smooth.specs.Orders.{wanted_of};
 
 use crate::line::read_line;
-use crate::matched::{ServeTexts, read_list, read_pick, read_serve};
+use crate::matched::{PushTexts, ServeTexts, read_list, read_pick, read_push, read_serve};
 use crate::option::Name;
-use crate::put::{list_put, pick_put, serve_put};
+use crate::place::{is_host, is_path};
+use crate::put::{list_put, pick_put, push_put, serve_put};
 use crate::words::number;
-use sm_model::NoMemory;
+use sm_model::{Name as StreamName, NameFault, NoMemory};
 use std::alloc::Global;
 
 /// What the words ask for.
@@ -21,6 +23,8 @@ pub enum Order {
     Pick { track: u32, time: u64 },
     /// To serve a store.
     Serve(ServeOrder),
+    /// To push to an origin.
+    Push(PushOrder),
     /// The list of what the store in a folder keeps.
     List { store: String },
 }
@@ -36,6 +40,19 @@ pub struct ServeOrder {
     pub ladder: bool,
     /// The most events that are taken.
     pub turns: u64,
+}
+
+/// Where the input is pushed, and as what.
+#[derive(Debug, Drop)]
+pub struct PushOrder {
+    /// The host: 1 to 255 letters, digits, `.`, `-` and `:`.
+    pub host: String,
+    /// The port, from 1 on.
+    pub port: u16,
+    /// The path of the channel: 1 to 512 bytes without `?`, control bytes and `.isml/`.
+    pub path: String,
+    /// The name of the stream.
+    pub id: StreamName,
 }
 
 // The largest number that a word may write.
@@ -91,6 +108,36 @@ fn serve_order(texts: ServeTexts) -> Option<Order>
     }))
 }
 
+fn push_order(alloc: Global, texts: PushTexts) -> Result<Option<Order>, NoMemory>
+    ensures { IfOk result (λ order. (x : Sent) → IsPushRead texts x → option_map wanted_of order ≡ push_by x) }
+{
+    let PushTexts {
+        host,
+        port,
+        path,
+        id,
+    } = texts;
+    let Some(port) = number_or(&port, 1, 65_535, None) else {
+        return Ok(None);
+    };
+    let (Some(host), Some(path), Some(id)) = (host, path, id) else {
+        return Ok(None);
+    };
+    if !is_host(host.as_str()) || !is_path(path.as_str()) {
+        return Ok(None);
+    }
+    match StreamName::read(alloc, id.as_bytes()) {
+        Ok(id) => Ok(Some(Order::Push(PushOrder {
+            host,
+            port: port as u16,
+            path,
+            id,
+        }))),
+        Err(NameFault::Form { at: _ }) => Ok(None),
+        Err(NameFault::NoMemory) => Err(NoMemory),
+    }
+}
+
 fn list_order(store: Option<String>) -> Option<Order>
     ensures { option_map wanted_of result ≡ option_and_then (λ text. option_map Listing (folder text)) (option_map string_bytes store) }
 {
@@ -124,6 +171,20 @@ fn serve_asked(alloc: Global, words: &[String]) -> Result<Option<Order>, NoMemor
     Ok(serve_order(texts))
 }
 
+fn push_asked(alloc: Global, words: &[String]) -> Result<Option<Order>, NoMemory>
+    ensures { IfOk result (λ order. option_map wanted_of order ≡ option_and_then push_of (read [] (map string_bytes words.now))) }
+{
+    let Some(line) = read_line(alloc, &[], words)? else {
+        return Ok(None);
+    };
+    let Some(words) = push_put(alloc, &line)? else {
+        return Ok(None);
+    };
+    let texts = read_push(alloc, &words)?;
+    let order = push_order(alloc, texts)?;
+    Ok(order)
+}
+
 fn list_asked(alloc: Global, words: &[String]) -> Result<Option<Order>, NoMemory>
     ensures { IfOk result (λ order. option_map wanted_of order ≡ option_and_then list_of (read [] (map string_bytes words.now))) }
 {
@@ -137,8 +198,8 @@ fn list_asked(alloc: Global, words: &[String]) -> Result<Option<Order>, NoMemory
     Ok(list_order(store))
 }
 
-/// What the words ask for: `pick TRACK TIME`, `serve STORE --port N [--ladder] [--turns N]` or `list STORE`. None where they are
-/// none of these.
+/// What the words ask for: `pick TRACK TIME`, `serve STORE --port N [--ladder] [--turns N]`, `push HOST PORT PATH ID` or
+/// `list STORE`. None where they are none of these.
 #[tactic(auto, unfolding(crate::specs::Words::asked))]
 pub fn order_of(alloc: Global, words: &[String]) -> Result<Option<Order>, NoMemory>
     ensures { IfOk result (λ order. option_map wanted_of order ≡ asked (map string_bytes words.now)) }
@@ -152,6 +213,9 @@ pub fn order_of(alloc: Global, words: &[String]) -> Result<Option<Order>, NoMemo
     }
     if command == "serve" {
         return serve_asked(alloc, words);
+    }
+    if command == "push" {
+        return push_asked(alloc, words);
     }
     if command == "list" {
         return list_asked(alloc, words);

@@ -1,9 +1,9 @@
 //! The words of a command, put as `clap` reads them: the options, as `--name=value`, before `--` and the other words.
 ghost use Rattle.std.specs.Prelude.{◌≡◌, ◌∷◌, ◌++◌, [], map, string_bytes, IfOk, OnOk, Option, List, ℕ, is_some};
 ghost use Rattle.std.specs.Option.{option_map};
-ghost use Rattle.smooth.specs.Words.{ServeTexts, only_word, serve_texts, two_words};
+ghost use Rattle.smooth.specs.Words.{ServeTexts, only_word, push_texts, serve_texts, two_words};
 ghost use Rattle.smooth.specs.Line.{read_of};
-ghost use Rattle.smooth.specs.Clapped.{ladder_words, list_words, pick_words, serve_words, turns_words};
+ghost use Rattle.smooth.specs.Clapped.{ladder_words, list_words, pick_words, push_words, serve_words, turns_words};
 
 use crate::line::{Line, Twice};
 use crate::option::Name;
@@ -118,5 +118,22 @@ pub fn list_put(alloc: Global, line: &Line) -> Result<Option<Vec<String>>, NoMem
     put(alloc, &mut words, "list")?;
     put(alloc, &mut words, "--")?;
     put(alloc, &mut words, store.as_str())?;
+    Ok(Some(words))
+}
+
+/// The words of `push`; none where there aren't four.
+pub fn push_put(alloc: Global, line: &Line) -> Result<Option<Vec<String>>, NoMemory>
+    ensures { IfOk result (λ words. option_map (λ w. map string_bytes w.items) words ≡ option_map push_words (push_texts (read_of line.now).words)) }
+{
+    let [host, port, path, id] = line.words.as_slice() else {
+        return Ok(None);
+    };
+    let mut words = Vec::new(alloc);
+    put(alloc, &mut words, "push")?;
+    put(alloc, &mut words, "--")?;
+    put(alloc, &mut words, host.as_str())?;
+    put(alloc, &mut words, port.as_str())?;
+    put(alloc, &mut words, path.as_str())?;
+    put(alloc, &mut words, id.as_str())?;
     Ok(Some(words))
 }

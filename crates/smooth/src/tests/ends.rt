@@ -1,8 +1,7 @@
 //! Ends that fail, and ends that move few bytes a call.
 
 use super::fixtures::{TEXT, boxed, joined};
-use super::{no_site, run_failing, words_of};
-use crate::tool::tool;
+use super::{no_site, run_failing, tool, words_of};
 use sm_ends::{Calls, MemorySink, MemorySource, ShortSink, ShortSource};
 use sm_model::Bytes;
 use std::alloc::Global;

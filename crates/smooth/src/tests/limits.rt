@@ -1,8 +1,7 @@
 //! Fragments and inputs at their limits, and one beyond.
 
 use super::fixtures::{TEXT, joined};
-use super::{expect, no_site, run, words_of};
-use crate::tool::tool;
+use super::{expect, no_site, run, tool, words_of};
 use sm_ends::{Calls, CountedSource, MemorySink};
 use std::alloc::Global;
 use std::test::Fail;

@@ -4,8 +4,7 @@ ghost use Rattle.sm_site.specs.declared.event.Event.{Event};
 ghost use Rattle.sm_site.specs.Scripts.{is_script};
 
 use super::fixtures::joined;
-use super::words_of;
-use crate::tool::tool;
+use super::{tool, words_of};
 use sm_ends::{Calls, MemorySink, MemorySource};
 use sm_model::Bytes;
 use sm_site::{Crashing, Disk, Event, MemorySite, Numbers, Piece, Script};
