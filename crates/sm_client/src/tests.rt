@@ -198,7 +198,7 @@ fn tracks(alloc: Global, failing: Vec<u64>) -> MemoryTracks {
 }
 
 // A play, of a plan that is one.
-fn played(
+fn run(
     alloc: Global,
     dial: &mut MemoryDial,
     tracks: &mut MemoryTracks,
@@ -347,7 +347,7 @@ fn each_end_comes_where_it_is_due(rt: HostRuntime) -> Result<(), Fail> {
         let mut dial = dial(alloc, &script)?;
         let mut tracks = tracks(alloc, Vec::new(alloc));
         let plan = plan(alloc, 1, count, tries)?;
-        let report = played(alloc, &mut dial, &mut tracks, lowest(alloc)?, &plan)?;
+        let report = run(alloc, &mut dial, &mut tracks, lowest(alloc)?, &plan)?;
         assert_eq!(rt; end_of(alloc, &report)?.as_str(), end);
         assert_eq!(rt; report.played, played, "{end}");
         assert_eq!(rt; dial.exchanges().len(), exchanges, "{end}");
@@ -370,7 +370,7 @@ fn what_is_written_is_canonical(rt: HostRuntime) -> Result<(), Fail> {
     )?;
     let mut tracks = tracks(alloc, Vec::new(alloc));
     let plan = plan(alloc, 1, 2, 1)?;
-    let report = played(alloc, &mut dial, &mut tracks, lowest(alloc)?, &plan)?;
+    let report = run(alloc, &mut dial, &mut tracks, lowest(alloc)?, &plan)?;
     assert_eq!(rt; report.played, 2);
     let first =
         b"\x00\x00\x00\x80moof\x00\x00\x00\x10mfhd\x00\x00\x00\x00\x00\x00\x00\x01\x00\x00\x00\x68traf\
@@ -399,7 +399,7 @@ fn a_track_that_fails_ends_the_play(rt: HostRuntime) -> Result<(), Fail> {
     )?;
     let mut tracks = tracks(alloc, vec![in alloc; 2]?);
     let plan = plan(alloc, 1, 3, 1)?;
-    let report = played(alloc, &mut dial, &mut tracks, lowest(alloc)?, &plan)?;
+    let report = run(alloc, &mut dial, &mut tracks, lowest(alloc)?, &plan)?;
     assert_eq!(rt; end_of(alloc, &report)?.as_str(), "WriteFault");
     assert_eq!(rt; report.played, 1);
     assert_eq!(rt; tracks.faults(), 1);
@@ -420,7 +420,7 @@ fn streams_go_to_the_tracks_of_their_numbers(rt: HostRuntime) -> Result<(), Fail
     let mut dial = dial(alloc, &script)?;
     let mut tracks = tracks(alloc, Vec::new(alloc));
     let plan = plan(alloc, 4, 1, 1)?;
-    let report = played(alloc, &mut dial, &mut tracks, lowest(alloc)?, &plan)?;
+    let report = run(alloc, &mut dial, &mut tracks, lowest(alloc)?, &plan)?;
     assert_eq!(rt; end_of(alloc, &report)?.as_str(), "NoStream 2");
     assert_eq!(rt; report.played, 2);
     assert_eq!(rt; dial.exchanges().len(), 5);
@@ -449,7 +449,7 @@ fn a_policy_that_has_retired_makes_room(rt: HostRuntime) -> Result<(), Fail> {
     let fixed: Box<dyn Policy> = Box::new(alloc, Fixed::new(0))?;
     let policies = vec![in alloc; steps, ladder, fixed]?;
     let plan = plan(alloc, 1, 1, 4)?;
-    let report = played(alloc, &mut dial, &mut tracks, policies, &plan)?;
+    let report = run(alloc, &mut dial, &mut tracks, policies, &plan)?;
     assert_eq!(rt; end_of(alloc, &report)?.as_str(), "Done");
     let bitrates: [&[u8]; 5] = [
         b"GET /p.isml/Manifest ",
