@@ -209,17 +209,14 @@ fn run(
     Ok(play(alloc, dial, tracks, policies, plan))
 }
 
-fn lowest(alloc: Global) -> Result<Vec<Box<dyn Policy>>, Fail> {
-    let policy: Box<dyn Policy> = Box::new(alloc, Fixed::new(0))?;
-    Ok(vec![in alloc; policy]?)
-}
-
 // How the play of one stream ends, and how many were written, and how many exchanges and pauses it took.
 fn outcome(alloc: Global, script: &[Step], count: u64, tries: u32) -> Result<String, Fail> {
     let mut dial = dial(alloc, script)?;
     let mut tracks = tracks(alloc, Vec::new(alloc));
     let plan = plan(alloc, 1, count, tries)?;
-    let report = run(alloc, &mut dial, &mut tracks, lowest(alloc)?, &plan)?;
+    let lowest: Box<dyn Policy> = Box::new(alloc, Fixed::new(0))?;
+    let policies = vec![in alloc; lowest]?;
+    let report = run(alloc, &mut dial, &mut tracks, policies, &plan)?;
     let end = end_of(alloc, &report)?;
     let (played, exchanges, pauses) = (report.played, dial.exchanges().len(), dial.pauses());
     Ok(format!(in alloc; "{end}: {played} {exchanges} {pauses}")?)
@@ -333,7 +330,9 @@ fn what_is_written_is_canonical(rt: HostRuntime) -> Result<(), Fail> {
     )?;
     let mut tracks = tracks(alloc, Vec::new(alloc));
     let plan = plan(alloc, 1, 2, 1)?;
-    let report = run(alloc, &mut dial, &mut tracks, lowest(alloc)?, &plan)?;
+    let lowest: Box<dyn Policy> = Box::new(alloc, Fixed::new(0))?;
+    let policies = vec![in alloc; lowest]?;
+    let report = run(alloc, &mut dial, &mut tracks, policies, &plan)?;
     assert_eq!(rt; report.played, 2);
     let first =
         b"\x00\x00\x00\x80moof\x00\x00\x00\x10mfhd\x00\x00\x00\x00\x00\x00\x00\x01\x00\x00\x00\x68traf\
@@ -362,7 +361,9 @@ fn a_track_that_fails_ends_the_play(rt: HostRuntime) -> Result<(), Fail> {
     )?;
     let mut tracks = tracks(alloc, vec![in alloc; 2]?);
     let plan = plan(alloc, 1, 3, 1)?;
-    let report = run(alloc, &mut dial, &mut tracks, lowest(alloc)?, &plan)?;
+    let lowest: Box<dyn Policy> = Box::new(alloc, Fixed::new(0))?;
+    let policies = vec![in alloc; lowest]?;
+    let report = run(alloc, &mut dial, &mut tracks, policies, &plan)?;
     assert_eq!(rt; end_of(alloc, &report)?.as_str(), "WriteFault");
     assert_eq!(rt; report.played, 1);
     assert_eq!(rt; tracks.faults(), 1);
@@ -383,7 +384,9 @@ fn streams_go_to_the_tracks_of_their_numbers(rt: HostRuntime) -> Result<(), Fail
     let mut dial = dial(alloc, &script)?;
     let mut tracks = tracks(alloc, Vec::new(alloc));
     let plan = plan(alloc, 4, 1, 1)?;
-    let report = run(alloc, &mut dial, &mut tracks, lowest(alloc)?, &plan)?;
+    let lowest: Box<dyn Policy> = Box::new(alloc, Fixed::new(0))?;
+    let policies = vec![in alloc; lowest]?;
+    let report = run(alloc, &mut dial, &mut tracks, policies, &plan)?;
     assert_eq!(rt; end_of(alloc, &report)?.as_str(), "NoStream 2");
     assert_eq!(rt; report.played, 2);
     assert_eq!(rt; dial.exchanges().len(), 5);
