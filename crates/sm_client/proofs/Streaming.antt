@@ -158,7 +158,8 @@ module _ {P : Type 0} {m : Meaning P} {plan : Plan} {name : List ℕ} where
           one = piece_of name listing level raw;
           gave = ap (λ s. written_at s.stand) (gave name p {listing = listing} raw level r.missed listed);
           count = w.0;
-          front = ap (λ (g : Fragment). take w.0 (frag_text seq id g [])) one ∙ ap (λ n. take w.0 (frag_text n id (piece_of name listing level raw).fragment [])) same ∙ ap (λ n. take w.0 (frag_text (length p.written + 1) n (piece_of name listing level raw).fragment [])) place;
+          front = ap (λ (g : Fragment). take w.0 (frag_text seq id g [])) one ∙ ap (λ n. take w.0 (frag_text n id (piece_of name listing level raw).fragment [])) same ∙ ap (λ n. take w.0 (frag_text (length p.written + 1) n
+              (piece_of name listing level raw).fragment [])) place;
         };
         counted = is;
       }
@@ -215,7 +216,8 @@ sought-streams : {P : Type 0} {plan : Plan} {name : List ℕ} {p : Standing} {s 
     → Streams m plan name t t (at (standing p) []) (at (standing f.to) []) [] [] log log' track track
 sought-streams m t track f = streams-went track (went-lists m t f.went) f.written
 
-pub sought-on : {P : Type 0} {plan : Plan} {name : List ℕ} {s : code.Standing} {old log : Option (List Exchange)} (m : Meaning P) (number : ℕ) (then : code.Standing) (t now : Turn P) (new : Option (List Exchange)) (track track' : Option (List ℕ))
+pub sought-on : {P : Type 0} {plan : Plan} {name : List ℕ} {s : code.Standing} {old log : Option (List Exchange)} (m : Meaning P) (number : ℕ) (then : code.Standing) (t now : Turn P) (new : Option (List Exchange))
+    (track track' : Option (List ℕ))
     (r : Option End) (p : Standing) → length p.written < plan.count → SoughtFound plan name p s old log
     → ((q : Standing) → Holds s q → length q.written < plan.count → has q.expected q.known ≡ true → StreamsBy m plan name number q t now then log new track track' r)
     → StreamsBy m plan name number p t now then old new track track' r
@@ -248,7 +250,8 @@ pub streaming-more : {P : Type 0} {m : Meaning P} {plan : Plan} {name : List ℕ
     → Streaming m plan name start now then (count + 1) old new track track'
 streaming-more k fits b = record { to = b.to; holds = b.holds; counted = b.more ∙ ap (λ n. n + 1) k.counted; streams = streams-more k.streams b.streams }
 
-pub streaming-ended : {P : Type 0} {m : Meaning P} {plan : Plan} {name : List ℕ} {start mid now : Turn P} {s : code.Standing} {count number written : ℕ} {end : End} {old log new : Option (List Exchange)} {track there track' : Option (List ℕ)}
+pub streaming-ended : {P : Type 0} {m : Meaning P} {plan : Plan} {name : List ℕ} {start mid now : Turn P} {s : code.Standing} {count number written : ℕ} {end : End} {old log new : Option (List Exchange)} {track there track' : Option
+    (List ℕ)}
     → (k : Streaming m plan name start mid s count old log track there) → StreamsEnd m plan name number (at (standing k.to) []) mid now written end log new there track'
     → StreamsEnd m plan name number (at unread []) start now written end old new track track'
 streaming-ended k e = ends-more k.streams e

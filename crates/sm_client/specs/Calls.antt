@@ -28,7 +28,8 @@ use Rattle.sm_client.specs.declared.piece.Pieces.{Pieces}
 use Rattle.sm_client.specs.declared.piece.Pieces.TheVariants as pieces
 use Rattle.sm_client.specs.Turns.{Meaning, Turn, Continues, Behaves}
 use Rattle.sm_client.specs.Starts.{has, starts, Falls, AreAfter}
-use Rattle.sm_client.specs.Stands.{Item, list, piece, Piece, Standing, Stand, unread, standing, State, listed, listed_starts, ladder_of, address_at, read_at, miss_of, state_after, written_at}
+use Rattle.sm_client.specs.Stands.{Item, list, piece, Piece, Standing, Stand, unread, standing}
+use Rattle.sm_client.specs.Stands.{State, listed, listed_starts, ladder_of, address_at, read_at, miss_of, state_after, written_at}
 use Rattle.sm_client.specs.Asks.{MadeList, Asks, AsksLast, IsRead, heard_of, turn_after, exchanges}
 use Rattle.sm_client.specs.Ends.{EndsAt, IsTail, texts}
 
@@ -172,7 +173,8 @@ Sought plan name number p new log log' (Some end) = ListEnded plan name number (
 -- ---- a fragment
 
 -- it was asked for once, as the policy chose
-pub record PieceMade {P : Type 0} (m : Meaning P) (plan : Plan) (name : List ℕ) (s : StreamListing) (start ahead : ℕ) (who : P) (old new : Option (List Exchange)) (g : Got) (level : ℕ) : Type 0 where
+pub record PieceMade {P : Type 0} (m : Meaning P) (plan : Plan) (name : List ℕ) (s : StreamListing) (start ahead : ℕ) (who : P) (old new : Option (List Exchange))
+    (g : Got) (level : ℕ) : Type 0 where
   pub exchange : Exchange
   pub log : new ≡ with_one old exchange
   pub chosen : level ≡ m.pick who [] (ladder_of s.levels) ahead
@@ -182,17 +184,20 @@ pub record PieceMade {P : Type 0} (m : Meaning P) (plan : Plan) (name : List ℕ
   pub spells : SpellsFragment start exchange.answer g
 
 -- and the policy has heard of it
-pub record PieceHeard {P : Type 0} (m : Meaning P) (plan : Plan) (name : List ℕ) (s : StreamListing) (start ahead : ℕ) (who now : P) (old new : Option (List Exchange)) (g : Got) (level : ℕ) : Type 0 where
+pub record PieceHeard {P : Type 0} (m : Meaning P) (plan : Plan) (name : List ℕ) (s : StreamListing) (start ahead : ℕ) (who now : P) (old new : Option
+    (List Exchange)) (g : Got) (level : ℕ) : Type 0 where
   pub made : PieceMade m plan name s start ahead who old new g level
   pub heard : Continues m who now (heard_of g made.exchange level)
 
-pub record PieceMissed {P : Type 0} (m : Meaning P) (plan : Plan) (name : List ℕ) (s : StreamListing) (start ahead : ℕ) (who now : P) (old new : Option (List Exchange)) (miss : Miss) : Type 0 where
+pub record PieceMissed {P : Type 0} (m : Meaning P) (plan : Plan) (name : List ℕ) (s : StreamListing) (start ahead : ℕ) (who now : P) (old new : Option
+    (List Exchange)) (miss : Miss) : Type 0 where
   pub came : Got
   pub level : ℕ
   pub heard : PieceHeard m plan name s start ahead who now old new came level
   pub is : miss_of came ≡ Some miss
 
-pub record PieceLost {P : Type 0} (m : Meaning P) (plan : Plan) (name : List ℕ) (s : StreamListing) (start ahead : ℕ) (who now : P) (old new : Option (List Exchange)) : Type 0 where
+pub record PieceLost {P : Type 0} (m : Meaning P) (plan : Plan) (name : List ℕ) (s : StreamListing) (start ahead : ℕ) (who now : P) (old new : Option
+    (List Exchange)) : Type 0 where
   pub same : now ≡ who
   pub made : (new ≡ old) ⊎ ((level : ℕ) × PieceMade m plan name s start ahead who old new got.NoMemory level)
 
@@ -218,7 +223,8 @@ pub record MayPiece (plan : Plan) (p : Standing) (s : StreamListing) (start ahea
   pub counted : length after ≡ ahead
 
 -- Exchanges lead from one turn and state to another, where a last one may have come to nothing.
-pub record Went {P : Type 0} (m : Meaning P) (plan : Plan) (name : List ℕ) (start now : Turn P) (from to : State) (last : List Item) (old new : Option (List Exchange)) : Type 0 where
+pub record Went {P : Type 0} (m : Meaning P) (plan : Plan) (name : List ℕ) (start now : Turn P) (from to : State) (last : List Item) (old new : Option
+    (List Exchange)) : Type 0 where
   pub made : List Item
   pub log : new ≡ with_all old (exchanges (made ++ last))
   pub asks : Asks m plan name start from made
@@ -227,7 +233,8 @@ pub record Went {P : Type 0} (m : Meaning P) (plan : Plan) (name : List ℕ) (st
   pub turn : Behaves m (turn_after m start (made ++ last)) now
 
 -- all exchanges but the last one missed the start, and the last one gave it
-pub record PieceTaken {P : Type 0} (m : Meaning P) (plan : Plan) (name : List ℕ) (p : Standing) (s : StreamListing) (start now : Turn P) (old new : Option (List Exchange)) (raw : RawFragment) (level : ℕ) : Type 0 where
+pub record PieceTaken {P : Type 0} (m : Meaning P) (plan : Plan) (name : List ℕ) (p : Standing) (s : StreamListing) (start now : Turn P) (old new : Option
+    (List Exchange)) (raw : RawFragment) (level : ℕ) : Type 0 where
   pub missed : List Miss
   pub exchange : Exchange
   pub went : Went m plan name start now (at (standing p) []) (at (standing p) missed) (piece exchange (got.Fragment raw) level ∷ []) old new
@@ -240,7 +247,8 @@ pub record PieceStopped {P : Type 0} (m : Meaning P) (plan : Plan) (name : List 
   pub last : List Item
   pub went : Went m plan name start now (at (standing p) []) (at (standing p) missed) last old new
 
-abbrev pub PiecesBy : {P : Type 0} → Meaning P → Plan → List ℕ → Standing → StreamListing → Turn P → Turn P → Option (List Exchange) → Option (List Exchange) → Pieces → Type 0
+abbrev pub PiecesBy : {P : Type 0} → Meaning P → Plan → List ℕ → Standing → StreamListing → Turn P → Turn P → Option (List Exchange) → Option (List Exchange)
+    → Pieces → Type 0
 PiecesBy m plan name p s start now old new (pieces.Took raw level) = PieceTaken m plan name p s start now old new raw level
 PiecesBy m plan name p s start now old new (pieces.GaveUp outcomes) =
     Went m plan name start now (at (standing p) []) (at (standing p) outcomes) [] old new × (length outcomes ≡ plan.tries)
@@ -296,7 +304,8 @@ pub record StreamsEnd {P : Type 0} (m : Meaning P) (plan : Plan) (name : List �
 abbrev pub StreamsBy : {P : Type 0} → Meaning P → Plan → List ℕ → ℕ → Standing → Turn P → Turn P → code.Standing
     → Option (List Exchange) → Option (List Exchange) → Option (List ℕ) → Option (List ℕ) → Option End → Type 0
 StreamsBy m plan name number p start now new log log' track track' None = StreamsOn m plan name p start now new log log' track track'
-StreamsBy m plan name number p start now new log log' track track' (Some end) = StreamsEnd m plan name number (at (standing p) []) start now new.written end log log' track track'
+StreamsBy m plan name number p start now new log log' track track' (Some end) = StreamsEnd m plan name number (at
+    (standing p) []) start now new.written end log log' track track'
 
 -- what writing a text may end with: the track got a front of it and failed, or memory ran out before
 abbrev pub WritesFront : Option (List ℕ) → Option (List ℕ) → List ℕ → End → Type 0
@@ -310,5 +319,6 @@ WritesFront track track' text (ends.NoManifest outcomes) = ⊥
 WritesFront track track' text (ends.NoStream index) = ⊥
 
 -- the play of one stream, from its first exchange to its end
-abbrev pub Streamed : {P : Type 0} → Meaning P → Plan → List ℕ → ℕ → Turn P → Turn P → ℕ → End → Option (List Exchange) → Option (List Exchange) → Option (List ℕ) → Option (List ℕ) → Type 0
+abbrev pub Streamed : {P : Type 0} → Meaning P → Plan → List ℕ → ℕ → Turn P → Turn P → ℕ → End → Option (List Exchange) → Option (List Exchange) → Option (List ℕ)
+    → Option (List ℕ) → Type 0
 Streamed m plan name number start now count end log log' track track' = StreamsEnd m plan name number (at unread []) start now count end log log' track track'

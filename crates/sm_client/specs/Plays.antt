@@ -80,6 +80,7 @@ pub record PlaysFrom {P : Type 0} (m : Meaning P) (plan : Plan) (start : Turn P)
   pub played : report.played ≡ count_of plan names parts
 
 -- a whole call: the first policy that hasn't retired before it has heard anything begins
-abbrev pub Played : {P : Type 0} → Meaning P → Plan → List P → Option (List Exchange) → Option (List Exchange) → (ℕ → Option (List ℕ)) → (ℕ → Option (List ℕ)) → Report → Type 0
+abbrev pub Played : {P : Type 0} → Meaning P → Plan → List P → Option (List Exchange) → Option (List Exchange) → (ℕ → Option (List ℕ)) → (ℕ → Option (List ℕ))
+    → Report → Type 0
 Played m plan [] log log' held held' report = ⊥
 Played m plan (p ∷ ps) log log' held held' report = PlaysFrom m plan (settle m p [] ps) 0 plan.streams log log' held held' report

@@ -151,7 +151,8 @@ impl Standing {
 
     /// How many starts are known behind the expected one, which is known too.
     pub fn ahead(&self) -> u64
-        ensures { (p : stand.Standing) → Holds self.now p → has p.expected p.known ≡ true → (after : List ℕ) × AreAfter p.known p.expected after × (length after ≡ result) }
+        ensures { (p : stand.Standing) → Holds self.now p → has p.expected p.known ≡ true →
+            (after : List ℕ) × AreAfter p.known p.expected after × (length after ≡ result) }
     {
         self.known.len().saturating_sub(1)
     }

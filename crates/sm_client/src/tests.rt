@@ -37,8 +37,6 @@ enum Step {
     Loses,
     // 404
     Refuses,
-    // No answer: the script is over.
-    Over,
 }
 
 const WIDTH: u64 = 20_000_000;
@@ -126,7 +124,6 @@ fn answer(alloc: Global, step: Step) -> Result<Option<Given>, Fail> {
         },
         Step::Loses => Some(Given::Lost),
         Step::Refuses => Some(reply(alloc, "404 Not Found", "text/plain", b"47 NotKept\n")?),
-        Step::Over => None,
     })
 }
 
@@ -197,147 +194,125 @@ fn tracks(alloc: Global, failing: Vec<u64>) -> MemoryTracks {
     MemoryTracks::new(alloc, Calls::from_vec(failing))
 }
 
-fn lowest(alloc: Global) -> Result<Vec<Box<dyn Policy>>, Fail> {
-    let policy: Box<dyn Policy> = Box::new(alloc, Fixed::new(0))?;
-    Ok(vec![in alloc; policy]?)
+// A play, of a plan that is one.
+fn run(
+    alloc: Global,
+    dial: &mut MemoryDial,
+    tracks: &mut MemoryTracks,
+    policies: Vec<Box<dyn Policy>>,
+    plan: &Plan,
+) -> Result<Report, Fail> {
+    let few = plan.streams.len() <= 16 && plan.count <= 4_294_967_295;
+    if policies.is_empty() || !few || plan.tries == 0 || plan.refresh == 0 {
+        return Err("no plan of a test".into());
+    }
+    Ok(play(alloc, dial, tracks, policies, plan))
 }
 
-// The answers, how many fragments and tries; how it ends, how many were written, and how many exchanges and pauses it took.
+// How the play of one stream ends, and how many were written, and how many exchanges and pauses it took.
+fn outcome(alloc: Global, script: &[Step], count: u64, tries: u32) -> Result<String, Fail> {
+    let mut dial = dial(alloc, script)?;
+    let mut tracks = tracks(alloc, Vec::new(alloc));
+    let plan = plan(alloc, 1, count, tries)?;
+    let lowest: Box<dyn Policy> = Box::new(alloc, Fixed::new(0))?;
+    let policies = vec![in alloc; lowest]?;
+    let report = run(alloc, &mut dial, &mut tracks, policies, &plan)?;
+    let end = end_of(alloc, &report)?;
+    let (played, exchanges, pauses) = (report.played, dial.exchanges().len(), dial.pauses());
+    Ok(format!(in alloc; "{end}: {played} {exchanges} {pauses}")?)
+}
+
+const FIRST: Step = Step::Lists(Runs::First);
+
+const HOLED: Step = Step::Lists(Runs::Holed);
+
+const THREE: Step = Step::Lists(Runs::Three);
+
+const OTHER: Step = Step::Lists(Runs::Other);
+
+const NOTHING: Step = Step::Lists(Runs::Nothing);
+
+const LATE: Step = Step::Lists(Runs::Late);
+
+const AT_0: Step = Step::Serves(0);
+
+const AT_20: Step = Step::Serves(20_000_000);
+
+const AT_40: Step = Step::Serves(40_000_000);
+
 #[test]
-fn each_end_comes_where_it_is_due(rt: HostRuntime) -> Result<(), Fail> {
+fn plays_are_done(rt: HostRuntime) -> Result<(), Fail> {
     let alloc = rt.alloc();
-    let (first, holed, three, late) = (
-        Step::Lists(Runs::First),
-        Step::Lists(Runs::Holed),
-        Step::Lists(Runs::Three),
-        Step::Lists(Runs::Late),
+    assert_eq!(rt;
+        outcome(alloc, &[FIRST, AT_0], 1, 3)?.as_str(),
+        "Done: 1 2 0"
     );
-    let (a, b, c, over) = (
-        Step::Serves(0),
-        Step::Serves(20_000_000),
-        Step::Serves(40_000_000),
-        Step::Over,
+    assert_eq!(rt; outcome(alloc, &[FIRST], 0, 3)?.as_str(), "Done: 0 1 0");
+    assert_eq!(rt;
+        outcome(alloc, &[THREE, AT_0, AT_20, AT_40], 3, 3)?.as_str(),
+        "Done: 3 4 0"
     );
-    let rows: [([Step; 5], u64, u32, &str, u64, usize, u64); 14] = [
-        ([first, a, over, over, over], 1, 3, "Done", 1, 2, 0),
-        ([first, over, over, over, over], 0, 3, "Done", 0, 1, 0),
-        (
-            [first, b, over, over, over],
-            1,
-            1,
-            "GaveUp 0 Unreadable-65",
-            0,
-            2,
-            0,
-        ),
-        ([three, a, b, c, over], 3, 3, "Done", 3, 4, 0),
-        (
-            [holed, a, holed, over, over],
-            2,
-            3,
-            "Hole 20000000 40000000",
-            1,
-            3,
-            1,
-        ),
-        (
-            [first, a, first, first, first],
-            2,
-            3,
-            "NoMore 20000000",
-            1,
-            5,
-            3,
-        ),
-        (
-            [Step::Lists(Runs::Other), over, over, over, over],
-            1,
-            3,
-            "NoStream 0",
-            0,
-            1,
-            0,
-        ),
-        (
-            [first, Step::Cuts(0), Step::Cuts(0), over, over],
-            1,
-            2,
-            "GaveUp 0 Cut Cut",
-            0,
-            3,
-            0,
-        ),
-        (
-            [Step::Loses, Step::Loses, over, over, over],
-            1,
-            2,
-            "NoManifest Lost Lost",
-            0,
-            2,
-            0,
-        ),
-        (
-            [late, a, late, over, over],
-            2,
-            3,
-            "Hole 20000000 30000000",
-            1,
-            3,
-            1,
-        ),
-        (
-            [Step::Refuses, first, Step::Refuses, a, over],
-            1,
-            2,
-            "Done",
-            1,
-            4,
-            0,
-        ),
-        (
-            [first, Step::Names(0), b, over, over],
-            2,
-            3,
-            "Done",
-            2,
-            3,
-            0,
-        ),
-        (
-            [first, a, Step::Lists(Runs::Other), three, b],
-            2,
-            3,
-            "Done",
-            2,
-            5,
-            2,
-        ),
-        (
-            [
-                Step::Lists(Runs::Nothing),
-                Step::Lists(Runs::Nothing),
-                three,
-                a,
-                over,
-            ],
-            1,
-            1,
-            "Done",
-            1,
-            4,
-            2,
-        ),
-    ];
-    for (script, count, tries, end, played, exchanges, pauses) in rows {
-        let mut dial = dial(alloc, &script)?;
-        let mut tracks = tracks(alloc, Vec::new(alloc));
-        let plan = plan(alloc, 1, count, tries)?;
-        let report = play(alloc, &mut dial, &mut tracks, lowest(alloc)?, &plan);
-        assert_eq!(rt; end_of(alloc, &report)?.as_str(), end);
-        assert_eq!(rt; report.played, played, "{end}");
-        assert_eq!(rt; dial.exchanges().len(), exchanges, "{end}");
-        assert_eq!(rt; dial.pauses(), pauses, "{end}");
-    }
+    assert_eq!(rt;
+        outcome(alloc, &[FIRST, Step::Names(0), AT_20], 2, 3)?.as_str(),
+        "Done: 2 3 0"
+    );
+    Ok(())
+}
+
+#[test]
+fn plays_are_patient(rt: HostRuntime) -> Result<(), Fail> {
+    let alloc = rt.alloc();
+    let refused = [Step::Refuses, FIRST, Step::Refuses, AT_0];
+    assert_eq!(rt; outcome(alloc, &refused, 1, 2)?.as_str(), "Done: 1 4 0");
+    assert_eq!(rt;
+        outcome(alloc, &[FIRST, AT_0, OTHER, THREE, AT_20], 2, 3)?.as_str(),
+        "Done: 2 5 2"
+    );
+    assert_eq!(rt;
+        outcome(alloc, &[NOTHING, NOTHING, THREE, AT_0], 1, 1)?.as_str(),
+        "Done: 1 4 2"
+    );
+    Ok(())
+}
+
+#[test]
+fn holes_and_ends_are_told(rt: HostRuntime) -> Result<(), Fail> {
+    let alloc = rt.alloc();
+    assert_eq!(rt;
+        outcome(alloc, &[HOLED, AT_0, HOLED], 2, 3)?.as_str(),
+        "Hole 20000000 40000000: 1 3 1"
+    );
+    assert_eq!(rt;
+        outcome(alloc, &[LATE, AT_0, LATE], 2, 3)?.as_str(),
+        "Hole 20000000 30000000: 1 3 1"
+    );
+    assert_eq!(rt;
+        outcome(alloc, &[FIRST, AT_0, FIRST, FIRST, FIRST], 2, 3)?.as_str(),
+        "NoMore 20000000: 1 5 3"
+    );
+    assert_eq!(rt;
+        outcome(alloc, &[OTHER], 1, 3)?.as_str(),
+        "NoStream 0: 0 1 0"
+    );
+    Ok(())
+}
+
+#[test]
+fn misses_are_carried(rt: HostRuntime) -> Result<(), Fail> {
+    let alloc = rt.alloc();
+    let cut = [FIRST, Step::Cuts(0), Step::Cuts(0)];
+    assert_eq!(rt;
+        outcome(alloc, &cut, 1, 2)?.as_str(),
+        "GaveUp 0 Cut Cut: 0 3 0"
+    );
+    assert_eq!(rt;
+        outcome(alloc, &[FIRST, AT_20], 1, 1)?.as_str(),
+        "GaveUp 0 Unreadable-65: 0 2 0"
+    );
+    assert_eq!(rt;
+        outcome(alloc, &[Step::Loses, Step::Loses], 1, 2)?.as_str(),
+        "NoManifest Lost Lost: 0 2 0"
+    );
     Ok(())
 }
 
@@ -355,7 +330,9 @@ fn what_is_written_is_canonical(rt: HostRuntime) -> Result<(), Fail> {
     )?;
     let mut tracks = tracks(alloc, Vec::new(alloc));
     let plan = plan(alloc, 1, 2, 1)?;
-    let report = play(alloc, &mut dial, &mut tracks, lowest(alloc)?, &plan);
+    let lowest: Box<dyn Policy> = Box::new(alloc, Fixed::new(0))?;
+    let policies = vec![in alloc; lowest]?;
+    let report = run(alloc, &mut dial, &mut tracks, policies, &plan)?;
     assert_eq!(rt; report.played, 2);
     let first =
         b"\x00\x00\x00\x80moof\x00\x00\x00\x10mfhd\x00\x00\x00\x00\x00\x00\x00\x01\x00\x00\x00\x68traf\
@@ -384,7 +361,9 @@ fn a_track_that_fails_ends_the_play(rt: HostRuntime) -> Result<(), Fail> {
     )?;
     let mut tracks = tracks(alloc, vec![in alloc; 2]?);
     let plan = plan(alloc, 1, 3, 1)?;
-    let report = play(alloc, &mut dial, &mut tracks, lowest(alloc)?, &plan);
+    let lowest: Box<dyn Policy> = Box::new(alloc, Fixed::new(0))?;
+    let policies = vec![in alloc; lowest]?;
+    let report = run(alloc, &mut dial, &mut tracks, policies, &plan)?;
     assert_eq!(rt; end_of(alloc, &report)?.as_str(), "WriteFault");
     assert_eq!(rt; report.played, 1);
     assert_eq!(rt; tracks.faults(), 1);
@@ -405,7 +384,9 @@ fn streams_go_to_the_tracks_of_their_numbers(rt: HostRuntime) -> Result<(), Fail
     let mut dial = dial(alloc, &script)?;
     let mut tracks = tracks(alloc, Vec::new(alloc));
     let plan = plan(alloc, 4, 1, 1)?;
-    let report = play(alloc, &mut dial, &mut tracks, lowest(alloc)?, &plan);
+    let lowest: Box<dyn Policy> = Box::new(alloc, Fixed::new(0))?;
+    let policies = vec![in alloc; lowest]?;
+    let report = run(alloc, &mut dial, &mut tracks, policies, &plan)?;
     assert_eq!(rt; end_of(alloc, &report)?.as_str(), "NoStream 2");
     assert_eq!(rt; report.played, 2);
     assert_eq!(rt; dial.exchanges().len(), 5);
@@ -434,7 +415,7 @@ fn a_policy_that_has_retired_makes_room(rt: HostRuntime) -> Result<(), Fail> {
     let fixed: Box<dyn Policy> = Box::new(alloc, Fixed::new(0))?;
     let policies = vec![in alloc; steps, ladder, fixed]?;
     let plan = plan(alloc, 1, 1, 4)?;
-    let report = play(alloc, &mut dial, &mut tracks, policies, &plan);
+    let report = run(alloc, &mut dial, &mut tracks, policies, &plan)?;
     assert_eq!(rt; end_of(alloc, &report)?.as_str(), "Done");
     let bitrates: [&[u8]; 5] = [
         b"GET /p.isml/Manifest ",
