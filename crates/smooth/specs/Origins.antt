@@ -1,6 +1,5 @@
 -- What a command at an origin answers.
-use Rattle.std.specs.Prelude.{◌≡◌, ◌⊎◌, ◌==◌, ℕ, List, ◌++◌, codes, decimal, if◌then◌else◌, Result, Ok, Err, string_bytes}
-use Rattle.sm_model.specs.declared.no_memory.NoMemory.{NoMemory}
+use Rattle.std.specs.Prelude.{◌≡◌, ◌⊎◌, ◌==◌, ℕ, List, ◌++◌, codes, decimal, if◌then◌else◌, string_bytes}
 use Rattle.sm_fetch.specs.declared.place.Place.{Place}
 use Rattle.sm_fetch.specs.declared.push.Pushed.{Pushed}
 use Rattle.sm_fetch.specs.declared.push.Pushed.TheVariants as pushed

@@ -17,6 +17,7 @@ Transfer-Encoding: chunked\r\nConnection: close\r\n\r\n";
 const KEPT: &[u8] = b"HTTP/1.1 200 OK\r\nContent-Length: 15\r\n\r\nkept 1 known 0\n";
 
 // The status, what is printed, and the requests that were sent.
+#[derive(Drop)]
 struct Ran {
     status: u8,
     printed: Bytes,
