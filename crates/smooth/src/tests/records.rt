@@ -10,37 +10,50 @@ use std::test::Fail;
 // The disk calls of an opening, and behind them the last write of the second entry, each being added in four calls.
 const LAST_WRITE: u64 = 3 + 2 * 1023 + 9 + 4 + 3;
 
-// Where the record at that place of a file ends, if one stands there.
-fn end_of(file: &[u8], at: usize) -> Option<usize> {
-    let [1, length @ ..] = file.get(at..)? else {
+// The body of the record at that place of a file, and where it ends, if one stands there.
+fn record_at(file: &[u8], at: usize) -> Option<(&[u8], usize)> {
+    let [1, rest @ ..] = file.get(at..)? else {
         return None;
     };
-    let length = u32::from_be_bytes(*length.first_chunk::<4>()?);
-    at.checked_add(5)?.checked_add(length as usize)
+    let length = u32::from_be_bytes(*rest.first_chunk::<4>()?) as usize;
+    let body = rest.get(4..)?.get(..length)?;
+    let end = at.checked_add(5)?.checked_add(length)?;
+    Some((body, end))
 }
 
-// The same records in the first form, which has no digest.
+// A body in the first form, which has no digest, as a record.
+fn older_record(alloc: Global, body: &[u8]) -> Result<Vec<u8>, Fail> {
+    let [kind, rest @ ..] = body else {
+        return Err("no body".into());
+    };
+    let rest = rest
+        .get(..rest.len().saturating_sub(32))
+        .ok_or("no digest")?;
+    let length = u32::try_from(rest.len())?.saturating_add(1);
+    joined(alloc, &[&[1], &length.to_be_bytes(), &[kind & 15], rest])
+}
+
+// The four records of a file in the first form.
 fn older(alloc: Global, file: &[u8]) -> Result<Vec<u8>, Fail> {
     let mut out = file.get(..13).ok_or("no head")?.to_vec(alloc)?;
     let mut at = 13;
-    while let Some(end) = end_of(file, at) {
-        if end <= at {
-            return Err("no record".into());
-        }
-        let body = file.get(at + 5..end).ok_or("cut")?;
-        let [kind, rest @ ..] = body else {
-            return Err("no body".into());
-        };
-        let rest = rest
-            .get(..rest.len().saturating_sub(32))
-            .ok_or("no digest")?;
-        let length = u32::try_from(rest.len())?.saturating_add(1);
-        let record = joined(alloc, &[&[1], &length.to_be_bytes(), &[kind & 15], rest])?;
-        out.extend_from_slice(&record)?;
+    for _ in 0..4 {
+        let (body, end) = record_at(file, at).ok_or("no record")?;
+        out.extend_from_slice(&older_record(alloc, body)?)?;
         at = end;
     }
     out.push(0)?;
     Ok(out)
+}
+
+// The file with one bit of the record at that place changed.
+fn changed(alloc: Global, file: &[u8], at: usize) -> Result<Vec<u8>, Fail> {
+    let mut bytes = file.to_vec(alloc)?;
+    let place = at.checked_add(9).ok_or("far")?;
+    if let Some(byte) = bytes.get_mut(place) {
+        *byte ^= 1;
+    }
+    Ok(bytes)
 }
 
 #[test]
@@ -74,23 +87,16 @@ fn a_changed_record_is_none(rt: HostRuntime) -> Result<(), Fail> {
     let mut site = pushed(&rt, alloc)?;
     let file = file_of(alloc, &mut site)?;
     let mut at = 13;
-    let mut count = 0;
-    while let Some(end) = end_of(&file, at) {
-        if end <= at {
-            return Err("no record".into());
-        }
-        let mut broken = file.as_slice().to_vec(alloc)?;
-        if let Some(byte) = broken.get_mut(at + 9) {
-            *byte ^= 1;
-        }
+    for _ in 0..4 {
+        let (_, end) = record_at(&file, at).ok_or("no record")?;
+        let broken = changed(alloc, &file, at)?;
         let mut other = site_of(alloc, Vec::new(alloc), &[], &[])?;
         other.write_at(0, 0, &broken)?;
         let line = format!(in alloc; "error: not a store at {at}\n")?;
         expect_on(&rt, alloc, &LIST, b"", &mut other, 11, line.as_bytes())?;
         at = end;
-        count += 1;
     }
-    assert_eq!(rt; count, 4);
+    assert!(rt; record_at(&file, at).is_none());
     Ok(())
 }
 
