@@ -158,3 +158,9 @@ script_extended (Err e) n taken old new more added refused within was behind = s
 pub deals_extended : (taken : ℕ) (old new more : List Event) → new ≡ old ++ more → taken ≤ length old → deals_of (drop taken new) ≡ deals_of (drop taken old) ++ deals_of more
 deals_extended taken old new more added within =
     ap deals_of (ap (λ (l : List Event). drop taken l) added ∙ drop-append-le taken old more within) ∙ deals_append (drop taken old) more
+
+-- one event more
+pub numbers_after_push : (n : ℕ) (events : List Event) (event : Event)
+    → numbers_after n (deals_of (events ++ event ∷ [])) ≡ number_after (numbers_after n (deals_of events)) (deal_of event)
+numbers_after_push n [] event = refl
+numbers_after_push n (x ∷ events) event = numbers_after_push (number_after n (deal_of x)) events event

@@ -1,6 +1,7 @@
 pub mod Image
 pub mod Meanings
 pub mod Event
+pub mod NextNumber
 pub mod Numbers
 pub mod Clauses
 pub mod Scripts

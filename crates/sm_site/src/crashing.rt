@@ -4,6 +4,7 @@ ghost use Rattle.sm_site.specs.Image.{Image, bytes_of};
 ghost use Rattle.sm_site.specs.Meanings.{Item, sent_on};
 ghost use Rattle.sm_site.specs.Clauses.{Both, SameOutcomes, Settled, Kept};
 ghost use Rattle.sm_site.specs.Scripts.{is_script, deals_of, numbers_after};
+ghost use Rattle.sm_site.specs.NextNumber.{IsNumber};
 ghost use Rattle.sm_site.specs.Sites.{SameBut, SameCounts, Tells};
 
 use crate::{Piece, Script, Site};
@@ -17,6 +18,10 @@ pub trait Crashing: Site {
 
     /// Whether memory has run out.
     ghost is_starved: { Self → Bool };
+
+    /// The first number that a connection of further events may have: it is above all that were given and all still to come.
+    fn next_number(&self) -> Option<u64>
+        ensures { IfSome (Self.Disk.view self.now).script (λ deals. IsNumber result (numbers_after (Self.Link.numbers self.now) deals)) };
 
     /// Adds events to the script. The numbers of its connections go on above those given and those still to come. Want of memory
     /// leaves the site as it was.

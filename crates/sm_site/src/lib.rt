@@ -13,6 +13,7 @@ mod memory;
 mod memory_crash;
 mod memory_disk;
 mod memory_link;
+mod next_number;
 mod note;
 mod numbers;
 mod pending;

@@ -9,6 +9,7 @@ ghost use Rattle.sm_site.specs.Sites.{SameBut, SameCounts};
 ghost use Rattle.sm_site.specs.Sending.{sent_after};
 ghost use Rattle.sm_site.specs.Memory.{coming, faults_of, site_left_at, site_may_leave, site_numbers, site_openings, site_view, state_of};
 
+use crate::next_number::{above_past, above_script};
 use crate::note::has_begun;
 use crate::pending::crash_files;
 use crate::{Crashing, Event, MemorySite, Piece, Script, Site, SiteError, Step};
@@ -102,6 +103,10 @@ impl Crashing for MemorySite {
     ghost is_starved = { λ m. (faults_of m).starved };
 
     ghost tells = { λ m. record { contents = refl; transcript = refl; script = refl } };
+
+    fn next_number(&self) -> Option<u64> {
+        above_script(above_past(&self.past), &self.script[self.taken..])
+    }
 
     fn extend(&mut self, events: Script) -> Result<(), AllocError>
         requires script { IfSome (site_view self.old).script (λ deals. IsTrue (is_script (numbers_after (site_numbers self.old) deals) events)) }
