@@ -8,10 +8,12 @@ mod ends;
 mod input;
 mod memory_sink;
 mod memory_source;
+mod memory_tracks;
 mod output;
 mod short;
 #[cfg(test)]
 mod tests;
+mod tracks;
 
 pub use calls::Calls;
 pub use counted::CountedSource;
@@ -19,5 +21,7 @@ pub use ends::{Failed, Sink, Source};
 pub use input::{InputFault, read_input};
 pub use memory_sink::MemorySink;
 pub use memory_source::MemorySource;
+pub use memory_tracks::MemoryTracks;
 pub use output::write_all;
 pub use short::{ShortSink, ShortSource};
+pub use tracks::Tracks;
