@@ -26,6 +26,7 @@ use Rattle.sm_serve.specs.Connections.{without, is_among, live_after, live_from,
 use Rattle.std.proofs.lemmas.List.{append-nil}
 use Rattle.sm_origin.specs.declared.origin.Origin.{Origin}
 use Rattle.sm_serve.specs.Standing.{StandsOn}
+use Rattle.sm_serve.proofs.Lasting.{on_itself, on_stepped, on_then}
 use Rattle.sm_model.specs.declared.entry.Entry.{Entry}
 use Rattle.sm_archive.specs.Store.{IsStore}
 use Rattle.sm_origin.specs.Shown.{Claim, Holds}
@@ -180,7 +181,7 @@ module _ {D : Type 0} (view W : D → View) (leave leave' : D → Image → Type
             resting = serves.rest.resting;
           };
         };
-        since = record { first = refl; begin = refl; base = refl };
+        since = record { first = refl; begin = refl; base = refl; on = on_itself h h refl refl };
         taken = omega arith;
       }
 
@@ -216,12 +217,12 @@ module _ {D : Type 0} (view : D → View) (leave : D → Image → Type 0) (left
   turns_then h i j k state d mid c sum one two = record {
     later = two.later;
     serves = two.serves;
-    since = record { first = two.since.first ∙ one.since.first; begin = two.since.begin ∙ one.since.begin; base = two.since.base ∙ one.since.base };
+    since = record { first = two.since.first ∙ one.since.first; begin = two.since.begin ∙ one.since.begin; base = two.since.base ∙ one.since.base; on = on_then h one.later two.later one.since.on two.since.on };
     taken = omega (arith, two.taken, one.taken, sum);
   }
 
   pub turns_here : (h : History) (state : State) (d : D) → Serves view leave left_at h state d → Turns view leave left_at h 0 state d
-  turns_here h state d serves = record { later = h; serves = serves; since = record { first = refl; begin = refl; base = refl }; taken = omega arith }
+  turns_here h state d serves = record { later = h; serves = serves; since = record { first = refl; begin = refl; base = refl; on = on_itself h h refl refl }; taken = omega arith }
 
   module _ (left_told : (s : D) (t : ℕ) (image : Image) → left_at s t image → IsSome (view s).contents)
       (crashes : (first : Machine) (begin : ℕ) (items : List Item) (steps : List Stepped) (point : Point) → Run true first begin items steps point → (t : ℕ) (image : Image)
@@ -308,7 +309,7 @@ declares view leave left_at h channel result old new d e serves lives a =
           resting = subst (λ (ls : List Live). AreResting k ls) (sym (ap (λ (ls : _). ls.items) lives)) (rest_all h k (λ l rest. record { rests = rest.rests; counts = rest.counts }) old.lives.items serves.rest.resting);
         };
       };
-      since = record { first = refl; begin = refl; base = refl };
+      since = record { first = refl; begin = refl; base = refl; on = on_stepped h k a.x refl refl };
       same = refl;
       step = a.x;
       steps = refl;

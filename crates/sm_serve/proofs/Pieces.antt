@@ -25,6 +25,7 @@ use Rattle.sm_serve.specs.Giving.{PartGives, PieceGives}
 use Rattle.sm_serve.proofs.Going.{silent_move, paused}
 use Rattle.sm_serve.proofs.Sending.{follows_then}
 use Rattle.sm_serve.proofs.Reaching.{follows_itself}
+use Rattle.sm_serve.proofs.Lasting.{on_itself}
 use Rattle.sm_serve.proofs.Giving.{place_clear}
 
 -- nothing is left where no part is left
@@ -47,7 +48,8 @@ module _ {D : Type 0} (view : D → View) (leave : D → Image → Type 0) (left
         later = paused view leave left_at k (in_phase k.point idle);
         keeps = silent_move view leave left_at k d (in_phase k.point idle) was.keeps (done n phase refl refl refl) refl refl refl;
         stands = was.stands;
-        follows = follows_then n true h k (paused view leave left_at k (in_phase k.point idle)) was.follows (follows_itself n k (paused view leave left_at k (in_phase k.point idle)) refl refl refl refl (λ j other. refl));
+        follows = follows_then n true h k (paused view leave left_at k (in_phase k.point idle)) was.follows (follows_itself n k (paused view leave left_at k (in_phase k.point idle)) refl refl refl refl
+            (on_itself k (paused view leave left_at k (in_phase k.point idle)) refl refl) (λ j other. refl));
         phase_is = refl;
         counts_are = was.counts_are;
       }

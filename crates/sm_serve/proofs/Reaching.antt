@@ -12,7 +12,8 @@ use Rattle.sm_serve.specs.Standing.{StandsOn}
 use Rattle.sm_serve.specs.Run.{Counts, Point, Phase, acting, sending, in_phase, wants, continues, acts_on, act_of, closes, counts_after, set_counts, phase_after, sent_of, behind_step}
 use Rattle.std.proofs.lemmas.Bool.{eq-eqb, ne_eqb}
 use Rattle.sm_serve.specs.Connections.{received, live, events_in}
-use Rattle.sm_serve.specs.Standing.{History, Keeps, Follows, Reaches}
+use Rattle.sm_serve.specs.Standing.{History, GoesOn, Keeps, Follows, Reaches}
+use Rattle.sm_serve.proofs.Lasting.{on_itself, on_stepped}
 use Rattle.sm_serve.proofs.Sending.{follows_then}
 use Rattle.sm_head.specs.declared.reply.TheConstants.{NO_MEMORY, CONTINUE}
 use Rattle.sm_serve.proofs.Going.{Acted, stepped, silent_move, paused}
@@ -30,12 +31,13 @@ reached view leave left_at h later n is_open e q origin keeps follows is machine
   counts_are = λ open_. ap (λ (p : Point). p.counts n) is ∙ ap (λ (f : ℕ → Counts). f n) counts;
 }
 
-pub follows_itself : (n : ℕ) (h k : History) → k.first ≡ h.first → k.begin ≡ h.begin → k.base ≡ h.base → k.items ≡ h.items → ((j : ℕ) → (j ≡ n → ⊥) → k.point.counts j ≡ h.point.counts j)
+pub follows_itself : (n : ℕ) (h k : History) → k.first ≡ h.first → k.begin ≡ h.begin → k.base ≡ h.base → k.items ≡ h.items → GoesOn h k → ((j : ℕ) → (j ≡ n → ⊥) → k.point.counts j ≡ h.point.counts j)
     → Follows n true h k
-follows_itself n h k first begin base items counts = record {
+follows_itself n h k first begin base items on counts = record {
   first = first;
   begin = begin;
   base = base;
+  on = on;
   received = λ j. ap (received j) items;
   events = ap events_in items;
   live = ap live items;
@@ -74,7 +76,7 @@ module _ {D : Type 0} (view : D → View) (leave : D → Image → Type 0) (left
     behind_keeps = acted.keeps point_of (acts_on n item more act acted.x phase does acted.conn_is acted.is_step refl refl refl) refl refl refl
 
     pub behind_follows : Follows n true h behind
-    behind_follows = follows_itself n h behind refl refl refl refl (λ j other. other_counts n j _ h.point.counts other)
+    behind_follows = follows_itself n h behind refl refl refl refl (on_stepped h behind acted.x refl refl) (λ j other. other_counts n j _ h.point.counts other)
 
     pub behind_counts : behind.point.counts n ≡ counts_after item reply.counted (h.point.counts n)
     behind_counts = these_counts n _ h.point.counts ∙ ap (λ (r : Reply). counts_after item r.counted (h.point.counts n)) acted.reply_is
@@ -99,7 +101,7 @@ module _ {D : Type 0} (view : D → View) (leave : D → Image → Type 0) (left
   starving h d n more keeps phase = silent_move view leave left_at h d (in_phase h.point (sending n NO_MEMORY.now true [])) keeps (wants n more phase refl refl refl) refl refl refl
 
   pub paused_follows : (h : History) (n : ℕ) (phase : Phase) → Follows n true h (paused view leave left_at h (in_phase h.point phase))
-  paused_follows h n phase = follows_itself n h (paused view leave left_at h (in_phase h.point phase)) refl refl refl refl (λ j other. refl)
+  paused_follows h n phase = follows_itself n h (paused view leave left_at h (in_phase h.point phase)) refl refl refl refl (on_itself h (paused view leave left_at h (in_phase h.point phase)) refl refl) (λ j other. refl)
 
   -- a run that reached a phase goes on from there
   pub goes_then : (h : History) (n : ℕ) (from phase : Phase) (counts all : Counts) (origin after : Origin) (d e : D) (is_open : Bool) → Reaches view leave left_at h n true from counts origin d
@@ -124,7 +126,7 @@ module _ {D : Type 0} (view : D → View) (leave : D → Image → Type 0) (left
     later = h;
     keeps = keeps;
     stands = stands;
-    follows = follows_itself n h h refl refl refl refl (λ j other. refl);
+    follows = follows_itself n h h refl refl refl refl (on_itself h h refl refl) (λ j other. refl);
     phase_is = at;
     counts_are = λ t. is;
   }

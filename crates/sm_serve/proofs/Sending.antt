@@ -10,6 +10,7 @@ use Rattle.sm_wire.specs.declared.item.WireItem.{WireItem}
 use Rattle.sm_serve.specs.Connections.{received, live, without, events_in}
 use Rattle.sm_serve.specs.Run.{Counts, Point, idle, acting, sending, shutting, Moves, sent, failed, unsent, shut, at, in_phase, behind_failure}
 use Rattle.sm_serve.specs.Standing.{History, is_told, Keeps, moved, Follows}
+use Rattle.sm_serve.proofs.Lasting.{on_moved, on_then}
 use Rattle.sm_serve.proofs.Transcripts.{received_push, live_push, events_push, told_adds}
 use Rattle.sm_serve.proofs.Going.{link_move}
 
@@ -18,6 +19,7 @@ follows_then n is_open h k l one two = record {
   first = two.first ∙ one.first;
   begin = two.begin ∙ one.begin;
   base = two.base ∙ one.base;
+  on = on_then h k l one.on two.on;
   received = λ j. two.received j ∙ one.received j;
   events = two.events ∙ one.events;
   live = two.live ∙ ap (λ (ns : List ℕ). if is_open then ns else without n ns) one.live;
@@ -72,6 +74,7 @@ module _ {D : Type 0} (view W : D → View) (leave leave' : D → Image → Type
     first = refl;
     begin = refl;
     base = refl;
+    on = on_moved h (at m (Sent n bytes fails)) q;
     received = λ j. received_push j h.items (record { moment = m; deal = Sent n bytes fails });
     events = events_push h.items (record { moment = m; deal = Sent n bytes fails });
     live = live_push h.items (record { moment = m; deal = Sent n bytes fails });
@@ -115,7 +118,7 @@ module _ {D : Type 0} (view W : D → View) (leave leave' : D → Image → Type
       record {
         later = moved h [] q;
         keeps = on;
-        follows = record { first = refl; begin = refl; base = refl; received = λ j. ap (received j) (append-nil h.items); events = ap events_in (append-nil h.items); live = ap live (append-nil h.items); counts = λ j other. refl };
+        follows = record { first = refl; begin = refl; base = refl; on = on_moved h [] q; received = λ j. ap (received j) (append-nil h.items); events = ap events_in (append-nil h.items); live = ap live (append-nil h.items); counts = λ j other. refl };
         point_is = refl;
       }
 
@@ -133,6 +136,7 @@ module _ {D : Type 0} (view W : D → View) (leave leave' : D → Image → Type
           first = refl;
           begin = refl;
           base = refl;
+          on = on_moved h (at a.0 (Shut n)) q;
           received = λ j. received_push j h.items (record { moment = a.0; deal = Shut n });
           events = events_push h.items (record { moment = a.0; deal = Shut n });
           live = live_push h.items (record { moment = a.0; deal = Shut n });

@@ -13,6 +13,7 @@ use Rattle.sm_serve.specs.declared.state.State.{State}
 use Rattle.sm_serve.specs.Connections.{received, live, without, is_among, AreDistinct}
 use Rattle.sm_serve.specs.Run.{Counts, no_counts, Point, idle, passed, left, over, at, at_event}
 use Rattle.sm_serve.specs.Standing.{History, Pending, moved, Follows, Reaches}
+use Rattle.sm_serve.proofs.Lasting.{on_behind, on_moved}
 use Rattle.sm_serve.specs.Resting.{Rests, counts_of, IsNewborn}
 use Rattle.sm_serve.specs.Giving.{PieceGives}
 use Rattle.sm_serve.specs.Serving.{numbers_of, IsResting, AreResting, IsAtRest, Turns, Forgets}
@@ -66,7 +67,7 @@ module _ {D : Type 0} (view : D → View) (leave : D → Image → Type 0) (left
                 (now_resting h k m n piece gives.from new r.follows number (gives.rests refl) (r.counts_are refl)) rest);
           };
         };
-        since = record { first = r.follows.first; begin = r.follows.begin; base = r.follows.base };
+        since = record { first = r.follows.first; begin = r.follows.begin; base = r.follows.base; on = on_behind h k _ _ r.follows.on };
         taken = r.follows.events ∙ events_push h.items _;
       }
 
@@ -88,7 +89,7 @@ module _ {D : Type 0} (view : D → View) (leave : D → Image → Type 0) (left
                 (rest_remove h k n (others_after h k m n piece gives.from false gives.from_counts r.follows) old i (distinct_numbers h old numbers) within is rest);
           };
         };
-        since = record { first = r.follows.first; begin = r.follows.begin; base = r.follows.base };
+        since = record { first = r.follows.first; begin = r.follows.begin; base = r.follows.base; on = on_behind h k _ _ r.follows.on };
         taken = r.follows.events ∙ events_push h.items _;
       }
 
@@ -110,7 +111,7 @@ module _ {D : Type 0} (view : D → View) (leave : D → Image → Type 0) (left
             resting = rest_others h k n (λ l other was. same_rest h k l (other_bytes l.number n m piece h other) refl was) state.lives.items none rest.resting;
           };
         };
-        since = record { first = refl; begin = refl; base = refl };
+        since = record { first = refl; begin = refl; base = refl; on = on_moved h (at m (Came n piece)) q };
         taken = events_push h.items _;
       }
 
@@ -148,7 +149,7 @@ module _ {D : Type 0} (view : D → View) (leave : D → Image → Type 0) (left
                 state.lives.items (subst (λ (ns : List ℕ). is_among n ns ≡ false) (sym numbers) none) rest;
           };
         };
-        since = record { first = r.follows.first; begin = r.follows.begin; base = r.follows.base };
+        since = record { first = r.follows.first; begin = r.follows.begin; base = r.follows.base; on = on_behind h k _ _ r.follows.on };
         taken = r.follows.events ∙ events_push h.items _;
       }
 
@@ -177,7 +178,7 @@ module _ {D : Type 0} (view : D → View) (leave : D → Image → Type 0) (left
             resting = subst (λ (ls : List Live). AreResting k ls) (sym lives) (rest_push k old new resting_old now);
           };
         };
-        since = record { first = r.follows.first; begin = r.follows.begin; base = r.follows.base };
+        since = record { first = r.follows.first; begin = r.follows.begin; base = r.follows.base; on = on_behind h k _ _ r.follows.on };
         taken = r.follows.events ∙ events_push h.items _;
       }
 
@@ -202,7 +203,7 @@ module _ {D : Type 0} (view : D → View) (leave : D → Image → Type 0) (left
             resting = forgets.resting h k (λ l other was. same_rest h k l (left_bytes l.number n m h) refl was) distinct rest.resting;
           };
         };
-        since = record { first = refl; begin = refl; base = refl };
+        since = record { first = refl; begin = refl; base = refl; on = on_moved h (at m (Left n)) q };
         taken = events_push h.items _;
       }
 
@@ -221,6 +222,6 @@ module _ {D : Type 0} (view : D → View) (leave : D → Image → Type 0) (left
             resting = rest_all h k (λ l was. same_rest h k l (received_push l.number h.items (record { moment = m; deal = Over })) refl was) state.lives.items rest.resting;
           };
         };
-        since = record { first = refl; begin = refl; base = refl };
+        since = record { first = refl; begin = refl; base = refl; on = on_moved h (at m Over) q };
         taken = events_push h.items _;
       }

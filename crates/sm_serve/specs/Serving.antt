@@ -20,7 +20,7 @@ use Rattle.sm_serve.specs.Connections.{received, live, without, is_among, AreDis
 use Rattle.sm_serve.specs.Run.{Stepped, idle, at, Run}
 use Rattle.sm_serve.specs.Moments.{FitsAt}
 use Rattle.sm_serve.specs.Surviving.{Survives}
-use Rattle.sm_serve.specs.Standing.{History, StandsOn, is_told, Keeps, calls_of}
+use Rattle.sm_serve.specs.Standing.{History, StandsOn, is_told, GoesOn, Keeps, calls_of}
 use Rattle.sm_serve.specs.Resting.{Rests, counts_of}
 
 abbrev pub numbers_of : List Live → List ℕ
@@ -52,6 +52,7 @@ pub record Since (h k : History) : Type 0 where
   pub first : k.first ≡ h.first
   pub begin : k.begin ≡ h.begin
   pub base : k.base ≡ h.base
+  pub on : GoesOn h k
 
 -- the run goes on by so many events
 pub record Turns {D : Type 0} (view : D → View) (leave : D → Image → Type 0) (left_at : D → ℕ → Image → Type 0) (h : History) (events : ℕ) (state : State)

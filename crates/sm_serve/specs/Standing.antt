@@ -58,11 +58,19 @@ Pending view leave left_at h m deal d =
     (q : Point) → Moves (is_told (view d)) h.items h.point (at m deal) [] q → q.machine ≡ h.point.machine → q.ended ≡ m → q.failed ≡ h.point.failed
     → Keeps view leave left_at (moved h (at m deal) q) d
 
+-- A later history goes on from an earlier one: its entries and its steps begin with those of that one.
+pub record GoesOn (h k : History) : Type 0 where
+  pub entries : List Item
+  pub items : k.items ≡ h.items ++ entries
+  pub further : List Stepped
+  pub steps : k.steps ≡ h.steps ++ further
+
 -- A later history, in which one connection alone went on, and is still open or was closed.
 pub record Follows (n : ℕ) (is_open : Bool) (h k : History) : Type 0 where
   pub first : k.first ≡ h.first
   pub begin : k.begin ≡ h.begin
   pub base : k.base ≡ h.base
+  pub on : GoesOn h k
   pub received : (j : ℕ) → received j k.items ≡ received j h.items
   pub events : events_in k.items ≡ events_in h.items
   pub live : live k.items ≡ (if is_open then live h.items else without n (live h.items))
