@@ -1,0 +1,6 @@
+pub mod Chains
+pub mod Sources
+pub mod Entries
+pub mod Runs
+pub mod Stores
+pub mod Standing

@@ -1,10 +1,16 @@
 -- What a dial answers to a request.
-use Rattle.std.specs.Prelude.{◌≡◌, ◌⊎◌, ℕ, ◌+◌, ◌-◌, ◌/◌, ◌^◌, ◌≤◌, min, Bool, true, false, List, length, take, Option, IfSome}
+use Rattle.std.specs.Prelude.{◌≡◌, ◌⊎◌, ℕ, ◌+◌, ◌-◌, ◌/◌, ◌^◌, ◌≤◌, min, Bool, true, false, List, ◌++◌, length, take, Option, IfSome}
 use Rattle.sm_fetch.specs.declared.dial.Answer.{Answer}
 use Rattle.sm_fetch.specs.declared.dial.Answer.TheVariants as answers
-use Rattle.sm_site.specs.Clauses.{Rose}
+use Rattle.sm_site.specs.declared.event.Event.{Event}
+use Rattle.sm_site.specs.Clauses.{Both, Rose}
 use Rattle.sm_site.specs.Meanings.{View, Item, sent_on}
+use Rattle.sm_site.specs.Meanings.Deal.{Over}
+use Rattle.sm_site.specs.Scripts.{deals_of}
+use Rattle.sm_serve.specs.Connections.{events_in}
+use Rattle.sm_serve.specs.Run.{at}
 use Rattle.sm_archive.specs.Opening.{NotAStore}
+use Rattle.sm_world.specs.Bringing.{Brings}
 use Rattle.sm_world.specs.declared.acted.Acted.{Acted}
 use Rattle.sm_world.specs.declared.acted.Acted.TheVariants as acted
 
@@ -31,13 +37,28 @@ faults_after faults (answers.Bytes bytes) = faults
 faults_after faults answers.Lost = one_more faults
 faults_after faults answers.NoMemory = faults
 
--- Why this came of a request: a disk that failed counted it, and so did a link; what went out did so on a connection of this exchange. The store was
--- none where its files are none.
-abbrev pub HasCause : View → View → Acted → Type 0
-HasCause old new acted.Unopened = Rose old.disk_faults new.disk_faults ⊎ ((at : ℕ) × IfSome old.contents (NotAStore at))
-HasCause old new acted.Broken = Rose old.link_faults new.link_faults
-HasCause old new acted.NoMemory = Unit {0}
-HasCause old new (acted.Sent bytes) = (conn : ℕ) × (2 ^ 63 ≤ conn) × IfSome new.transcript (λ items. bytes ≡ sent_on conn items)
+-- the last entry says that nothing more comes, or as many events were taken as a count has
+abbrev pub IsServed : List Item → Type 0
+IsServed items = ((before : List Item) (m : ℕ) × (items ≡ before ++ at m Over)) ⊎ (2 ^ 64 - 1 ≤ events_in items)
+
+-- The request was put behind the script, on a connection of its own; then all was served, and these bytes went out on the connection.
+pub record Handed {D : Type 0} (view : D → View) (old new : D) (request bytes : List ℕ) : Type 0 where
+  pub conn : ℕ
+  pub high : 2 ^ 63 ≤ conn
+  pub events : List Event
+  pub brings : Brings conn request events
+  pub between : D
+  pub added : Both (view old).script (view between).script (λ was now. now ≡ was ++ deals_of events)
+  pub served : IfSome (view new).transcript IsServed
+  pub sent : IfSome (view new).transcript (λ items. bytes ≡ sent_on conn items)
+
+-- Why this came of a request: a disk that failed counted it, and so did a link; what went out was sent in answer. An image that is no store
+-- isn't opened.
+abbrev pub HasCause : {D : Type 0} (view : D → View) → D → D → List ℕ → Acted → Type 0
+HasCause view old new request acted.Unopened = Rose (view old).disk_faults (view new).disk_faults ⊎ ((at : ℕ) × IfSome (view old).contents (NotAStore at))
+HasCause view old new request acted.Broken = Rose (view old).link_faults (view new).link_faults
+HasCause view old new request acted.NoMemory = Unit {0}
+HasCause view old new request (acted.Sent bytes) = Handed view old new request bytes
 
 -- what went out on a connection, or want of memory
 abbrev pub HasSent : ℕ → Option (List Item) → Acted → Type 0

@@ -1,5 +1,5 @@
 pub mod Dialing
-pub mod Answering
 pub mod Bringing
+pub mod Answering
 pub mod Pushed
 pub mod Worlds

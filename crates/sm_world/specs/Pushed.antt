@@ -3,18 +3,19 @@ use Rattle.std.specs.Prelude.{◌≡◌, ◌⊎◌, List, ◌++◌, ℕ, Contain
 use Rattle.sm_model.specs.declared.entry.Entry.{Entry}
 use Rattle.sm_model.specs.declared.entry.Entry.TheVariants.{Keep}
 use Rattle.sm_model.specs.declared.fragment.Fragment.{Fragment}
-use Rattle.sm_site.specs.Meanings.{Item}
+use Rattle.sm_site.specs.Meanings.{Item, IsLive}
 use Rattle.sm_wire.specs.declared.item.WireItem.{WireItem}
 use Rattle.sm_wire.specs.declared.item.WireItem.TheVariants.{Frag}
 use Rattle.sm_wire.specs.Wire.{IsWire}
 use Rattle.sm_serve.specs.Connections.{received}
 
--- by some moment of the transcript the bytes that had come on a connection gave this fragment, as one of a push
+-- by some moment of the transcript, at which a connection was open, the bytes that had come on it gave this fragment, as one of a push
 pub record IsPushed (items : List Item) (f : Fragment) : Type 0 where
   pub conn : ℕ
   pub until : List Item
   pub since : List Item
   pub split : items ≡ until ++ since
+  pub live : IsLive conn until
   pub given : List WireItem
   pub wire : IsWire (received conn until) given
   pub among : Contains given (Frag f)

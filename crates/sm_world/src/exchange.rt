@@ -94,7 +94,7 @@ impl<S: Crashing> Dial for OriginDial<S> {
         ensures faults { self.new.1.faults ≡ faults_after self.old.1.faults result }
         ensures lists { (self.new.1.lost ≡ self.old.1.lost) × (self.new.1.cut ≡ self.old.1.cut) × (self.new.1.limits ≡ self.old.1.limits) }
         ensures goes_on { GoesOn S.Disk.view S.Disk.may_leave S.Disk.left_at self.old.1.state self.old.0 self.new.1.state self.new.0 }
-        ensures answers { (came : Came) × HasCause (S.Disk.view self.old.0) (S.Disk.view self.new.0) came × ((result ≡ Answer.NoMemory)
+        ensures answers { (came : Came) × HasCause S.Disk.view self.old.0 self.new.0 request.now came × ((result ≡ Answer.NoMemory)
             ⊎ (result ≡ answer_for (is_listed self.new.1.count self.old.1.lost) (is_listed self.new.1.count self.old.1.cut) limit came)) }
     {
         self.count = self.count.saturating_add(1);

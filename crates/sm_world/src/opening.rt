@@ -1,12 +1,15 @@
 //! Asking an origin, which is opened first where it isn't.
-ghost use Rattle.std.specs.Prelude.{◌≡◌, ◌≤◌, ◌<◌, ◌^◌, ℕ, None, Some, IfOk, IfSome, IsErrOf, OnErr};
+ghost use Rattle.std.specs.Prelude.{◌≡◌, ◌≤◌, ◌<◌, ◌^◌, ◌++◌, ℕ, List, None, Some, IfOk, IfSome, IsErrOf, OnErr};
 ghost use Rattle.sm_archive.specs.declared.opened.OpenFault.TheVariants as open_fault;
 ghost use Rattle.sm_archive.specs.Opening.{NotAStore};
 ghost use Rattle.sm_serve.specs.declared.state.State.{State as Kept};
-ghost use Rattle.sm_site.specs.Clauses.{Rose};
+ghost use Rattle.sm_site.specs.declared.event.Event.{Event};
+ghost use Rattle.sm_site.specs.Clauses.{Both, Rose};
 ghost use Rattle.sm_site.specs.Meanings.{SameLink};
+ghost use Rattle.sm_site.specs.Scripts.{deals_of};
 ghost use Rattle.sm_site.specs.Sites.{SameBut};
 ghost use Rattle.sm_world.specs.Answering.{HasCause, HasSent};
+ghost use Rattle.sm_world.specs.Bringing.{Brings};
 ghost use Rattle.sm_world.specs.Worlds.{World, Stands, IsOpen, Grows, GoesOn};
 
 use crate::Acted;
@@ -54,6 +57,8 @@ fn bring<S: Crashing>(alloc: Global, site: &mut S, request: &[u8]) -> Option<u64
     ensures first { IfSome result (λ n. 2 ^ 63 ≤ n) }
     ensures stays { (w : World) (state : Kept) → IsOpen S.Disk.view S.Disk.may_leave S.Disk.left_at w state site.old
         → IsOpen S.Disk.view S.Disk.may_leave S.Disk.left_at w state site.new }
+    ensures brings { IfSome result (λ n. (events : List Event) × Brings n request.now events
+        × Both (S.Disk.view site.old).script (S.Disk.view site.new).script (λ was now. now ≡ was ++ deals_of events)) }
     ensures view { SameBut (S.Disk.view site.old) (S.Disk.view site.new) }
 {
     fewer_images_stand::<S>();
@@ -80,7 +85,7 @@ fn serve_request<S: Crashing>(
 ) -> Acted
     requires stands { (w : World) × IsOpen S.Disk.view S.Disk.may_leave S.Disk.left_at w state.old site.old }
     ensures goes_on { GoesOn S.Disk.view S.Disk.may_leave S.Disk.left_at (Some state.old) site.old (Some state.new) site.new }
-    ensures cause { HasCause (S.Disk.view site.old) (S.Disk.view site.new) result }
+    ensures cause { HasCause S.Disk.view site.old site.new request.now result }
 {
     match bring(alloc, site, request) {
         None => Acted::NoMemory,
@@ -104,7 +109,7 @@ pub(crate) fn ask<S: Crashing>(
     requires entries { limits.entries < 2 ^ 32 }
     requires stands { (w : World) × Stands S.Disk.view S.Disk.may_leave S.Disk.left_at w state site.old }
     ensures goes_on { GoesOn S.Disk.view S.Disk.may_leave S.Disk.left_at state site.old result.state site.new }
-    ensures cause { HasCause (S.Disk.view site.old) (S.Disk.view site.new) result.acted }
+    ensures cause { HasCause S.Disk.view site.old site.new request.now result.acted }
 {
     match opened(alloc, site, state, limits) {
         Ok(mut state) => {
