@@ -74,7 +74,7 @@ open_append : (was : Bool) (n : ℕ) (xs ys : List Item) → open_from was n (xs
 open_append was n [] ys = refl
 open_append was n (x ∷ xs) ys = open_append (open_after was n x.deal) n xs ys
 
-live_is_open : (n : ℕ) (base items : List Item) → is_among n (live items) ≡ true → IsLive n (base ++ items)
+pub live_is_open : (n : ℕ) (base items : List Item) → is_among n (live items) ≡ true → IsLive n (base ++ items)
 unfolding live
 live_is_open n base items among = open_append false n base items ∙ open_from_live n [] (open_from false n base) items (λ e. absurd (cc)) among
 

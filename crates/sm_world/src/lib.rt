@@ -6,6 +6,7 @@ mod acted;
 mod asking;
 mod dial;
 mod exchange;
+pub mod law;
 mod opening;
 #[cfg(test)]
 mod tests;

@@ -1,12 +1,12 @@
 //! Asking an origin, which is opened first where it isn't.
-ghost use Rattle.std.specs.Prelude.{◌≡◌, ◌≤◌, ◌<◌, ◌^◌, ◌++◌, ℕ, List, None, Some, IfOk, IfSome, IsErrOf, OnErr};
+ghost use Rattle.std.specs.Prelude.{◌≡◌, ◌≤◌, ◌<◌, ◌^◌, ◌++◌, ℕ, List, None, Some, IfOk, IfSome, IsErrOf, IsTrue, OnErr};
 ghost use Rattle.sm_archive.specs.declared.opened.OpenFault.TheVariants as open_fault;
 ghost use Rattle.sm_archive.specs.Opening.{NotAStore};
 ghost use Rattle.sm_serve.specs.declared.state.State.{State as Kept};
 ghost use Rattle.sm_site.specs.declared.event.Event.{Event};
 ghost use Rattle.sm_site.specs.Clauses.{Both, Rose};
 ghost use Rattle.sm_site.specs.Meanings.{SameLink};
-ghost use Rattle.sm_site.specs.Scripts.{deals_of};
+ghost use Rattle.sm_site.specs.Scripts.{deals_of, is_script, numbers_after};
 ghost use Rattle.sm_site.specs.Sites.{SameBut};
 ghost use Rattle.sm_world.specs.Answering.{HasCause, HasSent};
 ghost use Rattle.sm_world.specs.Bringing.{Brings};
@@ -18,7 +18,7 @@ use sm_archive::{Limits, OpenFault, bodies_have_one_log};
 use sm_origin::law::fewer_images_stand;
 use sm_seglog::law::stores_have_one_reading;
 use sm_serve::{Served, State, serve};
-use sm_site::Crashing;
+use sm_site::{Crashing, Script};
 use std::alloc::{AllocError, Global};
 
 /// What the loop keeps behind a request, and what came of that.
@@ -52,20 +52,38 @@ fn opened<S: Crashing>(
     }
 }
 
-// Puts a request, as a connection of its own, behind the script. None where memory wants.
-fn bring<S: Crashing>(alloc: Global, site: &mut S, request: &[u8]) -> Option<u64>
-    ensures first { IfSome result (λ n. 2 ^ 63 ≤ n) }
+// Puts events behind the script, which open this connection. None where memory wants.
+fn put<S: Crashing>(site: &mut S, conn: u64, script: Script) -> Option<u64>
+    requires fits { IfSome (S.Disk.view site.old).script (λ deals. IsTrue (is_script (numbers_after (S.Link.numbers site.old) deals) script)) }
+    ensures conn { IfSome result (λ n. n ≡ conn) }
+    ensures added { IfSome result (λ n. Both (S.Disk.view site.old).script (S.Disk.view site.new).script (λ was now. now ≡ was ++ deals_of script)) }
     ensures stays { (w : World) (state : Kept) → IsOpen S.Disk.view S.Disk.may_leave S.Disk.left_at w state site.old
         → IsOpen S.Disk.view S.Disk.may_leave S.Disk.left_at w state site.new }
-    ensures brings { IfSome result (λ n. (events : List Event) × Brings n request.now events
-        × Both (S.Disk.view site.old).script (S.Disk.view site.new).script (λ was now. now ≡ was ++ deals_of events)) }
     ensures view { SameBut (S.Disk.view site.old) (S.Disk.view site.new) }
 {
     fewer_images_stand::<S>();
-    let conn = next_connection(site)?;
-    let script = script_of(alloc, conn, request).ok()?;
-    site.extend(script).ok()?;
-    Some(conn)
+    match site.extend(script) {
+        Ok(()) => Some(conn),
+        Err(AllocError) => None,
+    }
+}
+
+// Puts a request, as a connection of its own, behind the script. None where memory wants.
+fn bring<S: Crashing>(alloc: Global, site: &mut S, request: &[u8]) -> Option<u64>
+    ensures first { IfSome result (λ n. 2 ^ 63 ≤ n) }
+    ensures brings { IfSome result (λ n. (events : List Event) × Brings n request.now events
+        × Both (S.Disk.view site.old).script (S.Disk.view site.new).script (λ was now. now ≡ was ++ deals_of events)) }
+    ensures stays { (w : World) (state : Kept) → IsOpen S.Disk.view S.Disk.may_leave S.Disk.left_at w state site.old
+        → IsOpen S.Disk.view S.Disk.may_leave S.Disk.left_at w state site.new }
+    ensures view { SameBut (S.Disk.view site.old) (S.Disk.view site.new) }
+{
+    match next_connection(site) {
+        None => None,
+        Some(conn) => match script_of(alloc, conn, request) {
+            Ok(script) => put(site, conn, script),
+            Err(AllocError) => None,
+        },
+    }
 }
 
 fn sent_on<S: Crashing>(site: &S, conn: u64) -> Acted
