@@ -9,7 +9,7 @@ use Rattle.sm_serve.proofs.Adding.{Extends, and_then, step_adds}
 use Rattle.sm_serve.proofs.Growing.{Stays, StepsOn, itself, kind_of}
 
 -- the machine behind the last step
-behind : Machine → List Stepped → Machine
+abbrev behind : Machine → List Stepped → Machine
 behind m [] = m
 behind m (x ∷ xs) = behind x.after xs
 
@@ -18,7 +18,7 @@ behind_push m [] x = refl
 behind_push m (y ∷ xs) x = behind_push y.after xs x
 
 -- each step adds to the log that it found
-Chain : Machine → List Stepped → Type 0
+abbrev Chain : Machine → List Stepped → Type 0
 Chain m [] = Unit {0}
 Chain m (x ∷ xs) = Extends m x.after × Chain x.after xs
 

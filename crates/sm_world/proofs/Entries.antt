@@ -28,7 +28,7 @@ comes_later items es first m c = record {
 }
 
 -- an entry that may be new
-pub Pushes : List Item → Option Entry → Type 0
+abbrev pub Pushes : List Item → Option Entry → Type 0
 Pushes items o = (f : Fragment) → o ≡ Some (Keep f) → IsPushed items f
 
 pub no_entry : (items : List Item) (o : Option Entry) → o ≡ None → Pushes items o

@@ -28,10 +28,10 @@ use Rattle.sm_world.proofs.Entries.{Comes, comes_later, Pushes, no_entry, step_c
 -- ---- points
 
 -- the fragments that are still to be acted on were pushed
-AllPushed : List Item → List WireItem → Type 0
+abbrev AllPushed : List Item → List WireItem → Type 0
 AllPushed items todo = (f : Fragment) → Contains todo (item.Frag f) → IsPushed items f
 
-Awaits : List Item → Phase → Type 0
+abbrev Awaits : List Item → Phase → Type 0
 Awaits items idle = Unit {0}
 Awaits items (acting n todo) = AllPushed items todo
 Awaits items (sending n bytes close todo) = AllPushed items todo

@@ -20,13 +20,15 @@ use Rattle.sm_origin.specs.Opening.{HasOneStore}
 use Rattle.sm_serve.specs.declared.state.State.{State}
 use Rattle.sm_serve.specs.Run.{Run}
 use Rattle.sm_serve.specs.Moments.{machine_at}
-use Rattle.sm_serve.specs.Standing.{History, StandsOn, is_told, calls_of}
-use Rattle.sm_serve.specs.Serving.{Begins, Serves, Turns}
+use Rattle.sm_serve.specs.Standing.{History, Keeps, StandsOn, is_told, calls_of}
+use Rattle.sm_serve.specs.Serving.{Begins, Serves, Since, Turns}
+use Rattle.sm_serve.proofs.Adding.{Extends}
 use Rattle.sm_serve.proofs.Going.{run_as}
 use Rattle.sm_world.specs.Pushed.{ComesOf, IsPushed, IsPushedIn}
 use Rattle.sm_world.specs.Worlds.{World, IsClosed, IsOpen, Stands, Grows, Crashes, GoesOn}
 use Rattle.sm_world.proofs.Chains.{later_extends}
 use Rattle.sm_world.proofs.Sources.{in_none, in_one, pushed_later, pushed_behind}
+use Rattle.sm_world.proofs.Entries.{Comes}
 use Rattle.sm_world.proofs.Runs.{stood}
 use Rattle.sm_world.proofs.Stores.{one_store, store_in, fewer_stores}
 
@@ -71,6 +73,7 @@ module _ {D : Type 0} (view : D → View) (leave : D → Image → Type 0) (left
       run : Run true h.first h.begin h.items h.steps h.point
       run = run_as (is_told (view d)) true h.first h.begin h.items h.steps h.point (sym told) o.serves.keeps.run
 
+      s : Comes h.items h.first h.point.machine
       s = (stood h.first h.begin h.items h.steps h.point o.settled run).comes
 
       Source : Fragment → Type 0
@@ -132,6 +135,7 @@ module _ {D : Type 0} (view : D → View) (leave : D → Image → Type 0) (left
         h : History
         h = o.run
 
+        k : Keeps view leave left_at h d
         k = o.serves.keeps
 
         was : IsTrue (is_told (view e)) → IsTrue (is_told (view d))
@@ -162,10 +166,13 @@ module _ {D : Type 0} (view : D → View) (leave : D → Image → Type 0) (left
       log_is = ap (λ (n : Machine). n.log) now ∙ first_log;
     }
       where
+        c : (x : Image) × ((view d).contents ≡ Some x)
         c = some_of (view d).contents some
 
+        m : (m : Machine) × IsStore m.log c.0 × (m.doubt ≡ None) × StandsOn view leave m new.origin e
         m = at_some (view d).contents (λ c. (m : Machine) × IsStore m.log c × (m.doubt ≡ None) × StandsOn view leave m new.origin e) c.0 c.1 found
 
+        b : (h : History) × (h.first ≡ m.0) × (h.begin ≡ (view e).moment) × (h.base ≡ closed.items) × (h.items ≡ []) × (h.steps ≡ []) × Serves view leave left_at h new e
         b = begins m.0 closed.items m.3 (same ∙ closed.told)
 
         h : History
@@ -197,11 +204,13 @@ module _ {D : Type 0} (view : D → View) (leave : D → Image → Type 0) (left
       h : History
       h = o.run
 
+      t : (n : ℕ) × Turns view leave left_at h n new e
       t = turns h o.serves
 
       k : History
       k = t.1.later
 
+      since : Since h k
       since = t.1.since
 
       now : World
@@ -214,6 +223,7 @@ module _ {D : Type 0} (view : D → View) (leave : D → Image → Type 0) (left
       later = subst (λ (m : Machine). Run true m k.begin k.items k.steps k.point) since.first
           (run_as (is_told (view e)) true k.first k.begin k.items k.steps k.point (sym after) t.1.serves.keeps.run)
 
+      grown : Extends h.point.machine k.point.machine
       grown = later_extends h.first h.begin k.begin h.items k.items h.steps since.on.further k.steps h.point k.point run later since.on.steps
 
   -- ---- a crash
