@@ -135,3 +135,25 @@ module _ {D : Type 0} (view : D → View) (leave : D → Image → Type 0) (left
   pub continuing : (h : History) (d : D) (n : ℕ) (more : List WireItem) → Keeps view leave left_at h d → h.point.phase ≡ acting n (Continue ∷ more)
       → Keeps view leave left_at (paused view leave left_at h (in_phase h.point (sending n CONTINUE.now false more))) d
   continuing h d n more keeps phase = silent_move view leave left_at h d (in_phase h.point (sending n CONTINUE.now false more)) keeps (continues n more phase refl refl refl) refl refl refl
+
+-- what a run has reached without a move
+pub reached_here : {D : Type 0} (view : D → View) (leave : D → Image → Type 0) (left_at : D → ℕ → Image → Type 0) (h : History) (n : ℕ) (phase : Phase) (counts : Counts)
+    (origin : Origin) (d : D) → Keeps view leave left_at h d → StandsOn view leave h.point.machine origin d → h.point.phase ≡ phase → h.point.counts n ≡ counts
+    → Reaches view leave left_at h n true phase counts origin d
+reached_here view leave left_at h n phase counts origin d keeps stands phase_is counts_are = record {
+  later = h;
+  keeps = keeps;
+  stands = stands;
+  follows = record {
+    first = refl;
+    begin = refl;
+    base = refl;
+    on = on_itself h h refl refl;
+    received = λ j. refl;
+    events = refl;
+    live = refl;
+    counts = λ j other. refl;
+  };
+  phase_is = phase_is;
+  counts_are = λ t. counts_are;
+}

@@ -12,7 +12,7 @@ use Rattle.sm_serve.specs.Standing.{Reaches}
 use Rattle.sm_serve.specs.Resting.{counts_of, SameBut}
 use Rattle.sm_serve.specs.Items.{shown_item}
 use Rattle.sm_serve.proofs.Lists.{next_shown, drop_all}
-use Rattle.sm_serve.proofs.Reaching.{goes_then, go_from}
+use Rattle.sm_serve.proofs.Reaching.{goes_then, go_from, reached_here}
 use Rattle.sm_serve.proofs.item.take_items.Goals as goal
 
 same_then : (old mid new : Live) → SameBut old mid → SameBut mid new → SameBut old new
@@ -76,3 +76,15 @@ returns-clause-goes_on g c h more keeps stands phase counts =
     let none : drop (length c.loop-item.yielded) items ≡ [] = drop_all (length c.loop-item.yielded) items (omega (arith, t.1)) in
     subst (λ (ys : List Item). Reaches V A L h n true (acting n (map shown_item ys ++ more)) (counts_of c.loop-item.live) c.loop-item.origin c.loop-item.site) none
     (c.loop-item.invariant.goes_on h more keeps stands phase counts)
+
+pub loop-item-init : goal.loop-item-init
+loop-item-init g c = record {
+  stands = c.requires.stands;
+  live = c.requires.live;
+  told = refl;
+  link_faults = refl;
+  same = record { number = refl; conn = refl; push = refl };
+  goes_on = λ h more keeps stands phase counts.
+      reached_here g.S.Disk.view g.S.Disk.may_leave g.S.Disk.left_at h c.args.live.now.number (acting c.args.live.now.number (map shown_item c.args.items.items ++ more))
+      (counts_of c.args.live.now) c.args.origin.now c.args.site.now keeps stands phase counts;
+}
