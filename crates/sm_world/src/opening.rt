@@ -48,7 +48,10 @@ fn opened<S: Crashing>(
     stores_have_one_reading();
     match state {
         Some(state) => Ok(state),
-        None => State::start(alloc, site, limits),
+        None => match State::start(alloc, site, limits) {
+            Ok(state) => Ok(state),
+            Err(fault) => Err(fault),
+        },
     }
 }
 
