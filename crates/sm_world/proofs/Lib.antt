@@ -5,3 +5,4 @@ pub mod Runs
 pub mod Pieces
 pub mod Stores
 pub mod Standing
+pub mod Calls

@@ -34,15 +34,15 @@ use Rattle.sm_world.proofs.Stores.{one_store, store_in, fewer_stores}
 
 -- ---- options
 
-some_of : {A : Type 0} (o : Option A) → IsSome o → (x : A) × (o ≡ Some x)
+pub some_of : {A : Type 0} (o : Option A) → IsSome o → (x : A) × (o ≡ Some x)
 some_of None some = absurd (cc)
 some_of (Some x) some = (x, refl)
 
-at_some : {A : Type 0} (o : Option A) (P : A → Type 0) (x : A) → o ≡ Some x → IfSome o P → P x
+pub at_some : {A : Type 0} (o : Option A) (P : A → Type 0) (x : A) → o ≡ Some x → IfSome o P → P x
 at_some None P x e holds = absurd (cc)
 at_some (Some y) P x e holds = let same : y ≡ x = cc in subst P same holds
 
-from_some : {A : Type 0} (o : Option A) (P : A → Type 0) (x : A) → o ≡ Some x → P x → IfSome o P
+pub from_some : {A : Type 0} (o : Option A) (P : A → Type 0) (x : A) → o ≡ Some x → P x → IfSome o P
 from_some {A} o P x e holds = subst (λ (p : Option A). IfSome p P) (sym e) holds
 
 -- ---- what comes of pushes

@@ -1,5 +1,5 @@
 //! Asking an origin, which is opened first where it isn't.
-ghost use Rattle.std.specs.Prelude.{◌≡◌, ◌≤◌, ◌<◌, ◌^◌, ◌++◌, ℕ, List, None, Some, IfOk, IfSome, IsErrOf, IsTrue, OnErr};
+ghost use Rattle.std.specs.Prelude.{◌≡◌, ◌≢◌, ◌≤◌, ◌<◌, ◌^◌, ◌++◌, ℕ, List, None, Some, IfOk, IfSome, IsErrOf, IsTrue, OnErr};
 ghost use Rattle.sm_archive.specs.declared.opened.OpenFault.TheVariants as open_fault;
 ghost use Rattle.sm_archive.specs.Opening.{NotAStore};
 ghost use Rattle.sm_serve.specs.declared.state.State.{State as Kept};
@@ -107,6 +107,7 @@ fn serve_request<S: Crashing>(
     requires stands { (w : World) × IsOpen S.Disk.view S.Disk.may_leave S.Disk.left_at w state.old site.old }
     ensures goes_on { GoesOn S.Disk.view S.Disk.may_leave S.Disk.left_at (Some state.old) site.old (Some state.new) site.new }
     ensures cause { HasCause S.Disk.view site.old site.new request.now result }
+    ensures opened { result ≢ Acted.Unopened }
 {
     match bring(alloc, site, request) {
         None => Acted::NoMemory,
