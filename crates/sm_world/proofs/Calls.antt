@@ -57,14 +57,14 @@ rose_from a b n is rose = subst (λ (m : ℕ). Rose m n) is rose
 
 -- ---- all was served
 
+one_more_event : (b : Bool) (all m n : ℕ) → all ≡ m + n → (if b then 1 + all else all) ≡ (if b then 1 + m else m) + n
+one_more_event true all m n is = omega (arith, is)
+one_more_event false all m n is = is
+
 events_both : (xs ys : List Item) → events_in (xs ++ ys) ≡ events_in xs + events_in ys
 unfolding events_in
-events_both [] ys = refl
-events_both (x ∷ xs) ys = by (is_event x.deal)
-  where
-    by : (b : Bool) → (if b then 1 + events_in (xs ++ ys) else events_in (xs ++ ys)) ≡ (if b then 1 + events_in xs else events_in xs) + events_in ys
-    by true = omega (arith, events_both xs ys)
-    by false = events_both xs ys
+events_both [] ys = omega arith
+events_both (x ∷ xs) ys = one_more_event (is_event x.deal) (events_in (xs ++ ys)) (events_in xs) (events_in ys) (events_both xs ys)
 
 module _ {D : Type 0} (view : D → View) (leave : D → Image → Type 0) (left_at : D → ℕ → Image → Type 0) where
   pub served_all : (h : History) (taken late short turns : ℕ) (state : State) (d : D) → 2 ^ 64 - 1 ≤ turns → Served view leave left_at h (served.Done taken late short) turns state d
@@ -72,7 +72,7 @@ module _ {D : Type 0} (view : D → View) (leave : D → Image → Type 0) (left
   served_all h taken late short turns state d many s = ⊎_elim
       (λ all. from_some (view d).transcript IsServed (k.base ++ k.items) s.told
           (inr (let sum = events_both k.base k.items in let count = all.1 in let is = all.0 in omega (arith, sum, count, is, many))))
-      (λ over. if_some (view d).transcript (λ items. (before : List Item) × ((m : ℕ) × (items ≡ before ++ at m Over))) IsServed (λ items is. inl is) over.2)
+      (λ over. if_some (view d).transcript (λ items. (before : List Item) × (m : ℕ) × (items ≡ before ++ at m Over)) IsServed (λ items is. inl is) over.2)
       s.ended.0
     where
       k : History

@@ -39,7 +39,7 @@ faults_after faults answers.NoMemory = faults
 
 -- the last entry says that nothing more comes, or as many events were taken as a count has
 abbrev pub IsServed : List Item → Type 0
-IsServed items = ((before : List Item) × ((m : ℕ) × (items ≡ before ++ at m Over))) ⊎ (2 ^ 64 - 1 ≤ events_in items)
+IsServed items = ((before : List Item) × (m : ℕ) × (items ≡ before ++ at m Over)) ⊎ (2 ^ 64 - 1 ≤ events_in items)
 
 -- The request was put behind the script, on a connection of its own; then all was served, and these bytes went out on the connection.
 pub record Handed {D : Type 0} (view : D → View) (old new : D) (request bytes : List ℕ) : Type 0 where
