@@ -1,14 +1,13 @@
 -- What the calls below a dial come to.
-use Rattle.std.proofs.Common.{◌≡◌, ◌⊎◌, inl, inr, ⊎_elim, ℕ, ◌+◌, ◌-◌, ◌^◌, ◌≤◌, Bool, true, false, if◌then◌else◌, List, [], ◌∷◌, ◌++◌, Option, None, Some, refl, sym, ◌∙◌, ap, subst, arith}
+use Rattle.std.proofs.Common.{◌≡◌, inl, inr, ⊎_elim, ℕ, ◌+◌, ◌-◌, ◌^◌, ◌≤◌, Bool, true, false, if◌then◌else◌, List, [], ◌∷◌, ◌++◌, Option, None, Some, refl, sym, ap, subst, arith}
 use Rattle.std.specs.Prelude.{IfSome, IsSome}
-use Rattle.std.specs.List.{Contains}
 use Rattle.std.proofs.lemmas.List.{append-nil}
 use Rattle.sm_model.specs.declared.entry.Entry.{Entry}
 use Rattle.sm_model.specs.declared.entry.Entry.TheVariants.{Keep}
 use Rattle.sm_site.specs.declared.event.Event.{Event}
 use Rattle.sm_site.specs.Image.{Image}
 use Rattle.sm_site.specs.Clauses.{Both, Rose, Settled}
-use Rattle.sm_site.specs.Meanings.{View, Item, SameLink, sent_on}
+use Rattle.sm_site.specs.Meanings.{View, Item, SameLink}
 use Rattle.sm_site.specs.Meanings.Deal.{Over}
 use Rattle.sm_site.specs.Scripts.{deals_of}
 use Rattle.sm_site.specs.Sites.{SameBut}
@@ -17,13 +16,12 @@ use Rattle.sm_serve.specs.declared.state.State.{State}
 use Rattle.sm_serve.specs.declared.outcome.Served.TheVariants as served
 use Rattle.sm_serve.specs.Connections.{events_in, is_event}
 use Rattle.sm_serve.specs.Run.{at}
-use Rattle.sm_serve.specs.Serving.{Served, IsOver}
+use Rattle.sm_serve.specs.Serving.{Served}
 use Rattle.sm_serve.specs.Standing.{History}
 use Rattle.sm_world.specs.declared.acted.Acted.{Acted}
 use Rattle.sm_world.specs.declared.acted.Acted.TheVariants as acted
-use Rattle.sm_world.specs.Answering.{Handed, HasCause, HasSent, IsServed}
+use Rattle.sm_world.specs.Answering.{HasCause, HasSent, IsServed}
 use Rattle.sm_world.specs.Bringing.{Brings}
-use Rattle.sm_world.specs.Pushed.{ComesOf}
 use Rattle.sm_world.specs.Worlds.{World, IsClosed, Grows}
 use Rattle.sm_world.proofs.Sources.{in_none}
 use Rattle.sm_world.proofs.Stores.{one_store}
@@ -71,7 +69,7 @@ module _ {D : Type 0} (view : D → View) (leave : D → Image → Type 0) (left
       → IfSome (view d).transcript IsServed
   served_all h taken late short turns state d many s = ⊎_elim
       (λ all. from_some (view d).transcript IsServed (k.base ++ k.items) s.told
-          (inr (let sum = events_both k.base k.items in let count = all.1 in let is = all.0 in omega (arith, sum, count, is, many))))
+      (inr (let sum = events_both k.base k.items in let count = all.1 in let is = all.0 in omega (arith, sum, count, is, many))))
       (λ over. if_some (view d).transcript (λ items. (before : List Item) × (m : ℕ) × (items ≡ before ++ at m Over)) IsServed (λ items is. inl is) over.2)
       s.ended.0
     where

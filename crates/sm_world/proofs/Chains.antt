@@ -50,7 +50,7 @@ chained first begin items steps q (goes_on was es items' ss xs steps' p q' run m
     go before (inr (x, one, from, step, to)) =
         let is : steps ≡ ss ++ x ∷ [] = all ∙ ap (λ (ys : List Stepped). ss ++ ys) one in
         let adds : Extends p.machine x.after =
-            subst (λ (m : Machine). Extends m x.after) from (step_adds (Rose x.faults x.faults_after) x.before x.after x.act x.reply step)
+        subst (λ (m : Machine). Extends m x.after) from (step_adds (Rose x.faults x.faults_after) x.before x.after x.act x.reply step)
         in
         subst (λ (ys : List Stepped). Chained first ys q.machine) (sym is) (record {
           last = to ∙ sym (behind_push first ss x);

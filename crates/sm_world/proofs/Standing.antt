@@ -1,5 +1,5 @@
 -- How a dial stands behind its calls.
-use Rattle.std.proofs.Common.{◌≡◌, ◌⊎◌, inl, inr, ⊎_elim, ◌↔◌, ℕ, ◌≤◌, ◌<◌, ◌^◌, ◌-◌, Bool, true, List, [], ◌∷◌, ◌++◌, Option, None, Some, is_some, refl, sym, ◌∙◌, ap, subst, append_assoc, arith}
+use Rattle.std.proofs.Common.{◌≡◌, ◌⊎◌, inl, inr, ⊎_elim, ◌↔◌, ℕ, ◌≤◌, ◌<◌, ◌^◌, ◌-◌, true, List, [], ◌∷◌, ◌++◌, Option, None, Some, is_some, refl, sym, ◌∙◌, ap, subst, append_assoc, arith}
 use Rattle.std.specs.Prelude.{IfSome, IsSome, IsTrue}
 use Rattle.std.specs.List.{Contains}
 use Rattle.std.proofs.lemmas.List.{append-nil}
@@ -25,7 +25,7 @@ use Rattle.sm_serve.specs.Serving.{Begins, Serves, Since, Turns}
 use Rattle.sm_serve.proofs.Adding.{Extends}
 use Rattle.sm_serve.proofs.Going.{run_as}
 use Rattle.sm_world.specs.Pushed.{ComesOf, IsPushed, IsPushedIn}
-use Rattle.sm_world.specs.Worlds.{World, IsClosed, IsOpen, Stands, Grows, Crashes, GoesOn}
+use Rattle.sm_world.specs.Worlds.{World, IsClosed, IsOpen, Stands, Grows, Crashes}
 use Rattle.sm_world.proofs.Chains.{later_extends}
 use Rattle.sm_world.proofs.Sources.{in_none, in_one, pushed_later, pushed_behind}
 use Rattle.sm_world.proofs.Entries.{Comes}
@@ -89,7 +89,7 @@ module _ {D : Type 0} (view : D → View) (leave : D → Image → Type 0) (left
       doubted f there = ⊎_elim
           (λ none. absurd (in_none (Keep f) (subst (λ (l : List Entry). Contains l (Keep f)) none there)))
           (λ some. (let last : some.0 ≡ Keep f = in_one some.0 (Keep f) (subst (λ (l : List Entry). Contains l (Keep f)) some.2 there) in
-              inr (pushed_behind h.base h.items f (s.doubted f (some.1 ∙ ap (λ (e : Entry). Some e) last)))))
+          inr (pushed_behind h.base h.items f (s.doubted f (some.1 ∙ ap (λ (e : Entry). Some e) last)))))
           of_doubt
 
   -- what a dial keeps was pushed

@@ -1,5 +1,5 @@
 -- Which log an image has.
-use Rattle.std.proofs.Common.{◌≡◌, ℕ, ◌+◌, ◌<◌, ◌≤◌, List, [], ◌∷◌, length, sym, subst}
+use Rattle.std.proofs.Common.{◌≡◌, ℕ, ◌+◌, List, [], ◌∷◌, sym, subst}
 use Rattle.sm_model.specs.declared.entry.Entry.{Entry}
 use Rattle.sm_site.specs.Image.{Image, bytes_of}
 use Rattle.sm_site.specs.Clauses.{Settled}

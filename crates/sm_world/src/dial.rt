@@ -47,13 +47,7 @@ impl<S: Crashing> Model for OriginDial<S> {
 impl<S: Crashing> OriginDial<S> {
     /// A dial to the store of a site, under these limits, with the numbers of the exchanges whose reply is lost, and of those whose
     /// reply is cut. Nothing is opened yet.
-    pub fn new(
-        alloc: Global,
-        site: S,
-        limits: Limits,
-        lost: Numbers,
-        cut: Numbers,
-    ) -> OriginDial<S>
+    pub fn new(alloc: Global, site: S, limits: Limits, lost: Numbers, cut: Numbers) -> OriginDial<S>
         requires bytes { limits.store_bytes ≤ 2 ^ 62 }
         requires entries { limits.entries < 2 ^ 32 }
         requires settled { IfSome (S.Disk.view site).contents (λ now. Settled now (S.Disk.may_leave site)) }

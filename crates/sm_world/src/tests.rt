@@ -48,10 +48,7 @@ fn size(answer: &Answer) -> u64 {
 
 // Pushes the header and a fragment at that time.
 fn pushed(alloc: Global, origin: &mut OriginDial<MemorySite>, time: u64) -> Result<Answer, Fail> {
-    let body = push(
-        alloc,
-        &[&header(alloc)?, &fragment(alloc, 1, time, 0x41)?],
-    )?;
+    let body = push(alloc, &[&header(alloc)?, &fragment(alloc, 1, time, 0x41)?])?;
     Ok(origin.exchange(&body, 1 << 20))
 }
 

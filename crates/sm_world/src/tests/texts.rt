@@ -32,9 +32,11 @@ const TFXD: &[u8] = b"\x6d\x1d\x9b\x05\x42\xd5\x44\xe6\x80\xe2\x14\x1d\xaf\xf7\x
 
 pub const GET_MANIFEST: &[u8] = b"GET /live.isml/Manifest HTTP/1.1\r\nConnection: close\r\n\r\n";
 
-pub const GET_FIRST: &[u8] = b"GET /live.isml/QualityLevels(350000)/Fragments(video=0) HTTP/1.1\r\nConnection: close\r\n\r\n";
+pub const GET_FIRST: &[u8] =
+    b"GET /live.isml/QualityLevels(350000)/Fragments(video=0) HTTP/1.1\r\nConnection: close\r\n\r\n";
 
-pub const GET_SECOND: &[u8] = b"GET /live.isml/QualityLevels(350000)/Fragments(video=20000000) HTTP/1.1\r\nConnection: close\r\n\r\n";
+pub const GET_SECOND: &[u8] =
+    b"GET /live.isml/QualityLevels(350000)/Fragments(video=20000000) HTTP/1.1\r\nConnection: close\r\n\r\n";
 
 pub fn joined(alloc: Global, parts: &[&[u8]]) -> Result<Vec<u8>, Fail> {
     let mut out = Vec::new(alloc);
@@ -90,9 +92,7 @@ pub fn fragment(alloc: Global, seq: u32, time: u64, byte: u8) -> Result<Vec<u8>,
     let trun = boxed(
         alloc,
         b"trun",
-        &[
-            b"\0\0\x0f\x01\0\0\0\x01\0\0\0\x88\x01\x31\x2d\0\0\0\0\x01\0\0\0\0\0\0\0\0",
-        ],
+        &[b"\0\0\x0f\x01\0\0\0\x01\0\0\0\x88\x01\x31\x2d\0\0\0\0\x01\0\0\0\0\0\0\0\0"],
     )?;
     let tfxd = boxed(
         alloc,
@@ -109,7 +109,9 @@ pub fn fragment(alloc: Global, seq: u32, time: u64, byte: u8) -> Result<Vec<u8>,
 pub fn push(alloc: Global, chunks: &[&[u8]]) -> Result<Vec<u8>, Fail> {
     let mut out = joined(
         alloc,
-        &[b"POST /live.isml/Streams(a) HTTP/1.1\r\nTransfer-Encoding: chunked\r\nConnection: close\r\n\r\n"],
+        &[
+            b"POST /live.isml/Streams(a) HTTP/1.1\r\nTransfer-Encoding: chunked\r\nConnection: close\r\n\r\n",
+        ],
     )?;
     for chunk in chunks {
         let size = chunk.len();

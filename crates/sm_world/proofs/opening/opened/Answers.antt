@@ -1,4 +1,4 @@
-use Rattle.std.proofs.Common.{Option, None, Some, subst}
+use Rattle.std.proofs.Common.{Option, subst}
 use Rattle.sm_serve.specs.declared.state.State.{State}
 use Rattle.sm_world.specs.Worlds.{IsClosed, Stands}
 use Rattle.sm_world.proofs.Standing.{opens}
@@ -9,7 +9,7 @@ returns-in-Ok-clause-opened g c w stands =
     let d = c.args.site.now in
     let e = c.start.new.site in
     let closed : IsClosed g.S.Disk.view g.S.Disk.may_leave w d =
-        subst (λ (o : Option State). Stands g.S.Disk.view g.S.Disk.may_leave g.S.Disk.left_at w o d) c.in-None.is stands
+    subst (λ (o : Option State). Stands g.S.Disk.view g.S.Disk.may_leave g.S.Disk.left_at w o d) c.in-None.is stands
     in
     opens g.S.Disk.view g.S.Disk.may_leave g.S.Disk.left_at c.stores_have_one_reading.ensures.one_list c.bodies_have_one_log.ensures w d e c.in-Ok.state
     (g.met.S.Crashing.tells d).contents (g.met.S.Disk.contents_pass d) c.in-Ok.ensures.store c.in-Ok.ensures.begins

@@ -23,6 +23,6 @@ returns-clause-stands g c =
     let d = c.self.inside.site in
     let e = c.stop_after.new.self in
     subst (λ (v : _). (w : World) → Stands g.S.Disk.view g.S.Disk.may_leave g.S.Disk.left_at w v.1.state v.0
-        → Stands g.S.Disk.view g.S.Disk.may_leave g.S.Disk.left_at w c.self.inside.state e) c.self.view_is
+    → Stands g.S.Disk.view g.S.Disk.may_leave g.S.Disk.left_at w c.self.inside.state e) c.self.view_is
     (λ w stands. stays g.S.Disk.view g.S.Disk.may_leave g.S.Disk.left_at c.fewer_images_stand.ensures w d e
-        (same_view (g.S.Disk.view d) (g.S.Disk.view e) c.stop_after.ensures.view) c.stop_after.ensures.crash c.stop_after.ensures.past c.self.inside.state stands)
+    (same_view (g.S.Disk.view d) (g.S.Disk.view e) c.stop_after.ensures.view) c.stop_after.ensures.crash c.stop_after.ensures.past c.self.inside.state stands)

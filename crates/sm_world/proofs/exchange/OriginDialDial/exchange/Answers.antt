@@ -8,10 +8,10 @@ returns-clause-answers g c =
     let count = c.saturating_add-self-inside.result in
     let came = c.ask-state.result.acted in
     let lost : c.contains-lost.result ≡ is_listed count c.args.self.now.1.lost =
-        c.contains-lost.ensures ∙ ap (λ (v : _). is_listed count v.1.lost) c.self.view_is
+    c.contains-lost.ensures ∙ ap (λ (v : _). is_listed count v.1.lost) c.self.view_is
     in
     let cut : c.contains-cut.result ≡ is_listed count c.args.self.now.1.cut =
-        c.contains-cut.ensures ∙ ap (λ (v : _). is_listed count v.1.cut) c.self.view_is
+    c.contains-cut.ensures ∙ ap (λ (v : _). is_listed count v.1.cut) c.self.view_is
     in (
       came,
       subst (λ (s : _). HasCause g.S.Disk.view s c.ask-state.new.site c.args.request.now came) (ap (λ (v : _). v.0) c.self.view_is) c.ask-state.ensures.cause,
