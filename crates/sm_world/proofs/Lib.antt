@@ -6,3 +6,4 @@ pub mod Pieces
 pub mod Stores
 pub mod Standing
 pub mod Calls
+pub mod Empty
