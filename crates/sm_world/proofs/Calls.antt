@@ -11,7 +11,9 @@ use Rattle.sm_site.specs.Meanings.{View, Item, SameLink}
 use Rattle.sm_site.specs.Meanings.Deal.{Over}
 use Rattle.sm_site.specs.Scripts.{deals_of}
 use Rattle.sm_site.specs.Sites.{SameBut}
-use Rattle.sm_archive.specs.Store.{IsStore}
+use Rattle.sm_seglog.specs.Stores.{HasStore, NotAStore as NoLog}
+use Rattle.sm_archive.specs.Opening.{NotAStore}
+use Rattle.sm_archive.specs.Store.{IsStore, Spell}
 use Rattle.sm_serve.specs.declared.state.State.{State}
 use Rattle.sm_serve.specs.declared.outcome.Served.TheVariants as served
 use Rattle.sm_serve.specs.Connections.{events_in, is_event}
@@ -24,7 +26,8 @@ use Rattle.sm_world.specs.Answering.{HasCause, HasSent, IsServed}
 use Rattle.sm_world.specs.Bringing.{Brings}
 use Rattle.sm_world.specs.Worlds.{World, IsClosed, Grows}
 use Rattle.sm_world.proofs.Sources.{in_none}
-use Rattle.sm_world.proofs.Stores.{one_store}
+use Rattle.sm_world.proofs.Stores.{one_store, store_in}
+use Rattle.sm_world.proofs.NoFault.{stores_open}
 use Rattle.sm_world.proofs.Standing.{some_of, at_some, from_some}
 
 pub if_some : {A : Type 0} (o : Option A) (P Q : A → Type 0) → ((x : A) → P x → Q x) → IfSome o P → IfSome o Q
@@ -141,3 +144,13 @@ module _ {D : Type 0} (view : D → View) (leave : D → Image → Type 0) (left
 pub empty_told : (o : Option (List Item)) → IsSome o → IfSome o (λ items. items ≡ []) → o ≡ Some []
 empty_told None some empty = absurd (cc)
 empty_told (Some items) some empty = ap (λ (l : List Item). Some l) empty
+
+pub never_fails : {D : Type 0} (view : D → View) (leave : D → Image → Type 0) (left_at : D → ℕ → Image → Type 0)
+    (one_list : (xs ys : List (List ℕ)) (image : Image) → HasStore xs image → HasStore ys image → xs ≡ ys)
+    (no_fault : (xs : List (List ℕ)) (at : ℕ) (image : Image) → HasStore xs image → NoLog at image → ⊥)
+    (one_log : (bodies : List (List ℕ)) (a b : List Entry) → Spell bodies a → Spell bodies b → a ≡ b)
+    (w : World) (d : D) (at : ℕ) → IsSome (view d).contents → IfSome (view d).contents (leave d) → IsClosed view leave w d → IfSome (view d).contents (NotAStore at) → ⊥
+never_fails view leave left_at one_list no_fault one_log w d at some passes closed fails =
+    let c = some_of (view d).contents some in
+    stores_open one_list no_fault one_log w.log c.0 at
+    (store_in w.log c.0 (leave d) closed.one (at_some (view d).contents (leave d) c.0 c.1 passes)) (at_some (view d).contents (NotAStore at) c.0 c.1 fails)

@@ -5,5 +5,6 @@ pub mod Runs
 pub mod Pieces
 pub mod Stores
 pub mod Standing
+pub mod NoFault
 pub mod Calls
 pub mod Empty

@@ -9,7 +9,6 @@ use Rattle.sm_site.specs.Meanings.Deal.{Over}
 use Rattle.sm_site.specs.Scripts.{deals_of}
 use Rattle.sm_serve.specs.Connections.{events_in}
 use Rattle.sm_serve.specs.Run.{at}
-use Rattle.sm_archive.specs.Opening.{NotAStore}
 use Rattle.sm_world.specs.Bringing.{Brings}
 use Rattle.sm_world.specs.declared.acted.Acted.{Acted}
 use Rattle.sm_world.specs.declared.acted.Acted.TheVariants as acted
@@ -52,10 +51,9 @@ pub record Handed {D : Type 0} (view : D → View) (old new : D) (request bytes 
   pub served : IfSome (view new).transcript IsServed
   pub sent : IfSome (view new).transcript (λ items. bytes ≡ sent_on conn items)
 
--- Why this came of a request: a disk that failed counted it, and so did a link; what went out was sent in answer. An image that is no store
--- isn't opened.
+-- Why this came of a request: a disk that failed counted it, and so did a link; what went out was sent in answer.
 abbrev pub HasCause : {D : Type 0} (view : D → View) → D → D → List ℕ → Acted → Type 0
-HasCause view old new request acted.Unopened = Rose (view old).disk_faults (view new).disk_faults ⊎ ((at : ℕ) × IfSome (view old).contents (NotAStore at))
+HasCause view old new request acted.Unopened = Rose (view old).disk_faults (view new).disk_faults
 HasCause view old new request acted.Broken = Rose (view old).link_faults (view new).link_faults
 HasCause view old new request acted.NoMemory = Unit {0}
 HasCause view old new request (acted.Sent bytes) = Handed view old new request bytes

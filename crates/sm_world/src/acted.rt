@@ -9,7 +9,7 @@ use sm_site::Piece;
 /// What came of a request at the origin.
 #[derive(Debug, Drop)]
 pub enum Acted {
-    /// The store was not opened: the disk failed, or what stands on it is no store.
+    /// The store was not opened: the disk failed.
     Unopened,
     /// The link failed before all was served.
     Broken,

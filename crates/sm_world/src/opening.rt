@@ -1,7 +1,6 @@
 //! Asking an origin, which is opened first where it isn't.
 ghost use Rattle.std.specs.Prelude.{◌≡◌, ◌≢◌, ◌≤◌, ◌<◌, ◌^◌, ◌++◌, ℕ, List, None, Some, IfOk, IfSome, IsErrOf, IsTrue, OnErr};
 ghost use Rattle.sm_archive.specs.declared.opened.OpenFault.TheVariants as open_fault;
-ghost use Rattle.sm_archive.specs.Opening.{NotAStore};
 ghost use Rattle.sm_serve.specs.declared.state.State.{State as Kept};
 ghost use Rattle.sm_site.specs.declared.event.Event.{Event};
 ghost use Rattle.sm_site.specs.Clauses.{Both, Rose};
@@ -41,7 +40,9 @@ fn opened<S: Crashing>(
     ensures refused { OnErr result ((w : World) → Stands S.Disk.view S.Disk.may_leave S.Disk.left_at w state site.old
         → Stands S.Disk.view S.Disk.may_leave S.Disk.left_at w None site.new) }
     ensures fault { IsErrOf result open_fault.DiskFault → Rose (S.Disk.view site.old).disk_faults (S.Disk.view site.new).disk_faults }
-    ensures not_a_store { (at : ℕ) → IsErrOf result (open_fault.NotAStore at) → IfSome (S.Disk.view site.old).contents (NotAStore at) }
+    // An image that has a log is a store.
+    ensures never { (w : World) → Stands S.Disk.view S.Disk.may_leave S.Disk.left_at w state site.old
+        → (at : ℕ) → IsErrOf result (open_fault.NotAStore at) → ⊥ }
     ensures link { SameLink (S.Disk.view site.old) (S.Disk.view site.new) }
 {
     bodies_have_one_log();
@@ -145,6 +146,7 @@ pub(crate) fn ask<S: Crashing>(
             state: None,
             acted: Acted::Unopened,
         },
+        // this never comes
         Err(OpenFault::NotAStore { .. }) => Asked {
             state: None,
             acted: Acted::Unopened,
