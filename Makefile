@@ -5,13 +5,13 @@ BENCH := crates/fragment_bench/out/fragment_bench
 CONN := crates/conn_bench/out/conn_bench
 CATALOG_BENCH := crates/catalog_bench/out/catalog_bench
 ARCHIVE_BENCH := crates/archive_bench/out/archive_bench
+PREFIX := /usr/local
 
-.PHONY: run test build check bench clean
+.PHONY: run test build install check bench clean
 
-# Picks the first audio fragment out of a sample push.
+# Starts an origin, pushes a sample, shows the manifest and fetches a fragment, and ends.
 run: build
-	./$(PROGRAM) pick 3 0 < examples/push.isml > crates/smooth/out/picked.frag
-	@wc -c crates/smooth/out/picked.frag
+	bash scripts/run_sample $(PROGRAM)
 
 # The merge gate.
 test:
@@ -22,9 +22,22 @@ build:
 	rm -f $(PROGRAM)
 	cd crates/smooth && { rt run < /dev/null > /dev/null; test -x out/smooth; }
 
-# Holds the program against a plain reference in Python, on the samples and on many inputs made of them.
+# The program, its manual page and a unit for systemd.
+install: build
+	install -D -m 755 $(PROGRAM) $(DESTDIR)$(PREFIX)/bin/smooth
+	install -D -m 644 docs/smooth.1 $(DESTDIR)$(PREFIX)/share/man/man1/smooth.1
+	install -d $(DESTDIR)$(PREFIX)/lib/systemd/system
+	sed 's|@PREFIX@|$(PREFIX)|' examples/smooth.service > $(DESTDIR)$(PREFIX)/lib/systemd/system/smooth.service
+
+# Holds the program against a plain reference in Python, on the samples and on many inputs made of them, and tries it with ffmpeg,
+# curl and nginx, each where it is installed. `scripts/check_kill 100` is the long form of the last one.
 check: build
 	bash scripts/check_pick $(PROGRAM)
+	SMOOTH=$(PROGRAM) scripts/check_ffmpeg
+	SMOOTH=$(PROGRAM) scripts/check_two_encoders
+	SMOOTH=$(PROGRAM) scripts/check_return
+	SMOOTH=$(PROGRAM) scripts/check_proxy
+	SMOOTH=$(PROGRAM) scripts/check_kill 10
 
 bench: build
 	cd crates/fragment_bench && rt run -- copy 1 1 1 > /dev/null
@@ -36,6 +49,7 @@ bench: build
 	bash scripts/bench_catalog $(CATALOG_BENCH)
 	cd crates/archive_bench && rt run -- copy 1 1 > /dev/null
 	bash scripts/bench_archive $(ARCHIVE_BENCH)
+	SMOOTH=$(PROGRAM) scripts/bench_serve
 
 clean:
 	rm -rf crates/*/out

@@ -2,3 +2,5 @@ pub mod Found
 pub mod Sends
 pub mod AtRest
 pub mod Telling
+pub mod Late
+pub mod Waiting

@@ -1,4 +1,6 @@
 // Why a folder or a port can't be had.
+use sm_model::NoMemory;
+use std::alloc::AllocError;
 use std::io::{Error as IoError, ErrorKind};
 use thiserror::Error;
 
@@ -20,5 +22,17 @@ impl OpenFault {
             ErrorKind::OutOfMemory => OpenFault::NoMemory,
             _ => OpenFault::Failed,
         }
+    }
+}
+
+impl From<AllocError> for OpenFault {
+    fn from(_: AllocError) -> OpenFault {
+        OpenFault::NoMemory
+    }
+}
+
+impl From<NoMemory> for OpenFault {
+    fn from(_: NoMemory) -> OpenFault {
+        OpenFault::NoMemory
     }
 }

@@ -24,7 +24,8 @@ struct Writing {
 
 /// An open folder. File k is named by k in eight digits, and `.seg`.
 ///
-/// All files but the one that was written last are at rest: before another one is written, that one is synced. Once a sync has
+/// All files but the one that was written last are at rest: before another one is written, that one is synced. A sync of a file
+/// leaves its times out (`fdatasync`), so that a byte written over another costs no entry of the system's journal. Once a sync has
 /// failed nothing is written or synced any more, since the system may have dropped what it could not bring to rest.
 #[derive(Drop)]
 pub struct Folder {
@@ -73,16 +74,7 @@ impl Folder {
         }
     }
 
-    /// Drops the system's copy of a file that was synced, so that what is read of it from now on is what the disk has. A sync
-    // that failed in an earlier process may have left the copy with bytes that never reached it.
-    fn forget(handle: &File) -> io::Result<()> {
-        match libc::posix_fadvise(handle.as_raw_fd(), 0, 0, libc::POSIX_FADV_DONTNEED) {
-            0 => Ok(()),
-            error => Err(io::Error::from_raw_os_error(error)),
-        }
-    }
-
-    // Fills the buffer from this place of a file on, with 0 past its end.
+    /// Fills the buffer from this place of a file on, with 0 past its end.
     pub fn read_at(
         &self,
         files: &impl Files<File = File>,
@@ -158,7 +150,7 @@ impl Folder {
                 return Ok(writing);
             }
             if !writing.synced {
-                self.note(writing.handle.sync_all())?;
+                self.note(writing.handle.sync_data())?;
             }
         }
         let name = self.name(alloc, file)?;
@@ -225,7 +217,7 @@ impl Folder {
     {
         match self.writing.take() {
             Some(mut writing) if writing.file == file => {
-                self.note(writing.handle.sync_all())?;
+                self.note(writing.handle.sync_data())?;
                 writing.synced = true;
                 self.writing = Some(writing);
                 Ok(())
@@ -234,7 +226,7 @@ impl Folder {
                 self.writing = writing;
                 match self.look(files, alloc, file)? {
                     Some(handle) => {
-                        self.note(handle.sync_all())?;
+                        self.note(handle.sync_data())?;
                         forget(&handle)
                     }
                     None => Ok(()),

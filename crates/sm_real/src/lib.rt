@@ -1,19 +1,27 @@
-//! The ends of a site on a machine: a disk in a folder of files, a link over sockets, and both on one clock. None of them tells
-//! contents, calls or a transcript, since no contract knows what the system does with bytes; each raises its count where a call fails.
+//! The ends on a machine: a disk in a folder of files and a link over sockets, with both a site on one clock; a dial over sockets,
+//! and tracks in files. None of them tells contents, calls, a transcript or exchanges, since no contract knows what the system does
+//! with bytes; each raises its count where a call fails.
 #![tactic(auto)]
 
 mod fault;
 mod file_disk;
+mod file_tracks;
 mod folder;
+mod limits;
 mod outgoing;
 mod peer;
+mod peers;
 mod real_site;
 mod sockets;
+mod tcp_dial;
 mod tcp_link;
 #[cfg(test)]
 mod tests;
 
 pub use fault::OpenFault;
 pub use file_disk::FileDisk;
+pub use file_tracks::FileTracks;
+pub use limits::Patience;
 pub use real_site::RealSite;
+pub use tcp_dial::TcpDial;
 pub use tcp_link::TcpLink;

@@ -1,8 +1,10 @@
 // One connection: what it has to read, and what it has not yet taken.
-ghost use Rattle.std.specs.Prelude.{◌≡◌, false, ◌≤◌, ◌+◌, ◌++◌, [], length, IfOk, OnOk};
+ghost use Rattle.std.specs.Prelude.{◌≡◌, ◌≢◌, ◌↔◌, true, false, ◌≤◌, ◌+◌, ◌++◌, [], length, IfOk, OnOk};
 ghost use Rattle.sm_real.specs.Found.{FitsIn};
+ghost use Rattle.sm_real.specs.Late.{IsLate};
 ghost use Rattle.sm_real.specs.Sends.{Sends};
 
+use crate::Patience;
 use crate::outgoing::Outgoing;
 use mio::event::Event as Readiness;
 use mio::net::TcpStream;
@@ -10,16 +12,10 @@ use sm_site::Failed;
 use std::alloc::{AllocError, Global};
 use std::io::{ErrorKind, Read, Write};
 use std::net::Shutdown;
-use std::time::{Duration, Instant};
+use std::time::Instant;
 
 /// Behind bytes that wait others are kept up to this many in all. Where nothing waits a send of any length is kept.
 const QUEUE: usize = 33_554_432;
-
-/// How long a peer may take nothing of what waits for it.
-const STUCK: u64 = 30;
-
-/// How long what a peer still sends after its close is read and dropped.
-const LINGER: u64 = 2;
 
 #[derive(Clone, Copy, Debug, PartialEq, Eq)]
 enum Phase {
@@ -64,7 +60,7 @@ pub struct Peer {
     queue: Outgoing,
     // How many bytes the system has taken.
     taken: u64,
-    // Since when nothing has moved.
+    // Since when nothing was read from it, and the system has taken nothing for it.
     since: Instant,
 }
 
@@ -99,28 +95,44 @@ impl Peer {
 
     fn is_queued(&self) -> bool
         ensures nothing { result ≡ false → self.now.queue ≡ [] }
+        ensures something { result ≡ true → self.now.queue ≢ [] }
     {
         self.queue.len() > 0
     }
 
-    fn is_late(&self, now: Instant, seconds: u64) -> bool {
-        now.saturating_duration_since(self.since).as_secs() >= seconds
+    /// How many bytes wait for it.
+    pub fn waiting(&self) -> usize
+        ensures { result ≡ length self.now.queue }
+    {
+        self.queue.len()
     }
 
-    /// Whether there is something to do for this peer.
-    pub fn is_due(&self, now: Instant) -> bool {
+    // Whether nothing has moved for so many milliseconds.
+    fn is_late(&self, now: Instant, limit: u64) -> bool
+        ensures { result ≡ true ↔ IsLate limit now self.now }
+    {
+        now.saturating_duration_since(self.since).as_millis() >= u128::from(limit)
+    }
+
+    /// Whether there is something to do for this peer. There is where its time is up.
+    pub fn is_due(&self, now: Instant, patience: &Patience) -> bool
+        ensures stuck { self.now.queue ≢ [] → IsLate patience.now.stuck now self.now → result ≡ true }
+        ensures silent { self.now.queue ≡ [] → self.now.phase ≡ Phase.Open → IsLate patience.now.silent now self.now → result ≡ true }
+    {
         if self.is_queued() {
-            return self.writable || self.is_late(now, STUCK);
+            return self.writable || self.is_late(now, patience.stuck);
         }
         match self.phase {
-            Phase::Open => self.readable,
-            Phase::Lingering => self.readable || self.is_late(now, LINGER),
+            Phase::Open => self.readable || self.is_late(now, patience.silent),
+            Phase::Lingering => self.readable || self.is_late(now, patience.linger),
             Phase::Lost | Phase::Closing | Phase::Ended | Phase::Broken => true,
         }
     }
 
-    // Nothing more goes in or out.
-    fn lose(&mut self, alloc: Global) {
+    /// Nothing more goes in or out, and the loop is to be told, unless it closed this peer.
+    pub fn lose(&mut self, alloc: Global)
+        ensures nothing { self.new.queue ≡ [] }
+    {
         self.phase = match self.phase {
             Phase::Open | Phase::Lost => Phase::Lost,
             _ => Phase::Broken,
@@ -146,6 +158,7 @@ impl Peer {
     // At most one read.
     fn receive(&mut self, buffer: &mut [u8]) -> Found
         ensures fits { FitsIn (length buffer.new) result }
+        ensures queue { self.new.queue ≡ self.old.queue }
     {
         let room = buffer.len();
         match (&self.stream).read(buffer) {
@@ -167,21 +180,56 @@ impl Peer {
         }
     }
 
-    /// One step of this peer: at most one write and one read.
-    pub fn visit(&mut self, alloc: Global, buffer: &mut [u8], now: Instant) -> Found
+    /// One step of this peer: at most one write and one read. It is given up where it has taken nothing of what waits for too
+    /// long, or where nothing waits and it has sent nothing for too long.
+    pub fn visit(
+        &mut self,
+        alloc: Global,
+        buffer: &mut [u8],
+        now: Instant,
+        patience: &Patience,
+    ) -> Found
         ensures fits { FitsIn (length buffer.new) result }
+        ensures stuck { self.old.writable ≡ false → IsLate patience.now.stuck now self.old → self.new.queue ≡ [] }
+        ensures silent { self.old.queue ≡ [] → self.old.phase ≡ Phase.Open → self.old.readable ≡ false
+            → IsLate patience.now.silent now self.old → result ≡ Found.Left }
     {
         if self.is_queued() {
-            let failed = self.writable && self.flush(alloc, now).is_err();
-            if failed || self.is_queued() && self.is_late(now, STUCK) {
-                self.lose(alloc);
-            }
-            if self.is_queued() {
-                return Found::Nothing;
-            }
+            self.go_on(alloc, buffer, now, patience)
+        } else {
+            self.step(buffer, now, patience)
         }
+    }
+
+    // A step where something waits.
+    fn go_on(
+        &mut self,
+        alloc: Global,
+        buffer: &mut [u8],
+        now: Instant,
+        patience: &Patience,
+    ) -> Found
+        ensures fits { FitsIn (length buffer.new) result }
+        ensures stuck { self.old.writable ≡ false → IsLate patience.now.stuck now self.old → self.new.queue ≡ [] }
+    {
+        let failed = self.writable && self.flush(alloc, now).is_err();
+        if failed || self.is_queued() && self.is_late(now, patience.stuck) {
+            self.lose(alloc);
+        }
+        if self.is_queued() {
+            return Found::Nothing;
+        }
+        self.step(buffer, now, patience)
+    }
+
+    // A step where nothing waits.
+    fn step(&mut self, buffer: &mut [u8], now: Instant, patience: &Patience) -> Found
+        ensures fits { FitsIn (length buffer.new) result }
+        ensures queue { self.new.queue ≡ self.old.queue }
+        ensures silent { self.old.phase ≡ Phase.Open → self.old.readable ≡ false → IsLate patience.now.silent now self.old → result ≡ Found.Left }
+    {
         match self.phase {
-            Phase::Open => self.listen(buffer),
+            Phase::Open => self.listen(buffer, now, patience.silent),
             Phase::Lost => {
                 self.phase = Phase::Broken;
                 Found::Left
@@ -190,25 +238,34 @@ impl Peer {
                 self.shut(now);
                 Found::Nothing
             }
-            Phase::Lingering => self.drain(buffer, now),
+            Phase::Lingering => self.drain(buffer, now, patience.linger),
             Phase::Ended | Phase::Broken => Found::Gone,
         }
     }
 
-    fn listen(&mut self, buffer: &mut [u8]) -> Found
+    fn listen(&mut self, buffer: &mut [u8], now: Instant, limit: u64) -> Found
         ensures fits { FitsIn (length buffer.new) result }
+        ensures silent { self.old.readable ≡ false → IsLate limit now self.old → result ≡ Found.Left }
+        ensures queue { self.new.queue ≡ self.old.queue }
     {
-        if !self.readable {
-            return Found::Nothing;
-        }
-        let found = self.receive(buffer);
-        if found == Found::Left {
-            self.phase = Phase::Ended;
+        let found = if self.readable {
+            self.receive(buffer)
+        } else if self.is_late(now, limit) {
+            Found::Left
+        } else {
+            Found::Nothing
+        };
+        match found {
+            Found::Bytes(_) => self.since = now,
+            Found::Left => self.phase = Phase::Ended,
+            Found::Nothing | Found::Gone => {}
         }
         found
     }
 
-    fn shut(&mut self, now: Instant) {
+    fn shut(&mut self, now: Instant)
+        ensures queue { self.new.queue ≡ self.old.queue }
+    {
         self.since = now;
         self.phase = match self.stream.shutdown(Shutdown::Write) {
             Ok(()) => Phase::Lingering,
@@ -217,10 +274,11 @@ impl Peer {
     }
 
     // What still comes is dropped, so that the peer reads what went out before the close.
-    fn drain(&mut self, buffer: &mut [u8], now: Instant) -> Found
+    fn drain(&mut self, buffer: &mut [u8], now: Instant, limit: u64) -> Found
         ensures fits { FitsIn (length buffer.new) result }
+        ensures queue { self.new.queue ≡ self.old.queue }
     {
-        if self.is_late(now, LINGER) {
+        if self.is_late(now, limit) {
             return Found::Gone;
         }
         match self.receive(buffer) {

@@ -1,8 +1,11 @@
 // Sockets, asked in turn.
 ghost use Rattle.std.specs.Prelude.{◌≡◌, ◌≤◌, ◌<◌, length, IfOk};
 ghost use Rattle.sm_real.specs.Found.{IsPiece};
+ghost use Rattle.sm_real.specs.Waiting.{wait_in_all};
 
+use crate::Patience;
 use crate::peer::{Found, Peer};
+use crate::peers::Peers;
 use mio::net::TcpListener;
 use mio::{Events, Interest, Poll, Token};
 use sm_site::{Failed, Piece};
@@ -14,14 +17,14 @@ use std::time::{Clock, Duration, Instant};
 /// The most bytes of a piece.
 const PIECE: usize = 65_536;
 
-/// The most sockets at once. Beyond that, new ones wait until some are gone.
-const PEERS: usize = 256;
-
 /// The most reports of one wait.
 const REPORTS: usize = 256;
 
 /// The rest after a round without an event.
 const REST: u64 = 1;
+
+/// What is taken at the start and given back with the first round.
+const SPARE: usize = 33_000_000;
 
 const LISTENER: Token = Token(0);
 
@@ -44,14 +47,18 @@ pub struct Sockets {
     listener: TcpListener,
     // A connection may wait to be taken.
     waiting: bool,
-    // Their numbers rise.
-    peers: Vec<Peer>,
+    // Beyond a number of them, new ones wait until some are gone.
+    peers: Peers,
+    patience: Patience,
     // The place of the next one to ask.
     turn: usize,
     // This round has given an event.
     busy: bool,
     now: Instant,
     buffer: Box<[u8; PIECE]>,
+    // The C library asks the system anew for each large piece of memory, and gives each back at once, until one as large as this
+    // has come back; then it keeps them. Without that a long reply spends most of its time in page faults.
+    spare: Vec<u8>,
     // Bytes of the buffer that are still to be given, and whose they are.
     held: usize,
     holder: u64,
@@ -62,6 +69,7 @@ impl Sockets {
         rt: &(impl Net + Clock),
         alloc: Global,
         address: SocketAddr,
+        patience: Patience,
     ) -> io::Result<Sockets> {
         let poll = Poll::new(rt)?;
         let mut listener = TcpListener::bind(rt, address)?;
@@ -73,11 +81,13 @@ impl Sockets {
             events: Events::with_capacity(alloc, REPORTS)?,
             listener,
             waiting: true,
-            peers: Vec::with_capacity(alloc, PEERS)?,
+            peers: Peers::new(alloc)?,
+            patience,
             turn: 0,
             busy: false,
             now,
             buffer: Box::new(alloc, [0; PIECE])?,
+            spare: Vec::with_capacity(alloc, SPARE)?,
             held: 0,
             holder: 0,
             alloc,
@@ -86,13 +96,6 @@ impl Sockets {
 
     pub fn local_addr(&self) -> io::Result<SocketAddr> {
         self.listener.local_addr()
-    }
-
-    fn find(&mut self, number: u64) -> Option<&mut Peer> {
-        match self.peers.binary_search_by_key(&number, |peer| peer.number) {
-            Ok(place) => self.peers.get_mut(place),
-            Err(_) => None,
-        }
     }
 
     /// Goes on in rounds up to the next event. Where no round has one, or the system fails, this comes to nothing.
@@ -116,6 +119,9 @@ impl Sockets {
         let rest = if self.busy { 0 } else { REST };
         self.busy = false;
         self.turn = 0;
+        if self.spare.capacity() > 0 {
+            self.spare = Vec::new(self.alloc);
+        }
         self.poll
             .poll(&mut self.events, Some(Duration::from_millis(rest)))?;
         self.now = Instant::now(rt)?;
@@ -125,11 +131,7 @@ impl Sockets {
                 self.waiting = true;
                 continue;
             }
-            let number = token.0 as u64;
-            let found = self.peers.binary_search_by_key(&number, |peer| peer.number);
-            if let Ok(place) = found
-                && let Some(peer) = self.peers.get_mut(place)
-            {
+            if let Some(peer) = self.peers.find(token.0 as u64) {
                 peer.note(readiness);
             }
         }
@@ -145,15 +147,16 @@ impl Sockets {
         }
         for _ in 0..self.peers.len() {
             let place = self.turn;
-            let Some(peer) = self.peers.get_mut(place) else {
+            let Some(peer) = self.peers.at(place) else {
                 break;
             };
             self.turn = place + 1;
-            if !peer.is_due(self.now) {
+            if !peer.is_due(self.now, &self.patience) {
                 continue;
             }
             let holder = peer.number;
-            match peer.visit(self.alloc, self.buffer.as_mut_slice(), self.now) {
+            let buffer = self.buffer.as_mut_slice();
+            match peer.visit(self.alloc, buffer, self.now, &self.patience) {
                 Found::Nothing => {}
                 Found::Bytes(n) => {
                     self.busy = true;
@@ -167,9 +170,7 @@ impl Sockets {
                 }
                 Found::Gone => {
                     self.turn = place;
-                    if place < self.peers.len() {
-                        let _gone = self.peers.remove(place);
-                    }
+                    self.peers.remove(place);
                 }
             }
         }
@@ -197,7 +198,7 @@ impl Sockets {
     fn accept(&mut self, number: u64) -> Asked
         ensures piece { IsPiece result }
     {
-        if !self.waiting || self.peers.len() >= PEERS {
+        if !self.waiting || self.peers.is_full() {
             return Asked::Nothing;
         }
         let mut stream = match self.listener.accept() {
@@ -221,23 +222,28 @@ impl Sockets {
             return Asked::Nothing;
         }
         let peer = Peer::new(self.alloc, number, stream, self.now);
-        if self.peers.push(peer).is_err() {
+        if self.peers.add(peer).is_err() {
             return Asked::NoMemory;
         }
         self.busy = true;
         Asked::Opened
     }
 
-    pub fn send(&mut self, number: u64, bytes: &[u8]) -> Result<(), Failed> {
+    /// Sends to one, and gives up those for which most waits where too much does for all together.
+    pub fn send(&mut self, number: u64, bytes: &[u8]) -> Result<(), Failed>
+        ensures bounded { wait_in_all self.new.peers.list.items ≤ self.new.patience.waiting }
+    {
         let (alloc, now) = (self.alloc, self.now);
-        match self.find(number) {
+        let sent = match self.peers.find(number) {
             Some(peer) => peer.send(alloc, bytes, now),
             None => Err(Failed),
-        }
+        };
+        self.peers.relieve(alloc, self.patience.waiting);
+        sent
     }
 
     pub fn close(&mut self, number: u64) {
-        if let Some(peer) = self.find(number) {
+        if let Some(peer) = self.peers.find(number) {
             peer.close();
         }
     }

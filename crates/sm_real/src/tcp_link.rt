@@ -3,8 +3,8 @@ ghost use Rattle.std.specs.Prelude.{◌≡◌, ◌≢◌, ◌≤◌, IsErrOf, is
 ghost use Rattle.sm_site.specs.Clauses.{Rose};
 ghost use Rattle.sm_real.specs.Telling.{counts_alone};
 
-use crate::OpenFault;
 use crate::sockets::{Asked, Sockets};
+use crate::{OpenFault, Patience};
 use sm_site::{Event, Failed, Link, LinkError};
 use std::alloc::Global;
 use std::io::{self, ErrorKind};
@@ -14,11 +14,14 @@ use std::time::Clock;
 /// A link over sockets, which are asked in turn. It tells nothing of what goes over them. Until it listens each call fails.
 ///
 /// `send` never waits: what a peer does not take at once is kept for it, one send whole, and further ones behind it up to
-/// 33,554,432 bytes in all. While something is kept the peer is not read. One that takes nothing for 30 seconds is given up.
+/// 33,554,432 bytes in all. While something is kept the peer is not read. A peer is given up, and the loop hears that it has closed,
+/// where it takes nothing for 30 seconds, where nothing waits for it and it sends nothing for two minutes, and, the one for which
+/// most waits first, where more than 536,870,912 bytes wait for all together.
 #[derive(Drop)]
 pub struct TcpLink<R: Net + Clock + Drop> {
     rt: R,
     alloc: Global,
+    patience: Patience,
     sockets: Option<Sockets>,
     // Above all numbers that were given.
     next_number: u64,
@@ -29,9 +32,15 @@ pub struct TcpLink<R: Net + Clock + Drop> {
 impl<R: Net + Clock + Drop> TcpLink<R> {
     /// Listening nowhere.
     pub fn new(rt: R, alloc: Global) -> TcpLink<R> {
+        TcpLink::with(rt, alloc, Patience::USUAL)
+    }
+
+    /// Listening nowhere, with other limits than the usual ones.
+    pub fn with(rt: R, alloc: Global, patience: Patience) -> TcpLink<R> {
         TcpLink {
             rt,
             alloc,
+            patience,
             sockets: None,
             next_number: 1,
             faults: 0,
@@ -47,7 +56,8 @@ impl<R: Net + Clock + Drop> TcpLink<R> {
         ensures numbers { self.new.next_number ≡ self.old.next_number }
     {
         self.sockets = None;
-        self.sockets = Some(Sockets::open(&self.rt, self.alloc, address)?);
+        let opened = Sockets::open(&self.rt, self.alloc, address, self.patience)?;
+        self.sockets = Some(opened);
         Ok(())
     }
 

@@ -1,10 +1,14 @@
 // A folder in the system's own for such, and peers in the same thread.
 use super::*;
+use sm_ends::Tracks;
+use sm_fetch::{Answer, Dial, DialError};
 use sm_site::{Disk, Event, Failed, Link, Site, SiteError};
+use std::alloc::{AllocError, Global};
 use std::io::{Read, Write};
 use std::net::{Ipv4Addr, Shutdown, SocketAddr, TcpListener, TcpStream};
 use std::test::Fail;
-use std::{fs, process};
+use std::time::Duration;
+use std::{fs, process, thread};
 
 // A path that no other run of the tests has.
 fn store(rt: &HostRuntime, name: &str) -> Result<String, Fail> {
@@ -14,6 +18,20 @@ fn store(rt: &HostRuntime, name: &str) -> Result<String, Fail> {
 
 fn any_port() -> SocketAddr {
     SocketAddr::from((Ipv4Addr::LOCALHOST, 0))
+}
+
+// Limits that a test can wait for.
+fn short() -> Patience {
+    Patience {
+        stuck: 200,
+        silent: 200,
+        linger: 200,
+        waiting: 33_554_432,
+    }
+}
+
+fn long_reply(alloc: Global, length: usize) -> Result<Vec<u8>, AllocError> {
+    vec![in alloc; 7u8; length]
 }
 
 fn opens(link: &mut impl Link, number: u64) -> bool {
@@ -127,5 +145,126 @@ fn a_closed_peer_reads_what_was_sent(rt: HostRuntime) -> Result<(), Fail> {
     let mut taken = Vec::new(rt.alloc());
     first.read_to_end(&mut taken)?;
     assert_eq!(rt; taken.as_slice(), b"answer".as_slice());
+    Ok(())
+}
+
+#[test]
+fn a_silent_peer_is_given_up(rt: HostRuntime) -> Result<(), Fail> {
+    let mut link = TcpLink::with(&rt, rt.alloc(), short());
+    link.listen_at(any_port())?;
+    let mut silent = TcpStream::connect(&rt, link.local_addr()?)?;
+    assert!(rt; opens(&mut link, 1));
+    let mut sends = TcpStream::connect(&rt, link.local_addr()?)?;
+    assert!(rt; opens(&mut link, 2));
+    let mut given_up = false;
+    for _ in 0..500 {
+        sends.write_all(b"x")?;
+        match link.next() {
+            Ok(Event::Piece(2, _)) => {}
+            Ok(Event::Closed(1)) => {
+                given_up = true;
+                break;
+            }
+            _ => break,
+        }
+        thread::sleep(&rt, Duration::from_millis(10));
+    }
+    assert!(rt; given_up);
+    assert!(rt; brings(&mut link, 2, b"x"));
+    sends.write_all(b"on")?;
+    assert!(rt; brings(&mut link, 2, b"on"));
+    let mut taken = Vec::new(rt.alloc());
+    assert_eq!(rt; silent.read_to_end(&mut taken)?, 0);
+    Ok(())
+}
+
+#[test]
+fn a_stuck_peer_is_given_up(rt: HostRuntime) -> Result<(), Fail> {
+    let mut link = TcpLink::with(&rt, rt.alloc(), short());
+    link.listen_at(any_port())?;
+    let _stuck = TcpStream::connect(&rt, link.local_addr()?)?;
+    assert!(rt; opens(&mut link, 1));
+    let reply = long_reply(rt.alloc(), 30_000_000)?;
+    assert_eq!(rt; link.send(1, &reply), Ok(()));
+    assert!(rt; closes(&mut link, 1));
+    assert_eq!(rt; link.send(1, b"more"), Err(Failed));
+    Ok(())
+}
+
+#[test]
+fn where_too_much_waits_the_greatest_is_given_up(rt: HostRuntime) -> Result<(), Fail> {
+    let mut patience = Patience::USUAL;
+    patience.waiting = 33_554_432;
+    let mut link = TcpLink::with(&rt, rt.alloc(), patience);
+    link.listen_at(any_port())?;
+    let _first = TcpStream::connect(&rt, link.local_addr()?)?;
+    assert!(rt; opens(&mut link, 1));
+    let _second = TcpStream::connect(&rt, link.local_addr()?)?;
+    assert!(rt; opens(&mut link, 2));
+    let (long, short) = (
+        long_reply(rt.alloc(), 33_000_000)?,
+        long_reply(rt.alloc(), 22_000_000)?,
+    );
+    assert_eq!(rt; link.send(1, &long), Ok(()));
+    assert_eq!(rt; link.send(2, &short), Ok(()));
+    assert_eq!(rt; link.send(1, b"more"), Err(Failed));
+    assert_eq!(rt; link.send(2, b"more"), Ok(()));
+    Ok(())
+}
+
+// Answers one request with these bytes, and closes.
+fn answer_once(listener: &TcpListener, bytes: &[u8]) -> bool {
+    let mut taken = [0u8; 64];
+    match listener.accept() {
+        Ok((mut peer, _)) => peer.read(&mut taken).is_ok() && peer.write_all(bytes).is_ok(),
+        Err(_) => false,
+    }
+}
+
+#[test]
+fn an_exchange_takes_what_comes(rt: HostRuntime) -> Result<(), Fail> {
+    let mut dial = TcpDial::new(&rt, rt.alloc());
+    assert!(rt; matches!(dial.exchange(b"ask", 9), Answer::Lost));
+    assert_eq!(rt;
+        dial.select("no.such.host.invalid", 80),
+        Err(DialError::Failed)
+    );
+    let listener = TcpListener::bind(&rt, any_port())?;
+    assert_eq!(rt;
+        dial.select("127.0.0.1", listener.local_addr()?.port()),
+        Ok(())
+    );
+    // (what comes, how much is wanted, what is taken)
+    let rows = [
+        (b"HTTP/1.1 200", 99, b"HTTP/1.1 200"),
+        (b"HTTP/1.1 200", 12, b"HTTP/1.1 200"),
+    ];
+    for (comes, limit, taken) in rows {
+        let (answer, answered) = thread::join(
+            &rt,
+            || dial.exchange(b"ask", limit),
+            || answer_once(&listener, comes),
+        );
+        assert!(rt; answered);
+        match answer {
+            Answer::Bytes(bytes) => assert_eq!(rt; bytes.as_slice(), taken.as_slice()),
+            _ => assert!(rt; false),
+        }
+    }
+    drop(listener);
+    assert!(rt; matches!(dial.exchange(b"ask", 9), Answer::Lost));
+    Ok(())
+}
+
+#[test]
+fn tracks_are_appended_to(rt: HostRuntime) -> Result<(), Fail> {
+    let number = process::id(rt.process());
+    let name = format!(in rt.alloc(); "track-{number}.frag")?;
+    let mut tracks = FileTracks::new(&rt, rt.alloc());
+    assert_eq!(rt; tracks.append(number, b"one"), Ok(()));
+    assert_eq!(rt; tracks.append(number, b" two"), Ok(()));
+    let held = fs::read(&rt, &name)?;
+    fs::remove_file(&rt, &name)?;
+    assert_eq!(rt; held.as_slice(), b"one two".as_slice());
     Ok(())
 }

@@ -4,8 +4,8 @@ use Rattle.sm_model.specs.declared.cause.Refusal.{Refusal}
 use Rattle.sm_model.specs.declared.fragment.Fragment.{Fragment}
 use Rattle.sm_model.specs.FragText.{frag_text}
 use Rattle.sm_model.specs.Body.{body_end}
-use Rattle.smooth.specs.declared.answer.Answer.{Answer}
-use Rattle.smooth.specs.declared.answer.Answer.TheVariants.{Found, Words, Unread, TooLong, Refused, NotKept, Starved}
+use Rattle.smooth.specs.declared.answer.Picked.{Picked}
+use Rattle.smooth.specs.declared.answer.Picked.TheVariants.{Found, Refused, NotKept}
 use Rattle.smooth.specs.Answers.{IsPicked, IsAbsent, IsRefused, IsDue, refusal_line}
 
 -- an input isn't whole and refused at once
@@ -36,29 +36,13 @@ same_line : (input l m : List ℕ) → IsRefused input l → IsRefused input m �
 same_line input l m p q =
     p.line_is ∙ ap refusal_line (some_is p.refusal q.refusal (sym p.refused ∙ q.refused)) ∙ sym q.line_is
 
-pub one_answer : (track time : ℕ) (input : List ℕ) (a b : Answer) → IsDue track time input a → IsDue track time input b → a ≡ b
+pub one_answer : (track time : ℕ) (input : List ℕ) (a b : Picked) → IsDue track time input a → IsDue track time input b → a ≡ b
 one_answer track time input (Found s) (Found t) p q = ap (λ (x : List ℕ). Found x) (same_text input track time s t p q)
 one_answer track time input (Found s) (Refused l) p q = absurd (not_both input q.refusal p.whole q.refused)
 one_answer track time input (Found s) NotKept p q = absurd (not_absent input track time s p q)
-one_answer track time input (Found s) Words p q = absurd q
-one_answer track time input (Found s) Unread p q = absurd q
-one_answer track time input (Found s) TooLong p q = absurd q
-one_answer track time input (Found s) Starved p q = absurd q
 one_answer track time input (Refused l) (Found t) p q = absurd (not_both input p.refusal q.whole p.refused)
 one_answer track time input (Refused l) (Refused m) p q = ap (λ (x : List ℕ). Refused x) (same_line input l m p q)
 one_answer track time input (Refused l) NotKept p q = absurd (not_both input p.refusal q.whole p.refused)
-one_answer track time input (Refused l) Words p q = absurd q
-one_answer track time input (Refused l) Unread p q = absurd q
-one_answer track time input (Refused l) TooLong p q = absurd q
-one_answer track time input (Refused l) Starved p q = absurd q
 one_answer track time input NotKept (Found t) p q = absurd (not_absent input track time t q p)
 one_answer track time input NotKept (Refused m) p q = absurd (not_both input q.refusal p.whole q.refused)
 one_answer track time input NotKept NotKept p q = refl
-one_answer track time input NotKept Words p q = absurd q
-one_answer track time input NotKept Unread p q = absurd q
-one_answer track time input NotKept TooLong p q = absurd q
-one_answer track time input NotKept Starved p q = absurd q
-one_answer track time input Words b p q = absurd p
-one_answer track time input Unread b p q = absurd p
-one_answer track time input TooLong b p q = absurd p
-one_answer track time input Starved b p q = absurd p

@@ -1,4 +1,12 @@
+pub mod Options
+pub mod Places
 pub mod Words
+pub mod Line
+pub mod Clapped
+pub mod Matched
+pub mod Orders
 pub mod Answers
 pub mod Search
+pub mod Stores
+pub mod Origins
 pub mod Ran

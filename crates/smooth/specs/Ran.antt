@@ -1,56 +1,76 @@
 -- What a run of a command did.
 use Rattle.std.specs.Prelude.{◌≡◌, ◌<◌, ◌+◌, ◌⊎◌, ℕ, List, length, Option, Some, None, IfSome}
-use Rattle.std.specs.Io.KnownBytes.{Appends, Keeps}
+use Rattle.std.specs.Io.KnownBytes.{Appends}
 use Rattle.sm_ends.specs.Faults.{Rose}
 use Rattle.sm_ends.specs.Moves.{TakesCount, TakesAtMost, AppendsFront}
+use Rattle.sm_site.specs.Image.{Image}
+use Rattle.sm_site.specs.Meanings.{View}
+use Rattle.smooth.specs.declared.answer.Picked.TheVariants as picked
 use Rattle.smooth.specs.declared.answer.Answer.{Answer}
-use Rattle.smooth.specs.declared.answer.Answer.TheVariants.{Found, Words, Unread, TooLong, Refused, NotKept, Starved}
-use Rattle.smooth.specs.Words.{asked}
+use Rattle.smooth.specs.declared.answer.Answer.TheVariants.{Found, Words, Unread, TooLong, LongLadder, Refused, NotKept, Clash, Undone}
+use Rattle.smooth.specs.declared.answer.Answer.TheVariants.{Damaged, DiskFault, LinkFault, Starved, Full, NotAStore}
+use Rattle.smooth.specs.Words.{Wanted, Pick, Serve, Push, Listing, asked}
 use Rattle.smooth.specs.Answers.{IsAnswered, limit, status_of, unwritten_status_of, line_of}
+use Rattle.sm_visit.specs.Pushing.{Line}
+use Rattle.smooth.specs.Stores.{End, ListMeans, ServeMeans}
+use Rattle.smooth.specs.Origins.{PushMeans}
 
--- an end before a call and after it: what it tells, and its count of faults
-pub record End : Type 0 where
-  pub told : Option (List ℕ)
-  pub faults : ℕ
-
--- the words ask for a fragment, the input was read to its end, and the answer is due to it
-pub record IsRead (words : List (List ℕ)) (old new : End) (answer : Answer) : Type 0 where
-  pub track : ℕ
-  pub time : ℕ
-  pub asked_is : asked words ≡ Some (track, time)
-  pub answered : IsAnswered track time old.told new.told answer
-
--- the words ask for nothing, and nothing was read
-pub record IsUnasked (words : List (List ℕ)) (old new : End) : Type 0 where
-  pub nothing : asked words ≡ None
-  pub kept : Keeps old.told new.told
+-- ---- pick
 
 -- more bytes came than the limit, and one more than that was taken
-pub record IsTooLong (words : List (List ℕ)) (old new : End) : Type 0 where
-  pub asked_is : (track : ℕ) × (time : ℕ) × (asked words ≡ Some (track, time))
+pub record IsTooLong (old new : End) : Type 0 where
   pub long : IfSome old.told (λ input. limit < length input)
   pub taken : TakesCount old.told new.told (limit + 1)
 
 -- the source failed
-pub record IsUnread (words : List (List ℕ)) (old new : End) : Type 0 where
-  pub asked_is : (track : ℕ) × (time : ℕ) × (asked words ≡ Some (track, time))
+pub record IsUnread (old new : End) : Type 0 where
   pub rose : Rose old.faults new.faults
   pub taken : TakesAtMost old.told new.told limit
 
--- memory ran out
-pub record IsStarved (words : List (List ℕ)) (old new : End) : Type 0 where
-  pub asked_is : (track : ℕ) × (time : ℕ) × (asked words ≡ Some (track, time))
-  pub taken : TakesAtMost old.told new.told limit
+-- the answer that an input has, where a fragment of it is asked for
+abbrev pub PickMeans : ℕ → ℕ → End → End → Answer → Type 0
+PickMeans track time old new (Found text) = IsAnswered track time old.told new.told (picked.Found text)
+PickMeans track time old new (Refused line) = IsAnswered track time old.told new.told (picked.Refused line)
+PickMeans track time old new NotKept = IsAnswered track time old.told new.told picked.NotKept
+PickMeans track time old new Words = ⊥
+PickMeans track time old new TooLong = IsTooLong old new
+PickMeans track time old new LongLadder = ⊥
+PickMeans track time old new (Clash line) = ⊥
+PickMeans track time old new (Undone line) = ⊥
+PickMeans track time old new Damaged = ⊥
+PickMeans track time old new DiskFault = ⊥
+PickMeans track time old new Unread = IsUnread old new
+PickMeans track time old new LinkFault = ⊥
+PickMeans track time old new Starved = TakesAtMost old.told new.told limit
+PickMeans track time old new Full = ⊥
+PickMeans track time old new (NotAStore line) = ⊥
 
--- the answer that words and input have
-abbrev pub Means : List (List ℕ) → End → End → Answer → Type 0
-Means words old new (Found text) = IsRead words old new (Found text)
-Means words old new (Refused line) = IsRead words old new (Refused line)
-Means words old new NotKept = IsRead words old new NotKept
-Means words old new Words = IsUnasked words old new
-Means words old new TooLong = IsTooLong words old new
-Means words old new Unread = IsUnread words old new
-Means words old new Starved = IsStarved words old new
+-- ---- a command
+
+-- nothing was read, nothing was sent and nothing was done
+pub record IsIdle {D : Type 0} (input input' : End) (dial dial' : Line) (d d' : D) : Type 0 where
+  pub input_is : input' ≡ input
+  pub dial_is : dial' ≡ dial
+  pub site_is : d' ≡ d
+
+-- The answer that words, input, dial and site have. Words that ask for nothing have no other than that, but for want of memory.
+abbrev pub MeansBy : {D : Type 0} (view : D → View) (leave : D → Image → Type 0) (left_at : D → ℕ → Image → Type 0) → Option Wanted → End → End
+    → Line → Line → D → D → Answer → Type 0
+MeansBy view leave left_at None input input' dial dial' d d' answer = answer ≡ Words
+MeansBy view leave left_at (Some (Pick track time)) input input' dial dial' d d' answer =
+    PickMeans track time input input' answer × (dial' ≡ dial) × (d' ≡ d)
+MeansBy view leave left_at (Some (Serve store port ladder turns)) input input' dial dial' d d' answer =
+    ServeMeans view leave left_at ladder turns input input' d d' answer × (dial' ≡ dial)
+MeansBy view leave left_at (Some (Push host port path id)) input input' dial dial' d d' answer =
+    PushMeans (record { host = host; port = port; path = path }) id input input' dial dial' answer × (d' ≡ d)
+MeansBy view leave left_at (Some (Listing store)) input input' dial dial' d d' answer =
+    ListMeans view d d' answer × (input' ≡ input) × (dial' ≡ dial)
+
+abbrev pub Means : {D : Type 0} (view : D → View) (leave : D → Image → Type 0) (left_at : D → ℕ → Image → Type 0) → List (List ℕ) → End → End
+    → Line → Line → D → D → Answer → Type 0
+Means view leave left_at words input input' dial dial' d d' answer =
+    MeansBy view leave left_at (asked words) input input' dial dial' d d' answer
+    ⊎ ((answer ≡ Starved) × IsIdle input input' dial dial' d d')
 
 -- the whole line went out, or a front of it where the sink failed
 abbrev pub Prints : Answer → End → End → ℕ → Type 0
@@ -58,8 +78,17 @@ Prints answer old new status =
     ((status ≡ status_of answer) × Appends old.told new.told (line_of answer))
     ⊎ ((status ≡ unwritten_status_of answer) × AppendsFront old.told new.told (line_of answer) × Rose old.faults new.faults)
 
--- the words and the input have an answer, its line was printed, and the status tells it
-pub record IsRun (words : List (List ℕ)) (input input' output output' : End) (status : ℕ) : Type 0 where
+-- The words, the input, the dial and the site have an answer, its line was printed, and the status tells it.
+pub record IsRun {D : Type 0} (view : D → View) (leave : D → Image → Type 0) (left_at : D → ℕ → Image → Type 0) (words : List (List ℕ))
+    (input input' output output' : End) (dial dial' : Line) (d d' : D) (status : ℕ) : Type 0 where
   pub answer : Answer
-  pub means : Means words input input' answer
+  pub means : Means view leave left_at words input input' dial dial' d d' answer
   pub prints : Prints answer output output' status
+
+-- A program ended with the status of a run; where there was no memory for its words, that alone was told.
+abbrev pub EndsAs : {D : Type 0} (view : D → View) (leave : D → Image → Type 0) (left_at : D → ℕ → Image → Type 0) → Option (List (List ℕ))
+    → End → End → End → End → Line → Line → D → D → ℕ → Type 0
+EndsAs view leave left_at None input input' output output' dial dial' d d' status =
+    Prints Starved output output' status × IsIdle input input' dial dial' d d'
+EndsAs view leave left_at (Some words) input input' output output' dial dial' d d' status =
+    IsRun view leave left_at words input input' output output' dial dial' d d' status

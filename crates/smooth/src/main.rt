@@ -1,13 +1,28 @@
-//! The program `smooth`: a live origin and client for Smooth Streaming. Today it picks a fragment out of an input.
+//! The program `smooth`: a live origin and client for Smooth Streaming. It picks a fragment out of an input, serves a store and
+//! lists it, and pushes an input to an origin.
 #![tactic(auto)]
+
+ghost use Rattle.std.specs.Prelude.{map, string_bytes};
+ghost use Rattle.std.specs.Option.{option_map};
+ghost use Rattle.std.specs.Process.{exit_status};
+ghost use Rattle.std.specs.Result.{result_ok};
+ghost use Rattle.smooth.specs.Ran.{EndsAs};
 
 mod answer;
 pub mod law;
+mod line;
+mod matched;
+mod option;
+mod order;
+mod origins;
 mod pick;
+mod place;
 mod print;
+mod put;
 mod search;
 mod seek;
 mod std_ends;
+mod stores;
 #[cfg(test)]
 mod tests;
 mod tool;
@@ -15,7 +30,12 @@ mod words;
 
 use answer::Answer;
 use print::print;
+use sm_ends::{Sink, Source};
+use sm_fetch::Dial;
 use sm_model::NoMemory;
+use sm_real::{RealSite, TcpDial};
+use sm_site::Site;
+use std::alloc::Global;
 use std::env;
 use std::io::ErrorKind;
 use std::process::ExitCode;
@@ -37,12 +57,42 @@ fn words_of(rt: &HostRuntime) -> Result<Vec<String>, NoMemory> {
     Ok(words)
 }
 
+// Runs the command that the words name, and ends with its status. Without memory for the words that alone is told.
+fn run<I: Source, O: Sink, S: Site, C: Dial>(
+    alloc: Global,
+    words: Result<Vec<String>, NoMemory>,
+    input: &mut I,
+    output: &mut O,
+    site: &mut S,
+    dial: &mut C,
+) -> ExitCode
+    ensures { EndsAs S.Disk.view S.Disk.may_leave S.Disk.left_at (option_map (λ list. map string_bytes list.items) (result_ok words))
+        (record { told = I.left input.old; faults = I.faults input.old })
+        (record { told = I.left input.new; faults = I.faults input.new })
+        (record { told = O.held output.old; faults = O.faults output.old })
+        (record { told = O.held output.new; faults = O.faults output.new })
+        (record { log = C.log dial.old; faults = C.dial_faults dial.old })
+        (record { log = C.log dial.new; faults = C.dial_faults dial.new }) site.old site.new (exit_status result) }
+{
+    let status = match words {
+        Ok(words) => tool(alloc, &words, input, output, site, dial),
+        Err(NoMemory) => print(output, &Answer::Starved),
+    };
+    ExitCode::from(status)
+}
+
 fn main(rt: HostRuntime) -> ExitCode {
     let mut input = StdSource::new(rt.stdin());
     let mut output = StdSink::new(rt.stdout());
-    let status = match words_of(&rt) {
-        Ok(words) => tool(rt.alloc(), &words, &mut input, &mut output),
-        Err(NoMemory) => print(&mut output, &Answer::Starved),
-    };
-    ExitCode::from(status)
+    let mut site = RealSite::new(&rt, rt.alloc());
+    let mut dial = TcpDial::new(&rt, rt.alloc());
+    let words = words_of(&rt);
+    run(
+        rt.alloc(),
+        words,
+        &mut input,
+        &mut output,
+        &mut site,
+        &mut dial,
+    )
 }

@@ -6,7 +6,7 @@ ghost use Rattle.sm_ends.specs.Moves.{TakesCount, TakesAtMost};
 ghost use Rattle.sm_ends.specs.declared.input.InputFault.TheVariants.{Failed as ReadFailed, NoMemory as NoRoom, TooLong};
 ghost use Rattle.smooth.specs.Answers.{IsAnswered, limit};
 
-use crate::answer::Answer;
+use crate::answer::Picked;
 use crate::search::Search;
 use sm_ends::{Failed, InputFault, Source};
 use sm_model::NoMemory;
@@ -53,7 +53,7 @@ pub fn pick<I: Source>(
     input: &mut I,
     track: u32,
     time: u64,
-) -> Result<Answer, InputFault>
+) -> Result<Picked, InputFault>
     ensures answer { IfOk result (λ answer. IsAnswered track time (I.left input.old) (I.left input.new) answer) }
 
     ensures long { IsErrOf result TooLong → IfSome (I.left input.old) (λ bytes. limit < length bytes) }

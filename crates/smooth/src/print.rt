@@ -9,21 +9,36 @@ ghost use Rattle.smooth.specs.Ran.{Prints};
 use crate::answer::Answer;
 use sm_ends::{Failed, Sink, write_all};
 
+// The line of an answer.
+fn line(answer: &Answer) -> &[u8]
+    ensures { result.now ≡ line_of answer.now }
+{
+    match answer {
+        Answer::Found(text) => text.as_slice(),
+        Answer::Refused(line) => line.as_slice(),
+        Answer::Clash(line) => line.as_slice(),
+        Answer::Undone(line) => line.as_slice(),
+        Answer::NotAStore(line) => line.as_slice(),
+        Answer::Words => b"error: words\n",
+        Answer::Unread => b"error: read\n",
+        Answer::TooLong => b"error: input at 268435456: too long\n",
+        Answer::LongLadder => b"error: input at 1048576: too long\n",
+        Answer::NotKept => b"error: 47 NotKept\n",
+        Answer::Damaged => b"error: 32 Damaged\n",
+        Answer::DiskFault => b"error: disk\n",
+        Answer::LinkFault => b"error: link\n",
+        Answer::Starved => b"error: memory\n",
+        Answer::Full => b"error: full\n",
+    }
+}
+
 // Writes the line of an answer, or a front of it and fails.
 fn write_line<O: Sink>(sink: &mut O, answer: &Answer) -> Result<(), Failed>
     ensures ok { OnOk result (Appends (O.held sink.old) (O.held sink.new) (line_of answer.now)) }
     ensures err { OnErr result (AppendsFront (O.held sink.old) (O.held sink.new) (line_of answer.now)) }
     ensures cause { HasCause (O.faults sink.old) (O.faults sink.new) result }
 {
-    match answer {
-        Answer::Found(text) => write_all(sink, text.as_slice()),
-        Answer::Words => write_all(sink, b"error: words\n"),
-        Answer::Unread => write_all(sink, b"error: read\n"),
-        Answer::TooLong => write_all(sink, b"error: input at 268435456: too long\n"),
-        Answer::Refused(line) => write_all(sink, line.as_slice()),
-        Answer::NotKept => write_all(sink, b"error: 47 NotKept\n"),
-        Answer::Starved => write_all(sink, b"error: memory\n"),
-    }
+    write_all(sink, line(answer))
 }
 
 fn status(answer: &Answer) -> u8
@@ -32,10 +47,14 @@ fn status(answer: &Answer) -> u8
     match answer {
         Answer::Found(_) => 0,
         Answer::Words => 2,
-        Answer::TooLong | Answer::Refused(_) => 3,
-        Answer::NotKept => 4,
+        Answer::TooLong | Answer::LongLadder | Answer::Refused(_) => 3,
+        Answer::NotKept | Answer::Clash(_) | Answer::Undone(_) | Answer::Damaged => 4,
+        Answer::DiskFault => 5,
         Answer::Unread => 6,
+        Answer::LinkFault => 8,
         Answer::Starved => 9,
+        Answer::Full => 10,
+        Answer::NotAStore(_) => 11,
     }
 }
 

@@ -6,7 +6,7 @@ ghost use Rattle.sm_model.specs.Body.{body_end};
 ghost use Rattle.smooth.specs.Answers.{IsDue, limit, refusal_line};
 ghost use Rattle.smooth.specs.Search.{fragments_in, fragment_of, Hits, IsAmong, Looks, RefusedBy};
 
-use crate::answer::Answer;
+use crate::answer::Picked;
 use crate::seek::{Hit, seek};
 use sm_model::{Bytes, Fragment, Item, Items, NoMemory, Refusal};
 use sm_moof::put_fragment;
@@ -157,20 +157,20 @@ impl Search {
     }
 
     /// What the bytes come to, which are all.
-    pub fn answer(mut self, alloc: Global) -> Result<Answer, NoMemory>
+    pub fn answer(mut self, alloc: Global) -> Result<Picked, NoMemory>
         requires { (b : List ℕ) × Looks self b }
         ensures { (b : List ℕ) → Looks self b → IfOk result (λ answer. IsDue self.track self.time b answer) }
     {
         items_are_valid();
         if let Some(refusal) = self.refusal_at_end()? {
-            return Ok(Answer::Refused(refusal_line(alloc, &refusal)?));
+            return Ok(Picked::Refused(refusal_line(alloc, &refusal)?));
         }
         match &self.found {
             Some((place, fragment)) => {
                 let text = put_fragment(alloc, *place, self.track, fragment, &[])?;
-                Ok(Answer::Found(text))
+                Ok(Picked::Found(text))
             }
-            None => Ok(Answer::NotKept),
+            None => Ok(Picked::NotKept),
         }
     }
 }

@@ -5,14 +5,41 @@ mod ends;
 mod fixtures;
 mod limits;
 mod picks;
+mod pushes;
+mod records;
+mod sites;
+mod stores;
 mod words;
 
-use crate::tool::tool;
-use sm_ends::{Calls, MemorySink, MemorySource};
+use sm_ends::{Calls, MemorySink, MemorySource, Sink, Source};
+use sm_fetch::{Answers, MemoryDial};
 use sm_model::Bytes;
+use sm_site::{MemorySite, Numbers, Script, Site};
 use std::alloc::Global;
 use std::process::Abort;
 use std::test::Fail;
+
+// A site with no files, where nothing comes.
+fn no_site(alloc: Global) -> MemorySite {
+    MemorySite::new(
+        alloc,
+        Script::from_vec(Vec::new(alloc)),
+        Numbers::from_vec(Vec::new(alloc)),
+        Numbers::from_vec(Vec::new(alloc)),
+    )
+}
+
+// The commands, where no origin answers.
+fn tool<I: Source, O: Sink, S: Site>(
+    alloc: Global,
+    words: &[String],
+    input: &mut I,
+    output: &mut O,
+    site: &mut S,
+) -> u8 {
+    let mut dial = MemoryDial::new(alloc, Answers::from_vec(Vec::new(alloc)));
+    crate::tool::tool(alloc, words, input, output, site, &mut dial)
+}
 
 fn words_of(alloc: Global, words: &[&str]) -> Result<Vec<String>, Fail> {
     let mut list = Vec::new(alloc);
@@ -36,7 +63,8 @@ fn run_failing(
         Calls::from_vec(reads.to_vec(alloc)?),
     );
     let mut sink = MemorySink::new(alloc, Calls::from_vec(writes.to_vec(alloc)?));
-    let status = tool(alloc, &words, &mut source, &mut sink);
+    let mut site = no_site(alloc);
+    let status = tool(alloc, &words, &mut source, &mut sink, &mut site);
     Ok((status, Bytes::from_slice(alloc, sink.held())?))
 }
 

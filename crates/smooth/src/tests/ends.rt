@@ -1,8 +1,7 @@
 //! Ends that fail, and ends that move few bytes a call.
 
 use super::fixtures::{TEXT, boxed, joined};
-use super::{run_failing, words_of};
-use crate::tool::tool;
+use super::{no_site, run_failing, tool, words_of};
 use sm_ends::{Calls, MemorySink, MemorySource, ShortSink, ShortSource};
 use sm_model::Bytes;
 use std::alloc::Global;
@@ -100,7 +99,7 @@ fn short_reads_and_writes(rt: HostRuntime) -> Result<(), Fail> {
                 inner: MemorySink::new(alloc, Calls::from_vec([failing].to_vec(alloc)?)),
                 most,
             };
-            let status = tool(alloc, &words, &mut source, &mut sink);
+            let status = tool(alloc, &words, &mut source, &mut sink, &mut no_site(alloc));
             let held = sink.inner.held();
             let fails = failing > 0 && (failing as usize - 1) * most < 137;
             assert_eq!(rt; status, if fails { 7 } else { 0 }, "{most} {failing}");

@@ -34,7 +34,13 @@ pub fn with_numbers(alloc: Global, numbers: &[(usize, u32)]) -> Result<Vec<u8>, 
 
 /// A fragment of this track with this sample. It and its sample have a duration of 20,000,000.
 pub fn fragment(alloc: Global, id: u32, sample: u8) -> Result<Vec<u8>, Fail> {
-    let mut text = with_numbers(alloc, &[(44, id), (68, 20_000_000), (124, 20_000_000)])?;
+    fragment_at(alloc, id, 0, sample)
+}
+
+/// The same at that time.
+pub fn fragment_at(alloc: Global, id: u32, time: u32, sample: u8) -> Result<Vec<u8>, Fail> {
+    let numbers = [(44, id), (68, 20_000_000), (116, time), (124, 20_000_000)];
+    let mut text = with_numbers(alloc, &numbers)?;
     text.pop();
     text.push(sample)?;
     Ok(text)
@@ -120,8 +126,8 @@ fn add_track(
     Ok(())
 }
 
-// The live manifest of two qualities of video and one of audio, as an encoder writes it.
-fn encoder_text(alloc: Global) -> Result<String, Fail> {
+/// The live manifest of two qualities of video and one of audio, as an encoder writes it.
+pub fn encoder_text(alloc: Global) -> Result<String, Fail> {
     let mut text = String::new(alloc);
     text.push_str("<?xml version=\"1.0\" encoding=\"utf-8\"?>\n")?;
     text.push_str("<smil xmlns=\"http://www.w3.org/2001/SMIL20/Language\">\n")?;

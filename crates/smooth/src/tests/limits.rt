@@ -1,8 +1,7 @@
 //! Fragments and inputs at their limits, and one beyond.
 
 use super::fixtures::{TEXT, joined};
-use super::{expect, run, words_of};
-use crate::tool::tool;
+use super::{expect, no_site, run, tool, words_of};
 use sm_ends::{Calls, CountedSource, MemorySink};
 use std::alloc::Global;
 use std::test::Fail;
@@ -146,7 +145,7 @@ fn inputs_at_the_limit(rt: HostRuntime) -> Result<(), Fail> {
         let mut source = CountedSource { byte: 0, left };
         let mut sink = MemorySink::new(alloc, Calls::from_vec(Vec::new(alloc)));
         assert_eq!(rt;
-            tool(alloc, &words, &mut source, &mut sink),
+            tool(alloc, &words, &mut source, &mut sink, &mut no_site(alloc)),
             3,
             "{left} bytes"
         );

@@ -12,7 +12,7 @@ loop-step-preserved c =
     let i = c.loop-step.step-index in
     let step = c.step-item.result in
     let next : take (i + 1) steps ≡ take i steps ++ step ∷ [] =
-        take_more steps i step c.loop-step-test.true ∙ ap (λ (s : Step). take i steps ++ s ∷ []) (sym c.step-item.is)
+    take_more steps i step c.loop-step-test.true ∙ ap (λ (s : Step). take i steps ++ s ∷ []) (sym c.step-item.is)
     in
     subst (IsNumber c.above_step-from.result)
     (sym (ap (λ (l : List Step). numbers_from 0 l) next ∙ numbers_push 0 (take i steps) step))

@@ -12,7 +12,7 @@ loop-event-preserved c =
     let i = c.loop-event.event-index in
     let event = c.event-item.result in
     let next : take (i + 1) events ≡ take i events ++ event ∷ [] =
-        take_more events i event c.loop-event-test.true ∙ ap (λ (e : Event). take i events ++ e ∷ []) (sym c.event-item.is)
+    take_more events i event c.loop-event-test.true ∙ ap (λ (e : Event). take i events ++ e ∷ []) (sym c.event-item.is)
     in
     λ k is. subst (IsNumber c.above-next.result)
     (sym (ap (λ (l : List Event). numbers_after k (deals_of l)) next ∙ numbers_after_push k (take i events) event))

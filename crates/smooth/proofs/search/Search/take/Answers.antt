@@ -1,8 +1,6 @@
-use Rattle.std.proofs.Common.{◌≡◌, ◌≤◌, ◌+◌, ◌-◌, ◌++◌, ℕ, List, length, take, drop, subst, sym, ap, refl, ◌∙◌, arith}
+use Rattle.std.proofs.Common.{◌≡◌, ◌+◌, ◌-◌, ◌++◌, ℕ, List, length, take, drop, subst, sym, ap, refl, ◌∙◌, arith}
 use Rattle.std.proofs.lemmas.List.{append-nil, append_assoc, take_rest, length-drop, length-take, length-append, take_all}
 use Rattle.std.proofs.Math.Seq.{take-add}
-use Rattle.smooth.specs.Answers.{limit}
-use Rattle.smooth.specs.declared.search.Search.{Search}
 use Rattle.smooth.specs.Search.{Looks}
 use Rattle.smooth.proofs.search.Search.take.Goals as goal
 

@@ -1,0 +1,20 @@
+use Rattle.std.proofs.Common.{◌∙◌, ap}
+use Rattle.sm_client.specs.Stands.{ladder_of}
+use Rattle.sm_client.proofs.Pieces.{Chosen, piece-came, piece-once, address-is}
+use Rattle.sm_client.proofs.piece.ask_once.Goals as goal
+
+pub returns-clause-once : goal.returns-clause-once
+returns-clause-once g c =
+    let chosen : Chosen (record {
+      pick = λ b. (goal.Policy-dyn g (b.vtable, b.value)).pick_after b.value;
+      retired = λ b. (goal.Policy-dyn g (b.vtable, b.value)).retired_after b.value;
+    }) c.args.name.now c.args.stream.now c.args.start c.args.ahead c.args.policies.now.acting c.as_slice-2.result.now c.choose-level.result
+    (record { stream = c.in-Ok-copy.stream_name; bitrate = c.index.result.now; time = c.args.start }) =
+    record {
+      ladder_is = c.as_slice-2.ensures.value ∙ (c.in-Ok.ensures ∙ ap ladder_of c.as_slice.ensures);
+      pick = c.choose-level.ensures.pick;
+      within = c.choose-level.ensures.within;
+      address_is = address-is c.index.ensures c.as_slice-2.ensures.value c.choose-level.ensures.within c.in-Ok-copy.ensures;
+    } in
+    let came = piece-came chosen (rw (← c.as_slice-3.ensures) c.fetch_fragment-got.ensures.asked) in
+    piece-once c.asked_of.result came (λ e. c.in_default-got.not-NoMemory e) c.outcome_of-outcome.ensures c.hear.ensures.heard c.asked_of.ensures

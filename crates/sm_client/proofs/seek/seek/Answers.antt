@@ -1,0 +1,18 @@
+use Rattle.std.proofs.Common.{sym, ◌∙◌}
+use Rattle.sm_client.proofs.Seeks.{seeking-start, seeking-more, seeking-found, seeking-ended}
+use Rattle.sm_client.proofs.seek.seek.Goals as goal
+
+pub loop-alloc-init : goal.loop-alloc-init
+loop-alloc-init g c = seeking-start _ _ _ _ c.requires.levels
+
+pub loop-alloc-preserved : goal.loop-alloc-preserved
+loop-alloc-preserved g c =
+    seeking-more _ c.loop-alloc.invariant (λ q h more. c.in_default.ensures.none q h (sym
+    (c.is_known.ensures q h) ∙ c.loop-alloc-test.true) more) c.in_default-relist.ensures.relists c.in_default-relist.ensures.written c.in_default-relist.ensures.levels
+
+pub returns-clause-sought : goal.returns-clause-sought
+returns-clause-sought g c p number = seeking-found c.loop-alloc.invariant c.loop-alloc-test.false c.is_known.ensures p
+
+pub returns-in-Some-relist-clause-sought : goal.returns-in-Some-relist-clause-sought
+returns-in-Some-relist-clause-sought g c =
+    seeking-ended c.loop-alloc.invariant (λ q h more. c.in_default.ensures.none q h (sym (c.is_known.ensures q h) ∙ c.loop-alloc-test.true) more) c.in-Some-relist.ensures.relists

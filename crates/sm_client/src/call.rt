@@ -1,0 +1,82 @@
+//! Streams, played one after another.
+ghost use Rattle.std.specs.Prelude.{◌≡◌, ◌≤◌, ◌<◌, ◌-◌, ◌^◌, ℕ, length};
+ghost use Rattle.sm_ends.specs.Faults.{Rose};
+ghost use Rattle.sm_client.specs.Turns.{fresh, settle};
+ghost use Rattle.sm_client.specs.Plays.{Played, PlaysFrom};
+
+use crate::policies::Policies;
+use crate::stream::play_stream;
+use crate::{End, Plan, Report};
+use sm_ends::Tracks;
+use sm_fetch::Dial;
+use sm_model::Name;
+use sm_policy::Policy;
+use std::alloc::Global;
+
+// The streams of these names.
+fn play_all<C: Dial, T: Tracks>(
+    alloc: Global,
+    dial: &mut C,
+    tracks: &mut T,
+    policies: &mut Policies,
+    plan: &Plan,
+    names: &[Name],
+) -> Report
+    requires count { plan.now.count ≤ 2 ^ 32 - 1 }
+    requires tries { 0 < plan.now.tries }
+    requires refresh { 0 < plan.now.refresh }
+    requires few { length names.now ≤ 16 }
+    ensures plays { PlaysFrom (record { pick = pick_after; retired = retired_after }) plan.now (fresh policies.old.acting policies.old.rest.items) 0 names.now
+        (C.log dial.old) (C.log dial.new) (T.held tracks.old) (T.held tracks.new) result }
+    ensures later { T.faults tracks.old ≤ T.faults tracks.new }
+    ensures fault { result.end ≡ End.WriteFault → Rose (T.faults tracks.old) (T.faults tracks.new) }
+{
+    let mut played: u64 = 0;
+    let mut number: u32 = 0;
+    for name in names {
+        let stream = play_stream(alloc, dial, tracks, policies, plan, name, number);
+        played += stream.written;
+        match stream.end {
+            End::Done => {}
+            end => return Report { played, end },
+        }
+        number += 1;
+    }
+    Report {
+        played,
+        end: End::Done,
+    }
+}
+
+/// Plays the streams of a plan one after another, each to the track of its number: for each it reads the manifest, and asks
+/// for one fragment after another, each from where the one before it ended, at the quality that the policy chooses which acts
+/// ([MS-SSTR] 3.2). The first end that isn't `Done` ends the call. A policy that has retired is dropped, and the next one
+/// takes over; the last one stays.
+pub fn play<C: Dial, T: Tracks>(
+    alloc: Global,
+    dial: &mut C,
+    tracks: &mut T,
+    policies: Vec<Box<dyn Policy>>,
+    plan: &Plan,
+) -> Report
+    requires policy { 0 < length policies.items }
+    requires streams { length plan.now.streams ≤ 16 }
+    requires count { plan.now.count ≤ 2 ^ 32 - 1 }
+    requires tries { 0 < plan.now.tries }
+    requires refresh { 0 < plan.now.refresh }
+    ensures played { Played (record { pick = pick_after; retired = retired_after }) plan.now policies.items
+        (C.log dial.old) (C.log dial.new) (T.held tracks.old) (T.held tracks.new) result }
+    ensures later { T.faults tracks.old ≤ T.faults tracks.new }
+    ensures fault { result.end ≡ End.WriteFault → Rose (T.faults tracks.old) (T.faults tracks.new) }
+{
+    let mut policies = Policies::new(policies);
+    policies.settle();
+    play_all(
+        alloc,
+        dial,
+        tracks,
+        &mut policies,
+        plan,
+        plan.streams.as_slice(),
+    )
+}

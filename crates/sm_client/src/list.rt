@@ -1,0 +1,95 @@
+//! Manifests, asked for.
+ghost use Rattle.std.specs.Prelude.{◌≡◌, ◌≤◌, ℕ};
+ghost use Rattle.sm_fetch.specs.Origins.{Grows};
+ghost use Rattle.sm_client.specs.Stands.{Stand, listed, miss_of};
+ghost use Rattle.sm_client.specs.Asks.{MayList};
+ghost use Rattle.sm_client.specs.Calls.{ListedOnce, ListedBy, IsListedOf};
+
+use crate::{Miss, Outcomes, Plan};
+use sm_fetch::{Dial, Got, get_manifest};
+use sm_manin::{Listing, StreamListing};
+use sm_model::Name;
+use std::alloc::Global;
+
+/// What one request for the manifest gave of a stream.
+#[derive(Drop)]
+pub enum Listed {
+    /// A manifest was read, and lists this of the stream, if anything.
+    Found(Option<StreamListing>),
+    Missed(Miss),
+    NoMemory,
+}
+
+/// What all tries at the manifest gave.
+#[derive(Drop)]
+pub enum Manifest {
+    /// One was read, and lists this of the stream, if anything.
+    Read(Option<StreamListing>),
+    /// None was read.
+    GaveUp(Outcomes),
+    NoMemory,
+}
+
+// What a manifest lists of the stream of that name.
+fn stream_of(listing: Listing, name: &Name) -> Option<StreamListing>
+    ensures { result ≡ listed name.now listing.streams }
+{
+    listing
+        .streams
+        .into_vec()
+        .into_iter()
+        .find(|stream| stream.name == *name)
+}
+
+/// What came in place of what was asked.
+pub fn miss_of(got: &Got) -> Option<Miss>
+    ensures { result ≡ miss_of got.now }
+{
+    match got {
+        Got::Manifest(_) | Got::Fragment(_) | Got::NoMemory => None,
+        Got::Status(status) => Some(Miss::Status(*status)),
+        Got::Cut => Some(Miss::Cut),
+        Got::Unreadable { at } => Some(Miss::Unreadable { at: *at }),
+        Got::Lost => Some(Miss::Lost),
+    }
+}
+
+// What was got, of the stream of that name. A fragment is never got here.
+fn listed_of(got: Got, name: &Name) -> Listed
+    ensures { IsListedOf got name.now result }
+{
+    match got {
+        Got::Manifest(listing) => Listed::Found(stream_of(listing, name)),
+        other => match miss_of(&other) {
+            Some(miss) => Listed::Missed(miss),
+            None => Listed::NoMemory,
+        },
+    }
+}
+
+// One request.
+fn list_once<C: Dial>(alloc: Global, dial: &mut C, plan: &Plan, name: &Name) -> Listed
+    ensures { ListedOnce plan.now name.now (C.log dial.old) (C.log dial.new) result }
+{
+    let got = get_manifest(alloc, dial, &plan.place);
+    listed_of(got, name)
+}
+
+/// As many requests as there are tries, until a manifest is read.
+pub fn list<C: Dial>(alloc: Global, dial: &mut C, plan: &Plan, name: &Name) -> Manifest
+    ensures { (stand : Stand) → MayList plan.now stand → ListedBy plan.now name.now stand (C.log dial.old) (C.log dial.new) result }
+{
+    let mut outcomes = Outcomes::new(alloc);
+    for _ in 0..plan.tries {
+        match list_once(alloc, dial, plan, name) {
+            Listed::Found(found) => return Manifest::Read(found),
+            Listed::Missed(miss) => {
+                let Ok(()) = outcomes.add(miss) else {
+                    return Manifest::NoMemory;
+                };
+            }
+            Listed::NoMemory => return Manifest::NoMemory,
+        }
+    }
+    Manifest::GaveUp(outcomes)
+}

@@ -1,0 +1,68 @@
+//! What came in place of what was asked.
+ghost use Rattle.std.specs.Prelude.{◌≡◌, ◌++◌, [], ◌∷◌, length, OnOk, OnErr};
+
+use crate::Miss;
+use sm_model::NoMemory;
+use std::alloc::Global;
+use std::marker::Model;
+
+/// What came of the tries, in their order. Contracts see a list.
+#[derive(Debug, Drop)]
+pub struct Outcomes {
+    items: Vec<Miss>,
+}
+
+impl Model for Outcomes {
+    ghost use Rattle.std.specs.Prelude.{List};
+    ghost use Rattle.sm_client.specs.declared.report.Miss.{Miss};
+
+    ghost Value = { List Miss };
+
+    ghost view = { λ o. o.items.items };
+}
+
+impl Outcomes {
+    /// These outcomes, without a copy.
+    pub fn from_vec(items: Vec<Miss>) -> Outcomes
+        ensures { result ≡ items.items }
+    {
+        Outcomes { items }
+    }
+
+    /// The outcomes back, without a copy.
+    pub fn into_vec(self) -> Vec<Miss>
+        ensures { result.items ≡ self }
+    {
+        self.items
+    }
+
+    /// The outcomes, lent.
+    pub fn as_slice(&self) -> &[Miss]
+        ensures { result.now ≡ self.now }
+    {
+        &self.items
+    }
+
+    /// How many outcomes there are.
+    pub fn len(&self) -> u64
+        ensures { result ≡ length self.now }
+    {
+        self.items.len() as u64
+    }
+
+    pub(crate) fn new(alloc: Global) -> Outcomes
+        ensures { result ≡ [] }
+    {
+        Outcomes {
+            items: Vec::new(alloc),
+        }
+    }
+
+    pub(crate) fn add(&mut self, miss: Miss) -> Result<(), NoMemory>
+        ensures ok { OnOk result (self.new ≡ self.old ++ miss ∷ []) }
+        ensures err { OnErr result (self.new ≡ self.old) }
+    {
+        self.items.push(miss)?;
+        Ok(())
+    }
+}

@@ -1,0 +1,152 @@
+//! Fragments, asked for.
+ghost use Rattle.std.specs.Prelude.{◌≡◌, ◌≤◌, ◌<◌, ℕ, length, IfOk, Some};
+ghost use Rattle.sm_manin.specs.declared.listing.StreamListing.{StreamListing};
+ghost use Rattle.sm_client.specs.Turns.{fresh};
+ghost use Rattle.sm_client.specs.Starts.{has, AreAfter};
+ghost use Rattle.sm_client.specs.Stands.{Standing, address_at, ladder_of, miss_of};
+ghost use Rattle.sm_client.specs.Asks.{outcome_of};
+ghost use Rattle.sm_fetch.specs.declared.dial.Exchange.{Exchange};
+ghost use Rattle.sm_fetch.specs.Exchanges.{answer_len};
+ghost use Rattle.sm_client.specs.Calls.{PieceOnce, PiecesBy, MayPiece, IsAskedOf, TookValid};
+
+use crate::list::miss_of;
+use crate::policies::Policies;
+use crate::{Miss, Outcomes, Plan};
+use sm_fetch::{Dial, Fetched, Got, fetch_fragment};
+use sm_manin::{Level, StreamListing};
+use sm_model::{Address, Name, NoMemory, RawFragment};
+use sm_policy::{Heard, Outcome};
+use std::alloc::Global;
+
+/// What one request for a fragment gave.
+#[derive(Drop)]
+pub enum Asked {
+    /// The fragment, at this place of the ladder.
+    Took(RawFragment, usize),
+    Missed(Miss),
+    NoMemory,
+}
+
+/// What all tries at a fragment gave.
+#[derive(Drop)]
+pub enum Pieces {
+    /// The fragment, at this place of the ladder.
+    Took(RawFragment, usize),
+    GaveUp(Outcomes),
+    NoMemory,
+}
+
+/// Bitrates in ascending order.
+pub fn ladder_of(alloc: Global, levels: &[Level]) -> Result<Vec<u32>, NoMemory>
+    ensures { IfOk result (λ ladder. ladder.items ≡ ladder_of levels.now) }
+{
+    let mut ladder = Vec::new(alloc);
+    for level in levels {
+        ladder.push(level.bitrate)?;
+    }
+    Ok(ladder)
+}
+
+// What the policy hears: a fragment that was read was taken, with the length of the whole answer.
+fn outcome_of(got: &Got, bytes: u64) -> Outcome
+    ensures { (x : Exchange) → bytes ≡ answer_len x.answer → result ≡ outcome_of got.now x }
+{
+    match got {
+        Got::Fragment(_) => Outcome::Took { bytes },
+        _ => Outcome::Missed,
+    }
+}
+
+// What was got, for the caller. A manifest is never got here.
+fn asked_of(got: Got, level: usize) -> Asked
+    ensures { IsAskedOf got level result }
+{
+    match got {
+        Got::Fragment(raw) => Asked::Took(raw, level),
+        other => match miss_of(&other) {
+            Some(miss) => Asked::Missed(miss),
+            None => Asked::NoMemory,
+        },
+    }
+}
+
+// One request for that start, at the place of the ladder that the policy chooses, which hears what came of it.
+fn ask_once<C: Dial>(
+    alloc: Global,
+    dial: &mut C,
+    policies: &mut Policies,
+    plan: &Plan,
+    name: &Name,
+    stream: &StreamListing,
+    start: u64,
+    ahead: u64,
+) -> Asked
+    requires { 0 < length stream.now.levels }
+    ensures once { PieceOnce (record { pick = pick_after; retired = retired_after }) plan.now name.now stream.now start ahead
+        policies.old.acting policies.new.acting (C.log dial.old) (C.log dial.new) result }
+    ensures rest { policies.new.rest.items ≡ policies.old.rest.items }
+{
+    let Ok(ladder) = ladder_of(alloc, stream.levels.as_slice()) else {
+        return Asked::NoMemory;
+    };
+    let level = policies.choose(ladder.as_slice(), ahead);
+    let Ok(stream_name) = name.copy(alloc) else {
+        return Asked::NoMemory;
+    };
+    let address = Address {
+        stream: stream_name,
+        bitrate: ladder[level],
+        time: start,
+    };
+    let Fetched { got, bytes } = fetch_fragment(
+        alloc,
+        dial,
+        &plan.place,
+        stream.pattern.as_slice(),
+        &address,
+    );
+    if let Got::NoMemory = &got {
+        return Asked::NoMemory;
+    }
+    let outcome = outcome_of(&got, bytes);
+    policies.hear(Heard { level, outcome });
+    asked_of(got, level)
+}
+
+/// As many requests for that start as there are tries, until the fragment is read. Between them a policy that has retired
+/// makes room for the next one.
+pub fn ask<C: Dial>(
+    alloc: Global,
+    dial: &mut C,
+    policies: &mut Policies,
+    plan: &Plan,
+    name: &Name,
+    stream: &StreamListing,
+    start: u64,
+    ahead: u64,
+) -> Pieces
+    requires { 0 < length stream.now.levels }
+    ensures took { TookValid stream.now start result }
+    ensures made { (p : Standing) → MayPiece plan.now p stream.now start ahead →
+        PiecesBy (record { pick = pick_after; retired = retired_after }) plan.now name.now p stream.now
+        (fresh policies.old.acting policies.old.rest.items) (fresh policies.new.acting policies.new.rest.items)
+        (C.log dial.old) (C.log dial.new) result }
+{
+    let mut outcomes = Outcomes::new(alloc);
+    for _ in 0..plan.tries {
+        match ask_once(alloc, dial, policies, plan, name, stream, start, ahead) {
+            Asked::Took(raw, level) => {
+                policies.settle();
+                return Pieces::Took(raw, level);
+            }
+            Asked::Missed(miss) => {
+                policies.settle();
+                let Ok(()) = outcomes.add(miss) else {
+                    return Pieces::NoMemory;
+                };
+            }
+            Asked::NoMemory => return Pieces::NoMemory,
+        }
+    }
+    Pieces::GaveUp(outcomes)
+}

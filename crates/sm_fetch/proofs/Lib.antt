@@ -1,0 +1,15 @@
+pub mod Framing
+pub mod Heads
+pub mod Filling
+pub mod Chunks
+pub mod Pairs
+pub mod Fronts
+pub mod Origin
+pub mod OneReply
+pub mod OneGot
+pub mod Listed
+pub mod CutFronts
+pub mod Fields
+pub mod Hex
+pub mod Pushes
+pub mod Urls

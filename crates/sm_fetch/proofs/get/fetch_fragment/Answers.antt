@@ -1,0 +1,18 @@
+use Rattle.std.proofs.Common.{ℕ, List, subst, ◌∙◌}
+use Rattle.sm_fetch.specs.declared.dial.Answer.TheVariants as answers
+use Rattle.sm_fetch.specs.Origins.{AnswersFrom}
+use Rattle.sm_fetch.specs.Spelt.{SpellsSamples}
+use Rattle.sm_fetch.proofs.Origin.{grown, answer_is_kept}
+use Rattle.sm_fetch.proofs.get.fetch_fragment.Goals as goal
+
+pub returns-in-Bytes-clause-kept : goal.returns-in-Bytes-clause-kept
+returns-in-Bytes-clause-kept g c =
+    answer_is_kept (g.C.Dial.store c.args.dial.now) (g.C.Dial.store c.exchange.new.self) c.args.place.now c.args.url.now c.args.address.now c.in-Bytes.bytes c.read_fragment_reply.result
+    (subst (λ (r : List ℕ). AnswersFrom (g.C.Dial.store c.args.dial.now) (g.C.Dial.store c.exchange.new.self) r (answers.Bytes c.in-Bytes.bytes)) (c.as_slice.ensures ∙ c.in-Ok.ensures) c.in-Bytes.ensures.store)
+    (subst (λ (b : List ℕ). SpellsSamples c.args.address.now.time b c.read_fragment_reply.result) c.as_slice-in-Bytes.ensures c.read_fragment_reply.ensures)
+
+pub returns-in-Lost-clause-grows : goal.returns-in-Lost-clause-grows
+returns-in-Lost-clause-grows g c = grown (g.C.Dial.store c.args.dial.now) (g.C.Dial.store c.exchange.new.self) c.as_slice.result.now c.exchange.result c.exchange.ensures.store
+
+pub returns-clause-grows : goal.returns-clause-grows
+returns-clause-grows g c = grown (g.C.Dial.store c.args.dial.now) (g.C.Dial.store c.exchange.new.self) c.as_slice.result.now c.exchange.result c.exchange.ensures.store

@@ -1,0 +1,11 @@
+pub mod Exchanges
+pub mod Origins
+pub mod Memory
+pub mod Patterns
+pub mod Requests
+pub mod Answered
+pub mod Framed
+pub mod Spelt
+pub mod Fetched
+pub mod OneReading
+pub mod TwoBoxes

@@ -1,0 +1,62 @@
+-- The store of an origin behind a dial, which only grows, and the replies that it may give.
+use Rattle.std.specs.Prelude.{◌≡◌, ◌<◌, ◌≤◌, ◌^◌, ℕ, Bool, List, ◌++◌, length, Option, Some, None, Contains}
+use Rattle.http.specs.StatusCode.{IsStatusCode}
+use Rattle.sm_model.specs.declared.address.Address.{Address}
+use Rattle.sm_model.specs.declared.entry.Entry.{Entry}
+use Rattle.sm_model.specs.declared.entry.Entry.TheVariants.{Keep}
+use Rattle.sm_model.specs.declared.fragment.Fragment.{Fragment}
+use Rattle.sm_model.specs.declared.target.Target.TheVariants as target
+use Rattle.sm_model.specs.Entries.{address_of}
+use Rattle.sm_model.specs.FragText.{frag_text}
+use Rattle.sm_model.specs.Written.{IsWritten}
+use Rattle.sm_addr.specs.Targets.{target_of}
+use Rattle.sm_head.specs.declared.reply.Content.{Content}
+use Rattle.sm_head.specs.Replies.{reply_text}
+use Rattle.sm_fetch.specs.declared.dial.Answer.{Answer}
+use Rattle.sm_fetch.specs.declared.dial.Answer.TheVariants as answers
+use Rattle.sm_fetch.specs.Requests.{get_text}
+
+-- the canonical text of a fragment that the log keeps at this address
+pub record IsKeptText (log : List Entry) (a : Address) (text : List ℕ) : Type 0 where
+  pub seq : ℕ
+  pub id : ℕ
+  pub fragment : Fragment
+  pub ahead : List (ℕ × ℕ)
+  pub text_is : text ≡ frag_text seq id fragment ahead
+  pub written : IsWritten id fragment ahead
+  pub address_is : address_of fragment ≡ a
+  pub kept : Contains log (Keep fragment)
+
+-- What an origin with this log may reply to a GET of this target: a reply whose text is as replies are written, and where it is
+-- the 200 to the target of a fragment, a text of a fragment that is kept there.
+pub record IsOriginReply (log : List Entry) (named reply : List ℕ) : Type 0 where
+  pub status : ℕ
+  pub kind : Content
+  pub body : List ℕ
+  pub close : Bool
+  pub code : IsStatusCode status
+  pub final : 200 ≤ status
+  pub short : length body < 10 ^ 18
+  pub text : reply ≡ reply_text status kind body close
+  pub fragment : (a : Address) → target_of named ≡ target.Fragment a → status ≡ 200 → IsKeptText log a body
+
+-- the bytes are a front, perhaps all, of such a reply
+abbrev pub IsOfOrigin : List Entry → List ℕ → List ℕ → Type 0
+IsOfOrigin log named bytes = (reply more : List ℕ) × IsOriginReply log named reply × (reply ≡ bytes ++ more)
+
+-- an answer to the GET of a target of any place is the origin's
+abbrev pub FromOrigin : List Entry → List ℕ → Answer → Type 0
+FromOrigin log request (answers.Bytes bytes) = (host : List ℕ) (port : ℕ) (named : List ℕ) → request ≡ get_text host port named → IsOfOrigin log named bytes
+FromOrigin log request answers.Lost = Unit {0}
+FromOrigin log request answers.NoMemory = Unit {0}
+
+-- the log that is told only grows
+abbrev pub Grows : Option (List Entry) → Option (List Entry) → Type 0
+Grows None now = now ≡ None
+Grows (Some log) now = (more : List Entry) × (now ≡ Some (log ++ more))
+
+-- it only grows, and the answer was given at some moment of it
+abbrev pub AnswersFrom : Option (List Entry) → Option (List Entry) → List ℕ → Answer → Type 0
+AnswersFrom None now request answer = now ≡ None
+AnswersFrom (Some log) now request answer =
+    (until since : List Entry) × (now ≡ Some ((log ++ until) ++ since)) × FromOrigin (log ++ until) request answer

@@ -1,0 +1,14 @@
+//! Who chooses the quality of the next request: the trait, and three policies.
+#![tactic(auto)]
+
+mod fixed;
+mod ladder;
+mod policy;
+mod steps;
+#[cfg(test)]
+mod tests;
+
+pub use fixed::Fixed;
+pub use ladder::Ladder;
+pub use policy::{Heard, Outcome, Policy};
+pub use steps::Steps;

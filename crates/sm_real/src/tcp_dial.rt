@@ -1,0 +1,190 @@
+// The dial over sockets.
+ghost use Rattle.std.specs.Prelude.{◌≤◌, ◌<◌, length, vec_len, None, IfOk};
+ghost use Rattle.sm_fetch.specs.Exchanges.{Rose};
+
+use crate::OpenFault;
+use sm_fetch::{Answer, Dial, DialError, Reply, read_reply};
+use sm_model::{Bytes, NoMemory};
+use std::alloc::{AllocError, Global};
+use std::io::{self, ErrorKind, Read, Write};
+use std::net::{Net, SocketAddr, TcpStream, ToSocketAddrs};
+use std::thread;
+use std::time::{Clock, Duration};
+
+/// The most bytes of one read.
+const PIECE: usize = 65_536;
+
+/// How long a connection may take to come about, and a peer to take nothing, in seconds.
+const STUCK: u64 = 30;
+
+/// How many seconds a peer may send nothing.
+const SILENT: u32 = 30;
+
+/// A dial that makes a connection of its own for each exchange. It tells no exchanges. Until a host is chosen each exchange is lost.
+///
+/// An exchange ends where the peer closes, at its limit, or where nothing more comes for a second and the reply is whole. It is lost
+/// where no address of the host takes a connection within 30 seconds, and where the connection fails, or the peer takes or sends
+/// nothing for 30 seconds, before the reply is whole.
+#[derive(Drop)]
+pub struct TcpDial<R: Net<Stream = TcpStream> + Clock + Drop> {
+    rt: R,
+    alloc: Global,
+    addresses: Vec<SocketAddr>,
+    faults: u64,
+}
+
+impl<R: Net<Stream = TcpStream> + Clock + Drop> TcpDial<R> {
+    /// Without a host.
+    pub fn new(rt: R, alloc: Global) -> TcpDial<R> {
+        TcpDial {
+            rt,
+            alloc,
+            addresses: Vec::new(alloc),
+            faults: 0,
+        }
+    }
+
+    fn fail(&mut self)
+        ensures rose { Rose self.old.faults self.new.faults }
+        ensures later { self.old.faults ≤ self.new.faults }
+    {
+        self.faults = self.faults.saturating_add(1);
+    }
+
+    // The first address that takes a connection.
+    fn connect(&self) -> io::Result<TcpStream> {
+        let mut last = ErrorKind::NotConnected.into();
+        for address in &self.addresses {
+            match TcpStream::connect_timeout(&self.rt, address, Duration::from_secs(STUCK)) {
+                Ok(stream) => {
+                    stream.set_nodelay(true)?;
+                    stream.set_read_timeout(Some(Duration::from_secs(1)))?;
+                    stream.set_write_timeout(Some(Duration::from_secs(STUCK)))?;
+                    return Ok(stream);
+                }
+                Err(e) => last = e,
+            }
+        }
+        Err(last)
+    }
+
+    // One exchange. A peer that refuses a request may close before it has taken all of it: what it answered counts, if it is whole.
+    fn ask(&self, request: &[u8], limit: u64) -> Result<Bytes, OpenFault>
+        ensures within { IfOk result (λ bytes. length bytes ≤ limit) }
+    {
+        let stream = match self.connect() {
+            Ok(stream) => stream,
+            Err(e) => return Err(OpenFault::of(&e)),
+        };
+        let sent = (&stream).write_all(request).is_ok();
+        let (taken, ended) = self.take(&stream, limit)?;
+        if sent && ended || self.is_reply(&taken)? {
+            Ok(Bytes::from_vec(taken))
+        } else {
+            Err(OpenFault::Failed)
+        }
+    }
+
+    // What comes up to the end, the limit or a failure, and whether it was one of the first two.
+    fn take(&self, stream: &TcpStream, limit: u64) -> Result<(Vec<u8>, bool), OpenFault>
+        ensures within { IfOk result (λ r. vec_len r.0 ≤ limit) }
+    {
+        let mut buffer = Box::new(self.alloc, [0u8; PIECE]).map_err(AllocError::from)?;
+        let mut taken = Vec::new(self.alloc);
+        let mut silent = 0u32;
+        'reading: for _ in 0..u64::MAX {
+            let room = limit - taken.len() as u64;
+            if room == 0 {
+                return Ok((taken, true));
+            }
+            match receive(stream, buffer.as_mut_slice(), room) {
+                Ok(0) => return Ok((taken, true)),
+                Ok(n) => {
+                    taken.extend_from_slice(&buffer[..n.min(PIECE)])?;
+                    silent = 0;
+                }
+                Err(e) => match e.kind() {
+                    ErrorKind::Interrupted => {}
+                    ErrorKind::WouldBlock | ErrorKind::TimedOut => {
+                        silent = silent.saturating_add(1);
+                        if silent >= SILENT || self.is_reply(&taken)? {
+                            break;
+                        }
+                    }
+                    _ => break,
+                },
+            }
+        }
+        Ok((taken, false))
+    }
+
+    // Whether these bytes need no more to be a reply, or to be none.
+    fn is_reply(&self, taken: &[u8]) -> Result<bool, NoMemory> {
+        match read_reply(self.alloc, taken)? {
+            Reply::Cut => Ok(false),
+            Reply::Whole { .. } | Reply::Bad { .. } => Ok(true),
+        }
+    }
+}
+
+// Reads once, at most so many bytes.
+fn receive(mut stream: &TcpStream, buffer: &mut [u8], room: u64) -> io::Result<usize>
+    ensures within { IfOk result (λ n. n ≤ room) }
+{
+    let most = room.min(buffer.len() as u64) as usize;
+    stream.read(&mut buffer[..most])
+}
+
+// All addresses of a host, at least one.
+fn resolve(rt: &impl Net, alloc: Global, host: &str, port: u16) -> io::Result<Vec<SocketAddr>>
+    ensures some { IfOk result (λ addresses. 0 < vec_len addresses) }
+{
+    let mut addresses = Vec::new(alloc);
+    for address in (host, port).to_socket_addrs(rt)? {
+        addresses.push(address)?;
+    }
+    if addresses.is_empty() {
+        return Err(ErrorKind::NotFound.into());
+    }
+    Ok(addresses)
+}
+
+impl<R: Net<Stream = TcpStream> + Clock + Drop> Dial for TcpDial<R> {
+    ghost log = { λ _. None };
+
+    ghost dial_faults = { λ d. d.faults };
+
+    ghost store = { λ _. None };
+
+    fn select(&mut self, host: &str, port: u16) -> Result<(), DialError> {
+        self.addresses.clear();
+        match resolve(&self.rt, self.alloc, host, port) {
+            Ok(addresses) => {
+                self.addresses = addresses;
+                Ok(())
+            }
+            Err(e) => match OpenFault::of(&e) {
+                OpenFault::NoMemory => Err(DialError::NoMemory),
+                OpenFault::Failed => {
+                    self.fail();
+                    Err(DialError::Failed)
+                }
+            },
+        }
+    }
+
+    fn exchange(&mut self, request: &[u8], limit: u64) -> Answer {
+        match self.ask(request, limit) {
+            Ok(bytes) => Answer::Bytes(bytes),
+            Err(OpenFault::NoMemory) => Answer::NoMemory,
+            Err(OpenFault::Failed) => {
+                self.fail();
+                Answer::Lost
+            }
+        }
+    }
+
+    fn pause(&mut self) {
+        thread::sleep(&self.rt, Duration::from_secs(1));
+    }
+}

@@ -1,0 +1,18 @@
+-- What was read by `clap`.
+use Rattle.std.specs.Prelude.{◌≡◌, Some, string_bytes}
+use Rattle.std.specs.Option.{option_map}
+use Rattle.smooth.specs.declared.matched.ServeTexts.{ServeTexts}
+use Rattle.smooth.specs.declared.matched.PushTexts.{PushTexts}
+use Rattle.smooth.specs.Words.{PushTexts as Sent, ServeTexts as Asked}
+
+pub record IsReadOf (texts : ServeTexts) (x : Asked) : Type 0 where
+  pub port : option_map string_bytes texts.port ≡ Some x.port
+  pub ladder : texts.ladder ≡ x.ladder
+  pub turns : option_map string_bytes texts.turns ≡ x.turns
+  pub store : option_map string_bytes texts.store ≡ Some x.store
+
+pub record IsPushRead (texts : PushTexts) (x : Sent) : Type 0 where
+  pub host : option_map string_bytes texts.host ≡ Some x.host
+  pub port : option_map string_bytes texts.port ≡ Some x.port
+  pub path : option_map string_bytes texts.path ≡ Some x.path
+  pub id : option_map string_bytes texts.id ≡ Some x.id

@@ -1,0 +1,128 @@
+-- What a command on a store answers.
+use Rattle.std.specs.Prelude.{◌≡◌, ◌⊎◌, ℕ, Bool, List, ◌++◌, codes, decimal, Option, IfSome, Result, Ok, Err}
+use Rattle.sm_model.specs.declared.cause.Cause.{Cause}
+use Rattle.sm_model.specs.declared.entry.Entry.{Entry}
+use Rattle.sm_model.specs.declared.no_memory.NoMemory.{NoMemory}
+use Rattle.sm_model.specs.Causes.{cause_line}
+use Rattle.sm_site.specs.Image.{Image}
+use Rattle.sm_site.specs.Meanings.{View}
+use Rattle.sm_archive.specs.Store.{IsStore}
+use Rattle.sm_serve.specs.declared.outcome.Served.{Served as Outcome}
+use Rattle.sm_serve.specs.declared.outcome.Served.TheVariants as served
+use Rattle.sm_store.specs.declared.fault.StoreFault.{StoreFault}
+use Rattle.sm_store.specs.declared.fault.StoreFault.TheVariants as fault
+use Rattle.sm_store.specs.Listing.{WhyUnlisted, lines_of}
+use Rattle.sm_store.specs.Serving.{HasRun, Input, WhyUnready}
+use Rattle.smooth.specs.declared.answer.Answer.{Answer}
+use Rattle.smooth.specs.declared.answer.Answer.TheVariants.{Found, Words, Unread, TooLong, LongLadder, Refused, NotKept, Clash, Undone}
+use Rattle.smooth.specs.declared.answer.Answer.TheVariants.{Damaged, DiskFault, LinkFault, Starved, Full, NotAStore}
+
+-- an end before a call and after it: what it tells, and its count of faults
+pub record End : Type 0 where
+  pub told : Option (List ℕ)
+  pub faults : ℕ
+
+abbrev pub input_of : End → Input
+input_of end = record { told = end.told; faults = end.faults }
+
+-- ---- the lines
+
+abbrev pub turns_line : ℕ → List ℕ
+turns_line turns = codes "turns " ++ (decimal turns ++ codes "\n")
+
+abbrev pub store_line : ℕ → List ℕ
+store_line at = codes "error: not a store at " ++ (decimal at ++ codes "\n")
+
+abbrev pub ladder_line : ℕ → List ℕ
+ladder_line at = codes "error: input at " ++ (decimal at ++ codes ": 5 BadLiveManifest\n")
+
+abbrev pub clash_line : Cause → List ℕ
+clash_line cause = codes "error: " ++ cause_line 0 cause
+
+-- ---- how a fault is told
+
+abbrev pub Tells : StoreFault → Answer → Type 0
+Tells fault.DiskFault answer = answer ≡ DiskFault
+Tells fault.LinkFault answer = answer ≡ LinkFault
+Tells (fault.NotAStore at) answer = answer ≡ NotAStore (store_line at)
+Tells fault.Unread answer = answer ≡ Unread
+Tells fault.LongLadder answer = answer ≡ LongLadder
+Tells (fault.BadLadder at) answer = answer ≡ Refused (ladder_line at)
+Tells (fault.Refused cause) answer = answer ≡ Clash (clash_line cause)
+Tells fault.Full answer = answer ≡ Full
+Tells fault.Damaged answer = answer ≡ Damaged
+Tells fault.NoMemory answer = answer ≡ Starved
+
+-- how the end of the loop is told
+abbrev pub TellsEnd : Outcome → Answer → Type 0
+TellsEnd (served.Done taken behind short) answer = answer ≡ Found (turns_line taken)
+TellsEnd served.LinkFault answer = answer ≡ LinkFault
+TellsEnd served.NoMemory answer = answer ≡ Starved
+
+-- without memory for its line an answer is that
+abbrev pub or_starved : Result Answer NoMemory → Answer
+or_starved (Ok answer) = answer
+or_starved (Err none) = Starved
+
+-- ---- serve
+
+-- the loop ran to its end, and the line tells how many events it took
+pub record HasServed {D : Type 0} (view : D → View) (leave : D → Image → Type 0) (left_at : D → ℕ → Image → Type 0) (ladder : Bool) (turns : ℕ)
+    (input input' : End) (d d' : D) (line : List ℕ) : Type 0 where
+  pub taken : ℕ
+  pub behind : ℕ
+  pub short : ℕ
+  pub line_is : line ≡ turns_line taken
+  pub run : HasRun view leave left_at ladder input.told input'.told turns d d' (served.Done taken behind short)
+
+-- A fault of the disk is one before the first event. One of the link is that of a choice of the port, or ended the loop. Want of memory may
+-- come at any time, and what was done until then is done.
+abbrev pub ServeMeans : {D : Type 0} (view : D → View) (leave : D → Image → Type 0) (left_at : D → ℕ → Image → Type 0) → Bool → ℕ → End → End
+    → D → D → Answer → Type 0
+ServeMeans view leave left_at ladder turns input input' d d' (Found line) = HasServed view leave left_at ladder turns input input' d d' line
+ServeMeans view leave left_at ladder turns input input' d d' Words = ⊥
+ServeMeans view leave left_at ladder turns input input' d d' Unread = WhyUnready view leave left_at ladder (input_of input) (input_of input') d d' fault.Unread
+ServeMeans view leave left_at ladder turns input input' d d' TooLong = ⊥
+ServeMeans view leave left_at ladder turns input input' d d' LongLadder =
+    WhyUnready view leave left_at ladder (input_of input) (input_of input') d d' fault.LongLadder
+ServeMeans view leave left_at ladder turns input input' d d' (Refused line) =
+    (at : ℕ) × (line ≡ ladder_line at) × WhyUnready view leave left_at ladder (input_of input) (input_of input') d d' (fault.BadLadder at)
+ServeMeans view leave left_at ladder turns input input' d d' NotKept = ⊥
+ServeMeans view leave left_at ladder turns input input' d d' (Clash line) =
+    (cause : Cause) × (line ≡ clash_line cause) × WhyUnready view leave left_at ladder (input_of input) (input_of input') d d' (fault.Refused cause)
+ServeMeans view leave left_at ladder turns input input' d d' (Undone line) = ⊥
+ServeMeans view leave left_at ladder turns input input' d d' Damaged = ⊥
+ServeMeans view leave left_at ladder turns input input' d d' DiskFault =
+    WhyUnready view leave left_at ladder (input_of input) (input_of input') d d' fault.DiskFault
+ServeMeans view leave left_at ladder turns input input' d d' LinkFault =
+    HasRun view leave left_at ladder input.told input'.told turns d d' served.LinkFault
+    ⊎ WhyUnready view leave left_at ladder (input_of input) (input_of input') d d' fault.LinkFault
+ServeMeans view leave left_at ladder turns input input' d d' Starved =
+    ((end : Outcome) × HasRun view leave left_at ladder input.told input'.told turns d d' end)
+    ⊎ ((why : StoreFault) × WhyUnready view leave left_at ladder (input_of input) (input_of input') d d' why)
+ServeMeans view leave left_at ladder turns input input' d d' Full = WhyUnready view leave left_at ladder (input_of input) (input_of input') d d' fault.Full
+ServeMeans view leave left_at ladder turns input input' d d' (NotAStore line) =
+    (at : ℕ) × (line ≡ store_line at) × WhyUnready view leave left_at ladder (input_of input) (input_of input') d d' (fault.NotAStore at)
+
+-- ---- list
+
+-- the lines of the log that the disk has
+abbrev pub IsListed : Option Image → List ℕ → Type 0
+IsListed contents text = IfSome contents (λ c. (log : List Entry) × IsStore log c × (text ≡ lines_of log))
+
+abbrev pub ListMeans : {D : Type 0} (view : D → View) → D → D → Answer → Type 0
+ListMeans view d d' (Found text) = IsListed (view d).contents text
+ListMeans view d d' Words = ⊥
+ListMeans view d d' Unread = ⊥
+ListMeans view d d' TooLong = ⊥
+ListMeans view d d' LongLadder = ⊥
+ListMeans view d d' (Refused line) = ⊥
+ListMeans view d d' NotKept = ⊥
+ListMeans view d d' (Clash line) = ⊥
+ListMeans view d d' (Undone line) = ⊥
+ListMeans view d d' Damaged = WhyUnlisted (view d) (view d') fault.Damaged
+ListMeans view d d' DiskFault = WhyUnlisted (view d) (view d') fault.DiskFault
+ListMeans view d d' LinkFault = WhyUnlisted (view d) (view d') fault.LinkFault
+ListMeans view d d' Starved = Unit {0}
+ListMeans view d d' Full = ⊥
+ListMeans view d d' (NotAStore line) = (at : ℕ) × (line ≡ store_line at) × WhyUnlisted (view d) (view d') (fault.NotAStore at)

@@ -1,0 +1,37 @@
+//! The options of the commands.
+ghost use Rattle.std.specs.Prelude.{◌≡◌};
+ghost use Rattle.smooth.specs.Options.{text_of, has_value};
+
+/// An option of a command.
+#[derive(Clone, Copy, Debug, PartialEq, Eq)]
+pub enum Name {
+    /// The port of a link.
+    Port,
+    /// Whether the input is a ladder.
+    Ladder,
+    /// The most events that are taken.
+    Turns,
+}
+
+impl Name {
+    /// As it is written.
+    pub fn text(self) -> &'static str
+        ensures { result.now ≡ text_of self }
+    {
+        match self {
+            Name::Port => "--port",
+            Name::Ladder => "--ladder",
+            Name::Turns => "--turns",
+        }
+    }
+
+    /// Whether a value belongs to it.
+    pub fn has_value(self) -> bool
+        ensures { result ≡ has_value self }
+    {
+        match self {
+            Name::Port | Name::Turns => true,
+            Name::Ladder => false,
+        }
+    }
+}

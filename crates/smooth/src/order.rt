@@ -1,0 +1,224 @@
+//! What the words of a command ask for.
+ghost use Rattle.std.specs.Prelude.{◌≡◌, ◌≤◌, ◌<◌, ◌^◌, map, string_bytes, IfOk, IfSome, Some, [], List, ℕ};
+ghost use Rattle.std.specs.Option.{option_map, option_and_then};
+ghost use Rattle.smooth.specs.Options.{serve_options};
+ghost use Rattle.smooth.specs.Words.{Listing, PushTexts as Sent, ServeTexts as Asked, asked, folder, list_of, number_or};
+ghost use Rattle.smooth.specs.Words.{pick_by, pick_of, push_by, push_of, read, serve_by, serve_of};
+ghost use Rattle.smooth.specs.Matched.{IsPushRead, IsReadOf};
+ghost use Rattle.smooth.specs.Orders.{wanted_of};
+
+use crate::line::read_line;
+use crate::matched::{PushTexts, ServeTexts, read_list, read_pick, read_push, read_serve};
+use crate::option::Name;
+use crate::place::{is_host, is_path};
+use crate::put::{list_put, pick_put, push_put, serve_put};
+use crate::words::number;
+use sm_model::{Name as StreamName, NameFault, NoMemory};
+use std::alloc::Global;
+
+/// What the words ask for.
+#[derive(Debug, Drop)]
+pub enum Order {
+    /// The first fragment of an input with that track_ID, and that time in ticks of the track's timescale.
+    Pick { track: u32, time: u64 },
+    /// To serve a store.
+    Serve(ServeOrder),
+    /// To push to an origin.
+    Push(PushOrder),
+    /// The list of what the store in a folder keeps.
+    List { store: String },
+}
+
+/// What is served, and how.
+#[derive(Debug, Drop)]
+pub struct ServeOrder {
+    /// The folder.
+    pub store: String,
+    /// The port, from 1 on.
+    pub port: u16,
+    /// Whether a ladder is read and declared first.
+    pub ladder: bool,
+    /// The most events that are taken.
+    pub turns: u64,
+}
+
+/// Where the input is pushed, and as what.
+#[derive(Debug, Drop)]
+pub struct PushOrder {
+    /// The host: 1 to 255 letters, digits, `.`, `-` and `:`.
+    pub host: String,
+    /// The port, from 1 on.
+    pub port: u16,
+    /// The path of the channel: 1 to 512 bytes without `?`, control bytes and `.isml/`.
+    pub path: String,
+    /// The name of the stream.
+    pub id: StreamName,
+}
+
+// The largest number that a word may write.
+const MOST: u64 = 9_223_372_036_854_775_807;
+
+const SERVE: [Name; 3] = [Name::Port, Name::Ladder, Name::Turns];
+
+// The number that a text writes, or another where there is no text.
+fn number_or(text: &Option<String>, low: u64, high: u64, other: Option<u64>) -> Option<u64>
+    requires high { high < 2 ^ 63 }
+    requires other { IfSome other (λ n. n ≤ high) }
+    ensures value { result ≡ number_or low high other (option_map string_bytes text.now) }
+    ensures below { IfSome result (λ n. n ≤ high) }
+{
+    match text {
+        Some(text) => number(text.as_str(), low, high),
+        None => other,
+    }
+}
+
+// The name of a folder, which isn't empty.
+fn folder(store: Option<String>) -> Option<String>
+    ensures { option_map string_bytes result ≡ option_and_then folder (option_map string_bytes store) }
+{
+    let store = store?;
+    if store.is_empty() { None } else { Some(store) }
+}
+
+fn pick_order(track: &Option<String>, time: &Option<String>) -> Option<Order>
+    ensures { (x : List ℕ × List ℕ) → option_map string_bytes track.now ≡ Some x.0 → option_map string_bytes time.now ≡ Some x.1
+        → option_map wanted_of result ≡ pick_by x.0 x.1 }
+{
+    let track = number_or(track, 1, 4_294_967_295, None)?;
+    let time = number_or(time, 0, MOST, None)?;
+    Some(Order::Pick {
+        track: track as u32,
+        time,
+    })
+}
+
+fn serve_order(texts: ServeTexts) -> Option<Order>
+    ensures { (x : Asked) → IsReadOf texts x → option_map wanted_of result ≡ serve_by x }
+{
+    let port = number_or(&texts.port, 1, 65_535, None)?;
+    let turns = number_or(&texts.turns, 1, MOST, Some(MOST))?;
+    let ladder = texts.ladder;
+    let store = folder(texts.store)?;
+    Some(Order::Serve(ServeOrder {
+        store,
+        port: port as u16,
+        ladder,
+        turns,
+    }))
+}
+
+fn push_order(alloc: Global, texts: PushTexts) -> Result<Option<Order>, NoMemory>
+    ensures { IfOk result (λ order. (x : Sent) → IsPushRead texts x → option_map wanted_of order ≡ push_by x) }
+{
+    let PushTexts {
+        host,
+        port,
+        path,
+        id,
+    } = texts;
+    let Some(port) = number_or(&port, 1, 65_535, None) else {
+        return Ok(None);
+    };
+    let (Some(host), Some(path), Some(id)) = (host, path, id) else {
+        return Ok(None);
+    };
+    if !is_host(host.as_str()) || !is_path(path.as_str()) {
+        return Ok(None);
+    }
+    match StreamName::read(alloc, id.as_bytes()) {
+        Ok(id) => Ok(Some(Order::Push(PushOrder {
+            host,
+            port: port as u16,
+            path,
+            id,
+        }))),
+        Err(NameFault::Form { at: _ }) => Ok(None),
+        Err(NameFault::NoMemory) => Err(NoMemory),
+    }
+}
+
+fn list_order(store: Option<String>) -> Option<Order>
+    ensures { option_map wanted_of result ≡ option_and_then (λ text. option_map Listing (folder text)) (option_map string_bytes store) }
+{
+    let store = folder(store)?;
+    Some(Order::List { store })
+}
+
+fn pick_asked(alloc: Global, words: &[String]) -> Result<Option<Order>, NoMemory>
+    ensures { IfOk result (λ order. option_map wanted_of order ≡ option_and_then pick_of (read [] (map string_bytes words.now))) }
+{
+    let Some(line) = read_line(alloc, &[], words)? else {
+        return Ok(None);
+    };
+    let Some(words) = pick_put(alloc, &line)? else {
+        return Ok(None);
+    };
+    let (track, time) = read_pick(alloc, &words)?;
+    Ok(pick_order(&track, &time))
+}
+
+fn serve_asked(alloc: Global, words: &[String]) -> Result<Option<Order>, NoMemory>
+    ensures { IfOk result (λ order. option_map wanted_of order ≡ option_and_then serve_of (read serve_options (map string_bytes words.now))) }
+{
+    let Some(line) = read_line(alloc, &SERVE, words)? else {
+        return Ok(None);
+    };
+    let Some(words) = serve_put(alloc, &line)? else {
+        return Ok(None);
+    };
+    let texts = read_serve(alloc, &words)?;
+    Ok(serve_order(texts))
+}
+
+fn push_asked(alloc: Global, words: &[String]) -> Result<Option<Order>, NoMemory>
+    ensures { IfOk result (λ order. option_map wanted_of order ≡ option_and_then push_of (read [] (map string_bytes words.now))) }
+{
+    let Some(line) = read_line(alloc, &[], words)? else {
+        return Ok(None);
+    };
+    let Some(words) = push_put(alloc, &line)? else {
+        return Ok(None);
+    };
+    let texts = read_push(alloc, &words)?;
+    let order = push_order(alloc, texts)?;
+    Ok(order)
+}
+
+fn list_asked(alloc: Global, words: &[String]) -> Result<Option<Order>, NoMemory>
+    ensures { IfOk result (λ order. option_map wanted_of order ≡ option_and_then list_of (read [] (map string_bytes words.now))) }
+{
+    let Some(line) = read_line(alloc, &[], words)? else {
+        return Ok(None);
+    };
+    let Some(words) = list_put(alloc, &line)? else {
+        return Ok(None);
+    };
+    let store = read_list(alloc, &words)?;
+    Ok(list_order(store))
+}
+
+/// What the words ask for: `pick TRACK TIME`, `serve STORE --port N [--ladder] [--turns N]`, `push HOST PORT PATH ID` or
+/// `list STORE`. None where they are none of these.
+#[tactic(auto, unfolding(crate::specs::Words::asked))]
+pub fn order_of(alloc: Global, words: &[String]) -> Result<Option<Order>, NoMemory>
+    ensures { IfOk result (λ order. option_map wanted_of order ≡ asked (map string_bytes words.now)) }
+{
+    let [command, words @ ..] = words else {
+        return Ok(None);
+    };
+    let command = command.as_str();
+    if command == "pick" {
+        return pick_asked(alloc, words);
+    }
+    if command == "serve" {
+        return serve_asked(alloc, words);
+    }
+    if command == "push" {
+        return push_asked(alloc, words);
+    }
+    if command == "list" {
+        return list_asked(alloc, words);
+    }
+    Ok(None)
+}
