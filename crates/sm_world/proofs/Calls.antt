@@ -1,0 +1,156 @@
+-- What the calls below a dial come to.
+use Rattle.std.proofs.Common.{◌≡◌, inl, inr, ⊎_elim, ℕ, ◌+◌, ◌-◌, ◌^◌, ◌≤◌, Bool, true, false, if◌then◌else◌, List, [], ◌∷◌, ◌++◌, Option, None, Some, refl, sym, ap, subst, arith}
+use Rattle.std.specs.Prelude.{IfSome, IsSome}
+use Rattle.std.proofs.lemmas.List.{append-nil}
+use Rattle.sm_model.specs.declared.entry.Entry.{Entry}
+use Rattle.sm_model.specs.declared.entry.Entry.TheVariants.{Keep}
+use Rattle.sm_site.specs.declared.event.Event.{Event}
+use Rattle.sm_site.specs.Image.{Image}
+use Rattle.sm_site.specs.Clauses.{Both, Rose, Settled}
+use Rattle.sm_site.specs.Meanings.{View, Item, SameLink}
+use Rattle.sm_site.specs.Meanings.Deal.{Over}
+use Rattle.sm_site.specs.Scripts.{deals_of}
+use Rattle.sm_site.specs.Sites.{SameBut}
+use Rattle.sm_seglog.specs.Stores.{HasStore, NotAStore as NoLog}
+use Rattle.sm_archive.specs.Opening.{NotAStore}
+use Rattle.sm_archive.specs.Store.{IsStore, Spell}
+use Rattle.sm_serve.specs.declared.state.State.{State}
+use Rattle.sm_serve.specs.declared.outcome.Served.TheVariants as served
+use Rattle.sm_serve.specs.Connections.{events_in, is_event}
+use Rattle.sm_serve.specs.Run.{at}
+use Rattle.sm_serve.specs.Serving.{Served}
+use Rattle.sm_serve.specs.Standing.{History}
+use Rattle.sm_world.specs.declared.acted.Acted.{Acted}
+use Rattle.sm_world.specs.declared.acted.Acted.TheVariants as acted
+use Rattle.sm_world.specs.Answering.{HasCause, HasSent, IsServed}
+use Rattle.sm_world.specs.Bringing.{Brings}
+use Rattle.sm_world.specs.Worlds.{World, IsClosed, Grows}
+use Rattle.sm_world.proofs.Sources.{in_none}
+use Rattle.sm_world.proofs.Stores.{one_store, store_in}
+use Rattle.sm_world.proofs.NoFault.{stores_open}
+use Rattle.sm_world.proofs.Standing.{some_of, at_some, from_some}
+
+pub if_some : {A : Type 0} (o : Option A) (P Q : A → Type 0) → ((x : A) → P x → Q x) → IfSome o P → IfSome o Q
+if_some None P Q so holds = tt
+if_some (Some x) P Q so holds = so x holds
+
+pub if_both : {A : Type 0} (o : Option A) (P Q R : A → Type 0) → ((x : A) → P x → Q x → R x) → IfSome o P → IfSome o Q → IfSome o R
+if_both None P Q R so one two = tt
+if_both (Some x) P Q R so one two = so x one two
+
+pub grows_not : (w : World) → Grows w w
+grows_not w = record { first = refl; past = refl; more = []; log = sym (append-nil w.log) }
+
+pub same_view : (old new : View) → new ≡ old → SameBut old new
+same_view old new is = subst (λ (v : View). SameBut old v) (sym is) (record {
+  moment = refl;
+  contents = refl;
+  calls = refl;
+  reads = refl;
+  disk_faults = refl;
+  transcript = refl;
+  link_faults = refl;
+  send_faults = refl;
+})
+
+pub rose_from : (a b n : ℕ) → b ≡ a → Rose b n → Rose a n
+rose_from a b n is rose = subst (λ (m : ℕ). Rose m n) is rose
+
+-- ---- all was served
+
+one_more_event : (b : Bool) (all m n : ℕ) → all ≡ m + n → (if b then 1 + all else all) ≡ (if b then 1 + m else m) + n
+one_more_event true all m n is = omega (arith, is)
+one_more_event false all m n is = is
+
+events_both : (xs ys : List Item) → events_in (xs ++ ys) ≡ events_in xs + events_in ys
+unfolding events_in
+events_both [] ys = omega arith
+events_both (x ∷ xs) ys = one_more_event (is_event x.deal) (events_in (xs ++ ys)) (events_in xs) (events_in ys) (events_both xs ys)
+
+module _ {D : Type 0} (view : D → View) (leave : D → Image → Type 0) (left_at : D → ℕ → Image → Type 0) where
+  pub served_all : (h : History) (taken late short turns : ℕ) (state : State) (d : D) → 2 ^ 64 - 1 ≤ turns → Served view leave left_at h (served.Done taken late short) turns state d
+      → IfSome (view d).transcript IsServed
+  served_all h taken late short turns state d many s = ⊎_elim
+      (λ all. from_some (view d).transcript IsServed (k.base ++ k.items) s.told
+      (inr (let sum = events_both k.base k.items in let count = all.1 in let is = all.0 in omega (arith, sum, count, is, many))))
+      (λ over. if_some (view d).transcript (λ items. (before : List Item) × (m : ℕ) × (items ≡ before ++ at m Over)) IsServed (λ items is. inl is) over.2)
+      s.ended.0
+    where
+      k : History
+      k = s.later
+
+  pub handed : (d between e : D) (request : List ℕ) (conn : ℕ) (came : Acted) → HasSent conn (view e).transcript came → 2 ^ 63 ≤ conn
+      → ((events : List Event) × Brings conn request events × Both (view d).script (view between).script (λ was now. now ≡ was ++ deals_of events))
+      → IfSome (view e).transcript IsServed → HasCause view d e request came
+  handed d between e request conn acted.Unopened sent high brings all = absurd sent
+  handed d between e request conn acted.Broken sent high brings all = absurd sent
+  handed d between e request conn acted.NoMemory sent high brings all = tt
+  handed d between e request conn (acted.Sent bytes) sent high brings all = record {
+    conn = conn;
+    high = high;
+    events = brings.0;
+    brings = brings.1;
+    between = between;
+    added = brings.2;
+    served = all;
+    sent = sent;
+  }
+
+  pub not_unopened : (conn : ℕ) (told : Option (List Item)) (came : Acted) → HasSent conn told came → came ≡ acted.Unopened → ⊥
+  not_unopened conn told acted.Unopened sent is = sent
+  not_unopened conn told acted.Broken sent is = absurd (cc)
+  not_unopened conn told acted.NoMemory sent is = absurd (cc)
+  not_unopened conn told (acted.Sent bytes) sent is = absurd (cc)
+
+  -- a store that was opened before leaves the cause as it is
+  pub cause_before : (d mid e : D) (request : List ℕ) (came : Acted) → SameLink (view d) (view mid) → (came ≡ acted.Unopened → ⊥) → HasCause view mid e request came → HasCause view d e request came
+  cause_before d mid e request acted.Unopened link opened cause = absurd (opened refl)
+  cause_before d mid e request acted.Broken link opened cause = rose_from (view d).link_faults (view mid).link_faults (view e).link_faults link.link_faults cause
+  cause_before d mid e request acted.NoMemory link opened cause = tt
+  cause_before d mid e request (acted.Sent bytes) link opened cause = record {
+    conn = cause.conn;
+    high = cause.high;
+    events = cause.events;
+    brings = cause.brings;
+    between = cause.between;
+    added = subst (λ (script : _). Both script (view cause.between).script (λ was now. now ≡ was ++ deals_of cause.events)) link.script cause.added;
+    served = cause.served;
+    sent = cause.sent;
+  }
+
+  -- ---- a dial that is made
+
+  pub begins_closed : (d : D) (log : List Entry) (past : List (List Item)) → IsSome (view d).contents → IsSome (view d).transcript → IfSome (view d).contents (λ now. Settled now (leave d))
+      → IfSome (view d).contents (IsStore log) → IsClosed view leave (record { first = log; past = past; log = log }) d
+  begins_closed d log past some told settled store =
+      let c = some_of (view d).contents some in
+      let items = some_of (view d).transcript told in
+      record {
+        one = one_store log c.0 (leave d) (at_some (view d).contents (IsStore log) c.0 c.1 store) (at_some (view d).contents (λ now. Settled now (leave d)) c.0 c.1 settled);
+        items = items.0;
+        told = items.1;
+        comes = record { more = []; log_is = sym (append-nil log); pushed = λ f there. absurd (in_none (Keep f) there) };
+      }
+
+  pub some_world : (d : D) (past : List (List Item)) → IsSome (view d).contents → IsSome (view d).transcript → IfSome (view d).contents (λ now. Settled now (leave d))
+      → IfSome (view d).contents (λ now. (log : List Entry) × IsStore log now) → (w : World) × IsClosed view leave w d
+  some_world d past some told settled store =
+      let c = some_of (view d).contents some in
+      let s = at_some (view d).contents (λ now. (log : List Entry) × IsStore log now) c.0 c.1 store in (
+        record { first = s.0; past = past; log = s.0 },
+        begins_closed d s.0 past some told settled (from_some (view d).contents (IsStore s.0) c.0 c.1 s.1),
+      )
+
+pub empty_told : (o : Option (List Item)) → IsSome o → IfSome o (λ items. items ≡ []) → o ≡ Some []
+empty_told None some empty = absurd (cc)
+empty_told (Some items) some empty = ap (λ (l : List Item). Some l) empty
+
+pub never_fails : {D : Type 0} (view : D → View) (leave : D → Image → Type 0) (left_at : D → ℕ → Image → Type 0)
+    (one_list : (xs ys : List (List ℕ)) (image : Image) → HasStore xs image → HasStore ys image → xs ≡ ys)
+    (no_fault : (xs : List (List ℕ)) (at : ℕ) (image : Image) → HasStore xs image → NoLog at image → ⊥)
+    (one_log : (bodies : List (List ℕ)) (a b : List Entry) → Spell bodies a → Spell bodies b → a ≡ b)
+    (w : World) (d : D) (at : ℕ) → IsSome (view d).contents → IfSome (view d).contents (leave d) → IsClosed view leave w d → IfSome (view d).contents (NotAStore at) → ⊥
+never_fails view leave left_at one_list no_fault one_log w d at some passes closed fails =
+    let c = some_of (view d).contents some in
+    stores_open one_list no_fault one_log w.log c.0 at
+    (store_in w.log c.0 (leave d) closed.one (at_some (view d).contents (leave d) c.0 c.1 passes)) (at_some (view d).contents (NotAStore at) c.0 c.1 fails)

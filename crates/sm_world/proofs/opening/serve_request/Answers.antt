@@ -1,0 +1,43 @@
+use Rattle.std.proofs.Common.{arith}
+use Rattle.sm_world.proofs.Standing.{serves_on}
+use Rattle.sm_world.proofs.Calls.{grows_not, handed, served_all}
+use Rattle.sm_world.proofs.opening.serve_request.Goals as goal
+
+pub serve-requires-clause-stands : goal.serve-requires-clause-stands
+serve-requires-clause-stands g c =
+    let kept = c.bring.ensures.stays c.requires.stands.0 c.args.state.now c.requires.stands.1 in
+    (kept.run.point.machine, kept.serves.rest.stands)
+
+pub serve-requires-clause-known : goal.serve-requires-clause-known
+serve-requires-clause-known g c some =
+    let kept = c.bring.ensures.stays c.requires.stands.0 c.args.state.now c.requires.stands.1 in
+    (kept.run, kept.serves)
+
+pub returns-in-None-clause-goes_on : goal.returns-in-None-clause-goes_on
+returns-in-None-clause-goes_on g c w open_ = (w, c.bring.ensures.stays w c.args.state.now open_, grows_not w)
+
+pub returns-in-Done-clause-goes_on : goal.returns-in-Done-clause-goes_on
+returns-in-Done-clause-goes_on g c w open_ =
+    serves_on g.S.Disk.view g.S.Disk.may_leave g.S.Disk.left_at w c.args.state.now c.bring.new.site c.serve.new.state c.serve.new.site
+    (g.met.S.Crashing.tells c.bring.new.site).contents (g.met.S.Crashing.tells c.serve.new.site).contents
+    c.serve.ensures.goes_on (c.bring.ensures.stays w c.args.state.now open_)
+
+pub returns-in-LinkFault-clause-goes_on : goal.returns-in-LinkFault-clause-goes_on
+returns-in-LinkFault-clause-goes_on g c w open_ =
+    serves_on g.S.Disk.view g.S.Disk.may_leave g.S.Disk.left_at w c.args.state.now c.bring.new.site c.serve.new.state c.serve.new.site
+    (g.met.S.Crashing.tells c.bring.new.site).contents (g.met.S.Crashing.tells c.serve.new.site).contents
+    c.serve.ensures.goes_on (c.bring.ensures.stays w c.args.state.now open_)
+
+pub returns-in-NoMemory-clause-goes_on : goal.returns-in-NoMemory-clause-goes_on
+returns-in-NoMemory-clause-goes_on g c w open_ =
+    serves_on g.S.Disk.view g.S.Disk.may_leave g.S.Disk.left_at w c.args.state.now c.bring.new.site c.serve.new.state c.serve.new.site
+    (g.met.S.Crashing.tells c.bring.new.site).contents (g.met.S.Crashing.tells c.serve.new.site).contents
+    c.serve.ensures.goes_on (c.bring.ensures.stays w c.args.state.now open_)
+
+pub returns-in-Done-clause-cause : goal.returns-in-Done-clause-cause
+returns-in-Done-clause-cause g c =
+    let kept = c.bring.ensures.stays c.requires.stands.0 c.args.state.now c.requires.stands.1 in
+    handed g.S.Disk.view g.S.Disk.may_leave g.S.Disk.left_at c.args.site.now c.bring.new.site c.serve.new.site c.args.request.now c.in-Some.conn c.sent_on.result
+    c.sent_on.ensures c.in-Some.ensures.first c.in-Some.ensures.brings
+    (served_all g.S.Disk.view g.S.Disk.may_leave g.S.Disk.left_at kept.run c.in-Done.turns c.in-Done.behind c.in-Done.short 18446744073709551615
+    c.serve.new.state c.serve.new.site (omega arith) (c.in-Done.ensures.runs kept.run kept.serves))

@@ -1,0 +1,23 @@
+-- What events bring on a connection.
+use Rattle.std.specs.Prelude.{◌≡◌, ℕ, ◌≤◌, ◌==◌, List, [], ◌∷◌, ◌++◌, if◌then◌else◌, IsTrue}
+use Rattle.sm_site.specs.declared.event.Event.{Event}
+use Rattle.sm_site.specs.declared.event.Event.TheVariants.{Opened, Piece, Closed, Ended}
+use Rattle.sm_site.specs.Scripts.{is_script}
+
+-- the bytes that an event brings on a connection
+abbrev pub brought_by : ℕ → Event → List ℕ
+brought_by conn (Opened n) = []
+brought_by conn (Piece n piece) = if n == conn then piece else []
+brought_by conn (Closed n) = []
+brought_by conn Ended = []
+
+abbrev pub brought : ℕ → List Event → List ℕ
+brought conn [] = []
+brought conn (event ∷ events) = brought_by conn event ++ brought conn events
+
+-- The connection is opened and brings these bytes, and nothing else happens. Such events may stand in a script behind smaller numbers.
+pub record Brings (conn : ℕ) (bytes : List ℕ) (events : List Event) : Type 0 where
+  pub rest : List Event
+  pub opens : events ≡ Opened conn ∷ rest
+  pub all : brought conn rest ≡ bytes
+  pub fits : (from : ℕ) → from ≤ conn → IsTrue (is_script from events)

@@ -1,0 +1,5 @@
+pub mod Dialing
+pub mod Bringing
+pub mod Answering
+pub mod Pushed
+pub mod Worlds

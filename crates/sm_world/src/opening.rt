@@ -1,0 +1,159 @@
+//! Asking an origin, which is opened first where it isn't.
+ghost use Rattle.std.specs.Prelude.{◌≡◌, ◌≢◌, ◌≤◌, ◌<◌, ◌^◌, ◌++◌, ℕ, List, None, Some, IfOk, IfSome, IsErrOf, IsTrue, OnErr};
+ghost use Rattle.sm_archive.specs.declared.opened.OpenFault.TheVariants as open_fault;
+ghost use Rattle.sm_serve.specs.declared.state.State.{State as Kept};
+ghost use Rattle.sm_site.specs.declared.event.Event.{Event};
+ghost use Rattle.sm_site.specs.Clauses.{Both, Rose};
+ghost use Rattle.sm_site.specs.Meanings.{SameLink};
+ghost use Rattle.sm_site.specs.Scripts.{deals_of, is_script, numbers_after};
+ghost use Rattle.sm_site.specs.Sites.{SameBut};
+ghost use Rattle.sm_world.specs.Answering.{HasCause, HasSent};
+ghost use Rattle.sm_world.specs.Bringing.{Brings};
+ghost use Rattle.sm_world.specs.Worlds.{World, Stands, IsOpen, Grows, GoesOn};
+
+use crate::Acted;
+use crate::asking::{next_connection, script_of};
+use sm_archive::{Limits, OpenFault, bodies_have_one_log};
+use sm_origin::law::fewer_images_stand;
+use sm_seglog::law::stores_have_one_reading;
+use sm_serve::{Served, State, serve};
+use sm_site::{Crashing, Script};
+use std::alloc::{AllocError, Global};
+
+/// What the loop keeps behind a request, and what came of that.
+pub(crate) struct Asked {
+    pub state: Option<State>,
+    pub acted: Acted,
+}
+
+// Opens a store that isn't open.
+fn opened<S: Crashing>(
+    alloc: Global,
+    site: &mut S,
+    state: Option<State>,
+    limits: Limits,
+) -> Result<State, OpenFault>
+    requires bytes { limits.store_bytes ≤ 2 ^ 62 }
+    requires entries { limits.entries < 2 ^ 32 }
+    ensures opened { IfOk result (λ new. (w : World) → Stands S.Disk.view S.Disk.may_leave S.Disk.left_at w state site.old
+        → IsOpen S.Disk.view S.Disk.may_leave S.Disk.left_at w new site.new) }
+    ensures refused { OnErr result ((w : World) → Stands S.Disk.view S.Disk.may_leave S.Disk.left_at w state site.old
+        → Stands S.Disk.view S.Disk.may_leave S.Disk.left_at w None site.new) }
+    ensures fault { IsErrOf result open_fault.DiskFault → Rose (S.Disk.view site.old).disk_faults (S.Disk.view site.new).disk_faults }
+    // An image that has a log is a store.
+    ensures never { (w : World) → Stands S.Disk.view S.Disk.may_leave S.Disk.left_at w state site.old
+        → (at : ℕ) → IsErrOf result (open_fault.NotAStore at) → ⊥ }
+    ensures link { SameLink (S.Disk.view site.old) (S.Disk.view site.new) }
+{
+    bodies_have_one_log();
+    stores_have_one_reading();
+    match state {
+        Some(state) => Ok(state),
+        None => match State::start(alloc, site, limits) {
+            Ok(state) => Ok(state),
+            Err(fault) => Err(fault),
+        },
+    }
+}
+
+// Puts events behind the script, which open this connection. None where memory wants.
+fn put<S: Crashing>(site: &mut S, conn: u64, script: Script) -> Option<u64>
+    requires fits { IfSome (S.Disk.view site.old).script (λ deals. IsTrue (is_script (numbers_after (S.Link.numbers site.old) deals) script)) }
+    ensures conn { IfSome result (λ n. n ≡ conn) }
+    ensures added { IfSome result (λ n. Both (S.Disk.view site.old).script (S.Disk.view site.new).script (λ was now. now ≡ was ++ deals_of script)) }
+    ensures stays { (w : World) (state : Kept) → IsOpen S.Disk.view S.Disk.may_leave S.Disk.left_at w state site.old
+        → IsOpen S.Disk.view S.Disk.may_leave S.Disk.left_at w state site.new }
+    ensures view { SameBut (S.Disk.view site.old) (S.Disk.view site.new) }
+{
+    fewer_images_stand::<S>();
+    match site.extend(script) {
+        Ok(()) => Some(conn),
+        Err(AllocError) => None,
+    }
+}
+
+// Puts a request, as a connection of its own, behind the script. None where memory wants.
+fn bring<S: Crashing>(alloc: Global, site: &mut S, request: &[u8]) -> Option<u64>
+    ensures first { IfSome result (λ n. 2 ^ 63 ≤ n) }
+    ensures brings { IfSome result (λ n. (events : List Event) × Brings n request.now events
+        × Both (S.Disk.view site.old).script (S.Disk.view site.new).script (λ was now. now ≡ was ++ deals_of events)) }
+    ensures stays { (w : World) (state : Kept) → IsOpen S.Disk.view S.Disk.may_leave S.Disk.left_at w state site.old
+        → IsOpen S.Disk.view S.Disk.may_leave S.Disk.left_at w state site.new }
+    ensures view { SameBut (S.Disk.view site.old) (S.Disk.view site.new) }
+{
+    match next_connection(site) {
+        None => None,
+        Some(conn) => match script_of(alloc, conn, request) {
+            Ok(script) => put(site, conn, script),
+            Err(AllocError) => None,
+        },
+    }
+}
+
+fn sent_on<S: Crashing>(site: &S, conn: u64) -> Acted
+    ensures { HasSent conn (S.Disk.view site.now).transcript result }
+{
+    match site.sent(conn) {
+        Ok(piece) => Acted::Sent(piece),
+        Err(AllocError) => Acted::NoMemory,
+    }
+}
+
+fn serve_request<S: Crashing>(
+    alloc: Global,
+    site: &mut S,
+    state: &mut State,
+    request: &[u8],
+) -> Acted
+    requires stands { (w : World) × IsOpen S.Disk.view S.Disk.may_leave S.Disk.left_at w state.old site.old }
+    ensures goes_on { GoesOn S.Disk.view S.Disk.may_leave S.Disk.left_at (Some state.old) site.old (Some state.new) site.new }
+    ensures cause { HasCause S.Disk.view site.old site.new request.now result }
+    ensures opened { result ≢ Acted.Unopened }
+{
+    match bring(alloc, site, request) {
+        None => Acted::NoMemory,
+        Some(conn) => match serve(site, state, u64::MAX) {
+            Served::Done { .. } => sent_on(site, conn),
+            Served::LinkFault => Acted::Broken,
+            Served::NoMemory => Acted::NoMemory,
+        },
+    }
+}
+
+/// Opens the store where it isn't open, and serves a request on a new connection until nothing more comes.
+pub(crate) fn ask<S: Crashing>(
+    alloc: Global,
+    site: &mut S,
+    state: Option<State>,
+    limits: Limits,
+    request: &[u8],
+) -> Asked
+    requires bytes { limits.store_bytes ≤ 2 ^ 62 }
+    requires entries { limits.entries < 2 ^ 32 }
+    requires stands { (w : World) × Stands S.Disk.view S.Disk.may_leave S.Disk.left_at w state site.old }
+    ensures goes_on { GoesOn S.Disk.view S.Disk.may_leave S.Disk.left_at state site.old result.state site.new }
+    ensures cause { HasCause S.Disk.view site.old site.new request.now result.acted }
+{
+    match opened(alloc, site, state, limits) {
+        Ok(mut state) => {
+            let acted = serve_request(alloc, site, &mut state, request);
+            Asked {
+                state: Some(state),
+                acted,
+            }
+        }
+        Err(OpenFault::DiskFault) => Asked {
+            state: None,
+            acted: Acted::Unopened,
+        },
+        // this never comes
+        Err(OpenFault::NotAStore { .. }) => Asked {
+            state: None,
+            acted: Acted::Unopened,
+        },
+        Err(OpenFault::NoMemory) => Asked {
+            state: None,
+            acted: Acted::NoMemory,
+        },
+    }
+}
