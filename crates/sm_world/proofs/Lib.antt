@@ -7,4 +7,3 @@ pub mod Stores
 pub mod Standing
 pub mod NoFault
 pub mod Calls
-pub mod Empty

@@ -8,8 +8,6 @@ mod dial;
 mod exchange;
 pub mod law;
 mod opening;
-#[cfg(test)]
-mod tests;
 
 pub use acted::Acted;
 pub use dial::OriginDial;
