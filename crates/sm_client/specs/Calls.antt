@@ -201,7 +201,8 @@ pub record PieceLost {P : Type 0} (m : Meaning P) (plan : Plan) (name : List ℕ
   pub same : now ≡ who
   pub made : (new ≡ old) ⊎ ((level : ℕ) × PieceMade m plan name s start ahead who old new got.NoMemory level)
 
-abbrev pub PieceOnce : {P : Type 0} → Meaning P → Plan → List ℕ → StreamListing → ℕ → ℕ → P → P → Option (List Exchange) → Option (List Exchange) → Asked → Type 0
+abbrev pub PieceOnce : {P : Type 0} → Meaning P → Plan → List ℕ → StreamListing → ℕ → ℕ → P → P
+    → Option (List Exchange) → Option (List Exchange) → Asked → Type 0
 PieceOnce m plan name s start ahead who now old new (asked.Took raw level) = PieceHeard m plan name s start ahead who now old new (got.Fragment raw) level
 PieceOnce m plan name s start ahead who now old new (asked.Missed outcome) = PieceMissed m plan name s start ahead who now old new outcome
 PieceOnce m plan name s start ahead who now old new asked.NoMemory = PieceLost m plan name s start ahead who now old new
@@ -247,7 +248,8 @@ pub record PieceStopped {P : Type 0} (m : Meaning P) (plan : Plan) (name : List 
   pub last : List Item
   pub went : Went m plan name start now (at (standing p) []) (at (standing p) missed) last old new
 
-abbrev pub PiecesBy : {P : Type 0} → Meaning P → Plan → List ℕ → Standing → StreamListing → Turn P → Turn P → Option (List Exchange) → Option (List Exchange)
+abbrev pub PiecesBy : {P : Type 0} → Meaning P → Plan → List ℕ → Standing → StreamListing → Turn P → Turn P
+    → Option (List Exchange) → Option (List Exchange)
     → Pieces → Type 0
 PiecesBy m plan name p s start now old new (pieces.Took raw level) = PieceTaken m plan name p s start now old new raw level
 PiecesBy m plan name p s start now old new (pieces.GaveUp outcomes) =
@@ -319,6 +321,7 @@ WritesFront track track' text (ends.NoManifest outcomes) = ⊥
 WritesFront track track' text (ends.NoStream index) = ⊥
 
 -- the play of one stream, from its first exchange to its end
-abbrev pub Streamed : {P : Type 0} → Meaning P → Plan → List ℕ → ℕ → Turn P → Turn P → ℕ → End → Option (List Exchange) → Option (List Exchange) → Option (List ℕ)
+abbrev pub Streamed : {P : Type 0} → Meaning P → Plan → List ℕ → ℕ → Turn P → Turn P → ℕ → End
+    → Option (List Exchange) → Option (List Exchange) → Option (List ℕ)
     → Option (List ℕ) → Type 0
 Streamed m plan name number start now count end log log' track track' = StreamsEnd m plan name number (at unread []) start now count end log log' track track'

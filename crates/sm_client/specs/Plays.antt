@@ -42,7 +42,8 @@ abbrev pub written_of : Plan → List ℕ → Part → List Piece
 written_of plan name part = written_after plan name nothing_read part.made
 
 -- The stream of this name and number was played by policies in turn, and its track got this.
-pub record IsPart {P : Type 0} (m : Meaning P) (plan : Plan) (name : List ℕ) (number : ℕ) (start : Turn P) (track track' : Option (List ℕ)) (part : Part) : Type 0 where
+pub record IsPart {P : Type 0} (m : Meaning P) (plan : Plan) (name : List ℕ) (number : ℕ) (start : Turn P)
+    (track track' : Option (List ℕ)) (part : Part) : Type 0 where
   pub asks : Asks m plan name start nothing_read part.made
   pub asks_last : AsksLast m plan name (turn_after m start part.made) (state_after plan name nothing_read part.made) part.last
   pub gapless : Gapless (first_start plan.from (first_times name part.made)) (written_of plan name part)
@@ -52,7 +53,8 @@ pub record IsPart {P : Type 0} (m : Meaning P) (plan : Plan) (name : List ℕ) (
   pub few : length part.made + length part.last ≤ (plan.count + 1) * plan.tries * (plan.refresh + 1)
 
 -- The streams are played one after another, the first to the track of this number; the first end that isn't Done ends the call.
-abbrev pub PlaysAll : {P : Type 0} → Meaning P → Plan → Turn P → ℕ → List (List ℕ) → (ℕ → Option (List ℕ)) → (ℕ → Option (List ℕ)) → List Part → End → Type 0
+abbrev pub PlaysAll : {P : Type 0} → Meaning P → Plan → Turn P → ℕ → List (List ℕ)
+    → (ℕ → Option (List ℕ)) → (ℕ → Option (List ℕ)) → List Part → End → Type 0
 PlaysAll m plan start number names held held' [] end = (names ≡ []) × (end ≡ ends.Done)
 PlaysAll m plan start number [] held held' (part ∷ rest) end = ⊥
 PlaysAll m plan start number (name ∷ names) held held' (part ∷ rest) end =
@@ -80,7 +82,8 @@ pub record PlaysFrom {P : Type 0} (m : Meaning P) (plan : Plan) (start : Turn P)
   pub played : report.played ≡ count_of plan names parts
 
 -- a whole call: the first policy that hasn't retired before it has heard anything begins
-abbrev pub Played : {P : Type 0} → Meaning P → Plan → List P → Option (List Exchange) → Option (List Exchange) → (ℕ → Option (List ℕ)) → (ℕ → Option (List ℕ))
+abbrev pub Played : {P : Type 0} → Meaning P → Plan → List P → Option (List Exchange) → Option (List Exchange)
+    → (ℕ → Option (List ℕ)) → (ℕ → Option (List ℕ))
     → Report → Type 0
 Played m plan [] log log' held held' report = ⊥
 Played m plan (p ∷ ps) log log' held held' report = PlaysFrom m plan (settle m p [] ps) 0 plan.streams log log' held held' report

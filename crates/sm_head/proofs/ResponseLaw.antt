@@ -22,8 +22,8 @@ reply_length h is =
     simp (length-append) (omega arith)
 
 -- so many fields don't fit
-pub never_full : (room : ℕ) (bytes : List ℕ) → 2732 ≤ room → length bytes ≤ 8192 → ResponseExceeds room bytes → ⊥
-never_full room bytes big short (front, rest, same, h, reads, over) =
+pub never_full : (room : ℕ) (bytes : List ℕ) → length bytes ≤ 3 * room → ResponseExceeds room bytes → ⊥
+never_full room bytes wide (front, rest, same, h, reads, over) =
     let low = reply_length h reads.0 in
     let l1 = ap length reads.1 in
     let l2 = ap length same in

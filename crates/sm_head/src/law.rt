@@ -58,9 +58,11 @@ pub fn part_shows_its_status()
 /// The texts that stand ready show theirs: what lets a client go on 100, of which no part has a body, and what tells want of
 /// memory 500.
 pub fn ready_texts_show_their_status()
-    ensures goes_on { (other : ℕ) (part more : List ℕ) → IsStatusCode other → part ++ more ≡ CONTINUE.now → shows_status other part ≡ true → other ≡ 100 }
+    ensures goes_on { (other : ℕ) (part more : List ℕ) → IsStatusCode other → part ++ more ≡ CONTINUE.now →
+        shows_status other part ≡ true → other ≡ 100 }
     ensures empty { (part more : List ℕ) → part ++ more ≡ CONTINUE.now → body_of part ≡ [] }
-    ensures no_memory { (other : ℕ) (part more : List ℕ) → IsStatusCode other → part ++ more ≡ NO_MEMORY.now → shows_status other part ≡ true → other ≡ 500 }
+    ensures no_memory { (other : ℕ) (part more : List ℕ) → IsStatusCode other → part ++ more ≡ NO_MEMORY.now →
+        shows_status other part ≡ true → other ≡ 500 }
     ensures whole { (shows_status 100 CONTINUE.now ≡ true) × (shows_status 500 NO_MEMORY.now ≡ true) }
 {
     continue_is_told();

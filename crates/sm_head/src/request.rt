@@ -84,8 +84,9 @@ pub fn read_request(alloc: Global, bytes: &[u8]) -> Result<ReqHead, HeadFault>
 {
     let end = bytes.len().min(8192);
     let window = &bytes[..end];
-    // each field has at least 3 bytes, so a head of 8,192 bytes has fewer
-    let mut headers = vec![in alloc; EMPTY_HEADER_SPAN; 2732]?;
+    // a field has at least 3 bytes
+    let room = end / 3 + 1;
+    let mut headers = vec![in alloc; EMPTY_HEADER_SPAN; room]?;
     match judge_lines(window, headers.as_mut_slice()) {
         Shape::Whole(spans) => judge_spans(alloc, window, headers.as_slice(), spans),
         Shape::Partial => Ok(ReqHead::Partial),

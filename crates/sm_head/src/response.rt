@@ -122,7 +122,9 @@ pub fn read_response(alloc: Global, bytes: &[u8]) -> Result<RespHead, RespFault>
 {
     let end = bytes.len().min(8192);
     let window = &bytes[..end];
-    let mut headers = vec![in alloc; EMPTY_HEADER_SPAN; 2732]?;
+    // a field has at least 3 bytes
+    let room = end / 3 + 1;
+    let mut headers = vec![in alloc; EMPTY_HEADER_SPAN; room]?;
     match parse_response(window, headers.as_mut_slice()) {
         Ok(Status::Complete(spans)) => answer_spans(window, headers.as_slice(), spans),
         Ok(Status::Partial) => if bytes.len() < 8192 {

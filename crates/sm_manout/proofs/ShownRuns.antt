@@ -22,7 +22,8 @@ after_run : (o : Open) (b : Bool) (s d r : ℕ) → after_line o (run_front b s 
 unfolding after_line
 after_run o b s d r = refl
 
-pub run_read : (P : Address → Type 0) (o : Open) (r : TimeRun) (x : List ℕ) → r.start < 2 ^ 64 → r.duration < 2 ^ 64 → r.count < 2 ^ 64 → AllByRecursion P (flat_map (at_bitrates o) (run_starts r.count r.start r.duration)) → Good P o x
+pub run_read : (P : Address → Type 0) (o : Open) (r : TimeRun) (x : List ℕ) → r.start < 2 ^ 64 → r.duration < 2 ^ 64 → r.count < 2 ^ 64
+    → AllByRecursion P (flat_map (at_bitrates o) (run_starts r.count r.start r.duration)) → Good P o x
     → Good P o (run_line r ++ x)
 run_read P o r x ls ld lr here go =
     let b = eqb r.count 1 in
@@ -71,7 +72,8 @@ pub run_first : (Q : ℕ → Type 0) (y : ℕ × ℕ) → IsTime Q y → IsRun Q
 unfolding run_end
 run_first Q y time = record { seen = (time.0, tt); ends = refl; start_fits = time.1; last_fits = time.2 }
 
-pub runs_read : (P : Address → Type 0) (Q : ℕ → Type 0) (o : Open) (x : List ℕ) (start count : ℕ) (last : ℕ × ℕ) (ys : List (ℕ × ℕ)) → ((ss : List ℕ) → AllByRecursion Q ss → AllByRecursion P (flat_map (at_bitrates o) ss))
+pub runs_read : (P : Address → Type 0) (Q : ℕ → Type 0) (o : Open) (x : List ℕ) (start count : ℕ) (last : ℕ × ℕ) (ys : List (ℕ × ℕ))
+    → ((ss : List ℕ) → AllByRecursion Q ss → AllByRecursion P (flat_map (at_bitrates o) ss))
     → IsRun Q start count last → count + length ys < 2 ^ 64 → AllByRecursion (IsTime Q) ys → Good P o x → Good P o (run_lines (runs_from start count last ys) ++ x)
 runs_read P Q o x start count last [] each run fits times go =
     let T : List ℕ → Type 0 = λ l. Good P o (l ++ x) in

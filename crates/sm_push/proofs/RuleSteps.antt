@@ -193,7 +193,8 @@ pass_follows headerless before box s k a plain none = (
 -- ---- a box of a header
 
 -- what stays where a box of a header came
-staged_known : (headerless : Bool) (before : List (List ℕ)) (box : List ℕ) (s : PushState) (stage : HeaderStage) → Knows headerless before s → StageIs (before ++ box ∷ []) stage → is_moof (sort_of box) ≡ false → s.moof ≡ None
+staged_known : (headerless : Bool) (before : List (List ℕ)) (box : List ℕ) (s : PushState) (stage : HeaderStage)
+    → Knows headerless before s → StageIs (before ++ box ∷ []) stage → is_moof (sort_of box) ≡ false → s.moof ≡ None
     → Knows headerless (before ++ box ∷ []) (record s { stage = stage; at = past s.at (length box) })
 staged_known headerless before box s stage k is plain none = record {
   headerless_is = k.headerless_is;

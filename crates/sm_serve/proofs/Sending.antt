@@ -118,7 +118,8 @@ module _ {D : Type 0} (view W : D → View) (leave leave' : D → Image → Type
       record {
         later = moved h [] q;
         keeps = on;
-        follows = record { first = refl; begin = refl; base = refl; on = on_moved h [] q; received = λ j. ap (received j) (append-nil h.items); events = ap events_in (append-nil h.items); live = ap live (append-nil h.items); counts = λ j other. refl };
+        follows = record { first = refl; begin = refl; base = refl; on = on_moved h [] q;
+          received = λ j. ap (received j) (append-nil h.items); events = ap events_in (append-nil h.items); live = ap live (append-nil h.items); counts = λ j other. refl };
         point_is = refl;
       }
 

@@ -1,6 +1,6 @@
 //! The names of elements, attributes and params.
 ghost use Rattle.std.specs.Prelude.{◌≡◌, option_map};
-ghost use Rattle.sm_model.specs.LiveTracks.{index_of, value_of};
+ghost use Rattle.sm_model.specs.LiveTracks.value_of;
 ghost use Rattle.sm_model.specs.LiveWalk.{text_param, number_param, video_param, audio_param, param_name, kind_in, attribute_of};
 
 use sm_model::raw_track::{ParamName, SmilParam};
@@ -101,33 +101,12 @@ pub fn kind_in(element: &[u8]) -> Option<Kind>
     }
 }
 
-// The place of a name in the list of names.
-fn index_of(name: ParamName) -> u8
-    ensures { result ≡ index_of name }
-{
-    match name {
-        ParamName::SystemBitrate => 0,
-        ParamName::TrackId => 1,
-        ParamName::TrackName => 2,
-        ParamName::TimeScale => 3,
-        ParamName::FourCc => 4,
-        ParamName::CodecPrivateData => 5,
-        ParamName::MaxWidth => 6,
-        ParamName::MaxHeight => 7,
-        ParamName::AudioTag => 8,
-        ParamName::Channels => 9,
-        ParamName::SamplingRate => 10,
-        ParamName::BitsPerSample => 11,
-        ParamName::PacketSize => 12,
-    }
-}
-
 /// The value of the first param of that name.
 pub fn value_of(name: ParamName, params: &[SmilParam]) -> Option<&[u8]>
     ensures { option_map (λ x. x.now) result ≡ value_of name params.now }
 {
     for param in params {
-        if index_of(param.name) == index_of(name) {
+        if param.name == name {
             return Some(param.value.as_slice());
         }
     }

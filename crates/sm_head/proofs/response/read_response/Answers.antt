@@ -29,4 +29,4 @@ returns c =
     let l = length-take c.min-end.result c.args.bytes.now in
     never_reply c.args.bytes.now c.min-end.result c.min-end.ensures
     (c.in-Err.ensures.invalid (λ same.
-    never_full _ (take c.min-end.result c.args.bytes.now) (omega (arith, c.as_mut_slice.ensures.len, c.in_ok-headers.ensures.len)) (omega arith) (c.in-Err.ensures.too_many (ap (λ (e : Error). Err e) same))))
+    never_full _ (take c.min-end.result c.args.bytes.now) (omega (arith, c.as_mut_slice.ensures.len, c.in_ok-headers.ensures.len)) (c.in-Err.ensures.too_many (ap (λ (e : Error). Err e) same))))
