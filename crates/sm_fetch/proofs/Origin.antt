@@ -39,7 +39,7 @@ use Rattle.sm_fetch.specs.declared.place.Place.{Place}
 use Rattle.sm_fetch.specs.declared.got.Got.{Got}
 use Rattle.sm_fetch.specs.declared.got.Got.TheVariants as got
 use Rattle.sm_fetch.specs.Answered.{IsBehindInterim, first, next, IsWholeReply}
-use Rattle.sm_fetch.specs.Fetched.{IsKeptAt}
+use Rattle.sm_fetch.specs.Fetched.{IsKeptAt, GrowsWith}
 use Rattle.sm_fetch.specs.Origins.{IsKeptText, FromOrigin, Grows, AnswersFrom}
 use Rattle.sm_fetch.specs.Requests.{fragment_target, fragment_request}
 use Rattle.sm_fetch.specs.Spelt.{IsFragmentAt, SpellsFragment, given}
@@ -179,10 +179,10 @@ kept_is_read log a time body raw k f =
 -- ---- answers
 
 front_is_kept : (log : List Entry) (place : Place) (url : List ℕ) (a : Address) (bytes : List ℕ) (g : Got) → FromOrigin log (fragment_request place url a) (answers.Bytes bytes)
-    → SpellsFragment a.time (answers.Bytes bytes) g → IsKeptAt place url a (Some log) g
+    → SpellsFragment a.time (answers.Bytes bytes) g → IsKeptAt place url a log g
 front_is_kept log place url a bytes (got.Manifest listing) from spells = absurd spells
-front_is_kept log place url a bytes (got.Fragment raw) from (at, body, whole, is) = λ named.
-    let (reply, more, r, text) = from place.host place.port (fragment_target place url a) refl in
+front_is_kept log place url a bytes (got.Fragment raw) from (at, body, whole, is) = λ asked named.
+    let (reply, more, r, text) = from place.host place.port (fragment_target place url a) asked refl in
     let own = own_body r.status r.kind r.body r.close bytes more 200 at body r.code r.final r.short (sym r.text ∙ text) whole in
     kept_is_read log a a.time body raw (subst (IsKeptText log a) (sym own.1) (r.fragment a named (sym own.0))) is
 front_is_kept log place url a bytes (got.Status status) from spells = tt
@@ -192,36 +192,35 @@ front_is_kept log place url a bytes got.Lost from spells = tt
 front_is_kept log place url a bytes got.NoMemory from spells = tt
 
 -- what is kept stays kept
-kept_on : (place : Place) (url : List ℕ) (a : Address) (log since : List Entry) (g : Got) → IsKeptAt place url a (Some log) g → IsKeptAt place url a (Some (log ++ since)) g
+kept_on : (place : Place) (url : List ℕ) (a : Address) (log since : List Entry) (g : Got) → IsKeptAt place url a log g → IsKeptAt place url a (log ++ since) g
 kept_on place url a log since (got.Manifest listing) is = tt
-kept_on place url a log since (got.Fragment raw) is = λ named. Contains-append_left log since (Keep (given a.stream a.bitrate raw)) (is named)
+kept_on place url a log since (got.Fragment raw) is = λ asked named. Contains-append_left log since (Keep (given a.stream a.bitrate raw)) (is asked named)
 kept_on place url a log since (got.Status status) is = tt
 kept_on place url a log since got.Cut is = tt
 kept_on place url a log since (got.Unreadable at) is = tt
 kept_on place url a log since got.Lost is = tt
 kept_on place url a log since got.NoMemory is = tt
 
-untold : (place : Place) (url : List ℕ) (a : Address) (g : Got) → IsKeptAt place url a None g
-untold place url a (got.Manifest listing) = tt
-untold place url a (got.Fragment raw) = λ named. tt
-untold place url a (got.Status status) = tt
-untold place url a got.Cut = tt
-untold place url a (got.Unreadable at) = tt
-untold place url a got.Lost = tt
-untold place url a got.NoMemory = tt
+pub answer_is_kept : (old now : List Entry → Type 0) (place : Place) (url : List ℕ) (a : Address) (bytes : List ℕ) (g : Got)
+    → AnswersFrom old now (fragment_request place url a) (answers.Bytes bytes) → SpellsFragment a.time (answers.Bytes bytes) g → GrowsWith place url a old now g
+answer_is_kept old now place url a bytes g from spells = λ log told.
+    let (until, since, is, origin) = from log told in
+    let one = append_assoc log until since in
+    (
+      until ++ since,
+      subst now one is,
+      subst (λ (l : List Entry). IsKeptAt place url a l g) one (kept_on place url a (log ++ until) since g (front_is_kept (log ++ until) place url a bytes g origin spells)),
+    )
 
-pub answer_is_kept : (old now : Option (List Entry)) (place : Place) (url : List ℕ) (a : Address) (bytes : List ℕ) (g : Got)
-    → AnswersFrom old now (fragment_request place url a) (answers.Bytes bytes) → SpellsFragment a.time (answers.Bytes bytes) g → IsKeptAt place url a now g
-answer_is_kept None now place url a bytes g from spells = subst (λ (s : Option (List Entry)). IsKeptAt place url a s g) (sym from) (untold place url a g)
-answer_is_kept (Some log) now place url a bytes g (until, since, is, from) spells =
-    subst (λ (s : Option (List Entry)). IsKeptAt place url a s g) (sym is) (kept_on place url a (log ++ until) since g (front_is_kept (log ++ until) place url a bytes g from spells))
+-- what is no fragment is kept anywhere
+pub grown_without : (old now : List Entry → Type 0) (place : Place) (url : List ℕ) (a : Address) (g : Got) → ((log : List Entry) → IsKeptAt place url a log g)
+    → Grows old now → GrowsWith place url a old now g
+grown_without old now place url a g kept grows = λ log told. let (more, is) = grows log told in (more, is, kept (log ++ more))
 
 -- ---- stores
 
-pub stays_grown : (s : Option (List Entry)) → Grows s s
-stays_grown None = refl
-stays_grown (Some log) = ([], ap (λ (l : List Entry). Some l) (sym (append-nil log)))
+pub stays_grown : (s : List Entry → Type 0) → Grows s s
+stays_grown s = λ log told. ([], subst s (sym (append-nil log)) told)
 
-pub grown : (old now : Option (List Entry)) (request : List ℕ) (answer : Answer) → AnswersFrom old now request answer → Grows old now
-grown None now request answer is = is
-grown (Some log) now request answer (until, since, is, from) = (until ++ since, is ∙ ap (λ (l : List Entry). Some l) (append_assoc log until since))
+pub grown : (old now : List Entry → Type 0) (request : List ℕ) (answer : Answer) → AnswersFrom old now request answer → Grows old now
+grown old now request answer is = λ log told. let (until, since, at, from) = is log told in (until ++ since, subst now (append_assoc log until since) at)

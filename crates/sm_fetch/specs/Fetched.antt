@@ -1,5 +1,5 @@
 -- What one call makes of one exchange.
-use Rattle.std.specs.Prelude.{◌≡◌, ◌<◌, ℕ, List, length, All, Option, IfSome, Contains}
+use Rattle.std.specs.Prelude.{◌≡◌, ◌<◌, ℕ, List, ◌++◌, length, All, Option, Contains}
 use Rattle.sm_model.specs.declared.address.Address.{Address}
 use Rattle.sm_model.specs.declared.entry.Entry.{Entry}
 use Rattle.sm_model.specs.declared.entry.Entry.TheVariants.{Keep}
@@ -14,6 +14,7 @@ use Rattle.sm_fetch.specs.declared.got.Got.{Got}
 use Rattle.sm_fetch.specs.declared.got.Got.TheVariants as got
 use Rattle.sm_fetch.specs.declared.push.Pushed.{Pushed}
 use Rattle.sm_fetch.specs.Exchanges.{logged, answer_len, IsWithin}
+use Rattle.sm_fetch.specs.Origins.{MayBeAsked}
 use Rattle.sm_fetch.specs.Requests.{manifest_request, manifest_limit, fragment_target, fragment_request, fragment_limit, push_request, push_limit}
 use Rattle.sm_fetch.specs.Spelt.{SpellsManifest, SpellsFragment, SpellsPush, given}
 
@@ -39,17 +40,22 @@ pub record PushedBody (place : Place) (id body : List ℕ) (old new : Option (Li
   pub within : IsWithin push_limit answer
   pub spells : SpellsPush answer p
 
--- a fragment that was read is kept in the log that is told, at the address that was asked
-abbrev pub IsKeptAt : Place → List ℕ → Address → Option (List Entry) → Got → Type 0
-IsKeptAt place url address store (got.Fragment raw) =
-    target_of (fragment_target place url address) ≡ target.Fragment address
-    → IfSome store (λ log. Contains log (Keep (given address.stream address.bitrate raw)))
-IsKeptAt place url address store (got.Manifest listing) = Unit {0}
-IsKeptAt place url address store (got.Status status) = Unit {0}
-IsKeptAt place url address store got.Cut = Unit {0}
-IsKeptAt place url address store (got.Unreadable at) = Unit {0}
-IsKeptAt place url address store got.Lost = Unit {0}
-IsKeptAt place url address store got.NoMemory = Unit {0}
+-- a fragment that was read is kept in this log, at the address that was asked
+abbrev pub IsKeptAt : Place → List ℕ → Address → List Entry → Got → Type 0
+IsKeptAt place url address log (got.Fragment raw) =
+    MayBeAsked place.host (fragment_target place url address) → target_of (fragment_target place url address) ≡ target.Fragment address
+    → Contains log (Keep (given address.stream address.bitrate raw))
+IsKeptAt place url address log (got.Manifest listing) = Unit {0}
+IsKeptAt place url address log (got.Status status) = Unit {0}
+IsKeptAt place url address log got.Cut = Unit {0}
+IsKeptAt place url address log (got.Unreadable at) = Unit {0}
+IsKeptAt place url address log got.Lost = Unit {0}
+IsKeptAt place url address log got.NoMemory = Unit {0}
+
+-- for each log that is told before, one is told now that goes on from it and keeps the fragment that was read
+abbrev pub GrowsWith : Place → List ℕ → Address → (List Entry → Type 0) → (List Entry → Type 0) → Got → Type 0
+GrowsWith place url address old now g =
+    (log : List Entry) → old log → (more : List Entry) × now (log ++ more) × IsKeptAt place url address (log ++ more) g
 
 -- each stream that is listed has a quality
 abbrev pub StreamsHaveLevels : Listing → Type 0

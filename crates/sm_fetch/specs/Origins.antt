@@ -1,6 +1,7 @@
 -- The store of an origin behind a dial, which only grows, and the replies that it may give.
-use Rattle.std.specs.Prelude.{◌≡◌, ◌<◌, ◌≤◌, ◌^◌, ℕ, Bool, List, ◌++◌, length, Option, Some, None, Contains}
+use Rattle.std.specs.Prelude.{◌≡◌, ◌<◌, ◌≤◌, ◌^◌, ℕ, Bool, List, ◌++◌, length, Contains, IsUtf8}
 use Rattle.http.specs.StatusCode.{IsStatusCode}
+use Rattle.httparse.specs.Grammar.{AllPass, is_uri_byte, is_value_byte}
 use Rattle.sm_model.specs.declared.address.Address.{Address}
 use Rattle.sm_model.specs.declared.entry.Entry.{Entry}
 use Rattle.sm_model.specs.declared.entry.Entry.TheVariants.{Keep}
@@ -44,19 +45,31 @@ pub record IsOriginReply (log : List Entry) (named reply : List ℕ) : Type 0 wh
 abbrev pub IsOfOrigin : List Entry → List ℕ → List ℕ → Type 0
 IsOfOrigin log named bytes = (reply more : List ℕ) × IsOriginReply log named reply × (reply ≡ bytes ++ more)
 
+-- A host and a target that a request may have: the target is text of visible bytes, and the host has no control byte.
+pub record MayBeAsked (host named : List ℕ) : Type 0 where
+  pub host : AllPass is_value_byte host
+  pub some : 0 < length named
+  pub visible : AllPass is_uri_byte named
+  pub text : IsUtf8 named
+
 -- an answer to the GET of a target of any place is the origin's
 abbrev pub FromOrigin : List Entry → List ℕ → Answer → Type 0
-FromOrigin log request (answers.Bytes bytes) = (host : List ℕ) (port : ℕ) (named : List ℕ) → request ≡ get_text host port named → IsOfOrigin log named bytes
+FromOrigin log request (answers.Bytes bytes) =
+    (host : List ℕ) (port : ℕ) (named : List ℕ) → MayBeAsked host named → request ≡ get_text host port named → IsOfOrigin log named bytes
 FromOrigin log request answers.Lost = Unit {0}
 FromOrigin log request answers.NoMemory = Unit {0}
 
--- the log that is told only grows
-abbrev pub Grows : Option (List Entry) → Option (List Entry) → Type 0
-Grows None now = now ≡ None
-Grows (Some log) now = (more : List Entry) × (now ≡ Some (log ++ more))
+-- ---- the logs that a dial may be said to have behind it
+
+-- a dial that tells none
+abbrev pub Untold : List Entry → Type 0
+Untold log = ⊥
+
+-- it only grows: for each log that is told before, one is told now that goes on from it
+abbrev pub Grows : (List Entry → Type 0) → (List Entry → Type 0) → Type 0
+Grows old now = (log : List Entry) → old log → (more : List Entry) × now (log ++ more)
 
 -- it only grows, and the answer was given at some moment of it
-abbrev pub AnswersFrom : Option (List Entry) → Option (List Entry) → List ℕ → Answer → Type 0
-AnswersFrom None now request answer = now ≡ None
-AnswersFrom (Some log) now request answer =
-    (until since : List Entry) × (now ≡ Some ((log ++ until) ++ since)) × FromOrigin (log ++ until) request answer
+abbrev pub AnswersFrom : (List Entry → Type 0) → (List Entry → Type 0) → List ℕ → Answer → Type 0
+AnswersFrom old now request answer =
+    (log : List Entry) → old log → (until since : List Entry) × now ((log ++ until) ++ since) × FromOrigin (log ++ until) request answer

@@ -70,8 +70,8 @@ pub trait Dial {
     /// How often it has failed. The count stands still at 2^64 - 1.
     ghost dial_faults: { Self → ℕ };
 
-    /// What the origin behind it keeps, where the dial tells it. It only grows.
-    ghost store: { Self → Option (List Entry) };
+    /// The logs that the origin behind it may have, where the dial tells any. They only grow.
+    ghost store: { Self → List Entry → Type 0 };
 
     /// Turns to the origin at this host and port, for the exchanges that follow. It makes none.
     fn select(&mut self, host: &str, port: u16) -> Result<(), DialError>

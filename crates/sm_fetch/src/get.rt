@@ -2,7 +2,7 @@
 ghost use Rattle.std.specs.Prelude.{◌≡◌, ◌≤◌, ℕ};
 ghost use Rattle.sm_fetch.specs.Exchanges.{Rose};
 ghost use Rattle.sm_fetch.specs.Origins.{Grows};
-ghost use Rattle.sm_fetch.specs.Fetched.{FetchedManifest, FetchedFragment, IsKeptAt, HasLevels};
+ghost use Rattle.sm_fetch.specs.Fetched.{FetchedManifest, FetchedFragment, GrowsWith, HasLevels};
 ghost use Rattle.sm_fetch.specs.Spelt.{SpellsListing, SpellsSamples};
 
 use crate::reply::{Reply, read_reply};
@@ -93,7 +93,7 @@ pub fn fetch_fragment<C: Dial>(
     ensures later { C.dial_faults dial.old ≤ C.dial_faults dial.new }
     ensures lost { result.got ≡ Got.Lost → Rose (C.dial_faults dial.old) (C.dial_faults dial.new) }
     ensures grows { Grows (C.store dial.old) (C.store dial.new) }
-    ensures kept { IsKeptAt place.now url.now address.now (C.store dial.new) result.got }
+    ensures kept { GrowsWith place.now url.now address.now (C.store dial.old) (C.store dial.new) result.got }
 {
     let Ok(request) = put_fragment_request(alloc, place, url, address) else {
         return Fetched {
@@ -129,7 +129,7 @@ pub fn get_fragment<C: Dial>(
     ensures later { C.dial_faults dial.old ≤ C.dial_faults dial.new }
     ensures lost { result ≡ Got.Lost → Rose (C.dial_faults dial.old) (C.dial_faults dial.new) }
     ensures grows { Grows (C.store dial.old) (C.store dial.new) }
-    ensures kept { IsKeptAt place.now url.now address.now (C.store dial.new) result }
+    ensures kept { GrowsWith place.now url.now address.now (C.store dial.old) (C.store dial.new) result }
 {
     fetch_fragment(alloc, dial, place, url, address).got
 }

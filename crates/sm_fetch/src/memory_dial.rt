@@ -2,7 +2,7 @@
 ghost use Rattle.std.specs.Prelude.{◌≡◌, ◌≢◌, ◌≤◌, ◌++◌, [], ◌∷◌, Some, None, Ok, OnOk, OnErr, IsErrOf, take};
 ghost use Rattle.sm_fetch.specs.Exchanges.{logged, Rose, IsWithin};
 ghost use Rattle.sm_fetch.specs.Memory.{DialState, one_more, cut_at, coming_at, rest_of, made_one, passed_one};
-ghost use Rattle.sm_fetch.specs.Origins.{Grows, AnswersFrom};
+ghost use Rattle.sm_fetch.specs.Origins.{Untold, Grows, AnswersFrom};
 
 use crate::{Answer, Answers, Dial, DialError, Exchange, Given};
 use sm_model::{Bytes, NoMemory};
@@ -109,13 +109,13 @@ impl Dial for MemoryDial {
 
     ghost dial_faults = { λ d. d.faults };
 
-    ghost store = { λ d. None };
+    ghost store = { λ d. Untold };
 
     fn select(&mut self, _host: &str, _port: u16) -> Result<(), DialError>
         ensures log { Some self.new.made ≡ Some self.old.made }
         ensures later { self.old.faults ≤ self.new.faults }
         ensures failed { IsErrOf result DialError.Failed → Rose self.old.faults self.new.faults }
-        ensures store { Grows None None }
+        ensures store { Grows Untold Untold }
 
         ensures always { result ≡ Ok tt }
         ensures same { self.new ≡ self.old }
@@ -128,7 +128,7 @@ impl Dial for MemoryDial {
         ensures within { IsWithin limit result }
         ensures later { self.old.faults ≤ self.new.faults }
         ensures lost { result ≡ Answer.Lost → Rose self.old.faults self.new.faults }
-        ensures store { AnswersFrom None None request.now result }
+        ensures store { AnswersFrom Untold Untold request.now result }
 
         ensures gives { result ≢ Answer.NoMemory → result ≡ coming_at limit self.old.coming }
         ensures made { result ≢ Answer.NoMemory → self.new ≡ made_one self.old request.now limit }
@@ -154,7 +154,7 @@ impl Dial for MemoryDial {
     fn pause(&mut self)
         ensures log { Some self.new.made ≡ Some self.old.made }
         ensures later { self.old.faults ≤ self.new.faults }
-        ensures store { Grows None None }
+        ensures store { Grows Untold Untold }
 
         ensures counted { self.new ≡ record self.old { pauses = one_more self.old.pauses } }
     {

@@ -1,6 +1,7 @@
 // The dial over sockets.
 ghost use Rattle.std.specs.Prelude.{◌≤◌, ◌<◌, length, vec_len, None, IfOk};
 ghost use Rattle.sm_fetch.specs.Exchanges.{Rose};
+ghost use Rattle.sm_fetch.specs.Origins.{Untold};
 
 use crate::OpenFault;
 use sm_fetch::{Answer, Dial, DialError, Reply, read_reply};
@@ -154,7 +155,7 @@ impl<R: Net<Stream = TcpStream> + Clock + Drop> Dial for TcpDial<R> {
 
     ghost dial_faults = { λ d. d.faults };
 
-    ghost store = { λ _. None };
+    ghost store = { λ _. Untold };
 
     fn select(&mut self, host: &str, port: u16) -> Result<(), DialError> {
         self.addresses.clear();

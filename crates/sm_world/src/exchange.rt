@@ -1,7 +1,7 @@
 //! The exchanges of an origin on a site.
 ghost use Rattle.std.specs.Prelude.{◌≡◌, ◌≤◌, ◌⊎◌, ◌++◌, ◌∷◌, [], Ok, Some, None, OnOk, OnErr, IsErrOf};
 ghost use Rattle.sm_fetch.specs.Exchanges.{logged, Rose, IsWithin};
-ghost use Rattle.sm_fetch.specs.Origins.{Grows, AnswersFrom};
+ghost use Rattle.sm_fetch.specs.Origins.{Untold, Grows, AnswersFrom};
 ghost use Rattle.sm_site.specs.Faults.{is_listed};
 ghost use Rattle.sm_world.specs.Answering.{HasCause, answer_for, faults_after, one_more};
 ghost use Rattle.sm_world.specs.Worlds.{GoesOn};
@@ -69,13 +69,13 @@ impl<S: Crashing> Dial for OriginDial<S> {
 
     ghost dial_faults = { λ d. d.1.faults };
 
-    ghost store = { λ d. None };
+    ghost store = { λ d. Untold };
 
     fn select(&mut self, _host: &str, _port: u16) -> Result<(), DialError>
         ensures log { Some self.new.1.made ≡ Some self.old.1.made }
         ensures later { self.old.1.faults ≤ self.new.1.faults }
         ensures failed { IsErrOf result DialError.Failed → Rose self.old.1.faults self.new.1.faults }
-        ensures store { Grows None None }
+        ensures store { Grows Untold Untold }
         ensures always { result ≡ Ok tt }
         ensures same { self.new ≡ self.old }
     {
@@ -89,7 +89,7 @@ impl<S: Crashing> Dial for OriginDial<S> {
         ensures within { IsWithin limit result }
         ensures later { self.old.1.faults ≤ self.new.1.faults }
         ensures lost { result ≡ Answer.Lost → Rose self.old.1.faults self.new.1.faults }
-        ensures store { AnswersFrom None None request.now result }
+        ensures store { AnswersFrom Untold Untold request.now result }
         ensures counted { self.new.1.count ≡ one_more self.old.1.count }
         ensures faults { self.new.1.faults ≡ faults_after self.old.1.faults result }
         ensures lists { (self.new.1.lost ≡ self.old.1.lost) × (self.new.1.cut ≡ self.old.1.cut) × (self.new.1.limits ≡ self.old.1.limits) }
@@ -117,7 +117,7 @@ impl<S: Crashing> Dial for OriginDial<S> {
     fn pause(&mut self)
         ensures log { Some self.new.1.made ≡ Some self.old.1.made }
         ensures later { self.old.1.faults ≤ self.new.1.faults }
-        ensures store { Grows None None }
+        ensures store { Grows Untold Untold }
         ensures same { self.new ≡ self.old }
     {}
 }
