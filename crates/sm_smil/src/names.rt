@@ -1,6 +1,6 @@
 //! The names of elements, attributes and params.
 ghost use Rattle.std.specs.Prelude.{◌≡◌, option_map};
-ghost use Rattle.sm_model.specs.LiveTracks.value_of;
+ghost use Rattle.sm_model.specs.LiveTracks.{value_of};
 ghost use Rattle.sm_model.specs.LiveWalk.{text_param, number_param, video_param, audio_param, param_name, kind_in, attribute_of};
 
 use sm_model::raw_track::{ParamName, SmilParam};
