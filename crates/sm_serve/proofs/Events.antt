@@ -1,5 +1,5 @@
 -- What the next event brings to a run.
-use Rattle.std.proofs.Common.{◌≡◌, inl, inr, ⊎_elim, ◌↔◌, ℕ, ◌+◌, ◌-◌, ◌<◌, ◌≤◌, ◌^◌, Bool, true, false, ◌==◌, if◌then◌else◌, List, [], ◌∷◌, ◌++◌, Option, Some, None, is_some, IsSome, IfSome, IsTrue, refl, sym, ◌∙◌, ap, subst, arith}
+use Rattle.std.proofs.Common.{◌≡◌, inl, inr, ⊎_elim, ◌↔◌, ℕ, ◌+◌, ◌-◌, ◌<◌, ◌≤◌, ◌^◌, Bool, true, false, ◌==◌, if◌then◌else◌, List, [], ◌∷◌, ◌++◌, Option, Some, None, is_some, IsSome, IfSome, IsTrue, length, refl, sym, ◌∙◌, ap, subst, arith, append_assoc, length-append}
 use Rattle.std.specs.Prelude.{All}
 use Rattle.std.specs.List.{AllByRecursion}
 use Rattle.std.proofs.lemmas.List.Elements.{recursion_from_All}
@@ -9,6 +9,7 @@ use Rattle.sm_site.specs.Image.{Image}
 use Rattle.sm_site.specs.Meanings.{View, Deal, Item, DiskCall, IsLive, open_after, open_from}
 use Rattle.sm_site.specs.Meanings.Deal.{Began, Came, Left, Over, Sent, Shut}
 use Rattle.sm_site.specs.Clauses.{Both, NoMore, Adds}
+use Rattle.sm_site.specs.Scripts.{Takes}
 use Rattle.sm_model.specs.declared.act.Act.TheVariants.{Header}
 use Rattle.sm_model.specs.declared.track.Track.{Track}
 use Rattle.sm_archive.specs.declared.answers.Declared.{Declared}
@@ -22,7 +23,7 @@ use Rattle.sm_origin.specs.Machine.{Machine}
 use Rattle.sm_serve.specs.declared.live.Live.{Live}
 use Rattle.sm_serve.specs.declared.state.State.{State}
 use Rattle.sm_serve.specs.declared.outcome.Served.{Served as Outcome}
-use Rattle.sm_serve.specs.Connections.{without, is_among, live_after, live_from, live, events_in}
+use Rattle.sm_serve.specs.Connections.{without, is_among, live_after, live_from, live, events_in, deals_in}
 use Rattle.std.proofs.lemmas.List.{append-nil}
 use Rattle.sm_origin.specs.declared.origin.Origin.{Origin}
 use Rattle.sm_serve.specs.Standing.{StandsOn}
@@ -35,8 +36,8 @@ use Rattle.sm_serve.specs.Surviving.{Survives}
 use Rattle.sm_serve.specs.Moments.{FitsAt}
 use Rattle.sm_serve.specs.Run.{Stepped, Run, Point, idle, declared, at, start, begins}
 use Rattle.sm_serve.specs.Standing.{History, is_told, Keeps, Pending, calls_of}
-use Rattle.sm_serve.specs.Serving.{numbers_of, AreResting, Serves, Known, Turns, Served, EndsAs, MayHandle, IsNew, Begins, DeclaresIn}
-use Rattle.sm_serve.proofs.Transcripts.{told_adds, open_push, stays_live}
+use Rattle.sm_serve.specs.Serving.{numbers_of, AreResting, Serves, Known, Turns, TurnsBy, Served, EndsAs, MayHandle, IsNew, Begins, DeclaresIn}
+use Rattle.sm_serve.proofs.Transcripts.{told_adds, open_push, stays_live, events_are}
 use Rattle.sm_serve.proofs.Going.{Acted, stepped, run_as, link_move}
 use Rattle.sm_serve.proofs.Sending.{LinkCall, calls_here, contents_here, told_here}
 use Rattle.sm_serve.proofs.Lives.{among_push, among_less, among_itself, rest_all}
@@ -146,7 +147,7 @@ module _ {D : Type 0} (view W : D → View) (leave leave' : D → Image → Type
   -- a call that takes no event
   pub still_serves : (fewer : (m : Machine) (o : Origin) (old new : D) → StandsOn view leave m o old → (view new).contents ≡ (view old).contents → NoMore (leave old) (leave new) → StandsOn view leave m o new)
       → (h : History) (state : State) (d e : D) → Serves view leave left_at h state d → LinkCall view W leave leave' left_at left' one_view one_disk one_past told d e
-      → (W e).transcript ≡ (W d).transcript → (W e).send_faults ≡ (W d).send_faults → Turns view leave left_at h 0 state e
+      → (W e).transcript ≡ (W d).transcript → (W e).send_faults ≡ (W d).send_faults → Turns view leave left_at h [] state e
   still_serves fewer h state d e serves call still faults =
       let keeps = serves.keeps in
       let time = elapses_here view W leave leave' left_at left' one_view one_disk one_past d e call.time in
@@ -182,7 +183,7 @@ module _ {D : Type 0} (view W : D → View) (leave leave' : D → Image → Type
           };
         };
         since = record { first = refl; begin = refl; base = refl; on = on_itself h h refl refl };
-        taken = omega arith;
+        taken = sym (append-nil (deals_in h.items));
       }
 
   pub may_handle : (event : Event) (state : State) (d e : D) → Known view leave left_at state d → Adds (deal_of event) (W d) (W e) → is_some (view e).transcript ≡ is_some (view d).transcript
@@ -211,18 +212,92 @@ module _ {D : Type 0} (view W : D → View) (leave leave' : D → Image → Type
   is_new (Closed n) h d told next = tt
   is_new Ended h d told next = tt
 
-module _ {D : Type 0} (view : D → View) (leave : D → Image → Type 0) (left_at : D → ℕ → Image → Type 0) where
-  pub turns_then : (h : History) (i j k : ℕ) (state : State) (d : D) (mid : State) (c : D) → j + i ≡ k → (one : Turns view leave left_at h i mid c) → Turns view leave left_at one.later j state d
-      → Turns view leave left_at h k state d
-  turns_then h i j k state d mid c sum one two = record {
-    later = two.later;
-    serves = two.serves;
-    since = record { first = two.since.first ∙ one.since.first; begin = two.since.begin ∙ one.since.begin; base = two.since.base ∙ one.since.base; on = on_then h one.later two.later one.since.on two.since.on };
-    taken = omega (arith, two.taken, one.taken, sum);
+-- ---- what was taken of a script
+
+scripts_then : (a b c : Option (List Deal)) (xs ys : List Deal) → Both a b (λ was now. was ≡ xs ++ now) → Both b c (λ was now. was ≡ ys ++ now) → Both a c (λ was now. was ≡ (xs ++ ys) ++ now)
+scripts_then None None None xs ys one two = tt
+scripts_then None None (Some c) xs ys one two = absurd two
+scripts_then None (Some b) c xs ys one two = absurd one
+scripts_then (Some a) None c xs ys one two = absurd one
+scripts_then (Some a) (Some b) None xs ys one two = absurd two
+scripts_then (Some a) (Some b) (Some c) xs ys one two = one ∙ ap (λ (ds : List Deal). xs ++ ds) two ∙ sym (append_assoc xs ys c)
+
+pub script_stays : (s : Option (List Deal)) → Both s s (λ was now. was ≡ now)
+script_stays None = tt
+script_stays (Some s) = refl
+
+script_took : (deal : Deal) (a b c : Option (List Deal)) → Both a b (Takes deal) → c ≡ b → Both a c (λ was now. was ≡ (deal ∷ []) ++ now)
+script_took deal None None None took same = tt
+script_took deal None None (Some c) took same = absurd (cc)
+script_took deal None (Some b) c took same = absurd took
+script_took deal (Some a) None c took same = absurd took
+script_took deal (Some a) (Some b) None took same = absurd (cc)
+script_took deal (Some a) (Some b) (Some c) took same = let one : c ≡ b = cc in took ∙ ap (λ (ds : List Deal). deal ∷ ds) (sym one)
+
+same_script : (a b : Option (List Deal)) → b ≡ a → Both a b (λ was now. was ≡ [] ++ now)
+same_script a b same = subst (λ (o : Option (List Deal)). Both a o (λ was now. was ≡ now)) (sym same) (script_stays a)
+
+module _ {D : Type 0} (view W : D → View) (leave : D → Image → Type 0) (left_at : D → ℕ → Image → Type 0) (one_view : (s : D) → view s ≡ W s) where
+  script_in : (d : D) → (view d).script ≡ (W d).script
+  script_in d = ap (λ (v : View). v.script) (one_view d)
+
+  pub turn_taken : (h : History) (n : ℕ) (deal : Deal) (state : State) (d mid e : D) → 1 ≡ n → Both (W d).script (W mid).script (Takes deal) → (view e).script ≡ (view mid).script
+      → Turns view leave left_at h (deal ∷ []) state e → TurnsBy view leave left_at h n (view d).script state e
+  turn_taken h n deal state d mid e one took same turns = record {
+    deals = deal ∷ [];
+    many = one;
+    turns = turns;
+    script_is = subst (λ (s : Option (List Deal)). Both s (view e).script (λ was now. was ≡ (deal ∷ []) ++ now)) (sym (script_in d))
+        (script_took deal (W d).script (W mid).script (view e).script took (same ∙ script_in mid));
   }
 
-  pub turns_here : (h : History) (state : State) (d : D) → Serves view leave left_at h state d → Turns view leave left_at h 0 state d
-  turns_here h state d serves = record { later = h; serves = serves; since = record { first = refl; begin = refl; base = refl; on = on_itself h h refl refl }; taken = omega arith }
+  pub turn_not_taken : (h : History) (state : State) (d e : D) → (W e).script ≡ (W d).script → Turns view leave left_at h [] state e → TurnsBy view leave left_at h 0 (view d).script state e
+  turn_not_taken h state d e same turns = record {
+    deals = [];
+    many = refl;
+    turns = turns;
+    script_is = same_script (view d).script (view e).script (script_in e ∙ same ∙ sym (script_in d));
+  }
+
+module _ {D : Type 0} (view : D → View) (leave : D → Image → Type 0) (left_at : D → ℕ → Image → Type 0) where
+  pub turns_then : (h : History) (i j k : ℕ) (was : Option (List Deal)) (state : State) (d : D) (mid : State) (c : D) → j + i ≡ k → (one : TurnsBy view leave left_at h i was mid c)
+      → TurnsBy view leave left_at one.turns.later j (view c).script state d → TurnsBy view leave left_at h k was state d
+  turns_then h i j k was state d mid c sum one two = record {
+    deals = one.deals ++ two.deals;
+    many = omega (arith, length-append one.deals two.deals, one.many, two.many, sum);
+    turns = record {
+      later = two.turns.later;
+      serves = two.turns.serves;
+      since = record {
+        first = two.turns.since.first ∙ one.turns.since.first;
+        begin = two.turns.since.begin ∙ one.turns.since.begin;
+        base = two.turns.since.base ∙ one.turns.since.base;
+        on = on_then h one.turns.later two.turns.later one.turns.since.on two.turns.since.on;
+      };
+      taken = two.turns.taken ∙ ap (λ (ds : List Deal). ds ++ two.deals) one.turns.taken ∙ append_assoc (deals_in h.items) one.deals two.deals;
+    };
+    script_is = scripts_then was (view c).script (view d).script one.deals two.deals one.script_is two.script_is;
+  }
+
+  pub turns_here : (h : History) (state : State) (d : D) → Serves view leave left_at h state d → TurnsBy view leave left_at h 0 (view d).script state d
+  turns_here h state d serves = record {
+    deals = [];
+    many = refl;
+    turns = record {
+      later = h;
+      serves = serves;
+      since = record { first = refl; begin = refl; base = refl; on = on_itself h h refl refl };
+      taken = sym (append-nil (deals_in h.items));
+    };
+    script_is = script_stays (view d).script;
+  }
+
+  -- as many events as were counted
+  pub counted : (h : History) (n : ℕ) (was : Option (List Deal)) (state : State) (d : D) → (all : TurnsBy view leave left_at h n was state d) → events_in all.turns.later.items ≡ n + events_in h.items
+  counted h n was state d all =
+      let now = events_are all.turns.later.items in
+      let before = events_are h.items in
+      omega (arith, now, before, ap length all.turns.taken, length-append (deals_in h.items) all.deals, all.many)
 
   module _ (left_told : (s : D) (t : ℕ) (image : Image) → left_at s t image → IsSome (view s).contents)
       (crashes : (first : Machine) (begin : ℕ) (items : List Item) (steps : List Stepped) (point : Point) → Run true first begin items steps point → (t : ℕ) (image : Image)
@@ -234,9 +309,9 @@ module _ {D : Type 0} (view : D → View) (leave : D → Image → Type 0) (left
         let s = crashes h.first h.begin h.items h.steps h.point run t image (keeps.images t image from left) in
         record { log = s.0; store = s.1; more = s.2.0; extends = s.2.1; holds = s.3 }
 
-    pub has_served : (h : History) (n turns : ℕ) (result : Outcome) (state : State) (d : D) → (all : Turns view leave left_at h n state d)
+    pub has_served : (h : History) (deals : List Deal) (turns : ℕ) (result : Outcome) (state : State) (d : D) → (all : Turns view leave left_at h deals state d)
         → EndsAs turns result (view d).transcript (events_in h.items) (events_in all.later.items) → Served view leave left_at h result turns state d
-    has_served h n turns result state d all ends =
+    has_served h deals turns result state d all ends =
         let k = all.serves.keeps in
         record {
           later = all.later;

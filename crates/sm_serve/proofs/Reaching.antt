@@ -11,7 +11,7 @@ use Rattle.sm_origin.specs.declared.origin.Origin.{Origin}
 use Rattle.sm_serve.specs.Standing.{StandsOn}
 use Rattle.sm_serve.specs.Run.{Counts, Point, Phase, acting, sending, in_phase, wants, continues, acts_on, act_of, closes, counts_after, set_counts, phase_after, sent_of, behind_step}
 use Rattle.std.proofs.lemmas.Bool.{eq-eqb, ne_eqb}
-use Rattle.sm_serve.specs.Connections.{received, live, events_in}
+use Rattle.sm_serve.specs.Connections.{received, live, deals_in}
 use Rattle.sm_serve.specs.Standing.{History, GoesOn, Keeps, Follows, Reaches}
 use Rattle.sm_serve.proofs.Lasting.{on_itself, on_stepped}
 use Rattle.sm_serve.proofs.Sending.{follows_then}
@@ -39,7 +39,7 @@ follows_itself n h k first begin base items on counts = record {
   base = base;
   on = on;
   received = λ j. ap (received j) items;
-  events = ap events_in items;
+  deals = ap deals_in items;
   live = ap live items;
   counts = counts;
 }
@@ -150,7 +150,7 @@ reached_here view leave left_at h n phase counts origin d keeps stands phase_is 
     base = refl;
     on = on_itself h h refl refl;
     received = λ j. refl;
-    events = refl;
+    deals = refl;
     live = refl;
     counts = λ j other. refl;
   };

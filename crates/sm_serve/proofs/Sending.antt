@@ -7,11 +7,11 @@ use Rattle.sm_site.specs.Meanings.Deal.{Sent, Shut}
 use Rattle.sm_site.specs.Clauses.{Elapses, SameOutcomes, Adds, Rose}
 use Rattle.sm_site.proofs.Views.{seen_here, same_here, elapses_here}
 use Rattle.sm_wire.specs.declared.item.WireItem.{WireItem}
-use Rattle.sm_serve.specs.Connections.{received, live, without, events_in}
+use Rattle.sm_serve.specs.Connections.{received, live, without, deals_in}
 use Rattle.sm_serve.specs.Run.{Counts, Point, idle, acting, sending, shutting, Moves, sent, failed, unsent, shut, at, in_phase, behind_failure}
 use Rattle.sm_serve.specs.Standing.{History, is_told, Keeps, moved, Follows}
 use Rattle.sm_serve.proofs.Lasting.{on_moved, on_then}
-use Rattle.sm_serve.proofs.Transcripts.{received_push, live_push, events_push, told_adds}
+use Rattle.sm_serve.proofs.Transcripts.{received_push, live_push, deals_push, told_adds}
 use Rattle.sm_serve.proofs.Going.{link_move}
 
 pub follows_then : (n : ℕ) (is_open : Bool) (h k l : History) → Follows n true h k → Follows n is_open k l → Follows n is_open h l
@@ -21,7 +21,7 @@ follows_then n is_open h k l one two = record {
   base = two.base ∙ one.base;
   on = on_then h k l one.on two.on;
   received = λ j. two.received j ∙ one.received j;
-  events = two.events ∙ one.events;
+  deals = two.deals ∙ one.deals;
   live = two.live ∙ ap (λ (ns : List ℕ). if is_open then ns else without n ns) one.live;
   counts = λ j other. two.counts j other ∙ one.counts j other;
 }
@@ -76,7 +76,7 @@ module _ {D : Type 0} (view W : D → View) (leave leave' : D → Image → Type
     base = refl;
     on = on_moved h (at m (Sent n bytes fails)) q;
     received = λ j. received_push j h.items (record { moment = m; deal = Sent n bytes fails });
-    events = events_push h.items (record { moment = m; deal = Sent n bytes fails });
+    deals = deals_push h.items (record { moment = m; deal = Sent n bytes fails });
     live = live_push h.items (record { moment = m; deal = Sent n bytes fails });
     counts = λ j other. ap (λ (f : ℕ → Counts). f j) counts;
   }
@@ -118,8 +118,16 @@ module _ {D : Type 0} (view W : D → View) (leave leave' : D → Image → Type
       record {
         later = moved h [] q;
         keeps = on;
-        follows = record { first = refl; begin = refl; base = refl; on = on_moved h [] q;
-          received = λ j. ap (received j) (append-nil h.items); events = ap events_in (append-nil h.items); live = ap live (append-nil h.items); counts = λ j other. refl };
+        follows = record {
+          first = refl;
+          begin = refl;
+          base = refl;
+          on = on_moved h [] q;
+          received = λ j. ap (received j) (append-nil h.items);
+          deals = ap deals_in (append-nil h.items);
+          live = ap live (append-nil h.items);
+          counts = λ j other. refl;
+        };
         point_is = refl;
       }
 
@@ -139,7 +147,7 @@ module _ {D : Type 0} (view W : D → View) (leave leave' : D → Image → Type
           base = refl;
           on = on_moved h (at a.0 (Shut n)) q;
           received = λ j. received_push j h.items (record { moment = a.0; deal = Shut n });
-          events = events_push h.items (record { moment = a.0; deal = Shut n });
+          deals = deals_push h.items (record { moment = a.0; deal = Shut n });
           live = live_push h.items (record { moment = a.0; deal = Shut n });
           counts = λ j other. refl;
         };

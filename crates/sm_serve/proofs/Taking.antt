@@ -17,7 +17,7 @@ use Rattle.sm_serve.proofs.Lasting.{on_behind, on_moved}
 use Rattle.sm_serve.specs.Resting.{Rests, counts_of, IsNewborn}
 use Rattle.sm_serve.specs.Giving.{PieceGives}
 use Rattle.sm_serve.specs.Serving.{numbers_of, IsResting, AreResting, IsAtRest, Turns, Forgets}
-use Rattle.sm_serve.proofs.Transcripts.{received_push, live_push, events_push}
+use Rattle.sm_serve.proofs.Transcripts.{received_push, live_push, deals_push}
 use Rattle.sm_serve.proofs.Lives.{rest_others, rest_push, push_numbers, set_numbers, remove_numbers, live_distinct, rest_set, rest_remove, rest_all, without_none}
 
 -- a resting connection whose bytes and counts are the same
@@ -49,7 +49,7 @@ module _ {D : Type 0} (view : D → View) (leave : D → Image → Type 0) (left
   }
 
   pub taken_open : (h : History) (m n i : ℕ) (piece : List ℕ) (old : List Live) (new : Live) (state : State) (e : D) → AreResting h old → numbers_of old ≡ live h.items → i < length old → get_or (numbers_of old) i 0 ≡ n
-      → new.number ≡ n → state.lives.items ≡ slice_set old i new → PieceGives view leave left_at h m piece n true new state.origin e → Turns view leave left_at h 1 state e
+      → new.number ≡ n → state.lives.items ≡ slice_set old i new → PieceGives view leave left_at h m piece n true new state.origin e → Turns view leave left_at h (Came n piece ∷ []) state e
   taken_open h m n i piece old new state e rest numbers within is number lives gives =
       let r = gives.reaches in
       let k = r.later in
@@ -68,11 +68,11 @@ module _ {D : Type 0} (view : D → View) (leave : D → Image → Type 0) (left
           };
         };
         since = record { first = r.follows.first; begin = r.follows.begin; base = r.follows.base; on = on_behind h k _ _ r.follows.on };
-        taken = r.follows.events ∙ events_push h.items _;
+        taken = r.follows.deals ∙ deals_push h.items _;
       }
 
   pub taken_shut : (h : History) (m n i : ℕ) (piece : List ℕ) (old : List Live) (new : Live) (state : State) (e : D) → AreResting h old → numbers_of old ≡ live h.items → i < length old → get_or (numbers_of old) i 0 ≡ n
-      → state.lives.items ≡ remove old i → PieceGives view leave left_at h m piece n false new state.origin e → Turns view leave left_at h 1 state e
+      → state.lives.items ≡ remove old i → PieceGives view leave left_at h m piece n false new state.origin e → Turns view leave left_at h (Came n piece ∷ []) state e
   taken_shut h m n i piece old new state e rest numbers within is lives gives =
       let r = gives.reaches in
       let k = r.later in
@@ -90,12 +90,12 @@ module _ {D : Type 0} (view : D → View) (leave : D → Image → Type 0) (left
           };
         };
         since = record { first = r.follows.first; begin = r.follows.begin; base = r.follows.base; on = on_behind h k _ _ r.follows.on };
-        taken = r.follows.events ∙ events_push h.items _;
+        taken = r.follows.deals ∙ deals_push h.items _;
       }
 
   -- a piece of a connection that isn't live
   pub piece_passed : (h : History) (m n : ℕ) (piece : List ℕ) (state : State) (d : D) → Pending view leave left_at h m (Came n piece) d → IsAtRest view leave h state d → is_among n (numbers_of state.lives.items) ≡ false
-      → Turns view leave left_at h 1 state d
+      → Turns view leave left_at h (Came n piece ∷ []) state d
   piece_passed h m n piece state d pending rest none =
       let q = at_event h.point idle m in
       let k = moved h (at m (Came n piece)) q in
@@ -112,7 +112,7 @@ module _ {D : Type 0} (view : D → View) (leave : D → Image → Type 0) (left
           };
         };
         since = record { first = refl; begin = refl; base = refl; on = on_moved h (at m (Came n piece)) q };
-        taken = events_push h.items _;
+        taken = deals_push h.items _;
       }
 
 began_others : (j n m : ℕ) (h : History) → j ≢ n → received j (h.items ++ at m (Began n)) ≡ received j h.items
@@ -133,7 +133,7 @@ without_last n (j ∷ ns) = ap (λ (ks : List ℕ). if j == n then ks else j ∷
 module _ {D : Type 0} (view : D → View) (leave : D → Image → Type 0) (left_at : D → ℕ → Image → Type 0) where
   -- a connection that was opened and closed again
   pub opened_shut : (h : History) (m n : ℕ) (q : Point) (counts : Counts) (state : State) (e : D) → numbers_of state.lives.items ≡ live h.items → AreResting h state.lives.items → is_among n (live h.items) ≡ false
-      → ((j : ℕ) → j ≢ n → q.counts j ≡ h.point.counts j) → Reaches view leave left_at (moved h (at m (Began n)) q) n false idle counts state.origin e → Turns view leave left_at h 1 state e
+      → ((j : ℕ) → j ≢ n → q.counts j ≡ h.point.counts j) → Reaches view leave left_at (moved h (at m (Began n)) q) n false idle counts state.origin e → Turns view leave left_at h (Began n ∷ []) state e
   opened_shut h m n q counts state e numbers rest none others r =
       let k = r.later in
       let same_live : live k.items ≡ live h.items = r.follows.live ∙ ap (without n) (began_live n m h none) ∙ without_last n (live h.items) ∙ without_none n (live h.items) none in
@@ -150,13 +150,13 @@ module _ {D : Type 0} (view : D → View) (leave : D → Image → Type 0) (left
           };
         };
         since = record { first = r.follows.first; begin = r.follows.begin; base = r.follows.base; on = on_behind h k _ _ r.follows.on };
-        taken = r.follows.events ∙ events_push h.items _;
+        taken = r.follows.deals ∙ deals_push h.items _;
       }
 
   -- a connection that was taken in
   pub opened_open : (h : History) (m n : ℕ) (q : Point) (old : List Live) (new : Live) (state : State) (e : D) → numbers_of old ≡ live h.items → AreResting h old → is_among n (live h.items) ≡ false
       → ((j : ℕ) → j ≢ n → q.counts j ≡ h.point.counts j) → IsNewborn n new → state.lives.items ≡ old ++ new ∷ [] → Reaches view leave left_at (moved h (at m (Began n)) q) n true idle no_counts state.origin e
-      → Turns view leave left_at h 1 state e
+      → Turns view leave left_at h (Began n ∷ []) state e
   opened_open h m n q old new state e numbers rest none others born lives r =
       let k = r.later in
       let more_live : live k.items ≡ live h.items ++ n ∷ [] = r.follows.live ∙ began_live n m h none in
@@ -179,7 +179,7 @@ module _ {D : Type 0} (view : D → View) (leave : D → Image → Type 0) (left
           };
         };
         since = record { first = r.follows.first; begin = r.follows.begin; base = r.follows.base; on = on_behind h k _ _ r.follows.on };
-        taken = r.follows.events ∙ events_push h.items _;
+        taken = r.follows.deals ∙ deals_push h.items _;
       }
 
   -- ---- events without a call
@@ -187,7 +187,7 @@ module _ {D : Type 0} (view : D → View) (leave : D → Image → Type 0) (left
   left_bytes : (j n m : ℕ) (h : History) → received j (h.items ++ at m (Left n)) ≡ received j h.items
   left_bytes j n m h = received_push j h.items (record { moment = m; deal = Left n })
 
-  pub was_left : (h : History) (m n : ℕ) (old new : State) (d : D) → Pending view leave left_at h m (Left n) d → IsAtRest view leave h old d → Forgets n old new → Turns view leave left_at h 1 new d
+  pub was_left : (h : History) (m n : ℕ) (old new : State) (d : D) → Pending view leave left_at h m (Left n) d → IsAtRest view leave h old d → Forgets n old new → Turns view leave left_at h (Left n ∷ []) new d
   was_left h m n old new d pending rest forgets =
       let q = at_event h.point idle m in
       let k = moved h (at m (Left n)) q in
@@ -204,10 +204,10 @@ module _ {D : Type 0} (view : D → View) (leave : D → Image → Type 0) (left
           };
         };
         since = record { first = refl; begin = refl; base = refl; on = on_moved h (at m (Left n)) q };
-        taken = events_push h.items _;
+        taken = deals_push h.items _;
       }
 
-  pub was_over : (h : History) (m : ℕ) (state : State) (d : D) → Pending view leave left_at h m Over d → IsAtRest view leave h state d → Turns view leave left_at h 1 state d
+  pub was_over : (h : History) (m : ℕ) (state : State) (d : D) → Pending view leave left_at h m Over d → IsAtRest view leave h state d → Turns view leave left_at h (Over ∷ []) state d
   was_over h m state d pending rest =
       let q = at_event h.point idle m in
       let k = moved h (at m Over) q in
@@ -223,5 +223,5 @@ module _ {D : Type 0} (view : D → View) (leave : D → Image → Type 0) (left
           };
         };
         since = record { first = refl; begin = refl; base = refl; on = on_moved h (at m Over) q };
-        taken = events_push h.items _;
+        taken = deals_push h.items _;
       }

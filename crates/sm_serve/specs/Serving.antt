@@ -1,8 +1,9 @@
 -- The loop between two events.
-use Rattle.std.specs.Prelude.{◌≡◌, ◌⊎◌, ◌+◌, ◌<◌, ◌≤◌, ◌-◌, ◌^◌, ℕ, true, false, List, [], ◌∷◌, ◌++◌, map, Option, Some, None, IsSome, IfSome}
+use Rattle.std.specs.Prelude.{◌≡◌, ◌⊎◌, ◌+◌, ◌<◌, ◌≤◌, ◌-◌, ◌^◌, ℕ, true, false, List, [], ◌∷◌, ◌++◌, length, map, Option, Some, None, IsSome, IfSome}
 use Rattle.sm_site.specs.Image.{Image}
-use Rattle.sm_site.specs.Meanings.{View, Item, DiskCall, IsLive}
+use Rattle.sm_site.specs.Meanings.{View, Deal, Item, DiskCall, IsLive}
 use Rattle.sm_site.specs.Meanings.Deal.{Over}
+use Rattle.sm_site.specs.Clauses.{Both}
 use Rattle.sm_site.specs.declared.event.Event.{Event}
 use Rattle.sm_site.specs.declared.event.Event.TheVariants.{Opened, Piece, Closed, Ended}
 use Rattle.sm_model.specs.declared.act.Act.TheVariants.{Header}
@@ -16,7 +17,7 @@ use Rattle.sm_serve.specs.declared.outcome.Turn.{Turn as Turned}
 use Rattle.sm_serve.specs.declared.outcome.Turn.TheVariants as turned
 use Rattle.sm_serve.specs.declared.outcome.Served.{Served as Outcome}
 use Rattle.sm_serve.specs.declared.outcome.Served.TheVariants as served
-use Rattle.sm_serve.specs.Connections.{received, live, without, is_among, AreDistinct, events_in}
+use Rattle.sm_serve.specs.Connections.{received, live, without, is_among, AreDistinct, events_in, deals_in}
 use Rattle.sm_serve.specs.Run.{Stepped, idle, at, Run}
 use Rattle.sm_serve.specs.Moments.{FitsAt}
 use Rattle.sm_serve.specs.Surviving.{Survives}
@@ -54,13 +55,13 @@ pub record Since (h k : History) : Type 0 where
   pub base : k.base ≡ h.base
   pub on : GoesOn h k
 
--- the run goes on by so many events
-pub record Turns {D : Type 0} (view : D → View) (leave : D → Image → Type 0) (left_at : D → ℕ → Image → Type 0) (h : History) (events : ℕ) (state : State)
+-- the run goes on by these events
+pub record Turns {D : Type 0} (view : D → View) (leave : D → Image → Type 0) (left_at : D → ℕ → Image → Type 0) (h : History) (deals : List Deal) (state : State)
     (d : D) : Type 0 where
   pub later : History
   pub serves : Serves view leave left_at later state d
   pub since : Since h later
-  pub taken : events_in later.items ≡ events + events_in h.items
+  pub taken : deals_in later.items ≡ deals_in h.items ++ deals
 
 -- where the transcript is told, the state is where a run is
 abbrev pub Known : {D : Type 0} (view : D → View) (leave : D → Image → Type 0) (left_at : D → ℕ → Image → Type 0) → State → D → Type 0
@@ -142,3 +143,11 @@ pub record DeclaresIn {D : Type 0} (view : D → View) (leave : D → Image → 
   pub conn : step.conn ≡ None
   pub act : step.act ≡ Header channel
   pub reply : step.reply ≡ reply_to_header result
+
+-- The run goes on by so many events, which are the next ones of the script, where one is told.
+pub record TurnsBy {D : Type 0} (view : D → View) (leave : D → Image → Type 0) (left_at : D → ℕ → Image → Type 0) (h : History) (events : ℕ)
+    (script : Option (List Deal)) (state : State) (d : D) : Type 0 where
+  pub deals : List Deal
+  pub many : length deals ≡ events
+  pub turns : Turns view leave left_at h deals state d
+  pub script_is : Both script (view d).script (λ was now. was ≡ deals ++ now)

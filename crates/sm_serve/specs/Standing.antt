@@ -8,7 +8,7 @@ use Rattle.sm_origin.specs.declared.reply.Counted.{Counted}
 use Rattle.sm_origin.specs.Machine.{Machine}
 use Rattle.sm_origin.specs.Stores.{Fits}
 use Rattle.sm_origin.specs.Acting.{StandsFor}
-use Rattle.sm_serve.specs.Connections.{received, live, without, events_in}
+use Rattle.sm_serve.specs.Connections.{received, live, without, deals_in}
 use Rattle.sm_serve.specs.Run.{Counts, counts_after, Phase, Point, Stepped, Moves, at, Run}
 use Rattle.sm_serve.specs.Moments.{machine_at, FitsAt}
 
@@ -72,7 +72,7 @@ pub record Follows (n : ℕ) (is_open : Bool) (h k : History) : Type 0 where
   pub base : k.base ≡ h.base
   pub on : GoesOn h k
   pub received : (j : ℕ) → received j k.items ≡ received j h.items
-  pub events : events_in k.items ≡ events_in h.items
+  pub deals : deals_in k.items ≡ deals_in h.items
   pub live : live k.items ≡ (if is_open then live h.items else without n (live h.items))
   pub counts : (j : ℕ) → j ≢ n → k.point.counts j ≡ h.point.counts j
 

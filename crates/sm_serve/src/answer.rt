@@ -29,6 +29,7 @@ fn send_reply<S: Site>(site: &mut S, number: u64, reply: &Reply, close: bool) ->
     ensures open { IsTrue result → IfSome (S.Disk.view site.new).transcript (IsLive number) }
     ensures told { is_some (S.Disk.view site.new).transcript ≡ is_some (S.Disk.view site.old).transcript }
     ensures link_faults { (S.Disk.view site.new).link_faults ≡ (S.Disk.view site.old).link_faults }
+    ensures script { (S.Disk.view site.new).script ≡ (S.Disk.view site.old).script }
 {
     if reply.status == 0 {
         return end_item(site, number, close);
@@ -51,6 +52,7 @@ fn end_item<S: Site>(site: &mut S, number: u64, close: bool) -> bool
     ensures open { IsTrue result → IfSome (S.Disk.view site.new).transcript (IsLive number) }
     ensures told { is_some (S.Disk.view site.new).transcript ≡ is_some (S.Disk.view site.old).transcript }
     ensures link_faults { (S.Disk.view site.new).link_faults ≡ (S.Disk.view site.old).link_faults }
+    ensures script { (S.Disk.view site.new).script ≡ (S.Disk.view site.old).script }
 {
     fewer_images_stand::<S>();
     if close {
@@ -82,6 +84,7 @@ pub(crate) fn answer<S: Site>(
     ensures open { IsSome result → IfSome (S.Disk.view site.new).transcript (IsLive number) }
     ensures told { is_some (S.Disk.view site.new).transcript ≡ is_some (S.Disk.view site.old).transcript }
     ensures link_faults { (S.Disk.view site.new).link_faults ≡ (S.Disk.view site.old).link_faults }
+    ensures script { (S.Disk.view site.new).script ≡ (S.Disk.view site.old).script }
 {
     fewer_images_stand::<S>();
     let reply = origin.act(alloc, site, act);

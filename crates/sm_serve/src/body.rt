@@ -81,6 +81,7 @@ fn take_chunk<S: Site>(
     ensures same { SameConn live.old live.new }
     ensures told { is_some (S.Disk.view site.new).transcript ≡ is_some (S.Disk.view site.old).transcript }
     ensures link_faults { (S.Disk.view site.new).link_faults ≡ (S.Disk.view site.old).link_faults }
+    ensures script { (S.Disk.view site.new).script ≡ (S.Disk.view site.old).script }
 {
     wire_of_front();
     match feed(&mut live.push, bytes) {
@@ -120,6 +121,7 @@ pub(crate) fn take_body<S: Site>(
     ensures same { SameConn live.old live.new }
     ensures told { is_some (S.Disk.view site.new).transcript ≡ is_some (S.Disk.view site.old).transcript }
     ensures link_faults { (S.Disk.view site.new).link_faults ≡ (S.Disk.view site.old).link_faults }
+    ensures script { (S.Disk.view site.new).script ≡ (S.Disk.view site.old).script }
 {
     let mut done = 0;
     while done < bytes.len() {
@@ -153,6 +155,7 @@ pub(crate) fn take_end<S: Site>(
     ensures same { SameConn live.old live.new }
     ensures told { is_some (S.Disk.view site.new).transcript ≡ is_some (S.Disk.view site.old).transcript }
     ensures link_faults { (S.Disk.view site.new).link_faults ≡ (S.Disk.view site.old).link_faults }
+    ensures script { (S.Disk.view site.new).script ≡ (S.Disk.view site.old).script }
 {
     match end(&mut live.push) {
         Ok(()) => end_push(alloc, site, origin, live, close),
@@ -191,6 +194,7 @@ fn end_push<S: Site>(
     ensures same { SameConn live.old live.new }
     ensures told { is_some (S.Disk.view site.new).transcript ≡ is_some (S.Disk.view site.old).transcript }
     ensures link_faults { (S.Disk.view site.new).link_faults ≡ (S.Disk.view site.old).link_faults }
+    ensures script { (S.Disk.view site.new).script ≡ (S.Disk.view site.old).script }
 {
     let act = Act::End {
         kept: live.kept,

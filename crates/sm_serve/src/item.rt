@@ -47,6 +47,7 @@ pub(crate) fn act_on<S: Site>(
     ensures same { SameBut live.old live.new }
     ensures told { is_some (S.Disk.view site.new).transcript ≡ is_some (S.Disk.view site.old).transcript }
     ensures link_faults { (S.Disk.view site.new).link_faults ≡ (S.Disk.view site.old).link_faults }
+    ensures script { (S.Disk.view site.new).script ≡ (S.Disk.view site.old).script }
 {
     match answer(alloc, site, origin, live.number, act, close) {
         Some(counted) => {
@@ -70,6 +71,7 @@ pub(crate) fn starve<S: Site>(site: &mut S, number: u64) -> bool
     ensures closed { result ≡ false }
     ensures told { is_some (S.Disk.view site.new).transcript ≡ is_some (S.Disk.view site.old).transcript }
     ensures link_faults { (S.Disk.view site.new).link_faults ≡ (S.Disk.view site.old).link_faults }
+    ensures script { (S.Disk.view site.new).script ≡ (S.Disk.view site.old).script }
 {
     tell(site, number, NO_MEMORY, true)
 }
@@ -95,6 +97,7 @@ fn take_item<S: Site>(
     ensures same { SameBut live.old live.new }
     ensures told { is_some (S.Disk.view site.new).transcript ≡ is_some (S.Disk.view site.old).transcript }
     ensures link_faults { (S.Disk.view site.new).link_faults ≡ (S.Disk.view site.old).link_faults }
+    ensures script { (S.Disk.view site.new).script ≡ (S.Disk.view site.old).script }
 {
     let act = act_for_item(item);
     act_on(alloc, site, origin, live, &act, false)
@@ -133,6 +136,7 @@ pub(crate) fn take_items<S: Site>(
     ensures same { SameBut live.old live.new }
     ensures told { is_some (S.Disk.view site.new).transcript ≡ is_some (S.Disk.view site.old).transcript }
     ensures link_faults { (S.Disk.view site.new).link_faults ≡ (S.Disk.view site.old).link_faults }
+    ensures script { (S.Disk.view site.new).script ≡ (S.Disk.view site.old).script }
 {
     for item in items {
         if !take_item(alloc, site, origin, live, item) {

@@ -56,6 +56,7 @@ fn take_inside<S: Site>(
     ensures same { SameConn live.old live.new }
     ensures told { is_some (S.Disk.view site.new).transcript ≡ is_some (S.Disk.view site.old).transcript }
     ensures link_faults { (S.Disk.view site.new).link_faults ≡ (S.Disk.view site.old).link_faults }
+    ensures script { (S.Disk.view site.new).script ≡ (S.Disk.view site.old).script }
 {
     match part {
         Part::Body(bytes) => {
@@ -99,6 +100,7 @@ fn take_outside<S: Site>(
     ensures same { SameConn live.old live.new }
     ensures told { is_some (S.Disk.view site.new).transcript ≡ is_some (S.Disk.view site.old).transcript }
     ensures link_faults { (S.Disk.view site.new).link_faults ≡ (S.Disk.view site.old).link_faults }
+    ensures script { (S.Disk.view site.new).script ≡ (S.Disk.view site.old).script }
 {
     match part {
         Part::Get { target, close } => {
@@ -148,6 +150,7 @@ pub(crate) fn take_part<S: Site>(
     ensures same { SameConn live.old live.new }
     ensures told { is_some (S.Disk.view site.new).transcript ≡ is_some (S.Disk.view site.old).transcript }
     ensures link_faults { (S.Disk.view site.new).link_faults ≡ (S.Disk.view site.old).link_faults }
+    ensures script { (S.Disk.view site.new).script ≡ (S.Disk.view site.old).script }
 {
     if live.push.is_some() {
         return take_inside(alloc, site, origin, live, part);

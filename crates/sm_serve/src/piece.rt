@@ -45,6 +45,7 @@ fn take_parts<S: Site>(
     ensures same { SameConn live.old live.new }
     ensures told { is_some (S.Disk.view site.new).transcript ≡ is_some (S.Disk.view site.old).transcript }
     ensures link_faults { (S.Disk.view site.new).link_faults ≡ (S.Disk.view site.old).link_faults }
+    ensures script { (S.Disk.view site.new).script ≡ (S.Disk.view site.old).script }
 {
     for part in parts {
         if !take_part(alloc, site, origin, live, part) {
@@ -73,6 +74,7 @@ pub(crate) fn take_piece<S: Site>(
     ensures same { live.new.number ≡ live.old.number }
     ensures told { is_some (S.Disk.view site.new).transcript ≡ is_some (S.Disk.view site.old).transcript }
     ensures link_faults { (S.Disk.view site.new).link_faults ≡ (S.Disk.view site.old).link_faults }
+    ensures script { (S.Disk.view site.new).script ≡ (S.Disk.view site.old).script }
 {
     wire_of_front();
     match live.conn.feed(piece) {

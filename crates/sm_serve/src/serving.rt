@@ -9,7 +9,7 @@ ghost use Rattle.sm_serve.specs.declared.live.Live.{Live};
 ghost use Rattle.sm_serve.specs.Connections.{is_among, live};
 ghost use Rattle.sm_serve.specs.Standing.{History, StandsOn, Pending};
 ghost use Rattle.sm_serve.specs.Resting.{IsNewborn};
-ghost use Rattle.sm_serve.specs.Serving.{IsAtRest, Turns, Serves, Known, numbers_of, Forgets, MayHandle, IsNew};
+ghost use Rattle.sm_serve.specs.Serving.{IsAtRest, Turns, TurnsBy, Serves, Known, numbers_of, Forgets, MayHandle, IsNew};
 ghost use Rattle.sm_serve.specs.Serving.{Served as HasServed, taken_by};
 
 use crate::item::starve;
@@ -40,10 +40,11 @@ fn take<S: Site>(site: &mut S, state: &mut State, number: u64, piece: &[u8])
     requires stands { (m : Machine) × StandsOn S.Disk.view S.Disk.may_leave m state.old.origin site.old }
     requires live { is_among number (numbers_of state.old.lives.items) ≡ true → IfSome (S.Disk.view site.old).transcript (IsLive number) }
     ensures goes_on { (h : History) (m : ℕ) → Pending S.Disk.view S.Disk.may_leave S.Disk.left_at h m (Came number piece.now) site.old
-        → IsAtRest S.Disk.view S.Disk.may_leave h state.old site.old → Turns S.Disk.view S.Disk.may_leave S.Disk.left_at h 1 state.new site.new }
+        → IsAtRest S.Disk.view S.Disk.may_leave h state.old site.old → Turns S.Disk.view S.Disk.may_leave S.Disk.left_at h (Came number piece.now ∷ []) state.new site.new }
     ensures stands { (m : Machine) × StandsOn S.Disk.view S.Disk.may_leave m state.new.origin site.new }
     ensures told { is_some (S.Disk.view site.new).transcript ≡ is_some (S.Disk.view site.old).transcript }
     ensures link_faults { (S.Disk.view site.new).link_faults ≡ (S.Disk.view site.old).link_faults }
+    ensures script { (S.Disk.view site.new).script ≡ (S.Disk.view site.old).script }
 {
     match find(&state.lives, number) {
         Some(i) => {
@@ -68,10 +69,11 @@ fn open<S: Site>(site: &mut S, state: &mut State, number: u64)
     requires live { IfSome (S.Disk.view site.old).transcript (IsLive number) }
     ensures goes_on { (h : History) (m : ℕ) → Pending S.Disk.view S.Disk.may_leave S.Disk.left_at h m (Began number) site.old
         → IsAtRest S.Disk.view S.Disk.may_leave h state.old site.old → is_among number (live h.items) ≡ false
-        → Turns S.Disk.view S.Disk.may_leave S.Disk.left_at h 1 state.new site.new }
+        → Turns S.Disk.view S.Disk.may_leave S.Disk.left_at h (Began number ∷ []) state.new site.new }
     ensures stands { (m : Machine) × StandsOn S.Disk.view S.Disk.may_leave m state.new.origin site.new }
     ensures told { is_some (S.Disk.view site.new).transcript ≡ is_some (S.Disk.view site.old).transcript }
     ensures link_faults { (S.Disk.view site.new).link_faults ≡ (S.Disk.view site.old).link_faults }
+    ensures script { (S.Disk.view site.new).script ≡ (S.Disk.view site.old).script }
 {
     if state.lives.len() >= 64 {
         tell(site, number, TOO_MANY, true);
@@ -113,10 +115,11 @@ fn handle<S: Site>(site: &mut S, state: &mut State, event: Event) -> Turn
     requires stands { (m : Machine) × StandsOn S.Disk.view S.Disk.may_leave m state.old.origin site.old }
     requires may { MayHandle event state.old.lives.items (S.Disk.view site.old).transcript }
     ensures goes_on { (h : History) (m : ℕ) → Pending S.Disk.view S.Disk.may_leave S.Disk.left_at h m (deal_of event) site.old
-        → IsAtRest S.Disk.view S.Disk.may_leave h state.old site.old → IsNew event h → Turns S.Disk.view S.Disk.may_leave S.Disk.left_at h 1 state.new site.new }
+        → IsAtRest S.Disk.view S.Disk.may_leave h state.old site.old → IsNew event h → Turns S.Disk.view S.Disk.may_leave S.Disk.left_at h (deal_of event ∷ []) state.new site.new }
     ensures stands { (m : Machine) × StandsOn S.Disk.view S.Disk.may_leave m state.new.origin site.new }
     ensures told { is_some (S.Disk.view site.new).transcript ≡ is_some (S.Disk.view site.old).transcript }
     ensures link_faults { (S.Disk.view site.new).link_faults ≡ (S.Disk.view site.old).link_faults }
+    ensures script { (S.Disk.view site.new).script ≡ (S.Disk.view site.old).script }
     ensures ended { result ≡ Turn.Ended ↔ event ≡ Event.Ended }
     ensures still { event ≡ Event.Ended → site.new ≡ site.old }
     ensures no_fault { result ≢ Turn.LinkFault }
@@ -145,9 +148,9 @@ pub fn turn<S: Site>(site: &mut S, state: &mut State) -> Turn
     requires stands { (m : Machine) × StandsOn S.Disk.view S.Disk.may_leave m state.old.origin site.old }
     requires known { Known S.Disk.view S.Disk.may_leave S.Disk.left_at state.old site.old }
     // Wherever a run had come, it goes on: from the same machine at the start, over the entries since, and what a crash may leave at
-    // each moment since fits it.
+    // each moment since fits it. What it took is what came next in the script, where one is told.
     ensures runs { (h : History) → Serves S.Disk.view S.Disk.may_leave S.Disk.left_at h state.old site.old
-        → Turns S.Disk.view S.Disk.may_leave S.Disk.left_at h (taken_by result) state.new site.new }
+        → TurnsBy S.Disk.view S.Disk.may_leave S.Disk.left_at h (taken_by result) (S.Disk.view site.old).script state.new site.new }
     ensures stands { (m : Machine) × StandsOn S.Disk.view S.Disk.may_leave m state.new.origin site.new }
     ensures told { is_some (S.Disk.view site.new).transcript ≡ is_some (S.Disk.view site.old).transcript }
     // Exactly where the event says so.
@@ -171,7 +174,7 @@ pub fn serve<S: Site>(site: &mut S, state: &mut State, turns: u64) -> Served
     ensures runs { (h : History) → Serves S.Disk.view S.Disk.may_leave S.Disk.left_at h state.old site.old
         → HasServed S.Disk.view S.Disk.may_leave S.Disk.left_at h result turns state.new site.new }
     ensures goes_on { (h : History) → Serves S.Disk.view S.Disk.may_leave S.Disk.left_at h state.old site.old → (n : ℕ)
-        × Turns S.Disk.view S.Disk.may_leave S.Disk.left_at h n state.new site.new }
+        × TurnsBy S.Disk.view S.Disk.may_leave S.Disk.left_at h n (S.Disk.view site.old).script state.new site.new }
     ensures stands { (m : Machine) × StandsOn S.Disk.view S.Disk.may_leave m state.new.origin site.new }
     ensures told { is_some (S.Disk.view site.new).transcript ≡ is_some (S.Disk.view site.old).transcript }
     ensures link_faults { (S.Disk.view site.old).link_faults ≤ (S.Disk.view site.new).link_faults }

@@ -25,6 +25,7 @@ pub(crate) fn tell<S: Site>(site: &mut S, number: u64, bytes: &[u8], close: bool
     ensures open { IsTrue result → IfSome (S.Disk.view site.new).transcript (IsLive number) }
     ensures told { is_some (S.Disk.view site.new).transcript ≡ is_some (S.Disk.view site.old).transcript }
     ensures link_faults { (S.Disk.view site.new).link_faults ≡ (S.Disk.view site.old).link_faults }
+    ensures script { (S.Disk.view site.new).script ≡ (S.Disk.view site.old).script }
 {
     fewer_images_stand::<S>();
     match site.send(number, bytes) {

@@ -2,7 +2,7 @@ use Rattle.std.proofs.Common.{◌≡◌, Bool, false, if◌then◌else◌, refl,
 use Rattle.sm_site.proofs.Views.{same_here}
 use Rattle.sm_serve.specs.Run.{idle, acting, shutting, in_phase}
 use Rattle.sm_site.specs.Meanings.Deal.{Shut}
-use Rattle.sm_serve.proofs.Transcripts.{adds_told, told_here, faults_here}
+use Rattle.sm_serve.proofs.Transcripts.{adds_told, told_here, faults_here, script_here}
 use Rattle.sm_serve.proofs.Reaching.{reached, reached_here}
 use Rattle.sm_serve.proofs.Sending.{LinkCall, contents_here, shut_after}
 use Rattle.sm_serve.proofs.answer.end_item.Goals as goal
@@ -40,6 +40,9 @@ returns-then-close-clause-contents g c =
 
 pub returns-then-close-clause-link_faults : goal.returns-then-close-clause-link_faults
 returns-then-close-clause-link_faults g c = faults_here g.S.Disk.view g.S.Link.view g.met.S.Site.one_view c.args.site.now c.close.new.self c.close.ensures.link_faults
+
+pub returns-then-close-clause-script : goal.returns-then-close-clause-script
+returns-then-close-clause-script g c = script_here g.S.Disk.view g.S.Link.view g.met.S.Site.one_view c.args.site.now c.close.new.self c.close.ensures.script
 
 pub returns-clause-goes_on : goal.returns-clause-goes_on
 returns-clause-goes_on g c h more origin keeps stands phase =

@@ -23,6 +23,7 @@ loop-done-init g c = record {
   live = c.requires.live;
   told = refl;
   link_faults = refl;
+  script = refl;
   open_ = c.requires.open;
   same = record { number = refl; conn = refl };
   goes_on = λ h b more items keeps stands is left phase counts.
@@ -73,6 +74,7 @@ loop-done-preserved g c =
       live = subst (λ (m : ℕ). IfSome (V c.take_chunk.new.site).transcript (IsLive m)) (sym c.take_chunk.ensures.same.number) (c.if-not-take_chunk.ensures.open refl);
       told = c.take_chunk.ensures.told ∙ c.loop-done.invariant.told;
       link_faults = c.take_chunk.ensures.link_faults ∙ c.loop-done.invariant.link_faults;
+      script = c.take_chunk.ensures.script ∙ c.loop-done.invariant.script;
       open_ = c.if-not-take_chunk.ensures.push refl;
       same = same_then c.args.live.now c.loop-done.live c.take_chunk.new.live c.loop-done.invariant.same c.take_chunk.ensures.same;
       goes_on = λ h b more items keeps stands is left phase counts.

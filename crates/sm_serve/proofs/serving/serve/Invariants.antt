@@ -2,7 +2,7 @@ use Rattle.std.proofs.Common.{◌≡◌, ◌≤◌, is_some}
 use Rattle.sm_origin.specs.Machine.{Machine}
 use Rattle.sm_serve.specs.Standing.{StandsOn}
 use Rattle.sm_serve.specs.Standing.{History}
-use Rattle.sm_serve.specs.Serving.{Serves, Turns}
+use Rattle.sm_serve.specs.Serving.{Serves, TurnsBy}
 use Rattle.sm_serve.proofs.serving.serve.Given as goal
 
 abbrev pub invariant-loop-taken : goal.invariant-loop-taken
@@ -10,5 +10,5 @@ invariant-loop-taken g l = record {
   stands : (m : Machine) × StandsOn g.S.Disk.view g.S.Disk.may_leave m l.state.origin l.site;
   told : is_some (g.S.Disk.view l.site).transcript ≡ is_some (g.S.Disk.view l.fn.site).transcript;
   link_faults : (g.S.Disk.view l.fn.site).link_faults ≤ (g.S.Disk.view l.site).link_faults;
-  goes_on : (h : History) → Serves g.S.Disk.view g.S.Disk.may_leave g.S.Disk.left_at h l.fn.state l.fn.site → Turns g.S.Disk.view g.S.Disk.may_leave g.S.Disk.left_at h l.taken l.state l.site;
+  goes_on : (h : History) → Serves g.S.Disk.view g.S.Disk.may_leave g.S.Disk.left_at h l.fn.state l.fn.site → TurnsBy g.S.Disk.view g.S.Disk.may_leave g.S.Disk.left_at h l.taken (g.S.Disk.view l.fn.site).script l.state l.site;
 }

@@ -9,10 +9,10 @@ use Rattle.sm_site.proofs.Views.{same_here}
 use Rattle.sm_serve.specs.declared.outcome.Turn.{Turn as Turned}
 use Rattle.sm_serve.specs.declared.outcome.Turn.TheVariants as turned
 use Rattle.sm_serve.specs.declared.outcome.Turn.TheVariants.{Went, LinkFault, NoMemory}
-use Rattle.sm_serve.specs.Serving.{taken_by, Turns, IsAtRest}
+use Rattle.sm_serve.specs.Serving.{taken_by, IsAtRest}
 use Rattle.sm_serve.proofs.Transcripts.{adds_told, told_here}
 use Rattle.sm_serve.proofs.Sending.{LinkCall, contents_here}
-use Rattle.sm_serve.proofs.Events.{pend, still_serves, may_handle, is_new}
+use Rattle.sm_serve.proofs.Events.{pend, still_serves, turn_taken, turn_not_taken, may_handle, is_new}
 use Rattle.sm_serve.proofs.serving.turn.Goals as goal
 
 took : (r : Turned) → (r ≡ LinkFault → ⊥) → (r ≡ NoMemory → ⊥) → taken_by r ≡ 1
@@ -50,7 +50,8 @@ returns-in-Ok-clause-runs g c h serves =
       numbers = serves.rest.numbers;
       resting = serves.rest.resting;
     } in
-    subst (λ (k : ℕ). Turns g.S.Disk.view g.S.Disk.may_leave g.S.Disk.left_at h k c.handle.new.state c.handle.new.site) (sym (took c.handle.result c.handle.ensures.no_fault c.handle.ensures.no_want))
+    turn_taken g.S.Disk.view g.S.Link.view g.S.Disk.may_leave g.S.Disk.left_at g.met.S.Site.one_view h (taken_by c.handle.result) (deal_of c.in-Ok.event) c.handle.new.state d e c.handle.new.site
+    (sym (took c.handle.result c.handle.ensures.no_fault c.handle.ensures.no_want)) c.in-Ok.ensures.script c.handle.ensures.script
     (c.handle.ensures.goes_on h p.0 p.1 rest (is_new g.S.Disk.view g.S.Link.view g.S.Disk.may_leave g.S.Link.may_leave g.S.Disk.left_at g.S.Link.left_at g.met.S.Site.one_view g.met.S.Site.one_disk g.met.S.Site.one_past g.met.S.Disk.told
     c.in-Ok.event h d serves.keeps.told next))
 
@@ -64,15 +65,17 @@ pub returns-in-Err-Failed-clause-runs : goal.returns-in-Err-Failed-clause-runs
 returns-in-Err-Failed-clause-runs g c h serves =
     let call : LinkCall g.S.Disk.view g.S.Link.view g.S.Disk.may_leave g.S.Link.may_leave g.S.Disk.left_at g.S.Link.left_at g.met.S.Site.one_view g.met.S.Site.one_disk g.met.S.Site.one_past g.met.S.Disk.told c.args.site.now
     c.next.new.self = record { time = c.next.ensures.time; same = c.next.ensures.crash; disk = c.next.ensures.disk } in
-    still_serves g.S.Disk.view g.S.Link.view g.S.Disk.may_leave g.S.Link.may_leave g.S.Disk.left_at g.S.Link.left_at g.met.S.Site.one_view g.met.S.Site.one_disk g.met.S.Site.one_past g.met.S.Disk.told
-    c.fewer_images_stand.ensures h c.args.state.now c.args.site.now c.next.new.self serves call c.in-Err-Failed.ensures.not_taken c.next.ensures.send_faults
+    turn_not_taken g.S.Disk.view g.S.Link.view g.S.Disk.may_leave g.S.Disk.left_at g.met.S.Site.one_view h c.args.state.now c.args.site.now c.next.new.self c.in-Err-Failed.ensures.still_to_come
+    (still_serves g.S.Disk.view g.S.Link.view g.S.Disk.may_leave g.S.Link.may_leave g.S.Disk.left_at g.S.Link.left_at g.met.S.Site.one_view g.met.S.Site.one_disk g.met.S.Site.one_past g.met.S.Disk.told
+    c.fewer_images_stand.ensures h c.args.state.now c.args.site.now c.next.new.self serves call c.in-Err-Failed.ensures.not_taken c.next.ensures.send_faults)
 
 pub returns-in-Err-NoMemory-clause-runs : goal.returns-in-Err-NoMemory-clause-runs
 returns-in-Err-NoMemory-clause-runs g c h serves =
     let call : LinkCall g.S.Disk.view g.S.Link.view g.S.Disk.may_leave g.S.Link.may_leave g.S.Disk.left_at g.S.Link.left_at g.met.S.Site.one_view g.met.S.Site.one_disk g.met.S.Site.one_past g.met.S.Disk.told c.args.site.now
     c.next.new.self = record { time = c.next.ensures.time; same = c.next.ensures.crash; disk = c.next.ensures.disk } in
-    still_serves g.S.Disk.view g.S.Link.view g.S.Disk.may_leave g.S.Link.may_leave g.S.Disk.left_at g.S.Link.left_at g.met.S.Site.one_view g.met.S.Site.one_disk g.met.S.Site.one_past g.met.S.Disk.told
-    c.fewer_images_stand.ensures h c.args.state.now c.args.site.now c.next.new.self serves call c.in-Err-NoMemory.ensures.not_taken c.next.ensures.send_faults
+    turn_not_taken g.S.Disk.view g.S.Link.view g.S.Disk.may_leave g.S.Disk.left_at g.met.S.Site.one_view h c.args.state.now c.args.site.now c.next.new.self c.in-Err-NoMemory.ensures.still_to_come
+    (still_serves g.S.Disk.view g.S.Link.view g.S.Disk.may_leave g.S.Link.may_leave g.S.Disk.left_at g.S.Link.left_at g.met.S.Site.one_view g.met.S.Site.one_disk g.met.S.Site.one_past g.met.S.Disk.told
+    c.fewer_images_stand.ensures h c.args.state.now c.args.site.now c.next.new.self serves call c.in-Err-NoMemory.ensures.not_taken c.next.ensures.send_faults)
 
 pub returns-in-Ok-clause-ended : goal.returns-in-Ok-clause-ended
 returns-in-Ok-clause-ended g c is =

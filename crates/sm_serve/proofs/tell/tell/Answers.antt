@@ -4,7 +4,7 @@ use Rattle.sm_site.specs.Meanings.Deal.{Sent, Shut}
 use Rattle.sm_site.specs.Clauses.{Adds, Rose}
 use Rattle.sm_site.proofs.Views.{same_here}
 use Rattle.sm_serve.specs.Run.{idle, acting, shutting, in_phase, behind_failure}
-use Rattle.sm_serve.proofs.Transcripts.{stays_live, adds_told, told_here, faults_here}
+use Rattle.sm_serve.proofs.Transcripts.{stays_live, adds_told, told_here, faults_here, script_here}
 use Rattle.sm_serve.proofs.Reaching.{reached}
 use Rattle.sm_serve.proofs.Sending.{After, LinkCall, contents_here, sent_after, failed_after, unsent_after, then_shut}
 use Rattle.sm_serve.proofs.tell.tell.Goals as goal
@@ -180,13 +180,24 @@ returns-in-Err-clause-contents g c =
 pub returns-else-close-clause-link_faults : goal.returns-else-close-clause-link_faults
 returns-else-close-clause-link_faults g c = faults_here g.S.Disk.view g.S.Link.view g.met.S.Site.one_view c.args.site.now c.send.new.self c.send.ensures.link_faults
 
+pub returns-else-close-clause-script : goal.returns-else-close-clause-script
+returns-else-close-clause-script g c = script_here g.S.Disk.view g.S.Link.view g.met.S.Site.one_view c.args.site.now c.send.new.self c.send.ensures.script
+
 pub returns-then-close-clause-link_faults : goal.returns-then-close-clause-link_faults
 returns-then-close-clause-link_faults g c =
     faults_here g.S.Disk.view g.S.Link.view g.met.S.Site.one_view c.args.site.now c.close.new.self (c.close.ensures.link_faults ∙ c.send.ensures.link_faults)
 
+pub returns-then-close-clause-script : goal.returns-then-close-clause-script
+returns-then-close-clause-script g c =
+    script_here g.S.Disk.view g.S.Link.view g.met.S.Site.one_view c.args.site.now c.close.new.self (c.close.ensures.script ∙ c.send.ensures.script)
+
 pub returns-in-Err-clause-link_faults : goal.returns-in-Err-clause-link_faults
 returns-in-Err-clause-link_faults g c =
     faults_here g.S.Disk.view g.S.Link.view g.met.S.Site.one_view c.args.site.now c.close-in-Err.new.self (c.close-in-Err.ensures.link_faults ∙ c.send.ensures.link_faults)
+
+pub returns-in-Err-clause-script : goal.returns-in-Err-clause-script
+returns-in-Err-clause-script g c =
+    script_here g.S.Disk.view g.S.Link.view g.met.S.Site.one_view c.args.site.now c.close-in-Err.new.self (c.close-in-Err.ensures.script ∙ c.send.ensures.script)
 
 pub returns-else-close-clause-stands : goal.returns-else-close-clause-stands
 returns-else-close-clause-stands g c m origin stands =
