@@ -36,7 +36,7 @@ use Rattle.sm_serve.specs.Surviving.{Survives}
 use Rattle.sm_serve.specs.Moments.{FitsAt}
 use Rattle.sm_serve.specs.Run.{Stepped, Run, Point, idle, declared, at, start, begins}
 use Rattle.sm_serve.specs.Standing.{History, is_told, Keeps, Pending, calls_of}
-use Rattle.sm_serve.specs.Serving.{numbers_of, AreResting, Serves, Known, Turns, TurnsBy, Served, EndsAs, MayHandle, IsNew, Begins, DeclaresIn}
+use Rattle.sm_serve.specs.Serving.{numbers_of, AreResting, Serves, Known, Turns, TurnsBy, AreTaken, Served, EndsAs, MayHandle, IsNew, Begins, DeclaresIn}
 use Rattle.sm_serve.proofs.Transcripts.{told_adds, open_push, stays_live, events_are}
 use Rattle.sm_serve.proofs.Going.{Acted, stepped, run_as, link_move}
 use Rattle.sm_serve.proofs.Sending.{LinkCall, calls_here, contents_here, told_here}
@@ -214,28 +214,32 @@ module _ {D : Type 0} (view W : D → View) (leave leave' : D → Image → Type
 
 -- ---- what was taken of a script
 
-scripts_then : (a b c : Option (List Deal)) (xs ys : List Deal) → Both a b (λ was now. was ≡ xs ++ now) → Both b c (λ was now. was ≡ ys ++ now) → Both a c (λ was now. was ≡ (xs ++ ys) ++ now)
+taken_then : (xs ys a b c : List Deal) → AreTaken xs a b → AreTaken ys b c → AreTaken (xs ++ ys) a c
+taken_then [] ys a b c one two = subst (λ (ds : List Deal). AreTaken ys ds c) one two
+taken_then (x ∷ xs) ys a b c (rest, takes, one) two = (rest, takes, taken_then xs ys rest b c one two)
+
+scripts_then : (a b c : Option (List Deal)) (xs ys : List Deal) → Both a b (AreTaken xs) → Both b c (AreTaken ys) → Both a c (AreTaken (xs ++ ys))
 scripts_then None None None xs ys one two = tt
 scripts_then None None (Some c) xs ys one two = absurd two
 scripts_then None (Some b) c xs ys one two = absurd one
 scripts_then (Some a) None c xs ys one two = absurd one
 scripts_then (Some a) (Some b) None xs ys one two = absurd two
-scripts_then (Some a) (Some b) (Some c) xs ys one two = one ∙ ap (λ (ds : List Deal). xs ++ ds) two ∙ sym (append_assoc xs ys c)
+scripts_then (Some a) (Some b) (Some c) xs ys one two = taken_then xs ys a b c one two
 
-pub script_stays : (s : Option (List Deal)) → Both s s (λ was now. was ≡ now)
+script_stays : (s : Option (List Deal)) → Both s s (AreTaken [])
 script_stays None = tt
 script_stays (Some s) = refl
 
-script_took : (deal : Deal) (a b c : Option (List Deal)) → Both a b (Takes deal) → c ≡ b → Both a c (λ was now. was ≡ (deal ∷ []) ++ now)
+script_took : (deal : Deal) (a b c : Option (List Deal)) → Both a b (Takes deal) → c ≡ b → Both a c (AreTaken (deal ∷ []))
 script_took deal None None None took same = tt
 script_took deal None None (Some c) took same = absurd (cc)
 script_took deal None (Some b) c took same = absurd took
 script_took deal (Some a) None c took same = absurd took
 script_took deal (Some a) (Some b) None took same = absurd (cc)
-script_took deal (Some a) (Some b) (Some c) took same = let one : c ≡ b = cc in took ∙ ap (λ (ds : List Deal). deal ∷ ds) (sym one)
+script_took deal (Some a) (Some b) (Some c) took same = (b, took, cc)
 
-same_script : (a b : Option (List Deal)) → b ≡ a → Both a b (λ was now. was ≡ [] ++ now)
-same_script a b same = subst (λ (o : Option (List Deal)). Both a o (λ was now. was ≡ now)) (sym same) (script_stays a)
+same_script : (a b : Option (List Deal)) → b ≡ a → Both a b (AreTaken [])
+same_script a b same = subst (λ (o : Option (List Deal)). Both a o (AreTaken [])) (sym same) (script_stays a)
 
 module _ {D : Type 0} (view W : D → View) (leave : D → Image → Type 0) (left_at : D → ℕ → Image → Type 0) (one_view : (s : D) → view s ≡ W s) where
   script_in : (d : D) → (view d).script ≡ (W d).script
@@ -247,7 +251,7 @@ module _ {D : Type 0} (view W : D → View) (leave : D → Image → Type 0) (le
     deals = deal ∷ [];
     many = one;
     turns = turns;
-    script_is = subst (λ (s : Option (List Deal)). Both s (view e).script (λ was now. was ≡ (deal ∷ []) ++ now)) (sym (script_in d))
+    script_is = subst (λ (s : Option (List Deal)). Both s (view e).script (AreTaken (deal ∷ []))) (sym (script_in d))
         (script_took deal (W d).script (W mid).script (view e).script took (same ∙ script_in mid));
   }
 

@@ -4,6 +4,7 @@ use Rattle.sm_site.specs.Image.{Image}
 use Rattle.sm_site.specs.Meanings.{View, Deal, Item, DiskCall, IsLive}
 use Rattle.sm_site.specs.Meanings.Deal.{Over}
 use Rattle.sm_site.specs.Clauses.{Both}
+use Rattle.sm_site.specs.Scripts.{Takes}
 use Rattle.sm_site.specs.declared.event.Event.{Event}
 use Rattle.sm_site.specs.declared.event.Event.TheVariants.{Opened, Piece, Closed, Ended}
 use Rattle.sm_model.specs.declared.act.Act.TheVariants.{Header}
@@ -144,10 +145,15 @@ pub record DeclaresIn {D : Type 0} (view : D → View) (leave : D → Image → 
   pub act : step.act ≡ Header channel
   pub reply : step.reply ≡ reply_to_header result
 
+-- these events are the next ones of a script, one after the other
+abbrev pub AreTaken : List Deal → List Deal → List Deal → Type 0
+AreTaken [] was now = now ≡ was
+AreTaken (deal ∷ deals) was now = (rest : List Deal) × Takes deal was rest × AreTaken deals rest now
+
 -- The run goes on by so many events, which are the next ones of the script, where one is told.
 pub record TurnsBy {D : Type 0} (view : D → View) (leave : D → Image → Type 0) (left_at : D → ℕ → Image → Type 0) (h : History) (events : ℕ)
     (script : Option (List Deal)) (state : State) (d : D) : Type 0 where
   pub deals : List Deal
   pub many : length deals ≡ events
   pub turns : Turns view leave left_at h deals state d
-  pub script_is : Both script (view d).script (λ was now. was ≡ deals ++ now)
+  pub script_is : Both script (view d).script (AreTaken deals)
