@@ -21,7 +21,7 @@ use Rattle.sm_serve.specs.declared.state.State.{State}
 use Rattle.sm_serve.specs.Run.{Run}
 use Rattle.sm_serve.specs.Moments.{machine_at}
 use Rattle.sm_serve.specs.Standing.{History, Keeps, StandsOn, is_told, calls_of}
-use Rattle.sm_serve.specs.Serving.{Begins, Serves, Since, Turns}
+use Rattle.sm_serve.specs.Serving.{Begins, Serves, Since, TurnsBy}
 use Rattle.sm_serve.proofs.Adding.{Extends}
 use Rattle.sm_serve.proofs.Going.{run_as}
 use Rattle.sm_world.specs.Pushed.{ComesOf, IsPushed, IsPushedIn}
@@ -187,13 +187,13 @@ module _ {D : Type 0} (view : D → View) (leave : D → Image → Type 0) (left
   -- ---- serving
 
   pub serves_on : (w : World) (state : State) (d : D) (new : State) (e : D) → IsSome (view d).contents → IsSome (view e).contents
-      → ((h : History) → Serves view leave left_at h state d → (n : ℕ) × Turns view leave left_at h n new e)
+      → ((h : History) → Serves view leave left_at h state d → (n : ℕ) × TurnsBy view leave left_at h n (view d).script new e)
       → IsOpen view leave left_at w state d → (now : World) × IsOpen view leave left_at now new e × Grows w now
   serves_on w state d new e told after turns o = (
     now,
     record {
       run = k;
-      serves = t.1.serves;
+      serves = t.1.turns.serves;
       settled = ap (λ (m : Machine). m.doubt) since.first ∙ o.settled;
       found = subst (λ (m : Machine). ComesOf w.first w.past k.base m.log) (sym since.first) (subst (λ (items : List Item). ComesOf w.first w.past items h.first.log) (sym since.base) o.found);
       log_is = refl;
@@ -204,14 +204,14 @@ module _ {D : Type 0} (view : D → View) (leave : D → Image → Type 0) (left
       h : History
       h = o.run
 
-      t : (n : ℕ) × Turns view leave left_at h n new e
+      t : (n : ℕ) × TurnsBy view leave left_at h n (view d).script new e
       t = turns h o.serves
 
       k : History
-      k = t.1.later
+      k = t.1.turns.later
 
       since : Since h k
-      since = t.1.since
+      since = t.1.turns.since
 
       now : World
       now = record { first = w.first; past = w.past; log = k.point.machine.log }
@@ -221,7 +221,7 @@ module _ {D : Type 0} (view : D → View) (leave : D → Image → Type 0) (left
 
       later : Run true h.first k.begin k.items k.steps k.point
       later = subst (λ (m : Machine). Run true m k.begin k.items k.steps k.point) since.first
-          (run_as (is_told (view e)) true k.first k.begin k.items k.steps k.point (sym after) t.1.serves.keeps.run)
+          (run_as (is_told (view e)) true k.first k.begin k.items k.steps k.point (sym after) t.1.turns.serves.keeps.run)
 
       grown : Extends h.point.machine k.point.machine
       grown = later_extends h.first h.begin k.begin h.items k.items h.steps since.on.further k.steps h.point k.point run later since.on.steps
