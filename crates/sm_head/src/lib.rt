@@ -14,6 +14,6 @@ mod response;
 mod tests;
 
 pub use asked::{HeadFault, Verb};
-pub use reply::{CONTINUE, Content, NO_MEMORY, put_response};
+pub use reply::{CONTINUE, Content, NO_MEMORY, begin_response, put_response};
 pub use request::{ReqHead, read_request};
 pub use response::{RespFault, RespHead, read_response};

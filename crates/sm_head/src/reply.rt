@@ -26,6 +26,9 @@ pub const NO_MEMORY: &[u8] =
 /// What leaves a client that waits for it to send the body of its POST (RFC 9110, section 15.2.1).
 pub const CONTINUE: &[u8] = b"HTTP/1.1 100 Continue\r\n\r\n";
 
+// More bytes than a head takes: 103 without the phrase and the count, of at most 20 digits.
+const HEAD_ROOM: usize = 256;
+
 fn put(out: &mut Vec<u8>, piece: &[u8]) -> Result<(), NoMemory>
     ensures { OnOk result (out.new.items ≡ out.old.items ++ piece.now) }
 {
@@ -119,9 +122,26 @@ fn put_head(
     put(out, b"\r\n")
 }
 
-/// A whole reply (RFC 9112, section 4): the status line with the status's phrase, `Content-Type`, `Content-Length`, and
-/// `Connection: close` where the connection closes behind it, each line ended by CR LF, an empty line, and the body. A
-/// status, of three digits, without a phrase of its own gets an empty one.
+/// The front of a reply whose body has so many bytes (RFC 9112, section 4): the status line with the status's phrase,
+/// `Content-Type`, `Content-Length`, and `Connection: close` where the connection closes behind it, each line ended by
+/// CR LF, and an empty line. A status, of three digits, without a phrase of its own gets an empty one. There is room for
+/// the body behind it.
+pub fn begin_response(
+    alloc: Global,
+    status: u16,
+    kind: Content,
+    count: usize,
+    close: bool,
+) -> Result<Vec<u8>, NoMemory>
+    requires { IsStatusCode status }
+    ensures { IfOk result (λ out. out.items ≡ reply_head status kind count close) }
+{
+    let mut out = Vec::with_capacity(alloc, count.saturating_add(HEAD_ROOM))?;
+    put_head(alloc, &mut out, status, kind, count as u64, close)?;
+    Ok(out)
+}
+
+/// A whole reply: what `begin_response` gives, and the body.
 pub fn put_response(
     alloc: Global,
     status: u16,
@@ -132,8 +152,7 @@ pub fn put_response(
     requires { IsStatusCode status }
     ensures { IfOk result (λ text. text ≡ reply_text status kind body.now close) }
 {
-    let mut out = Vec::new(alloc);
-    put_head(alloc, &mut out, status, kind, body.len() as u64, close)?;
+    let mut out = begin_response(alloc, status, kind, body.len(), close)?;
     put(&mut out, body)?;
     Ok(Bytes::from_vec(out))
 }

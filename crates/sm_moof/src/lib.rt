@@ -9,7 +9,7 @@ mod track;
 mod whole;
 
 pub use law::{canonical_texts_are_no_prefixes, fragments_show_themselves, joins_are_cut_once};
-pub use put::put_fragment;
+pub use put::{append_fragment, fragment_len, put_fragment};
 pub use read::{MoofFault, finish, read_fragment, read_moof};
 pub use track::track_of;
 pub use whole::{body_of, is_one_box};

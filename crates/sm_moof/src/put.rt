@@ -1,13 +1,14 @@
 //! Writing a fragment. Where memory runs out, what stood in front stays.
 #![tactic(auto, using(sm_box::proofs::FrontStays::stays_same, sm_box::proofs::FrontStays::stays_behind))]
 
-ghost use Rattle.std.specs.Prelude.{◌≡◌, ◌≤◌, ◌<◌, ◌^◌, ◌++◌, length, OnOk, OnErr, IfOk};
+ghost use Rattle.std.specs.Prelude.{◌≡◌, ◌≤◌, ◌<◌, ◌^◌, ◌++◌, ℕ, length, OnOk, OnErr, IfOk};
 ghost use Rattle.sm_model.specs.Numbers.{number32};
 ghost use Rattle.sm_model.specs.Fragments.{sample_bytes, IsValid};
 ghost use Rattle.sm_box.specs.Appended.{StaysInFront};
 ghost use Rattle.sm_model.specs.FragText.{mfhd, moof, mdat, frag_text, moof_len};
 
 use sm_box::{append_head, append_u32};
+use sm_model::law::sizes_are_lengths;
 use sm_model::{Bytes, Fragment, NoMemory, Sample};
 use sm_traf::{append_traf, traf_len};
 use std::alloc::Global;
@@ -74,6 +75,36 @@ fn append_mdat(out: &mut Vec<u8>, samples: &[Sample], total: u32) -> Result<(), 
     Ok(())
 }
 
+/// How many bytes the canonical text of a fragment has.
+pub fn fragment_len(fragment: &Fragment, ahead: &[(u64, u64)]) -> u32
+    requires valid { IsValid fragment.now }
+    requires few { length ahead.now ≤ 255 }
+    ensures { (seq id : ℕ) → result ≡ length (frag_text seq id fragment.now ahead.now) }
+{
+    sizes_are_lengths();
+    let samples = fragment.samples.as_slice();
+    moof_len(samples, ahead) + 8 + total_len(samples)
+}
+
+/// Appends the text that `put_fragment` gives. Each sample is copied once. Without memory for all of it a part may stand
+/// behind what was there.
+pub fn append_fragment(
+    out: &mut Vec<u8>,
+    seq: u32,
+    id: u32,
+    fragment: &Fragment,
+    ahead: &[(u64, u64)],
+) -> Result<(), NoMemory>
+    requires valid { IsValid fragment.now }
+    requires few { length ahead.now ≤ 255 }
+    ensures ok { OnOk result (out.new.items ≡ out.old.items ++ frag_text seq id fragment.now ahead.now) }
+    ensures err { OnErr result (StaysInFront out.old.items out.new.items) }
+{
+    let samples = fragment.samples.as_slice();
+    append_moof(out, seq, id, fragment, ahead)?;
+    append_mdat(out, samples, total_len(samples))
+}
+
 /// The canonical text of a fragment: a `moof` and an `mdat` with this sequence number and track_ID, every field of each
 /// sample written out, and the times and durations of the fragments ahead, if any, in ticks of the track's timescale.
 /// Each sample is copied once.
@@ -88,12 +119,8 @@ pub fn put_fragment(
     requires few { length ahead.now ≤ 255 }
     ensures { IfOk result (λ text. text ≡ frag_text seq id fragment.now ahead.now) }
 {
-    let samples = fragment.samples.as_slice();
-    let total = total_len(samples);
-    let size = moof_len(samples, ahead) + 8 + total;
-    let mut out = Vec::with_capacity(alloc, size as usize)?;
-    append_moof(&mut out, seq, id, fragment, ahead)?;
-    append_mdat(&mut out, samples, total)?;
+    let mut out = Vec::with_capacity(alloc, fragment_len(fragment, ahead) as usize)?;
+    append_fragment(&mut out, seq, id, fragment, ahead)?;
     Ok(Bytes::from_vec(out))
 }
 

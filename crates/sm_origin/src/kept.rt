@@ -8,11 +8,11 @@ ghost use Rattle.sm_log.specs.Adds.{ahead};
 ghost use Rattle.sm_head.specs.declared.reply.Content.TheVariants.{Mp4};
 ghost use Rattle.sm_origin.specs.Replies.{ok, id_in};
 
-use crate::reply::{Reply, ok};
+use crate::reply::{Counted, Reply};
 use sm_catalog::Catalog;
-use sm_head::Content;
+use sm_head::{Content, begin_response};
 use sm_model::{Address, Bytes, Fragment, NoMemory, Track};
-use sm_moof::put_fragment;
+use sm_moof::{append_fragment, fragment_len};
 use std::alloc::Global;
 
 // The place of the track of that stream and bitrate.
@@ -34,31 +34,30 @@ fn id_in(channel: &[Track], address: &Address) -> u32
     }
 }
 
-// The canonical text, with up to two listed times ahead.
-fn put(
+// The reply that gives the canonical text with these times ahead. The text is written behind the head at once.
+fn give_text(
     alloc: Global,
-    catalog: &Catalog,
-    address: &Address,
-    place: u64,
+    seq: u32,
+    id: u32,
     fragment: &Fragment,
-) -> Result<Bytes, NoMemory>
+    ahead: &[(u64, u64)],
+) -> Result<Reply, NoMemory>
     requires valid { IsValid fragment.now }
-    requires place { place < 2 ^ 32 }
-    ensures { IfOk result (λ text. text ≡ frag_text place (id_in catalog.now.channel address.now) fragment.now
-        (ahead catalog.now.channel catalog.now.adds address.now.stream address.now.time)) }
+    requires few { length ahead.now ≤ 255 }
+    ensures { IfOk result (λ reply. reply ≡ ok Mp4 (frag_text seq id fragment.now ahead.now)) }
 {
-    let seq = place as u32;
-    let id = id_in(catalog.channel().as_slice(), address);
-    let first = catalog.ahead(&address.stream, address.time, 0);
-    let second = catalog.ahead(&address.stream, address.time, 1);
-    match (first, second) {
-        (None, _) => put_fragment(alloc, seq, id, fragment, &[]),
-        (Some(first), None) => put_fragment(alloc, seq, id, fragment, &[first]),
-        (Some(first), Some(second)) => put_fragment(alloc, seq, id, fragment, &[first, second]),
-    }
+    let count = fragment_len(fragment, ahead) as usize;
+    let mut bytes = begin_response(alloc, 200, Content::Mp4, count, false)?;
+    append_fragment(&mut bytes, seq, id, fragment, ahead)?;
+    Ok(Reply {
+        status: 200,
+        bytes: Bytes::from_vec(bytes),
+        close: false,
+        counted: Counted::Neither,
+    })
 }
 
-// The reply that gives a fragment which is kept at that address and place.
+// The reply that gives a fragment which is kept at that address and place, with up to two listed times ahead.
 pub(crate) fn give(
     alloc: Global,
     catalog: &Catalog,
@@ -71,6 +70,13 @@ pub(crate) fn give(
     ensures { IfOk result (λ reply. reply ≡ ok Mp4 (frag_text place (id_in catalog.now.channel address.now) fragment.now
         (ahead catalog.now.channel catalog.now.adds address.now.stream address.now.time))) }
 {
-    let text = put(alloc, catalog, address, place, fragment)?;
-    ok(alloc, Content::Mp4, text.as_slice())
+    let seq = place as u32;
+    let id = id_in(catalog.channel().as_slice(), address);
+    let first = catalog.ahead(&address.stream, address.time, 0);
+    let second = catalog.ahead(&address.stream, address.time, 1);
+    match (first, second) {
+        (None, _) => give_text(alloc, seq, id, fragment, &[]),
+        (Some(first), None) => give_text(alloc, seq, id, fragment, &[first]),
+        (Some(first), Some(second)) => give_text(alloc, seq, id, fragment, &[first, second]),
+    }
 }
