@@ -1,10 +1,10 @@
 -- What `clap` reads of the words of `play` as they are put.
-use Rattle.std.proofs.Common.{◌≡◌, Bool, true, false, ◌&&◌, List, [], ◌∷◌, ◌++◌, fold, codes, Option, Some, None, is_some, refl, sym, ap, ap₂, ◌∙◌}
+use Rattle.std.proofs.Common.{◌≡◌, Bool, true, ◌&&◌, List, [], ◌∷◌, ◌++◌, fold, codes, Option, Some, None, is_some, refl, ap, ap₂, ◌∙◌}
 use Rattle.std.specs.Option.{option_map, unwrap_or}
 use Rattle.std.specs.List.{list_all}
 use Rattle.std.proofs.lemmas.List.{append_assoc}
-use Rattle.clap.specs.Words.{Row, Rule, all_of, built, found_of, first_of, is_simple, matches_of, matched_of, raw_values, rows_of, takes}
-use Rattle.clap.specs.Walk.{Walk, finished, positional, settled, walked}
+use Rattle.clap.specs.Words.{Row, Rule, all_of, built, first_of, is_simple, matches_of, matched_of, raw_values, rows_of, takes}
+use Rattle.clap.specs.Walk.{Walk, finished, positional, walked}
 use Rattle.clap.specs.Takes.{default_passes, entered_passes, is_valid, settle_passes, walk_passes}
 use Rattle.clap.specs.Simple.{Shape, entered}
 use Rattle.clap.specs.Values.{reading_of}

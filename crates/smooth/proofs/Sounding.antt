@@ -1,5 +1,5 @@
 -- What is asked for may be played.
-use Rattle.std.proofs.Common.{◌≡◌, ◌≤◌, ◌<◌, ℕ, Bool, true, false, cond, ◌&&◌, nat_le, List, [], ◌∷◌, length, codes, map, string_bytes, Option, Some, None, IfSome, refl, sym, ap, subst, ◌∙◌, ◌^◌, ◌-◌, arith}
+use Rattle.std.proofs.Common.{◌≡◌, ◌≤◌, ◌<◌, ℕ, Bool, true, false, cond, ◌&&◌, nat_le, List, [], ◌∷◌, length, codes, Option, Some, None, IfSome, refl, sym, ap, subst, ◌^◌, ◌-◌, arith}
 use Rattle.std.specs.Option.{option_map, option_and_then}
 use Rattle.std.specs.List.{list_all}
 use Rattle.std.proofs.lemmas.Bool.{leb-true}

@@ -73,12 +73,16 @@ fn run<I: Source, O: Sink, S: Site, C: Dial, T: Tracks>(
     requires policies { length policies.items ≡ 3 }
     ensures { EndsAs S.Disk.view S.Disk.may_leave S.Disk.left_at (record { pick = pick_after; retired = retired_after }) policies.items
         (option_map (λ list. map string_bytes list.items) (result_ok words))
-        (record { input = record { told = I.left input.old; faults = I.faults input.old };
-            dial = record { log = C.log dial.old; faults = C.dial_faults dial.old };
-            tracks = record { held = T.held tracks.old; faults = T.faults tracks.old } })
-        (record { input = record { told = I.left input.new; faults = I.faults input.new };
-            dial = record { log = C.log dial.new; faults = C.dial_faults dial.new };
-            tracks = record { held = T.held tracks.new; faults = T.faults tracks.new } })
+        (record {
+          input = record { told = I.left input.old; faults = I.faults input.old };
+          dial = record { log = C.log dial.old; faults = C.dial_faults dial.old };
+          tracks = record { held = T.held tracks.old; faults = T.faults tracks.old };
+        })
+        (record {
+          input = record { told = I.left input.new; faults = I.faults input.new };
+          dial = record { log = C.log dial.new; faults = C.dial_faults dial.new };
+          tracks = record { held = T.held tracks.new; faults = T.faults tracks.new };
+        })
         (record { told = O.held output.old; faults = O.faults output.old })
         (record { told = O.held output.new; faults = O.faults output.new }) site.old site.new (exit_status result) }
 {

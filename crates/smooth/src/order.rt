@@ -8,8 +8,9 @@ ghost use Rattle.smooth.specs.Matched.{IsPlayRead, IsPushRead, IsReadOf};
 ghost use Rattle.smooth.specs.Orders.{numbers_of, wanted_of};
 
 use crate::line::read_line;
-use crate::matched::{PlayTexts, PushTexts, ServeTexts};
-use crate::matched::{read_list, read_pick, read_play, read_push, read_serve};
+use crate::matched::{
+    PlayTexts, PushTexts, ServeTexts, read_list, read_pick, read_play, read_push, read_serve,
+};
 use crate::option::Name;
 use crate::place::{is_host, is_path};
 use crate::put::{list_put, pick_put, play_put, push_put, serve_put};

@@ -129,13 +129,7 @@ fn play_at<C: Dial, T: Tracks>(
         (record { held = T.held tracks.old; faults = T.faults tracks.old }) (record { held = T.held tracks.new; faults = T.faults tracks.new }) why) }
 {
     dial.select(order.host.as_str(), order.plan.place.port)?;
-    Ok(sm_client::play(
-        alloc,
-        dial,
-        tracks,
-        policies,
-        &order.plan,
-    ))
+    Ok(sm_client::play(alloc, dial, tracks, policies, &order.plan))
 }
 
 /// Turns to the host and port of the order, plays its streams there, one after another into the tracks, and says how that ended.

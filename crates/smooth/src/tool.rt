@@ -43,12 +43,16 @@ fn answer_to<I: Source, S: Site, C: Dial, T: Tracks>(
 ) -> Answer
     requires policies { length policies.items ≡ 3 }
     ensures { Means S.Disk.view S.Disk.may_leave S.Disk.left_at (record { pick = pick_after; retired = retired_after }) policies.items (map string_bytes words.now)
-        (record { input = record { told = I.left input.old; faults = I.faults input.old };
-            dial = record { log = C.log dial.old; faults = C.dial_faults dial.old };
-            tracks = record { held = T.held tracks.old; faults = T.faults tracks.old } })
-        (record { input = record { told = I.left input.new; faults = I.faults input.new };
-            dial = record { log = C.log dial.new; faults = C.dial_faults dial.new };
-            tracks = record { held = T.held tracks.new; faults = T.faults tracks.new } }) site.old site.new result }
+        (record {
+          input = record { told = I.left input.old; faults = I.faults input.old };
+          dial = record { log = C.log dial.old; faults = C.dial_faults dial.old };
+          tracks = record { held = T.held tracks.old; faults = T.faults tracks.old };
+        })
+        (record {
+          input = record { told = I.left input.new; faults = I.faults input.new };
+          dial = record { log = C.log dial.new; faults = C.dial_faults dial.new };
+          tracks = record { held = T.held tracks.new; faults = T.faults tracks.new };
+        }) site.old site.new result }
 {
     match order_of(alloc, words) {
         Ok(Some(Order::Pick { track, time })) => picked(alloc, input, track, time),
@@ -84,12 +88,16 @@ pub fn tool<I: Source, O: Sink, S: Site, C: Dial, T: Tracks>(
 ) -> u8
     requires policies { length policies.items ≡ 3 }
     ensures { IsRun S.Disk.view S.Disk.may_leave S.Disk.left_at (record { pick = pick_after; retired = retired_after }) policies.items (map string_bytes words.now)
-        (record { input = record { told = I.left input.old; faults = I.faults input.old };
-            dial = record { log = C.log dial.old; faults = C.dial_faults dial.old };
-            tracks = record { held = T.held tracks.old; faults = T.faults tracks.old } })
-        (record { input = record { told = I.left input.new; faults = I.faults input.new };
-            dial = record { log = C.log dial.new; faults = C.dial_faults dial.new };
-            tracks = record { held = T.held tracks.new; faults = T.faults tracks.new } })
+        (record {
+          input = record { told = I.left input.old; faults = I.faults input.old };
+          dial = record { log = C.log dial.old; faults = C.dial_faults dial.old };
+          tracks = record { held = T.held tracks.old; faults = T.faults tracks.old };
+        })
+        (record {
+          input = record { told = I.left input.new; faults = I.faults input.new };
+          dial = record { log = C.log dial.new; faults = C.dial_faults dial.new };
+          tracks = record { held = T.held tracks.new; faults = T.faults tracks.new };
+        })
         (record { told = O.held output.old; faults = O.faults output.old })
         (record { told = O.held output.new; faults = O.faults output.new }) site.old site.new result }
 {
