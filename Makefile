@@ -9,7 +9,7 @@ PREFIX := /usr/local
 
 .PHONY: run test build install check bench clean
 
-# Starts an origin, pushes a sample, shows the manifest and fetches a fragment, and ends.
+# Starts an origin, pushes a sample, shows the manifest, plays the sample back, and ends.
 run: build
 	bash scripts/run_sample $(PROGRAM)
 
@@ -33,6 +33,7 @@ install: build
 # curl and nginx, each where it is installed. `scripts/check_kill 100` is the long form of the last one.
 check: build
 	bash scripts/check_pick $(PROGRAM)
+	SMOOTH=$(PROGRAM) scripts/check_play
 	SMOOTH=$(PROGRAM) scripts/check_ffmpeg
 	SMOOTH=$(PROGRAM) scripts/check_two_encoders
 	SMOOTH=$(PROGRAM) scripts/check_return

@@ -11,7 +11,7 @@ use Rattle.smooth.specs.declared.answer.Picked.{Picked}
 use Rattle.smooth.specs.declared.answer.Picked.TheVariants as picked
 use Rattle.smooth.specs.declared.answer.Answer.{Answer}
 use Rattle.smooth.specs.declared.answer.Answer.TheVariants.{Found, Words, Unread, TooLong, LongLadder, Refused, NotKept, Clash, Undone}
-use Rattle.smooth.specs.declared.answer.Answer.TheVariants.{Damaged, DiskFault, LinkFault, Starved, Full, NotAStore}
+use Rattle.smooth.specs.declared.answer.Answer.TheVariants.{Damaged, DiskFault, LinkFault, TrackFault, Starved, Full, NotAStore}
 
 -- ---- the statuses and the lines
 
@@ -27,6 +27,7 @@ status_of (Undone line) = 4
 status_of Damaged = 4
 status_of DiskFault = 5
 status_of Unread = 6
+status_of TrackFault = 7
 status_of LinkFault = 8
 status_of Starved = 9
 status_of Full = 10
@@ -45,6 +46,7 @@ line_of Damaged = codes "error: 32 Damaged\n"
 line_of DiskFault = codes "error: disk\n"
 line_of Unread = codes "error: read\n"
 line_of LinkFault = codes "error: link\n"
+line_of TrackFault = []
 line_of Starved = codes "error: memory\n"
 line_of Full = codes "error: full\n"
 line_of (NotAStore line) = line
@@ -62,6 +64,7 @@ unwritten_status_of (Undone line) = 4
 unwritten_status_of Damaged = 4
 unwritten_status_of DiskFault = 5
 unwritten_status_of Unread = 6
+unwritten_status_of TrackFault = 7
 unwritten_status_of LinkFault = 8
 unwritten_status_of Starved = 9
 unwritten_status_of Full = 10

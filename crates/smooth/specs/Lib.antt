@@ -9,4 +9,5 @@ pub mod Answers
 pub mod Search
 pub mod Stores
 pub mod Origins
+pub mod Plays
 pub mod Ran

@@ -3,17 +3,19 @@ use Rattle.std.specs.Prelude.{◌≡◌, ◌<◌, ◌+◌, ◌⊎◌, ℕ, List,
 use Rattle.std.specs.Io.KnownBytes.{Appends}
 use Rattle.sm_ends.specs.Faults.{Rose}
 use Rattle.sm_ends.specs.Moves.{TakesCount, TakesAtMost, AppendsFront}
+use Rattle.sm_client.specs.Turns.{Meaning}
 use Rattle.sm_site.specs.Image.{Image}
 use Rattle.sm_site.specs.Meanings.{View}
 use Rattle.smooth.specs.declared.answer.Picked.TheVariants as picked
 use Rattle.smooth.specs.declared.answer.Answer.{Answer}
 use Rattle.smooth.specs.declared.answer.Answer.TheVariants.{Found, Words, Unread, TooLong, LongLadder, Refused, NotKept, Clash, Undone}
-use Rattle.smooth.specs.declared.answer.Answer.TheVariants.{Damaged, DiskFault, LinkFault, Starved, Full, NotAStore}
-use Rattle.smooth.specs.Words.{Wanted, Pick, Serve, Push, Listing, asked}
+use Rattle.smooth.specs.declared.answer.Answer.TheVariants.{Damaged, DiskFault, LinkFault, TrackFault, Starved, Full, NotAStore}
+use Rattle.smooth.specs.Words.{Wanted, Pick, Serve, Push, Play, Listing, asked}
 use Rattle.smooth.specs.Answers.{IsAnswered, limit, status_of, unwritten_status_of, line_of}
 use Rattle.sm_visit.specs.Pushing.{Line}
 use Rattle.smooth.specs.Stores.{End, ListMeans, ServeMeans}
 use Rattle.smooth.specs.Origins.{PushMeans}
+use Rattle.smooth.specs.Plays.{PlayMeans, Tape}
 
 -- ---- pick
 
@@ -41,36 +43,44 @@ PickMeans track time old new Damaged = ⊥
 PickMeans track time old new DiskFault = ⊥
 PickMeans track time old new Unread = IsUnread old new
 PickMeans track time old new LinkFault = ⊥
+PickMeans track time old new TrackFault = ⊥
 PickMeans track time old new Starved = TakesAtMost old.told new.told limit
 PickMeans track time old new Full = ⊥
 PickMeans track time old new (NotAStore line) = ⊥
 
 -- ---- a command
 
--- nothing was read, nothing was sent and nothing was done
-pub record IsIdle {D : Type 0} (input input' : End) (dial dial' : Line) (d d' : D) : Type 0 where
-  pub input_is : input' ≡ input
-  pub dial_is : dial' ≡ dial
+-- what a command stands before and what it leaves, but for the site and what is printed: the input, the dial and the tracks
+pub record Around : Type 0 where
+  pub input : End
+  pub dial : Line
+  pub tracks : Tape
+
+-- nothing was read, nothing was sent, nothing was written to a track and nothing was done
+pub record IsIdle {D : Type 0} (old new : Around) (d d' : D) : Type 0 where
+  pub around_is : new ≡ old
   pub site_is : d' ≡ d
 
--- The answer that words, input, dial and site have. Words that ask for nothing have no other than that, but for want of memory.
-abbrev pub MeansBy : {D : Type 0} (view : D → View) (leave : D → Image → Type 0) (left_at : D → ℕ → Image → Type 0) → Option Wanted → End → End
-    → Line → Line → D → D → Answer → Type 0
-MeansBy view leave left_at None input input' dial dial' d d' answer = answer ≡ Words
-MeansBy view leave left_at (Some (Pick track time)) input input' dial dial' d d' answer =
-    PickMeans track time input input' answer × (dial' ≡ dial) × (d' ≡ d)
-MeansBy view leave left_at (Some (Serve store port ladder turns)) input input' dial dial' d d' answer =
-    ServeMeans view leave left_at ladder turns input input' d d' answer × (dial' ≡ dial)
-MeansBy view leave left_at (Some (Push host port path id)) input input' dial dial' d d' answer =
-    PushMeans (record { host = host; port = port; path = path }) id input input' dial dial' answer × (d' ≡ d)
-MeansBy view leave left_at (Some (Listing store)) input input' dial dial' d d' answer =
-    ListMeans view d d' answer × (input' ≡ input) × (dial' ≡ dial)
+-- The answer that words, input, dial, tracks and site have. Words that ask for nothing have no other than that, but for want of memory.
+abbrev pub MeansBy : {D P : Type 0} (view : D → View) (leave : D → Image → Type 0) (left_at : D → ℕ → Image → Type 0) → Meaning P → List P
+    → Option Wanted → Around → Around → D → D → Answer → Type 0
+MeansBy view leave left_at m policies None old new d d' answer = answer ≡ Words
+MeansBy view leave left_at m policies (Some (Pick track time)) old new d d' answer =
+    PickMeans track time old.input new.input answer × (new.dial ≡ old.dial) × (new.tracks ≡ old.tracks) × (d' ≡ d)
+MeansBy view leave left_at m policies (Some (Serve store port ladder turns)) old new d d' answer =
+    ServeMeans view leave left_at ladder turns old.input new.input d d' answer × (new.dial ≡ old.dial) × (new.tracks ≡ old.tracks)
+MeansBy view leave left_at m policies (Some (Push host port path id)) old new d d' answer =
+    PushMeans (record { host = host; port = port; path = path }) id old.input new.input old.dial new.dial answer × (new.tracks ≡ old.tracks) × (d' ≡ d)
+MeansBy view leave left_at m policies (Some (Play plan)) old new d d' answer =
+    PlayMeans m plan policies old.dial new.dial old.tracks new.tracks answer × (new.input ≡ old.input) × (d' ≡ d)
+MeansBy view leave left_at m policies (Some (Listing store)) old new d d' answer =
+    ListMeans view d d' answer × (new.input ≡ old.input) × (new.dial ≡ old.dial) × (new.tracks ≡ old.tracks)
 
-abbrev pub Means : {D : Type 0} (view : D → View) (leave : D → Image → Type 0) (left_at : D → ℕ → Image → Type 0) → List (List ℕ) → End → End
-    → Line → Line → D → D → Answer → Type 0
-Means view leave left_at words input input' dial dial' d d' answer =
-    MeansBy view leave left_at (asked words) input input' dial dial' d d' answer
-    ⊎ ((answer ≡ Starved) × IsIdle input input' dial dial' d d')
+abbrev pub Means : {D P : Type 0} (view : D → View) (leave : D → Image → Type 0) (left_at : D → ℕ → Image → Type 0) → Meaning P → List P
+    → List (List ℕ) → Around → Around → D → D → Answer → Type 0
+Means view leave left_at m policies words old new d d' answer =
+    MeansBy view leave left_at m policies (asked words) old new d d' answer
+    ⊎ ((answer ≡ Starved) × IsIdle old new d d')
 
 -- the whole line went out, or a front of it where the sink failed
 abbrev pub Prints : Answer → End → End → ℕ → Type 0
@@ -78,17 +88,16 @@ Prints answer old new status =
     ((status ≡ status_of answer) × Appends old.told new.told (line_of answer))
     ⊎ ((status ≡ unwritten_status_of answer) × AppendsFront old.told new.told (line_of answer) × Rose old.faults new.faults)
 
--- The words, the input, the dial and the site have an answer, its line was printed, and the status tells it.
-pub record IsRun {D : Type 0} (view : D → View) (leave : D → Image → Type 0) (left_at : D → ℕ → Image → Type 0) (words : List (List ℕ))
-    (input input' output output' : End) (dial dial' : Line) (d d' : D) (status : ℕ) : Type 0 where
+-- The words, the input, the dial, the tracks and the site have an answer, its line was printed, and the status tells it.
+pub record IsRun {D P : Type 0} (view : D → View) (leave : D → Image → Type 0) (left_at : D → ℕ → Image → Type 0) (m : Meaning P) (policies : List P)
+    (words : List (List ℕ)) (old new : Around) (output output' : End) (d d' : D) (status : ℕ) : Type 0 where
   pub answer : Answer
-  pub means : Means view leave left_at words input input' dial dial' d d' answer
+  pub means : Means view leave left_at m policies words old new d d' answer
   pub prints : Prints answer output output' status
 
 -- A program ended with the status of a run; where there was no memory for its words, that alone was told.
-abbrev pub EndsAs : {D : Type 0} (view : D → View) (leave : D → Image → Type 0) (left_at : D → ℕ → Image → Type 0) → Option (List (List ℕ))
-    → End → End → End → End → Line → Line → D → D → ℕ → Type 0
-EndsAs view leave left_at None input input' output output' dial dial' d d' status =
-    Prints Starved output output' status × IsIdle input input' dial dial' d d'
-EndsAs view leave left_at (Some words) input input' output output' dial dial' d d' status =
-    IsRun view leave left_at words input input' output output' dial dial' d d' status
+abbrev pub EndsAs : {D P : Type 0} (view : D → View) (leave : D → Image → Type 0) (left_at : D → ℕ → Image → Type 0) → Meaning P → List P
+    → Option (List (List ℕ)) → Around → Around → End → End → D → D → ℕ → Type 0
+EndsAs view leave left_at m policies None old new output output' d d' status = Prints Starved output output' status × IsIdle old new d d'
+EndsAs view leave left_at m policies (Some words) old new output output' d d' status =
+    IsRun view leave left_at m policies words old new output output' d d' status

@@ -15,7 +15,7 @@ use Rattle.sm_store.specs.Listing.{WhyUnlisted, lines_of}
 use Rattle.sm_store.specs.Serving.{HasRun, Input, WhyUnready}
 use Rattle.smooth.specs.declared.answer.Answer.{Answer}
 use Rattle.smooth.specs.declared.answer.Answer.TheVariants.{Found, Words, Unread, TooLong, LongLadder, Refused, NotKept, Clash, Undone}
-use Rattle.smooth.specs.declared.answer.Answer.TheVariants.{Damaged, DiskFault, LinkFault, Starved, Full, NotAStore}
+use Rattle.smooth.specs.declared.answer.Answer.TheVariants.{Damaged, DiskFault, LinkFault, TrackFault, Starved, Full, NotAStore}
 
 -- an end before a call and after it: what it tells, and its count of faults
 pub record End : Type 0 where
@@ -97,6 +97,7 @@ ServeMeans view leave left_at ladder turns input input' d d' DiskFault =
 ServeMeans view leave left_at ladder turns input input' d d' LinkFault =
     HasRun view leave left_at ladder input.told input'.told turns d d' served.LinkFault
     ⊎ WhyUnready view leave left_at ladder (input_of input) (input_of input') d d' fault.LinkFault
+ServeMeans view leave left_at ladder turns input input' d d' TrackFault = ⊥
 ServeMeans view leave left_at ladder turns input input' d d' Starved =
     ((end : Outcome) × HasRun view leave left_at ladder input.told input'.told turns d d' end)
     ⊎ ((why : StoreFault) × WhyUnready view leave left_at ladder (input_of input) (input_of input') d d' why)
@@ -123,6 +124,7 @@ ListMeans view d d' (Undone line) = ⊥
 ListMeans view d d' Damaged = WhyUnlisted (view d) (view d') fault.Damaged
 ListMeans view d d' DiskFault = WhyUnlisted (view d) (view d') fault.DiskFault
 ListMeans view d d' LinkFault = WhyUnlisted (view d) (view d') fault.LinkFault
+ListMeans view d d' TrackFault = ⊥
 ListMeans view d d' Starved = Unit {0}
 ListMeans view d d' Full = ⊥
 ListMeans view d d' (NotAStore line) = (at : ℕ) × (line ≡ store_line at) × WhyUnlisted (view d) (view d') (fault.NotAStore at)

@@ -1,16 +1,17 @@
 -- The words of a command.
 use Rattle.std.specs.Prelude.{◌-◌, ◌^◌, ℕ, Bool, false, not, ◌&&◌, ◌==◌, nat_le, nat_eq, List, [], ◌∷◌, ◌++◌, length, codes}
-use Rattle.std.specs.Prelude.{Option, Some, None, is_some, if◌then◌else◌}
+use Rattle.std.specs.Prelude.{Option, Some, None, is_some, unwrap_or, if◌then◌else◌}
 use Rattle.std.specs.List.{list_all}
 use Rattle.std.specs.Cmp.Lexicographic.{pointwise}
 use Rattle.std.specs.Option.{option_and_then, option_map, option_or}
 use Rattle.sm_model.specs.Digits.{is_digit, decimal_from}
 use Rattle.sm_model.specs.Names.{is_name}
+use Rattle.sm_client.specs.declared.plan.Plan.{Plan}
 use Rattle.smooth.specs.declared.option.Name.{Name}
-use Rattle.smooth.specs.declared.option.Name.TheVariants.{Port, Ladder, Turns}
+use Rattle.smooth.specs.declared.option.Name.TheVariants.{Port, Ladder, Turns, From, Count, Tries, Refresh}
 use Rattle.smooth.specs.declared.line.Place.{Place}
 use Rattle.smooth.specs.declared.line.Place.TheVariants.{Free, Behind, Bare}
-use Rattle.smooth.specs.Options.{text_of, has_value, is_same, serve_options}
+use Rattle.smooth.specs.Options.{text_of, has_value, is_same, play_options, serve_options}
 use Rattle.smooth.specs.Places.{is_host, is_path}
 
 abbrev pub Text : Type 0
@@ -160,6 +161,8 @@ pub data Wanted : Type 0 where
   Serve : Text → ℕ → Bool → ℕ → Wanted
   -- a host, a port, the path of a channel, and the name of a stream
   Push : Text → ℕ → Text → Text → Wanted
+  -- what is to be played
+  Play : Plan → Wanted
   -- a folder
   Listing : Text → Wanted
 
@@ -220,7 +223,107 @@ push_by x =
 abbrev pub push_of : Read → Option Wanted
 push_of r = option_and_then push_by (push_texts r.words)
 
--- what the words ask for: `pick TRACK TIME`, `serve STORE --port N [--ladder] [--turns N]`, `push HOST PORT PATH ID` or `list STORE`
+-- ---- play
+
+-- the texts that `play` is given, or those that stand for them; one stream at least
+pub record PlayTexts : Type 0 where
+  pub host : Text
+  pub port : Text
+  pub path : Text
+  pub stream : Text
+  pub more : List Text
+  pub from : Option Text
+  pub count : Text
+  pub tries : Text
+  pub refresh : Text
+
+-- where an option isn't given, 1,000,000 fragments of each stream are played, from the first one that is listed, and each is asked for three
+-- times at most, as is each manifest, of which three are read for one start at most
+abbrev pub texts_by : Text → Text → Text → Text → List Text → Option Text → Option Text → Option Text → Option Text → PlayTexts
+texts_by host port path stream more from count tries refresh = record {
+  host = host;
+  port = port;
+  path = path;
+  stream = stream;
+  more = more;
+  from = from;
+  count = unwrap_or count (codes "1000000");
+  tries = unwrap_or tries (codes "3");
+  refresh = unwrap_or refresh (codes "3");
+}
+
+abbrev pub play_words_by : List Text → Option Text → Option Text → Option Text → Option Text → Option PlayTexts
+play_words_by [] from count tries refresh = None
+play_words_by (host ∷ []) from count tries refresh = None
+play_words_by (host ∷ port ∷ []) from count tries refresh = None
+play_words_by (host ∷ port ∷ path ∷ []) from count tries refresh = None
+play_words_by (host ∷ port ∷ path ∷ stream ∷ more) from count tries refresh = Some (texts_by host port path stream more from count tries refresh)
+
+abbrev pub play_texts : Read → Option PlayTexts
+play_texts r =
+    option_and_then (λ from.
+    option_and_then (λ count.
+    option_and_then (λ tries.
+    option_and_then (λ refresh. play_words_by r.words from count tries refresh)
+    (value_of Refresh r))
+    (value_of Tries r))
+    (value_of Count r))
+    (value_of From r)
+
+-- the numbers of `play`
+pub record PlayNumbers : Type 0 where
+  pub port : ℕ
+  pub from : Option ℕ
+  pub count : ℕ
+  pub tries : ℕ
+  pub refresh : ℕ
+
+-- a start, if one is given
+abbrev pub start_by : Option Text → Option (Option ℕ)
+start_by None = Some None
+start_by (Some text) = option_map (λ n. Some n) (numeral 0 (2 ^ 63 - 1) text)
+
+abbrev pub numbers_by : PlayTexts → Option PlayNumbers
+numbers_by x =
+    option_and_then (λ port.
+    option_and_then (λ from.
+    option_and_then (λ count.
+    option_and_then (λ tries.
+    option_map (λ refresh. record { port = port; from = from; count = count; tries = tries; refresh = refresh })
+    (numeral 1 10000 x.refresh))
+    (numeral 1 16 x.tries))
+    (numeral 1 1000000 x.count))
+    (start_by x.from))
+    (numeral 1 65535 x.port)
+
+abbrev pub name_by : Text → Option Text
+name_by text = if is_name text then Some text else None
+
+-- at most 16 names
+abbrev pub streams_by : List Text → Option (List Text)
+streams_by names = if nat_le (length names) 16 && list_all is_name names then Some names else None
+
+abbrev pub plan_by : PlayTexts → PlayNumbers → List Text → Plan
+plan_by x n streams = record {
+  place = record { host = x.host; port = n.port; path = x.path };
+  streams = streams;
+  from = n.from;
+  count = n.count;
+  tries = n.tries;
+  refresh = n.refresh;
+}
+
+abbrev pub play_by : PlayTexts → Option Wanted
+play_by x =
+    option_and_then (λ n.
+    if is_host x.host && is_path x.path then option_map (λ streams. Play (plan_by x n streams)) (streams_by (x.stream ∷ x.more)) else None)
+    (numbers_by x)
+
+abbrev pub play_of : Read → Option Wanted
+play_of r = option_and_then play_by (play_texts r)
+
+-- what the words ask for: `pick TRACK TIME`, `serve STORE --port N [--ladder] [--turns N]`, `push HOST PORT PATH ID`, `list STORE` or
+-- `play HOST PORT PATH STREAM... [--from N] [--count N] [--tries N] [--refresh N]`
 unfoldable pub asked : List Text → Option Wanted
 asked [] = None
 asked (command ∷ words) =
@@ -228,4 +331,5 @@ asked (command ∷ words) =
     else if is command (codes "serve") then option_and_then serve_of (read serve_options words)
     else if is command (codes "push") then option_and_then push_of (read [] words)
     else if is command (codes "list") then option_and_then list_of (read [] words)
+    else if is command (codes "play") then option_and_then play_of (read play_options words)
     else None

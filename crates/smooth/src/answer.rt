@@ -40,6 +40,8 @@ pub enum Answer {
     DiskFault,
     /// The link failed.
     LinkFault,
+    /// A track of a play failed.
+    TrackFault,
     /// Memory ran out.
     Starved,
     /// A limit of the store is met.

@@ -1,8 +1,8 @@
 //! The program `smooth`: a live origin and client for Smooth Streaming. It picks a fragment out of an input, serves a store and
-//! lists it, and pushes an input to an origin.
+//! lists it, pushes an input to an origin, and plays streams of one.
 #![tactic(auto)]
 
-ghost use Rattle.std.specs.Prelude.{map, string_bytes};
+ghost use Rattle.std.specs.Prelude.{◌≡◌, length, map, string_bytes};
 ghost use Rattle.std.specs.Option.{option_map};
 ghost use Rattle.std.specs.Process.{exit_status};
 ghost use Rattle.std.specs.Result.{result_ok};
@@ -17,6 +17,7 @@ mod order;
 mod origins;
 mod pick;
 mod place;
+mod play;
 mod print;
 mod put;
 mod search;
@@ -30,10 +31,11 @@ mod words;
 
 use answer::Answer;
 use print::print;
-use sm_ends::{Sink, Source};
+use sm_ends::{Sink, Source, Tracks};
 use sm_fetch::Dial;
 use sm_model::NoMemory;
-use sm_real::{RealSite, TcpDial};
+use sm_policy::{Fixed, Ladder, Policy, Steps};
+use sm_real::{FileTracks, RealSite, TcpDial};
 use sm_site::Site;
 use std::alloc::Global;
 use std::env;
@@ -58,27 +60,42 @@ fn words_of(rt: &HostRuntime) -> Result<Vec<String>, NoMemory> {
 }
 
 // Runs the command that the words name, and ends with its status. Without memory for the words that alone is told.
-fn run<I: Source, O: Sink, S: Site, C: Dial>(
+fn run<I: Source, O: Sink, S: Site, C: Dial, T: Tracks>(
     alloc: Global,
     words: Result<Vec<String>, NoMemory>,
     input: &mut I,
     output: &mut O,
     site: &mut S,
     dial: &mut C,
+    tracks: &mut T,
+    policies: Vec<Box<dyn Policy>>,
 ) -> ExitCode
-    ensures { EndsAs S.Disk.view S.Disk.may_leave S.Disk.left_at (option_map (λ list. map string_bytes list.items) (result_ok words))
-        (record { told = I.left input.old; faults = I.faults input.old })
-        (record { told = I.left input.new; faults = I.faults input.new })
+    requires policies { length policies.items ≡ 3 }
+    ensures { EndsAs S.Disk.view S.Disk.may_leave S.Disk.left_at (record { pick = pick_after; retired = retired_after }) policies.items
+        (option_map (λ list. map string_bytes list.items) (result_ok words))
+        (record {
+          input = record { told = I.left input.old; faults = I.faults input.old };
+          dial = record { log = C.log dial.old; faults = C.dial_faults dial.old };
+          tracks = record { held = T.held tracks.old; faults = T.faults tracks.old };
+        })
+        (record {
+          input = record { told = I.left input.new; faults = I.faults input.new };
+          dial = record { log = C.log dial.new; faults = C.dial_faults dial.new };
+          tracks = record { held = T.held tracks.new; faults = T.faults tracks.new };
+        })
         (record { told = O.held output.old; faults = O.faults output.old })
-        (record { told = O.held output.new; faults = O.faults output.new })
-        (record { log = C.log dial.old; faults = C.dial_faults dial.old })
-        (record { log = C.log dial.new; faults = C.dial_faults dial.new }) site.old site.new (exit_status result) }
+        (record { told = O.held output.new; faults = O.faults output.new }) site.old site.new (exit_status result) }
 {
     let status = match words {
-        Ok(words) => tool(alloc, &words, input, output, site, dial),
+        Ok(words) => tool(alloc, &words, input, output, site, dial, tracks, policies),
         Err(NoMemory) => print(output, &Answer::Starved),
     };
     ExitCode::from(status)
+}
+
+// Tells that there is no memory.
+fn starved<O: Sink>(output: &mut O) -> ExitCode {
+    ExitCode::from(print(output, &Answer::Starved))
 }
 
 fn main(rt: HostRuntime) -> ExitCode {
@@ -86,7 +103,23 @@ fn main(rt: HostRuntime) -> ExitCode {
     let mut output = StdSink::new(rt.stdout());
     let mut site = RealSite::new(&rt, rt.alloc());
     let mut dial = TcpDial::new(&rt, rt.alloc());
+    let mut tracks = FileTracks::new(&rt, rt.alloc());
     let words = words_of(&rt);
+    let Ok(steps) = Box::new(rt.alloc(), Steps::new()) else {
+        return starved(&mut output);
+    };
+    let Ok(ladder) = Box::new(rt.alloc(), Ladder::new()) else {
+        return starved(&mut output);
+    };
+    let Ok(fixed) = Box::new(rt.alloc(), Fixed::new(0)) else {
+        return starved(&mut output);
+    };
+    let steps: Box<dyn Policy> = steps;
+    let ladder: Box<dyn Policy> = ladder;
+    let fixed: Box<dyn Policy> = fixed;
+    let Ok(policies) = vec![in rt.alloc(); steps, ladder, fixed] else {
+        return starved(&mut output);
+    };
     run(
         rt.alloc(),
         words,
@@ -94,5 +127,7 @@ fn main(rt: HostRuntime) -> ExitCode {
         &mut output,
         &mut site,
         &mut dial,
+        &mut tracks,
+        policies,
     )
 }

@@ -1,11 +1,12 @@
 //! The words of a command, as `clap` reads them.
-ghost use Rattle.std.specs.Prelude.{◌≡◌, ◌∷◌, [], map, string_bytes, codes, IfOk, Some, Option, false, true};
+ghost use Rattle.std.specs.Prelude.{◌≡◌, ◌∷◌, ◌++◌, [], map, string_bytes, codes, IfOk, OnOk, Some, Option, false, true, unwrap_or};
 ghost use Rattle.std.specs.Option.{option_map};
-ghost use Rattle.clap.specs.Words.{HasMatchesOf, app_of, found_of, first_value, new_app, rule_of, takes, with_rule};
-ghost use Rattle.smooth.specs.Words.{PushTexts as Sent, ServeTexts as Asked, Text};
-ghost use Rattle.smooth.specs.Clapped.{list_app, list_words, option_rule, pick_app, pick_words, push_app, push_words, serve_app, serve_words};
-ghost use Rattle.smooth.specs.Clapped.{switch_rule, without_help, word_rule};
-ghost use Rattle.smooth.specs.Matched.{IsPushRead, IsReadOf};
+ghost use Rattle.clap.specs.Words.{HasMatchesOf, app_of, found_of, first_value, matched_of, new_app, raw_values, rule_of, takes, with_rule};
+ghost use Rattle.smooth.specs.Words.{PlayTexts as Played, PushTexts as Sent, ServeTexts as Asked, Text};
+ghost use Rattle.smooth.specs.Clapped.{list_app, list_words, option_rule, pick_app, pick_words, play_app, play_options_app, play_words, push_app, push_words};
+ghost use Rattle.smooth.specs.Clapped.{serve_app, serve_words};
+ghost use Rattle.smooth.specs.Clapped.{switch_rule, without_help, word_rule, words_rule};
+ghost use Rattle.smooth.specs.Matched.{IsPlayRead, IsPushRead, IsReadOf};
 
 use clap::error::ErrorKind;
 use clap::{Arg, ArgAction, ArgMatches, Command};
@@ -30,6 +31,19 @@ pub struct PushTexts {
     pub id: Option<String>,
 }
 
+/// The texts that `play` is given.
+#[derive(Debug, Drop)]
+pub struct PlayTexts {
+    pub host: Option<String>,
+    pub port: Option<String>,
+    pub path: Option<String>,
+    pub streams: Vec<String>,
+    pub from: Option<String>,
+    pub count: Option<String>,
+    pub tries: Option<String>,
+    pub refresh: Option<String>,
+}
+
 // An option that has a value.
 fn option<'w>(alloc: Global, name: &'w str) -> Arg<'w>
     ensures rule { rule_of result ≡ option_rule name.entry.now }
@@ -52,6 +66,14 @@ fn word<'w>(alloc: Global, name: &'w str) -> Arg<'w>
     ensures local { result.global ≡ false }
 {
     Arg::new(alloc, name).action(ArgAction::Set)
+}
+
+// Any number of words that are no options.
+fn words<'w>(alloc: Global, name: &'w str) -> Arg<'w>
+    ensures rule { rule_of result ≡ words_rule name.entry.now }
+    ensures local { result.global ≡ false }
+{
+    Arg::new(alloc, name).action(ArgAction::Append)
 }
 
 // A command without help.
@@ -100,6 +122,25 @@ fn serve_command<'w>(alloc: Global) -> Result<Command<'w>, NoMemory>
     with(command, word(alloc, "STORE"))
 }
 
+// The command `play` with its options.
+fn play_options<'w>(alloc: Global) -> Result<Command<'w>, NoMemory>
+    ensures { IfOk result (λ command. app_of command ≡ play_options_app) }
+{
+    let command = with(command(alloc, "play"), option(alloc, "from"))?;
+    let command = with(command, option(alloc, "count"))?;
+    let command = with(command, option(alloc, "tries"))?;
+    with(command, option(alloc, "refresh"))
+}
+
+fn play_command<'w>(alloc: Global) -> Result<Command<'w>, NoMemory>
+    ensures { IfOk result (λ command. app_of command ≡ play_app) }
+{
+    let command = with(play_options(alloc)?, word(alloc, "HOST"))?;
+    let command = with(command, word(alloc, "PORT"))?;
+    let command = with(command, word(alloc, "PATH"))?;
+    with(command, words(alloc, "STREAM"))
+}
+
 // The text that was read under that name.
 fn text_of(alloc: Global, matches: &ArgMatches<'_>, id: &str) -> Result<Option<String>, NoMemory>
     ensures { IfOk result (λ text. option_map string_bytes text ≡ first_value (found_of matches.now) id.now) }
@@ -107,6 +148,27 @@ fn text_of(alloc: Global, matches: &ArgMatches<'_>, id: &str) -> Result<Option<S
     match matches.get_str(id) {
         Some(text) => Ok(Some(String::from_str(alloc, text)?)),
         None => Ok(None),
+    }
+}
+
+// These texts, each copied.
+fn copied(alloc: Global, texts: &[&str]) -> Result<Vec<String>, NoMemory>
+    ensures { IfOk result (λ list. map string_bytes list.items ≡ map (λ text. text.now) texts.now) }
+{
+    let mut list = Vec::new(alloc);
+    for text in texts {
+        list.push(String::from_str(alloc, text)?)?;
+    }
+    Ok(list)
+}
+
+// The texts that were read under that name.
+fn texts_of(alloc: Global, matches: &ArgMatches<'_>, id: &str) -> Result<Vec<String>, NoMemory>
+    ensures { IfOk result (λ texts. map string_bytes texts.items ≡ unwrap_or (option_map raw_values (matched_of (found_of matches.now) id.now)) []) }
+{
+    match matches.get_strs(id) {
+        Some(texts) => copied(alloc, texts),
+        None => Ok(Vec::new(alloc)),
     }
 }
 
@@ -182,5 +244,31 @@ pub fn read_push(alloc: Global, words: &[String]) -> Result<PushTexts, NoMemory>
         port,
         path,
         id,
+    })
+}
+
+/// Reads the words of `play`.
+pub fn read_play(alloc: Global, words: &[String]) -> Result<PlayTexts, NoMemory>
+    requires put { (x : Played) × (map string_bytes words.now ≡ play_words x) }
+    ensures { IfOk result (λ texts. (x : Played) → map string_bytes words.now ≡ play_words x → IsPlayRead texts x) }
+{
+    let matches = matched(play_command(alloc)?, words)?;
+    let host = text_of(alloc, &matches, "HOST")?;
+    let port = text_of(alloc, &matches, "PORT")?;
+    let path = text_of(alloc, &matches, "PATH")?;
+    let streams = texts_of(alloc, &matches, "STREAM")?;
+    let from = text_of(alloc, &matches, "from")?;
+    let count = text_of(alloc, &matches, "count")?;
+    let tries = text_of(alloc, &matches, "tries")?;
+    let refresh = text_of(alloc, &matches, "refresh")?;
+    Ok(PlayTexts {
+        host,
+        port,
+        path,
+        streams,
+        from,
+        count,
+        tries,
+        refresh,
     })
 }

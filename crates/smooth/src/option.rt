@@ -11,6 +11,14 @@ pub enum Name {
     Ladder,
     /// The most events that are taken.
     Turns,
+    /// The first start that is played.
+    From,
+    /// How many fragments of each stream are played.
+    Count,
+    /// How often each manifest and each fragment is asked for at most.
+    Tries,
+    /// How many manifests are read for one start at most.
+    Refresh,
 }
 
 impl Name {
@@ -22,6 +30,10 @@ impl Name {
             Name::Port => "--port",
             Name::Ladder => "--ladder",
             Name::Turns => "--turns",
+            Name::From => "--from",
+            Name::Count => "--count",
+            Name::Tries => "--tries",
+            Name::Refresh => "--refresh",
         }
     }
 
@@ -30,8 +42,8 @@ impl Name {
         ensures { result ≡ has_value self }
     {
         match self {
-            Name::Port | Name::Turns => true,
             Name::Ladder => false,
+            _ => true,
         }
     }
 }

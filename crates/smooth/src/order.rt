@@ -1,19 +1,23 @@
 //! What the words of a command ask for.
-ghost use Rattle.std.specs.Prelude.{◌≡◌, ◌≤◌, ◌<◌, ◌^◌, map, string_bytes, IfOk, IfSome, Some, [], List, ℕ};
+ghost use Rattle.std.specs.Prelude.{◌≡◌, ◌≤◌, ◌<◌, ◌^◌, map, string_bytes, length, IfOk, IfSome, Some, [], List, ℕ};
 ghost use Rattle.std.specs.Option.{option_map, option_and_then};
-ghost use Rattle.smooth.specs.Options.{serve_options};
-ghost use Rattle.smooth.specs.Words.{Listing, PushTexts as Sent, ServeTexts as Asked, asked, folder, list_of, number_or};
-ghost use Rattle.smooth.specs.Words.{pick_by, pick_of, push_by, push_of, read, serve_by, serve_of};
-ghost use Rattle.smooth.specs.Matched.{IsPushRead, IsReadOf};
-ghost use Rattle.smooth.specs.Orders.{wanted_of};
+ghost use Rattle.smooth.specs.Options.{play_options, serve_options};
+ghost use Rattle.smooth.specs.Words.{Listing, PlayTexts as Played, PushTexts as Sent, ServeTexts as Asked, asked, folder, list_of, number_or, start_by};
+ghost use Rattle.smooth.specs.Words.{name_by, numbers_by, pick_by, pick_of, play_by, play_of, push_by, push_of, read, serve_by, serve_of, streams_by};
+ghost use Rattle.smooth.specs.Matched.{IsPlayRead, IsPushRead, IsReadOf};
+ghost use Rattle.smooth.specs.Orders.{numbers_of, wanted_of};
 
 use crate::line::read_line;
-use crate::matched::{PushTexts, ServeTexts, read_list, read_pick, read_push, read_serve};
+use crate::matched::{
+    PlayTexts, PushTexts, ServeTexts, read_list, read_pick, read_play, read_push, read_serve,
+};
 use crate::option::Name;
 use crate::place::{is_host, is_path};
-use crate::put::{list_put, pick_put, push_put, serve_put};
+use crate::put::{list_put, pick_put, play_put, push_put, serve_put};
 use crate::words::number;
-use sm_model::{Name as StreamName, NameFault, NoMemory};
+use sm_client::{Names, Plan};
+use sm_fetch::Place;
+use sm_model::{Bytes, Name as StreamName, NameFault, NoMemory};
 use std::alloc::Global;
 
 /// What the words ask for.
@@ -25,6 +29,8 @@ pub enum Order {
     Serve(ServeOrder),
     /// To push to an origin.
     Push(PushOrder),
+    /// To play streams of an origin.
+    Play(PlayOrder),
     /// The list of what the store in a folder keeps.
     List { store: String },
 }
@@ -55,10 +61,34 @@ pub struct PushOrder {
     pub id: StreamName,
 }
 
+/// What is played, and where from.
+#[derive(Debug, Drop)]
+pub struct PlayOrder {
+    /// The host of the plan's place, as a text.
+    pub host: String,
+    /// 1 to 16 streams, at most 1,000,000 fragments of each, 1 to 16 tries, and 1 to 10,000 manifests for one start.
+    pub plan: Plan,
+}
+
+// The numbers among the words of `play`.
+#[derive(Clone, Copy, Debug)]
+struct PlayNumbers {
+    port: u16,
+    from: Option<u64>,
+    count: u64,
+    tries: u32,
+    refresh: u32,
+}
+
 // The largest number that a word may write.
 const MOST: u64 = 9_223_372_036_854_775_807;
 
 const SERVE: [Name; 3] = [Name::Port, Name::Ladder, Name::Turns];
+
+const PLAY: [Name; 4] = [Name::From, Name::Count, Name::Tries, Name::Refresh];
+
+// The most streams of one play.
+const STREAMS: usize = 16;
 
 // The number that a text writes, or another where there is no text.
 fn number_or(text: &Option<String>, low: u64, high: u64, other: Option<u64>) -> Option<u64>
@@ -145,6 +175,94 @@ fn list_order(store: Option<String>) -> Option<Order>
     Some(Order::List { store })
 }
 
+// The start that a text writes, if there is a text.
+fn start(text: &Option<String>) -> Option<Option<u64>>
+    ensures { result ≡ start_by (option_map string_bytes text.now) }
+{
+    match text {
+        Some(text) => Some(Some(number(text.as_str(), 0, MOST)?)),
+        None => Some(None),
+    }
+}
+
+fn play_numbers(texts: &PlayTexts) -> Option<PlayNumbers>
+    ensures { (x : Played) → IsPlayRead texts.now x → option_map numbers_of result ≡ numbers_by x }
+{
+    let port = number_or(&texts.port, 1, 65_535, None)?;
+    let from = start(&texts.from)?;
+    let count = number_or(&texts.count, 1, 1_000_000, None)?;
+    let tries = number_or(&texts.tries, 1, 16, None)?;
+    let refresh = number_or(&texts.refresh, 1, 10_000, None)?;
+    Some(PlayNumbers {
+        port: port as u16,
+        from,
+        count,
+        tries: tries as u32,
+        refresh: refresh as u32,
+    })
+}
+
+// The name that a text is, if it is one.
+fn name(alloc: Global, text: &str) -> Result<Option<StreamName>, NoMemory>
+    ensures { IfOk result (λ name. name ≡ name_by text.now) }
+{
+    match StreamName::read(alloc, text.as_bytes()) {
+        Ok(name) => Ok(Some(name)),
+        Err(NameFault::Form { at: _ }) => Ok(None),
+        Err(NameFault::NoMemory) => Err(NoMemory),
+    }
+}
+
+// The names that texts are, if there are at most 16.
+fn streams(alloc: Global, texts: &[String]) -> Result<Option<Names>, NoMemory>
+    ensures { IfOk result (λ names. names ≡ streams_by (map string_bytes texts.now)) }
+{
+    if texts.len() > STREAMS {
+        return Ok(None);
+    }
+    let mut names = Vec::new(alloc);
+    for text in texts {
+        let Some(name) = name(alloc, text.as_str())? else {
+            return Ok(None);
+        };
+        names.push(name)?;
+    }
+    Ok(Some(Names::from_vec(names)))
+}
+
+fn play_order(alloc: Global, texts: PlayTexts) -> Result<Option<Order>, NoMemory>
+    ensures { IfOk result (λ order. (x : Played) → IsPlayRead texts x → option_map wanted_of order ≡ play_by x) }
+{
+    let Some(numbers) = play_numbers(&texts) else {
+        return Ok(None);
+    };
+    let (Some(host), Some(path)) = (texts.host, texts.path) else {
+        return Ok(None);
+    };
+    if !is_host(host.as_str()) || !is_path(path.as_str()) {
+        return Ok(None);
+    }
+    let Some(streams) = streams(alloc, &texts.streams)? else {
+        return Ok(None);
+    };
+    let place = Place {
+        host: Bytes::from_slice(alloc, host.as_bytes())?,
+        port: numbers.port,
+        path: Bytes::from_vec(path.into_bytes()),
+    };
+    Ok(Some(Order::Play(PlayOrder {
+        host,
+        plan: Plan {
+            place,
+            streams,
+            from: numbers.from,
+            count: numbers.count,
+            tries: numbers.tries,
+            refresh: numbers.refresh,
+        },
+    })))
+}
+
 fn pick_asked(alloc: Global, words: &[String]) -> Result<Option<Order>, NoMemory>
     ensures { IfOk result (λ order. option_map wanted_of order ≡ option_and_then pick_of (read [] (map string_bytes words.now))) }
 {
@@ -185,6 +303,20 @@ fn push_asked(alloc: Global, words: &[String]) -> Result<Option<Order>, NoMemory
     Ok(order)
 }
 
+fn play_asked(alloc: Global, words: &[String]) -> Result<Option<Order>, NoMemory>
+    ensures { IfOk result (λ order. option_map wanted_of order ≡ option_and_then play_of (read play_options (map string_bytes words.now))) }
+{
+    let Some(line) = read_line(alloc, &PLAY, words)? else {
+        return Ok(None);
+    };
+    let Some(words) = play_put(alloc, &line)? else {
+        return Ok(None);
+    };
+    let texts = read_play(alloc, &words)?;
+    let order = play_order(alloc, texts)?;
+    Ok(order)
+}
+
 fn list_asked(alloc: Global, words: &[String]) -> Result<Option<Order>, NoMemory>
     ensures { IfOk result (λ order. option_map wanted_of order ≡ option_and_then list_of (read [] (map string_bytes words.now))) }
 {
@@ -198,8 +330,8 @@ fn list_asked(alloc: Global, words: &[String]) -> Result<Option<Order>, NoMemory
     Ok(list_order(store))
 }
 
-/// What the words ask for: `pick TRACK TIME`, `serve STORE --port N [--ladder] [--turns N]`, `push HOST PORT PATH ID` or
-/// `list STORE`. None where they are none of these.
+/// What the words ask for: `pick TRACK TIME`, `serve STORE --port N [--ladder] [--turns N]`, `push HOST PORT PATH ID`, `list STORE` or
+/// `play HOST PORT PATH STREAM... [--from N] [--count N] [--tries N] [--refresh N]`. None where they are none of these.
 #[tactic(auto, unfolding(crate::specs::Words::asked))]
 pub fn order_of(alloc: Global, words: &[String]) -> Result<Option<Order>, NoMemory>
     ensures { IfOk result (λ order. option_map wanted_of order ≡ asked (map string_bytes words.now)) }
@@ -219,6 +351,9 @@ pub fn order_of(alloc: Global, words: &[String]) -> Result<Option<Order>, NoMemo
     }
     if command == "list" {
         return list_asked(alloc, words);
+    }
+    if command == "play" {
+        return play_asked(alloc, words);
     }
     Ok(None)
 }

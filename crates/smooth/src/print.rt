@@ -27,6 +27,7 @@ fn line(answer: &Answer) -> &[u8]
         Answer::Damaged => b"error: 32 Damaged\n",
         Answer::DiskFault => b"error: disk\n",
         Answer::LinkFault => b"error: link\n",
+        Answer::TrackFault => b"",
         Answer::Starved => b"error: memory\n",
         Answer::Full => b"error: full\n",
     }
@@ -51,6 +52,7 @@ fn status(answer: &Answer) -> u8
         Answer::NotKept | Answer::Clash(_) | Answer::Undone(_) | Answer::Damaged => 4,
         Answer::DiskFault => 5,
         Answer::Unread => 6,
+        Answer::TrackFault => 7,
         Answer::LinkFault => 8,
         Answer::Starved => 9,
         Answer::Full => 10,

@@ -1,9 +1,9 @@
 //! The words of a command, put as `clap` reads them: the options, as `--name=value`, before `--` and the other words.
-ghost use Rattle.std.specs.Prelude.{◌≡◌, ◌∷◌, ◌++◌, [], map, string_bytes, IfOk, OnOk, Option, List, ℕ, is_some};
+ghost use Rattle.std.specs.Prelude.{◌≡◌, ◌∷◌, ◌++◌, [], map, string_bytes, IfOk, OnOk, Option, List, ℕ, codes, is_some, unwrap_or};
 ghost use Rattle.std.specs.Option.{option_map};
-ghost use Rattle.smooth.specs.Words.{ServeTexts, only_word, push_texts, serve_texts, two_words};
+ghost use Rattle.smooth.specs.Words.{ServeTexts, only_word, play_texts, push_texts, serve_texts, texts_by, two_words};
 ghost use Rattle.smooth.specs.Line.{read_of};
-ghost use Rattle.smooth.specs.Clapped.{ladder_words, list_words, pick_words, push_words, serve_words, turns_words};
+ghost use Rattle.smooth.specs.Clapped.{from_words, ladder_words, list_words, number_words, pick_words, play_words, push_words, serve_words, turns_words};
 
 use crate::line::{Line, Twice};
 use crate::option::Name;
@@ -135,5 +135,92 @@ pub fn push_put(alloc: Global, line: &Line) -> Result<Option<Vec<String>>, NoMem
     put(alloc, &mut words, port.as_str())?;
     put(alloc, &mut words, path.as_str())?;
     put(alloc, &mut words, id.as_str())?;
+    Ok(Some(words))
+}
+
+// How many fragments of each stream are played where that isn't said.
+const COUNT: &str = "1000000";
+
+// How often each manifest and each fragment is asked for, and how many manifests are read for one start, where that isn't said.
+const PATIENCE: &str = "3";
+
+fn put_from(alloc: Global, words: &mut Vec<String>, from: Option<&str>) -> Result<(), NoMemory>
+    ensures { OnOk result (map string_bytes words.new.items ≡ map string_bytes words.old.items ++ from_words (option_map (λ text. text.now) from.entry)) }
+{
+    match from {
+        Some(from) => {
+            let word = with_value(alloc, "--from=", from)?;
+            put(alloc, words, &word)
+        }
+        None => Ok(()),
+    }
+}
+
+fn put_value(
+    alloc: Global,
+    words: &mut Vec<String>,
+    name: &str,
+    value: &str,
+) -> Result<(), NoMemory>
+    ensures { OnOk result (map string_bytes words.new.items ≡ map string_bytes words.old.items ++ (name.now ++ value.now) ∷ []) }
+{
+    let word = with_value(alloc, name, value)?;
+    put(alloc, words, &word)
+}
+
+fn put_all(alloc: Global, words: &mut Vec<String>, texts: &[String]) -> Result<(), NoMemory>
+    ensures { OnOk result (map string_bytes words.new.items ≡ map string_bytes words.old.items ++ map string_bytes texts.now) }
+{
+    for text in texts {
+        put(alloc, words, text.as_str())?;
+    }
+    Ok(())
+}
+
+// The options of `play`, each with the value that stands for it where it isn't given.
+fn put_play_options(
+    alloc: Global,
+    words: &mut Vec<String>,
+    from: Option<&str>,
+    count: &str,
+    tries: &str,
+    refresh: &str,
+) -> Result<(), NoMemory>
+    ensures { OnOk result (map string_bytes words.new.items ≡ map string_bytes words.old.items
+        ++ (from_words (option_map (λ text. text.now) from.entry) ++ number_words count.now tries.now refresh.now)) }
+{
+    put_from(alloc, words, from)?;
+    put_value(alloc, words, "--count=", count)?;
+    put_value(alloc, words, "--tries=", tries)?;
+    put_value(alloc, words, "--refresh=", refresh)
+}
+
+/// The words of `play`; none where an option stands twice, or there aren't four other words.
+pub fn play_put(alloc: Global, line: &Line) -> Result<Option<Vec<String>>, NoMemory>
+    ensures { IfOk result (λ words. option_map (λ w. map string_bytes w.items) words ≡ option_map play_words (play_texts (read_of line.now))) }
+{
+    let Ok(from) = line.value(Name::From) else {
+        return Ok(None);
+    };
+    let Ok(count) = line.value(Name::Count) else {
+        return Ok(None);
+    };
+    let Ok(tries) = line.value(Name::Tries) else {
+        return Ok(None);
+    };
+    let Ok(refresh) = line.value(Name::Refresh) else {
+        return Ok(None);
+    };
+    let [_host, _port, _path, _stream, ..] = line.words.as_slice() else {
+        return Ok(None);
+    };
+    let count = count.unwrap_or(COUNT);
+    let tries = tries.unwrap_or(PATIENCE);
+    let refresh = refresh.unwrap_or(PATIENCE);
+    let mut words = Vec::new(alloc);
+    put(alloc, &mut words, "play")?;
+    put_play_options(alloc, &mut words, from, count, tries, refresh)?;
+    put(alloc, &mut words, "--")?;
+    put_all(alloc, &mut words, line.words.as_slice())?;
     Ok(Some(words))
 }

@@ -5,15 +5,17 @@ mod ends;
 mod fixtures;
 mod limits;
 mod picks;
+mod plays;
 mod pushes;
 mod records;
 mod sites;
 mod stores;
 mod words;
 
-use sm_ends::{Calls, MemorySink, MemorySource, Sink, Source};
-use sm_fetch::{Answers, MemoryDial};
+use sm_ends::{Calls, MemorySink, MemorySource, MemoryTracks, Sink, Source, Tracks};
+use sm_fetch::{Answers, Dial, MemoryDial};
 use sm_model::Bytes;
+use sm_policy::{Fixed, Ladder, Policy, Steps};
 use sm_site::{MemorySite, Numbers, Script, Site};
 use std::alloc::Global;
 use std::process::Abort;
@@ -29,6 +31,23 @@ fn no_site(alloc: Global) -> MemorySite {
     )
 }
 
+// The commands, with the policies of the program.
+fn tool_at<I: Source, O: Sink, S: Site, C: Dial, T: Tracks>(
+    alloc: Global,
+    words: &[String],
+    input: &mut I,
+    output: &mut O,
+    site: &mut S,
+    dial: &mut C,
+    tracks: &mut T,
+) -> Result<u8, Fail> {
+    let steps: Box<dyn Policy> = Box::new(alloc, Steps::new())?;
+    let ladder: Box<dyn Policy> = Box::new(alloc, Ladder::new())?;
+    let fixed: Box<dyn Policy> = Box::new(alloc, Fixed::new(0))?;
+    let policies = vec![in alloc; steps, ladder, fixed]?;
+    Ok(crate::tool::tool(alloc, words, input, output, site, dial, tracks, policies))
+}
+
 // The commands, where no origin answers.
 fn tool<I: Source, O: Sink, S: Site>(
     alloc: Global,
@@ -36,9 +55,10 @@ fn tool<I: Source, O: Sink, S: Site>(
     input: &mut I,
     output: &mut O,
     site: &mut S,
-) -> u8 {
+) -> Result<u8, Fail> {
     let mut dial = MemoryDial::new(alloc, Answers::from_vec(Vec::new(alloc)));
-    crate::tool::tool(alloc, words, input, output, site, &mut dial)
+    let mut tracks = MemoryTracks::new(alloc, Calls::from_vec(Vec::new(alloc)));
+    tool_at(alloc, words, input, output, site, &mut dial, &mut tracks)
 }
 
 fn words_of(alloc: Global, words: &[&str]) -> Result<Vec<String>, Fail> {
@@ -64,7 +84,7 @@ fn run_failing(
     );
     let mut sink = MemorySink::new(alloc, Calls::from_vec(writes.to_vec(alloc)?));
     let mut site = no_site(alloc);
-    let status = tool(alloc, &words, &mut source, &mut sink, &mut site);
+    let status = tool(alloc, &words, &mut source, &mut sink, &mut site)?;
     Ok((status, Bytes::from_slice(alloc, sink.held())?))
 }
 

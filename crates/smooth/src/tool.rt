@@ -1,16 +1,18 @@
 //! The commands.
-ghost use Rattle.std.specs.Prelude.{◌≡◌, map, string_bytes};
+ghost use Rattle.std.specs.Prelude.{◌≡◌, length, map, string_bytes};
 ghost use Rattle.smooth.specs.Ran.{IsRun, Means, PickMeans};
 
 use crate::answer::{Answer, Picked};
 use crate::order::{Order, order_of};
 use crate::origins::push;
 use crate::pick::pick;
+use crate::play::play;
 use crate::print::print;
 use crate::stores::{list, serve};
-use sm_ends::{InputFault, Sink, Source};
+use sm_ends::{InputFault, Sink, Source, Tracks};
 use sm_fetch::Dial;
 use sm_model::NoMemory;
+use sm_policy::Policy;
 use sm_site::Site;
 use std::alloc::Global;
 
@@ -29,24 +31,34 @@ fn picked<I: Source>(alloc: Global, input: &mut I, track: u32, time: u64) -> Ans
     }
 }
 
-// What the words, the input, the site and the dial come to.
-fn answer_to<I: Source, S: Site, C: Dial>(
+// What the words, the input, the site, the dial and the tracks come to.
+fn answer_to<I: Source, S: Site, C: Dial, T: Tracks>(
     alloc: Global,
     words: &[String],
     input: &mut I,
     site: &mut S,
     dial: &mut C,
+    tracks: &mut T,
+    policies: Vec<Box<dyn Policy>>,
 ) -> Answer
-    ensures { Means S.Disk.view S.Disk.may_leave S.Disk.left_at (map string_bytes words.now)
-        (record { told = I.left input.old; faults = I.faults input.old })
-        (record { told = I.left input.new; faults = I.faults input.new })
-        (record { log = C.log dial.old; faults = C.dial_faults dial.old })
-        (record { log = C.log dial.new; faults = C.dial_faults dial.new }) site.old site.new result }
+    requires policies { length policies.items ≡ 3 }
+    ensures { Means S.Disk.view S.Disk.may_leave S.Disk.left_at (record { pick = pick_after; retired = retired_after }) policies.items (map string_bytes words.now)
+        (record {
+          input = record { told = I.left input.old; faults = I.faults input.old };
+          dial = record { log = C.log dial.old; faults = C.dial_faults dial.old };
+          tracks = record { held = T.held tracks.old; faults = T.faults tracks.old };
+        })
+        (record {
+          input = record { told = I.left input.new; faults = I.faults input.new };
+          dial = record { log = C.log dial.new; faults = C.dial_faults dial.new };
+          tracks = record { held = T.held tracks.new; faults = T.faults tracks.new };
+        }) site.old site.new result }
 {
     match order_of(alloc, words) {
         Ok(Some(Order::Pick { track, time })) => picked(alloc, input, track, time),
         Ok(Some(Order::Serve(order))) => serve(alloc, input, site, &order),
         Ok(Some(Order::Push(order))) => push(alloc, input, dial, &order),
+        Ok(Some(Order::Play(order))) => play(alloc, dial, tracks, policies, &order),
         Ok(Some(Order::List { store })) => list(alloc, site, &store),
         Ok(None) => Answer::Words,
         Err(NoMemory) => Answer::Starved,
@@ -60,23 +72,35 @@ fn answer_to<I: Source, S: Site, C: Dial>(
 /// `serve STORE --port N [--ladder] [--turns N]` serves the store in that folder at that port, until nothing more comes or so many
 /// events were taken; with `--ladder` the input is a ladder, which is declared first. `push HOST PORT PATH ID` sends the input,
 /// whole and once, to the channel with that path at that origin, as a stream of that name, and writes the body of the reply.
-/// `list STORE` lists the fragments of the store in that folder. Every line, also that of a failure, goes to `output`.
-pub fn tool<I: Source, O: Sink, S: Site, C: Dial>(
+/// `list STORE` lists the fragments of the store in that folder.
+/// `play HOST PORT PATH STREAM... [--from N] [--count N] [--tries N] [--refresh N]` plays streams of the channel with that path at that
+/// origin, one after another, the first to track 0, and writes how many fragments it wrote, or why it ended before there were as many
+/// as were wanted. The policies act in turn. Every line, also that of a failure, goes to `output`.
+pub fn tool<I: Source, O: Sink, S: Site, C: Dial, T: Tracks>(
     alloc: Global,
     words: &[String],
     input: &mut I,
     output: &mut O,
     site: &mut S,
     dial: &mut C,
+    tracks: &mut T,
+    policies: Vec<Box<dyn Policy>>,
 ) -> u8
-    ensures { IsRun S.Disk.view S.Disk.may_leave S.Disk.left_at (map string_bytes words.now)
-        (record { told = I.left input.old; faults = I.faults input.old })
-        (record { told = I.left input.new; faults = I.faults input.new })
+    requires policies { length policies.items ≡ 3 }
+    ensures { IsRun S.Disk.view S.Disk.may_leave S.Disk.left_at (record { pick = pick_after; retired = retired_after }) policies.items (map string_bytes words.now)
+        (record {
+          input = record { told = I.left input.old; faults = I.faults input.old };
+          dial = record { log = C.log dial.old; faults = C.dial_faults dial.old };
+          tracks = record { held = T.held tracks.old; faults = T.faults tracks.old };
+        })
+        (record {
+          input = record { told = I.left input.new; faults = I.faults input.new };
+          dial = record { log = C.log dial.new; faults = C.dial_faults dial.new };
+          tracks = record { held = T.held tracks.new; faults = T.faults tracks.new };
+        })
         (record { told = O.held output.old; faults = O.faults output.old })
-        (record { told = O.held output.new; faults = O.faults output.new })
-        (record { log = C.log dial.old; faults = C.dial_faults dial.old })
-        (record { log = C.log dial.new; faults = C.dial_faults dial.new }) site.old site.new result }
+        (record { told = O.held output.new; faults = O.faults output.new }) site.old site.new result }
 {
-    let answer = answer_to(alloc, words, input, site, dial);
+    let answer = answer_to(alloc, words, input, site, dial, tracks, policies);
     print(output, &answer)
 }

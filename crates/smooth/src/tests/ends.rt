@@ -99,7 +99,7 @@ fn short_reads_and_writes(rt: HostRuntime) -> Result<(), Fail> {
                 inner: MemorySink::new(alloc, Calls::from_vec([failing].to_vec(alloc)?)),
                 most,
             };
-            let status = tool(alloc, &words, &mut source, &mut sink, &mut no_site(alloc));
+            let status = tool(alloc, &words, &mut source, &mut sink, &mut no_site(alloc))?;
             let held = sink.inner.held();
             let fails = failing > 0 && (failing as usize - 1) * most < 137;
             assert_eq!(rt; status, if fails { 7 } else { 0 }, "{most} {failing}");

@@ -145,7 +145,7 @@ fn inputs_at_the_limit(rt: HostRuntime) -> Result<(), Fail> {
         let mut source = CountedSource { byte: 0, left };
         let mut sink = MemorySink::new(alloc, Calls::from_vec(Vec::new(alloc)));
         assert_eq!(rt;
-            tool(alloc, &words, &mut source, &mut sink, &mut no_site(alloc)),
+            tool(alloc, &words, &mut source, &mut sink, &mut no_site(alloc))?,
             3,
             "{left} bytes"
         );

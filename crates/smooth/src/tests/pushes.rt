@@ -1,9 +1,8 @@
 //! Pushes to an origin.
 
 use super::fixtures::TEXT;
-use super::{no_site, words_of};
-use crate::tool::tool;
-use sm_ends::{Calls, MemorySink, MemorySource};
+use super::{no_site, tool_at, words_of};
+use sm_ends::{Calls, MemorySink, MemorySource, MemoryTracks};
 use sm_fetch::{Answers, Given, MemoryDial};
 use sm_model::Bytes;
 use std::alloc::Global;
@@ -44,7 +43,16 @@ fn run_at(
     };
     let mut dial = MemoryDial::new(alloc, Answers::from_vec(vec![in alloc; given]?));
     let mut site = no_site(alloc);
-    let status = tool(alloc, &words, &mut source, &mut sink, &mut site, &mut dial);
+    let mut tracks = MemoryTracks::new(alloc, Calls::from_vec(Vec::new(alloc)));
+    let status = tool_at(
+        alloc,
+        &words,
+        &mut source,
+        &mut sink,
+        &mut site,
+        &mut dial,
+        &mut tracks,
+    )?;
     let mut sent = Vec::new(alloc);
     for made in dial.exchanges() {
         sent.push(Bytes::from_slice(alloc, made.request.as_slice())?)?;

@@ -85,7 +85,7 @@ pub fn run_on(
     let none = Calls::from_vec(Vec::new(alloc));
     let mut source = MemorySource::new(Bytes::from_slice(alloc, input)?, none);
     let mut sink = MemorySink::new(alloc, Calls::from_vec(Vec::new(alloc)));
-    let status = tool(alloc, &words, &mut source, &mut sink, site);
+    let status = tool(alloc, &words, &mut source, &mut sink, site)?;
     Ok((status, Bytes::from_slice(alloc, sink.held())?))
 }
 

@@ -2,7 +2,7 @@ use Rattle.std.proofs.Common.{◌≡◌, ◌+◌, refl, sym, ◌∙◌}
 use denote.Enum.Bare.{sameb}
 use Rattle.smooth.specs.contracts.option.Name.{the_type}
 use Rattle.smooth.specs.declared.option.Name.{Name}
-use Rattle.smooth.specs.declared.option.Name.TheVariants.{Port, Ladder, Turns}
+use Rattle.smooth.specs.declared.option.Name.TheVariants.{Port, Ladder, Turns, From, Count, Tries, Refresh}
 use Rattle.smooth.specs.Options.{is_same}
 use Rattle.smooth.proofs.Reading.{rest_whole, values_here, values_later, values_none}
 use Rattle.smooth.proofs.line.first_value.Goals as goal
@@ -11,12 +11,52 @@ same_names : (a b : Name) → sameb the_type a b ≡ is_same a b
 same_names Port Port = refl
 same_names Port Ladder = refl
 same_names Port Turns = refl
+same_names Port From = refl
+same_names Port Count = refl
+same_names Port Tries = refl
+same_names Port Refresh = refl
 same_names Ladder Port = refl
 same_names Ladder Ladder = refl
 same_names Ladder Turns = refl
+same_names Ladder From = refl
+same_names Ladder Count = refl
+same_names Ladder Tries = refl
+same_names Ladder Refresh = refl
 same_names Turns Port = refl
 same_names Turns Ladder = refl
 same_names Turns Turns = refl
+same_names Turns From = refl
+same_names Turns Count = refl
+same_names Turns Tries = refl
+same_names Turns Refresh = refl
+same_names From Port = refl
+same_names From Ladder = refl
+same_names From Turns = refl
+same_names From From = refl
+same_names From Count = refl
+same_names From Tries = refl
+same_names From Refresh = refl
+same_names Count Port = refl
+same_names Count Ladder = refl
+same_names Count Turns = refl
+same_names Count From = refl
+same_names Count Count = refl
+same_names Count Tries = refl
+same_names Count Refresh = refl
+same_names Tries Port = refl
+same_names Tries Ladder = refl
+same_names Tries Turns = refl
+same_names Tries From = refl
+same_names Tries Count = refl
+same_names Tries Tries = refl
+same_names Tries Refresh = refl
+same_names Refresh Port = refl
+same_names Refresh Ladder = refl
+same_names Refresh Turns = refl
+same_names Refresh From = refl
+same_names Refresh Count = refl
+same_names Refresh Tries = refl
+same_names Refresh Refresh = refl
 
 pub loop-at-init : goal.loop-at-init
 loop-at-init c = refl
