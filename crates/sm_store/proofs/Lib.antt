@@ -1,2 +1,3 @@
+pub mod Lasting
 pub mod Lines
 pub mod Starting

@@ -1,6 +1,7 @@
 //! The commands that open a store: serving it, and listing what is kept in it.
 #![tactic(auto)]
 
+mod choosing;
 mod fault;
 mod listing;
 mod serving;

@@ -1,4 +1,6 @@
 use Rattle.std.proofs.Common.{ℕ, List, None, ◌++◌, string_bytes, ap, ◌∙◌, arith}
+use Rattle.sm_site.proofs.Moments.{and_then, weakened}
+use Rattle.sm_store.proofs.Lasting.{no_more}
 use Rattle.sm_store.proofs.Lines.{all_lines, text_next}
 use Rattle.sm_store.proofs.listing.lines.Goals as goal
 
@@ -7,11 +9,25 @@ loop-place-preserved g c =
     let inv = c.loop-place.invariant in
     let fewer = inv.no_fewer in
     let fewer_yet = c.line_of.ensures.no_fewer in
+    let V = g.D.Disk.view in
+    let L = g.D.Disk.left_at in
+    let leave = g.D.Disk.may_leave in
+    let no_other = no_more V leave L g.met.D.Disk.at_now g.met.D.Disk.now_at c.args.disk.now c.loop-place.disk inv.any_moment in
+    let same = inv.link in
+    let same_yet = c.line_of.ensures.link in
     record {
       some = (inv.some.0, c.line_of.ensures.stands inv.some.0 inv.some.1);
       stands = λ log s. c.line_of.ensures.stands log (inv.stands log s);
       told = c.line_of.ensures.told ∙ inv.told;
       no_fewer = omega (arith, fewer, fewer_yet);
+      any_moment = and_then V L c.args.disk.now c.loop-place.disk c.line_of.new.disk (λ t x. leave c.args.disk.now x) inv.any_moment
+          (weakened V L c.loop-place.disk c.line_of.new.disk _ (λ t x. leave c.args.disk.now x) c.line_of.ensures.any_moment (λ t x left. no_other x left));
+      link = record {
+        transcript = same_yet.transcript ∙ same.transcript;
+        script = same_yet.script ∙ same.script;
+        link_faults = same_yet.link_faults ∙ same.link_faults;
+        send_faults = same_yet.send_faults ∙ same.send_faults;
+      };
       text = λ log s told.
           let count = c.len-place-end.ensures s.bodies s.body log None s.keeps in
           let inside = c.loop-place-test.true in
