@@ -20,6 +20,7 @@ use Rattle.sm_model.specs.Frag.{frag}
 use Rattle.sm_model.specs.FragText.{moof, mdat}
 use Rattle.sm_model.specs.Written.{raw_again}
 use Rattle.sm_model.proofs.WrittenFragment.{moof_whole, frag_read}
+use Rattle.sm_log.specs.Logs.{ahead_in}
 use Rattle.sm_body.specs.declared.place.Place.{Place as BodyPlace}
 use Rattle.sm_body.specs.declared.place.Place.TheVariants.{Ended, Failed, Counted}
 use Rattle.sm_body.specs.Places.{start, place_after, body_from, next_place}
@@ -40,7 +41,7 @@ use Rattle.sm_fetch.specs.declared.got.Got.{Got}
 use Rattle.sm_fetch.specs.declared.got.Got.TheVariants as got
 use Rattle.sm_fetch.specs.Answered.{IsBehindInterim, first, next, IsWholeReply}
 use Rattle.sm_fetch.specs.Fetched.{IsKeptAt, GrowsWith}
-use Rattle.sm_fetch.specs.Origins.{IsKeptText, FromOrigin, Grows, AnswersFrom}
+use Rattle.sm_fetch.specs.Origins.{IsKeptText, IsUnwell, SaysFragment, FromOrigin, Grows, AnswersFrom}
 use Rattle.sm_fetch.specs.Requests.{fragment_target, fragment_request}
 use Rattle.sm_fetch.specs.Spelt.{IsFragmentAt, SpellsFragment, given}
 use Rattle.sm_fetch.proofs.Framing.{failed_stays}
@@ -165,26 +166,41 @@ one_raw : (x y : RawFragment) (r : Result RawFragment Cause) → r ≡ Ok x → 
 one_raw x y r e f = cc
 
 -- the text of a kept fragment is read as that
+pub kept_again : (log : List Entry) (a : Address) (time : ℕ) (body : List ℕ) (raw : RawFragment) → (k : IsKeptText log a body) → IsFragmentAt time body raw
+    → raw_again k.id k.fragment (ahead_in log a.stream a.time) ≡ raw
+kept_again log a time body raw k f =
+    let ahead = ahead_in log a.stream a.time in
+    let boxes = same_box f.moof (moof k.seq k.id k.fragment ahead) f.mdat (mdat k.fragment.samples) f.moof_whole (moof_whole k.seq k.id k.fragment ahead k.written) (sym f.body_is ∙ k.text_is) in
+    let says : frag no_defaults (moof k.seq k.id k.fragment ahead) (mdat k.fragment.samples) ≡ Ok raw =
+    sym (ap (λ (m : List ℕ). frag no_defaults m f.mdat) boxes.0 ∙ ap (frag no_defaults (moof k.seq k.id k.fragment ahead)) boxes.1) ∙ f.read in
+    one_raw (raw_again k.id k.fragment ahead) raw (frag no_defaults (moof k.seq k.id k.fragment ahead) (mdat k.fragment.samples))
+    (frag_read no_defaults k.seq k.id k.fragment ahead k.written) says
+
 pub kept_is_read : (log : List Entry) (a : Address) (time : ℕ) (body : List ℕ) (raw : RawFragment) → IsKeptText log a body → IsFragmentAt time body raw
     → Contains log (Keep (given a.stream a.bitrate raw))
 kept_is_read log a time body raw k f =
-    let boxes = same_box f.moof (moof k.seq k.id k.fragment k.ahead) f.mdat (mdat k.fragment.samples) f.moof_whole (moof_whole k.seq k.id k.fragment k.ahead k.written) (sym f.body_is ∙ k.text_is) in
-    let says : frag no_defaults (moof k.seq k.id k.fragment k.ahead) (mdat k.fragment.samples) ≡ Ok raw =
-    sym (ap (λ (m : List ℕ). frag no_defaults m f.mdat) boxes.0 ∙ ap (frag no_defaults (moof k.seq k.id k.fragment k.ahead)) boxes.1) ∙ f.read in
-    let again : raw_again k.id k.fragment k.ahead ≡ raw = one_raw _ raw (frag no_defaults (moof k.seq k.id k.fragment k.ahead) (mdat k.fragment.samples)) (frag_read no_defaults k.seq k.id k.fragment k.ahead k.written) says in
-    let same : given (address_of k.fragment).stream (address_of k.fragment).bitrate (raw_again k.id k.fragment k.ahead) ≡ given a.stream a.bitrate raw =
-    ap (λ (b : Address). given b.stream b.bitrate (raw_again k.id k.fragment k.ahead)) k.address_is ∙ ap (λ (r : RawFragment). given a.stream a.bitrate r) again in
+    let again = kept_again log a time body raw k f in
+    let same : given (address_of k.fragment).stream (address_of k.fragment).bitrate (raw_again k.id k.fragment (ahead_in log a.stream a.time)) ≡ given a.stream a.bitrate raw =
+    ap (λ (b : Address). given b.stream b.bitrate (raw_again k.id k.fragment (ahead_in log a.stream a.time))) k.address_is ∙ ap (λ (r : RawFragment). given a.stream a.bitrate r) again in
     subst (λ (g : Fragment). Contains log (Keep g)) same k.kept
 
 -- ---- answers
 
+-- a reply that says that all is well has the fragment
+well : (log : List Entry) (named : List ℕ) (a : Address) (status : ℕ) (body : List ℕ) → status ≡ 200 → SaysFragment log a status body ⊎ IsUnwell status named → IsKeptText log a body
+well log named a status body is (inl (inl gives)) = gives.1
+well log named a status body is (inl (inr none)) = absurd (omega (arith, is, none.1))
+well log named a status body is (inr (inl fails)) = absurd (omega (arith, is, fails))
+well log named a status body is (inr (inr (inl busy))) = absurd (omega (arith, is, busy))
+well log named a status body is (inr (inr (inr long))) = absurd (omega (arith, is, long.0))
+
 front_is_kept : (log : List Entry) (place : Place) (url : List ℕ) (a : Address) (bytes : List ℕ) (g : Got) → FromOrigin log (fragment_request place url a) (answers.Bytes bytes)
     → SpellsFragment a.time (answers.Bytes bytes) g → IsKeptAt place url a log g
 front_is_kept log place url a bytes (got.Manifest listing) from spells = absurd spells
-front_is_kept log place url a bytes (got.Fragment raw) from (at, body, whole, is) = λ asked named.
+front_is_kept log place url a bytes (got.Fragment raw) from (at, body, whole, is) = λ asked b named.
     let (reply, more, r, text) = from place.host place.port (fragment_target place url a) asked refl in
     let own = own_body r.status r.kind r.body r.close bytes more 200 at body r.code r.final r.short (sym r.text ∙ text) whole in
-    kept_is_read log a a.time body raw (subst (IsKeptText log a) (sym own.1) (r.fragment a named (sym own.0))) is
+    kept_is_read log b a.time body raw (subst (IsKeptText log b) (sym own.1) (well log (fragment_target place url a) b r.status r.body (sym own.0) (r.fragment b named))) is
 front_is_kept log place url a bytes (got.Status status) from spells = tt
 front_is_kept log place url a bytes got.Cut from spells = tt
 front_is_kept log place url a bytes (got.Unreadable at) from spells = tt
@@ -194,7 +210,7 @@ front_is_kept log place url a bytes got.NoMemory from spells = tt
 -- what is kept stays kept
 kept_on : (place : Place) (url : List ℕ) (a : Address) (log since : List Entry) (g : Got) → IsKeptAt place url a log g → IsKeptAt place url a (log ++ since) g
 kept_on place url a log since (got.Manifest listing) is = tt
-kept_on place url a log since (got.Fragment raw) is = λ asked named. Contains-append_left log since (Keep (given a.stream a.bitrate raw)) (is asked named)
+kept_on place url a log since (got.Fragment raw) is = λ asked b named. Contains-append_left log since (Keep (given b.stream b.bitrate raw)) (is asked b named)
 kept_on place url a log since (got.Status status) is = tt
 kept_on place url a log since got.Cut is = tt
 kept_on place url a log since (got.Unreadable at) is = tt

@@ -40,11 +40,11 @@ pub record PushedBody (place : Place) (id body : List ℕ) (old new : Option (Li
   pub within : IsWithin push_limit answer
   pub spells : SpellsPush answer p
 
--- a fragment that was read is kept in this log, at the address that was asked
+-- a fragment that was read is kept in this log, at the address that the target which was asked for names
 abbrev pub IsKeptAt : Place → List ℕ → Address → List Entry → Got → Type 0
 IsKeptAt place url address log (got.Fragment raw) =
-    MayBeAsked place.host (fragment_target place url address) → target_of (fragment_target place url address) ≡ target.Fragment address
-    → Contains log (Keep (given address.stream address.bitrate raw))
+    MayBeAsked place.host place.port (fragment_target place url address) → (a : Address) → target_of (fragment_target place url address) ≡ target.Fragment a
+    → Contains log (Keep (given a.stream a.bitrate raw))
 IsKeptAt place url address log (got.Manifest listing) = Unit {0}
 IsKeptAt place url address log (got.Status status) = Unit {0}
 IsKeptAt place url address log got.Cut = Unit {0}

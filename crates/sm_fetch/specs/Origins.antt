@@ -1,5 +1,5 @@
 -- The store of an origin behind a dial, which only grows, and the replies that it may give.
-use Rattle.std.specs.Prelude.{◌≡◌, ◌<◌, ◌≤◌, ◌^◌, ℕ, Bool, List, ◌++◌, length, Contains, IsUtf8}
+use Rattle.std.specs.Prelude.{◌≡◌, ◌<◌, ◌≤◌, ◌^◌, ◌⊎◌, ℕ, Bool, List, ◌++◌, length, None, Some, Contains, IsUtf8}
 use Rattle.http.specs.StatusCode.{IsStatusCode}
 use Rattle.httparse.specs.Grammar.{AllPass, is_uri_byte, is_value_byte}
 use Rattle.sm_model.specs.declared.address.Address.{Address}
@@ -7,9 +7,12 @@ use Rattle.sm_model.specs.declared.entry.Entry.{Entry}
 use Rattle.sm_model.specs.declared.entry.Entry.TheVariants.{Keep}
 use Rattle.sm_model.specs.declared.fragment.Fragment.{Fragment}
 use Rattle.sm_model.specs.declared.target.Target.TheVariants as target
+use Rattle.sm_model.specs.declared.track.Track.{Track}
 use Rattle.sm_model.specs.Entries.{address_of}
 use Rattle.sm_model.specs.FragText.{frag_text}
 use Rattle.sm_model.specs.Written.{IsWritten}
+use Rattle.sm_log.specs.Logs.{channel_of, kept_at, listed_in, ahead_in}
+use Rattle.sm_manout.specs.ManifestText.{manifest}
 use Rattle.sm_addr.specs.Targets.{target_of}
 use Rattle.sm_head.specs.declared.reply.Content.{Content}
 use Rattle.sm_head.specs.Replies.{reply_text}
@@ -17,19 +20,34 @@ use Rattle.sm_fetch.specs.declared.dial.Answer.{Answer}
 use Rattle.sm_fetch.specs.declared.dial.Answer.TheVariants as answers
 use Rattle.sm_fetch.specs.Requests.{get_text}
 
--- the canonical text of a fragment that the log keeps at this address
+-- ---- what an origin replies
+
+-- the canonical text of the fragment that the log keeps at this address, with the listed times behind it
 pub record IsKeptText (log : List Entry) (a : Address) (text : List ℕ) : Type 0 where
   pub seq : ℕ
   pub id : ℕ
   pub fragment : Fragment
-  pub ahead : List (ℕ × ℕ)
-  pub text_is : text ≡ frag_text seq id fragment ahead
-  pub written : IsWritten id fragment ahead
+  pub text_is : text ≡ frag_text seq id fragment (ahead_in log a.stream a.time)
+  pub written : IsWritten id fragment (ahead_in log a.stream a.time)
   pub address_is : address_of fragment ≡ a
   pub kept : Contains log (Keep fragment)
 
--- What an origin with this log may reply to a GET of this target: a reply whose text is as replies are written, and where it is
--- the 200 to the target of a fragment, a text of a fragment that is kept there.
+-- It fails, or there were too many connections; or the head of the request was too long.
+abbrev pub IsUnwell : ℕ → List ℕ → Type 0
+IsUnwell status named = (status ≡ 500) ⊎ ((status ≡ 503) ⊎ ((status ≡ 431) × (7000 < length named)))
+
+-- the manifest of the channel, with the times that are listed; or none is declared
+abbrev pub SaysManifest : List Entry → ℕ → List ℕ → Type 0
+SaysManifest log status body =
+    ((channel : List Track) × (channel_of log ≡ Some channel) × (status ≡ 200) × (body ≡ manifest channel (listed_in log)))
+    ⊎ ((channel_of log ≡ None) × (status ≡ 404))
+
+-- the fragment that is kept at the address; or none is
+abbrev pub SaysFragment : List Entry → Address → ℕ → List ℕ → Type 0
+SaysFragment log a status body = ((status ≡ 200) × IsKeptText log a body) ⊎ ((kept_at log a ≡ None) × (status ≡ 404))
+
+-- What an origin with this log may reply to a GET of this target: a reply whose text is as replies are written, and which says what is
+-- there, unless it isn't well.
 pub record IsOriginReply (log : List Entry) (named reply : List ℕ) : Type 0 where
   pub status : ℕ
   pub kind : Content
@@ -39,15 +57,18 @@ pub record IsOriginReply (log : List Entry) (named reply : List ℕ) : Type 0 wh
   pub final : 200 ≤ status
   pub short : length body < 10 ^ 18
   pub text : reply ≡ reply_text status kind body close
-  pub fragment : (a : Address) → target_of named ≡ target.Fragment a → status ≡ 200 → IsKeptText log a body
+  pub manifest : target_of named ≡ target.Manifest → SaysManifest log status body ⊎ IsUnwell status named
+  pub fragment : (a : Address) → target_of named ≡ target.Fragment a → SaysFragment log a status body ⊎ IsUnwell status named
 
 -- the bytes are a front, perhaps all, of such a reply
 abbrev pub IsOfOrigin : List Entry → List ℕ → List ℕ → Type 0
 IsOfOrigin log named bytes = (reply more : List ℕ) × IsOriginReply log named reply × (reply ≡ bytes ++ more)
 
--- A host and a target that a request may have: the target is text of visible bytes, and the host has no control byte.
-pub record MayBeAsked (host named : List ℕ) : Type 0 where
-  pub host : AllPass is_value_byte host
+-- A host, a port and a target that a request may have: the target is text of visible bytes, and the host has no control byte.
+pub record MayBeAsked (host : List ℕ) (port : ℕ) (named : List ℕ) : Type 0 where
+  pub printable : AllPass is_value_byte host
+  pub few : length host ≤ 255
+  pub narrow : port < 2 ^ 16
   pub some : 0 < length named
   pub visible : AllPass is_uri_byte named
   pub text : IsUtf8 named
@@ -55,7 +76,7 @@ pub record MayBeAsked (host named : List ℕ) : Type 0 where
 -- an answer to the GET of a target of any place is the origin's
 abbrev pub FromOrigin : List Entry → List ℕ → Answer → Type 0
 FromOrigin log request (answers.Bytes bytes) =
-    (host : List ℕ) (port : ℕ) (named : List ℕ) → MayBeAsked host named → request ≡ get_text host port named → IsOfOrigin log named bytes
+    (host : List ℕ) (port : ℕ) (named : List ℕ) → MayBeAsked host port named → request ≡ get_text host port named → IsOfOrigin log named bytes
 FromOrigin log request answers.Lost = Unit {0}
 FromOrigin log request answers.NoMemory = Unit {0}
 
