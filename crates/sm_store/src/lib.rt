@@ -3,6 +3,7 @@
 
 mod choosing;
 mod fault;
+pub mod law;
 mod listing;
 mod serving;
 mod start;
