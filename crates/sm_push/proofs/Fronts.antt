@@ -133,3 +133,15 @@ tight_at h t count (Whole kind head size) is e le =
 -- the byte that makes a head whole is inside the head
 pub head_tight : (h t : List ℕ) (count : ℕ) → head_of h ≡ Short → count ≤ length h + 1 → Tight count (head_of (h ++ t))
 head_tight h t count e le = tight_at h t count (head_of (h ++ t)) refl e le
+
+short_tight_at : (b : List ℕ) (count : ℕ) (hd : Head) → head_of b ≡ hd → count ≤ 8 → Tight count hd
+short_tight_at b count Short is le = tt
+short_tight_at b count Bad is le = tt
+short_tight_at b count OpenEnded is le = tt
+short_tight_at b count (Whole kind head size) is le =
+    let w = whole_is b kind head size is in
+    (omega (arith, w.head_is, long_head b), omega (arith, w.fits, w.head_is, long_head b))
+
+-- no head is shorter than 8 bytes
+pub short_tight : (b : List ℕ) (count : ℕ) → count ≤ 8 → Tight count (head_of b)
+short_tight b count le = short_tight_at b count (head_of b) refl le

@@ -17,7 +17,7 @@ use Rattle.sm_box.specs.declared.head.Head.{Head}
 use Rattle.sm_box.specs.declared.head.Head.TheVariants as heads
 use Rattle.sm_push.specs.Heads.{by_head, FitsIn}
 use Rattle.sm_push.proofs.HeadLemmas.{decision_is}
-use Rattle.sm_push.proofs.Fronts.{part_stable, head_stable, Tight, head_tight, one_box}
+use Rattle.sm_push.proofs.Fronts.{part_stable, head_stable, Tight, head_tight, short_tight, one_box}
 
 longer : (n : ℕ) (h t : List ℕ) → n ≤ length h → ltb (length (h ++ t)) n ≡ false
 longer n h t le = le-ltb _ _ (omega (arith, length-append h t))
@@ -131,6 +131,10 @@ fits_at s h t count (heads.Whole kind head size) e waits le =
     let same : head_of (h ++ t) ≡ heads.Whole kind head size = head_stable h t (rw e tt) ∙ e in
     let w = waits_for_user s h kind head size waits in
     rw same (kind_fits s (h ++ t) kind head size count (omega (arith, w.0, w.1)))
+
+-- the 8 bytes that each head has are inside the box
+pub fits_short : (s : PushState) (b : List ℕ) (count : ℕ) → count ≤ 8 → FitsIn count (decision s b)
+fits_short s b count le = subst (FitsIn count) (sym (decision_is s b)) (tight_fits s b count (head_of b) (short_tight b count le))
 
 -- one byte more than an undecided head has is still inside the box
 pub fits_more : (s : PushState) (h t : List ℕ) (count : ℕ) → decision s h ≡ Wait → count ≤ length h + 1 → FitsIn count (decision s (h ++ t))

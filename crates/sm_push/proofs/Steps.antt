@@ -1,5 +1,5 @@
 -- The steps of a push, over what it keeps.
-use Rattle.std.proofs.Common.{◌≡◌, ℕ, zero, suc, ◌+◌, ◌-◌, ◌<◌, ◌≤◌, ltb, List, [], ◌∷◌, ◌++◌, length, take, drop, refl, sym, ap, ◌∙◌, inl, inr, arith}
+use Rattle.std.proofs.Common.{◌≡◌, ◌⊎◌, ℕ, zero, suc, ◌+◌, ◌-◌, ◌<◌, ◌≤◌, ltb, List, [], ◌∷◌, ◌++◌, length, take, drop, refl, sym, ap, ◌∙◌, inl, inr, arith}
 use Rattle.std.specs.Prelude.{◌^◌, min, Bool, true, false, ◌||◌, is_some, Option, Some, None, Result, Ok, Err, OnOk, OnErr}
 use Rattle.std.specs.Option.{option_to_list}
 use Rattle.std.proofs.lemmas.List.{append_assoc, append-nil, take-append-drop, length-take, length-append, drop-drop, drop_all}
@@ -35,7 +35,7 @@ use Rattle.sm_push.specs.declared.kept.Kept.{Kept}
 use Rattle.sm_push.specs.Heads.{FitsIn, IsOpen}
 use Rattle.sm_push.specs.Steps.{given_in, Takes, HoldsBoxes}
 use Rattle.sm_push.specs.Standing.{rest_of, kept_header, push_header, HeaderStays, IsComplete, StageGrows, Grows, IsPartial, Advances, Settles, StaysInside, PieceGives, Standing, Stands, Answers}
-use Rattle.sm_push.proofs.Stable.{decision-nil, fits_more, stable}
+use Rattle.sm_push.proofs.Stable.{decision-nil, fits_short, fits_more, stable}
 use Rattle.sm_push.proofs.Walking.{walk-over, passes, refuses, takes}
 
 pub passed_settles : (s : PushState) (h h' more : List ℕ) (k k' size : ℕ) → k ≡ 0 → decision s h ≡ Pass size → FitsIn (length h) (decision s h) → h' ≡ [] → k' ≡ size - length h
@@ -104,14 +104,22 @@ fault_advances old mid new n piece faults.NoMemory seen skip held h = h ∙ ap (
 
 -- ---- how many bytes are wanted
 
-pub wanted_one : (k : Kept) → IsPartial k → ((sort : TopBox) (size : ℕ) → decision k.state k.held ≡ Take sort size → ⊥) → StaysInside k 1
-wanted_one k p other more len = by_decision (decision k.state k.held) refl p.due
+wanted_one : (k : Kept) (n : ℕ) → n ≤ 1 → IsPartial k → ((sort : TopBox) (size : ℕ) → decision k.state k.held ≡ Take sort size → ⊥) → StaysInside k n
+wanted_one k n one p other more len = by_decision (decision k.state k.held) refl p.due
   where
     by_decision : (d : BoxDecision) → decision k.state k.held ≡ d → IsOpen (length k.held) d → FitsIn (length (k.held ++ more)) (decision k.state (k.held ++ more))
-    by_decision Wait e due = fits_more k.state k.held more (length (k.held ++ more)) e (omega (arith, length-append k.held more))
+    by_decision Wait e due = fits_more k.state k.held more (length (k.held ++ more)) e (omega (arith, one, len, length-append k.held more))
     by_decision (Refuse cause) e due = absurd due
     by_decision (Pass size) e due = absurd due
     by_decision (Take sort size) e due = absurd (other sort size e)
+
+wanted_eight : (k : Kept) (n : ℕ) → length k.held + n ≤ 8 → StaysInside k n
+wanted_eight k n le more len = fits_short k.state (k.held ++ more) (length (k.held ++ more)) (omega (arith, le, len, length-append k.held more))
+
+pub wanted_head : (k : Kept) (n : ℕ) → (n ≤ 1) ⊎ (length k.held + n ≤ 8) → IsPartial k
+    → ((sort : TopBox) (size : ℕ) → decision k.state k.held ≡ Take sort size → ⊥) → StaysInside k n
+wanted_head k n (inl one) p other = wanted_one k n one p other
+wanted_head k n (inr le) p other = wanted_eight k n le
 
 pub wanted_rest : (k : Kept) (sort : TopBox) (size n : ℕ) → decision k.state k.held ≡ Take sort size → length k.held + n ≤ size → StaysInside k n
 wanted_rest k sort size n e le more len =

@@ -1,5 +1,5 @@
 //! What a push keeps of its bytes, and its steps.
-ghost use Rattle.std.specs.Prelude.{◌≡◌, List, ℕ, [], ◌<◌, ◌≤◌, ◌++◌, min, length, IfOk, OnOk, OnErr, Err};
+ghost use Rattle.std.specs.Prelude.{◌≡◌, List, ℕ, [], ◌<◌, ◌≤◌, ◌+◌, ◌++◌, ◌⊎◌, min, length, IfOk, OnOk, OnErr, Err};
 ghost use Rattle.std.specs.Option.{option_to_list};
 ghost use Rattle.sm_model.specs.PushHeads.{decision};
 ghost use Rattle.sm_push.specs.Heads.{FitsIn};
@@ -14,6 +14,9 @@ use crate::step::{NewItem, pass, take};
 use sm_model::Items;
 use sm_model::push::{BoxDecision, HeaderStage, PushState};
 use std::alloc::Global;
+
+/// No head of a box is shorter, in bytes.
+const LEAST_HEAD: u64 = 8;
 
 /// What a push keeps of its bytes.
 #[derive(Debug, Drop)]
@@ -33,6 +36,21 @@ fn add(items: &mut Items, item: Option<NewItem>) -> Result<(), StepFault>
         items.push(item, id)?;
     }
     Ok(())
+}
+
+// How many of the next bytes belong to a head of which so many are held: all that each head has, and then one after the other.
+fn head_wanted(held: u64, most: usize) -> usize
+    requires some { 0 < most }
+    ensures some { 0 < result }
+    ensures most { result ≤ most }
+    ensures head { (result ≤ 1) ⊎ (held + result ≤ 8) }
+{
+    if held < LEAST_HEAD {
+        let missing = LEAST_HEAD - held;
+        missing.min(most as u64) as usize
+    } else {
+        1
+    }
 }
 
 impl Kept {
@@ -103,7 +121,7 @@ impl Kept {
                 let missing = size - self.held.len();
                 missing.min(most as u64) as usize
             }
-            _ => 1,
+            _ => head_wanted(self.held.len(), most),
         }
     }
 

@@ -1,11 +1,11 @@
-use Rattle.std.proofs.Common.{◌≡◌, ℕ, length, ap, ◌∙◌, sym, subst, arith}
+use Rattle.std.proofs.Common.{◌≡◌, ◌≤◌, ◌+◌, ◌⊎◌, ℕ, length, ap, ◌∙◌, sym, subst, arith}
 use Rattle.sm_model.specs.declared.push.BoxDecision.TheVariants.{Take}
 use Rattle.sm_model.specs.PushHeads.{decision}
 use Rattle.sm_push.specs.Heads.{IsOpen}
 use Rattle.sm_push.specs.Standing.{StaysInside}
 use Rattle.sm_push.specs.Held.{lacking}
 use Rattle.sm_push.proofs.Limits.{nothing_lacks}
-use Rattle.sm_push.proofs.Steps.{wanted_one, wanted_rest}
+use Rattle.sm_push.proofs.Steps.{wanted_head, wanted_rest}
 use Rattle.sm_push.proofs.kept.Kept.wanted.Goals as goal
 use Rattle.sm_push.proofs.kept.Kept.wanted.Goals.{in-Take, in_default}
 
@@ -16,7 +16,8 @@ returns-clause-fits c = elim c.match-decide.branch [
       let due : IsOpen (length c.args.self.now.held) (Take w.in-Take.field-0 w.in-Take.size) = rw e at c.requires.partial.due in
       subst (λ (n : ℕ). StaysInside c.args.self.now n) (sym w.result-is) (wanted_rest c.args.self.now w.in-Take.field-0 w.in-Take.size w.min.result e (omega (arith, due)))
   | in_default w ↦
-      subst (λ (n : ℕ). StaysInside c.args.self.now n) (sym w.result-is) (wanted_one c.args.self.now c.requires.partial
+      subst (λ (n : ℕ). StaysInside c.args.self.now n) (sym w.result-is) (wanted_head c.args.self.now w.head_wanted.result
+      (subst (λ (h : ℕ). (w.head_wanted.result ≤ 1) ⊎ (h + w.head_wanted.result ≤ 8)) w.len-in_default.ensures w.head_wanted.ensures.head) c.requires.partial
       (λ sort size e. w.in_default.not-Take sort size (c.decide.ensures ∙ ap (decision c.args.self.now.state) c.as_slice.ensures ∙ e)))
 ]
 
