@@ -10,7 +10,7 @@ use Rattle.sm_origin.specs.declared.origin.Origin.{Origin}
 use Rattle.sm_serve.specs.Standing.{StandsOn}
 use Rattle.sm_serve.specs.declared.live.Live.{Live}
 use Rattle.sm_serve.specs.declared.state.State.{State}
-use Rattle.sm_serve.specs.Connections.{received, live, without, is_among, AreDistinct}
+use Rattle.sm_serve.specs.Connections.{received, live, without, is_among, AreDistinct, deals_in}
 use Rattle.sm_serve.specs.Run.{Counts, no_counts, Point, idle, passed, left, over, at, at_event}
 use Rattle.sm_serve.specs.Standing.{History, Pending, moved, Follows, Reaches}
 use Rattle.sm_serve.proofs.Lasting.{on_behind, on_moved}
@@ -49,8 +49,8 @@ module _ {D : Type 0} (view : D → View) (leave : D → Image → Type 0) (left
   }
 
   pub taken_open : (h : History) (m n i : ℕ) (piece : List ℕ) (old : List Live) (new : Live) (state : State) (e : D) → AreResting h old → numbers_of old ≡ live h.items → i < length old → get_or (numbers_of old) i 0 ≡ n
-      → new.number ≡ n → state.lives.items ≡ slice_set old i new → PieceGives view leave left_at h m piece n true new state.origin e → Turns view leave left_at h (Came n piece ∷ []) state e
-  taken_open h m n i piece old new state e rest numbers within is number lives gives =
+      → new.number ≡ n → state.lives.items ≡ slice_set old i new → PieceGives view leave left_at h m piece n true new state.origin e → (j : ℕ) → n ≡ j → Turns view leave left_at h (Came j piece ∷ []) state e
+  taken_open h m n i piece old new state e rest numbers within is number lives gives j same =
       let r = gives.reaches in
       let k = r.later in
       let same_live : live k.items ≡ live h.items = r.follows.live ∙ live_push h.items (record { moment = m; deal = Came n piece }) in
@@ -68,12 +68,12 @@ module _ {D : Type 0} (view : D → View) (leave : D → Image → Type 0) (left
           };
         };
         since = record { first = r.follows.first; begin = r.follows.begin; base = r.follows.base; on = on_behind h k _ _ r.follows.on };
-        taken = r.follows.deals ∙ deals_push h.items _;
+        taken = r.follows.deals ∙ deals_push h.items _ ∙ ap (λ (l : ℕ). deals_in h.items ++ Came l piece ∷ []) same;
       }
 
   pub taken_shut : (h : History) (m n i : ℕ) (piece : List ℕ) (old : List Live) (new : Live) (state : State) (e : D) → AreResting h old → numbers_of old ≡ live h.items → i < length old → get_or (numbers_of old) i 0 ≡ n
-      → state.lives.items ≡ remove old i → PieceGives view leave left_at h m piece n false new state.origin e → Turns view leave left_at h (Came n piece ∷ []) state e
-  taken_shut h m n i piece old new state e rest numbers within is lives gives =
+      → state.lives.items ≡ remove old i → PieceGives view leave left_at h m piece n false new state.origin e → (j : ℕ) → n ≡ j → Turns view leave left_at h (Came j piece ∷ []) state e
+  taken_shut h m n i piece old new state e rest numbers within is lives gives j same =
       let r = gives.reaches in
       let k = r.later in
       let less_live : live k.items ≡ without n (live h.items) = r.follows.live ∙ ap (without n) (live_push h.items (record { moment = m; deal = Came n piece })) in
@@ -90,7 +90,7 @@ module _ {D : Type 0} (view : D → View) (leave : D → Image → Type 0) (left
           };
         };
         since = record { first = r.follows.first; begin = r.follows.begin; base = r.follows.base; on = on_behind h k _ _ r.follows.on };
-        taken = r.follows.deals ∙ deals_push h.items _;
+        taken = r.follows.deals ∙ deals_push h.items _ ∙ ap (λ (l : ℕ). deals_in h.items ++ Came l piece ∷ []) same;
       }
 
   -- a piece of a connection that isn't live
