@@ -3,7 +3,7 @@ ghost use Rattle.std.specs.Prelude.{◌≡◌, ◌≤◌, ◌<◌, ◌^◌, ℕ,
 ghost use Rattle.sm_model.specs.declared.entry.Entry.{Entry};
 ghost use Rattle.lru.specs.LruCache.{lru_cache};
 ghost use Rattle.sm_site.specs.Meanings.{SameLink};
-ghost use Rattle.sm_site.specs.Clauses.{Rose, Throughout};
+ghost use Rattle.sm_site.specs.Clauses.{Rose, NoMore, Throughout};
 ghost use Rattle.sm_archive.specs.declared.opened.OpenFault.TheVariants as open_fault;
 ghost use Rattle.sm_archive.specs.Store.{IsStore};
 ghost use Rattle.sm_archive.specs.Opening.{NotAStore};
@@ -40,6 +40,10 @@ impl Origin {
         ensures limits { IfOk result (λ o. o.archive.limits ≡ limits) }
         ensures empty { IfOk result (λ o. o.cache ≡ lru_cache [] 16) }
         ensures refused { (at : ℕ) → IsErrOf result (open_fault.NotAStore at) → IfSome (S.Disk.view site.old).contents (NotAStore at) }
+        // A store that is refused isn't written: the contents stay, and at no moment a crash leaves what it couldn't leave before.
+        ensures untouched { (at : ℕ) → IsErrOf result (open_fault.NotAStore at) → ((S.Disk.view site.new).contents ≡ (S.Disk.view site.old).contents)
+            × NoMore (S.Disk.may_leave site.old) (S.Disk.may_leave site.new)
+            × Throughout S.Disk.view S.Disk.left_at site.old site.new (λ t c. S.Disk.may_leave site.old c) }
         // Where every image is one store, it stays that at each moment.
         ensures any_moment { (log : List Entry) → HasOneStore log (S.Disk.may_leave site.old)
             → Throughout S.Disk.view S.Disk.left_at site.old site.new (λ t c. IsStore log c) }

@@ -57,8 +57,8 @@ pub record Since (h k : History) : Type 0 where
   pub on : GoesOn h k
 
 -- the run goes on by these events
-pub record Turns {D : Type 0} (view : D → View) (leave : D → Image → Type 0) (left_at : D → ℕ → Image → Type 0) (h : History) (deals : List Deal) (state : State)
-    (d : D) : Type 0 where
+pub record Turns {D : Type 0} (view : D → View) (leave : D → Image → Type 0) (left_at : D → ℕ → Image → Type 0) (h : History) (deals : List Deal)
+    (state : State) (d : D) : Type 0 where
   pub later : History
   pub serves : Serves view leave left_at later state d
   pub since : Since h later

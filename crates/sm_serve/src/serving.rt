@@ -40,7 +40,8 @@ fn take<S: Site>(site: &mut S, state: &mut State, number: u64, piece: &[u8])
     requires stands { (m : Machine) × StandsOn S.Disk.view S.Disk.may_leave m state.old.origin site.old }
     requires live { is_among number (numbers_of state.old.lives.items) ≡ true → IfSome (S.Disk.view site.old).transcript (IsLive number) }
     ensures goes_on { (h : History) (m : ℕ) → Pending S.Disk.view S.Disk.may_leave S.Disk.left_at h m (Came number piece.now) site.old
-        → IsAtRest S.Disk.view S.Disk.may_leave h state.old site.old → Turns S.Disk.view S.Disk.may_leave S.Disk.left_at h (Came number piece.now ∷ []) state.new site.new }
+        → IsAtRest S.Disk.view S.Disk.may_leave h state.old site.old
+        → Turns S.Disk.view S.Disk.may_leave S.Disk.left_at h (Came number piece.now ∷ []) state.new site.new }
     ensures stands { (m : Machine) × StandsOn S.Disk.view S.Disk.may_leave m state.new.origin site.new }
     ensures told { is_some (S.Disk.view site.new).transcript ≡ is_some (S.Disk.view site.old).transcript }
     ensures link_faults { (S.Disk.view site.new).link_faults ≡ (S.Disk.view site.old).link_faults }
@@ -115,7 +116,8 @@ fn handle<S: Site>(site: &mut S, state: &mut State, event: Event) -> Turn
     requires stands { (m : Machine) × StandsOn S.Disk.view S.Disk.may_leave m state.old.origin site.old }
     requires may { MayHandle event state.old.lives.items (S.Disk.view site.old).transcript }
     ensures goes_on { (h : History) (m : ℕ) → Pending S.Disk.view S.Disk.may_leave S.Disk.left_at h m (deal_of event) site.old
-        → IsAtRest S.Disk.view S.Disk.may_leave h state.old site.old → IsNew event h → Turns S.Disk.view S.Disk.may_leave S.Disk.left_at h (deal_of event ∷ []) state.new site.new }
+        → IsAtRest S.Disk.view S.Disk.may_leave h state.old site.old → IsNew event h
+        → Turns S.Disk.view S.Disk.may_leave S.Disk.left_at h (deal_of event ∷ []) state.new site.new }
     ensures stands { (m : Machine) × StandsOn S.Disk.view S.Disk.may_leave m state.new.origin site.new }
     ensures told { is_some (S.Disk.view site.new).transcript ≡ is_some (S.Disk.view site.old).transcript }
     ensures link_faults { (S.Disk.view site.new).link_faults ≡ (S.Disk.view site.old).link_faults }

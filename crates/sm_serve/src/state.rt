@@ -2,7 +2,7 @@
 ghost use Rattle.std.specs.Prelude.{◌≡◌, ◌<◌, ◌≤◌, ◌^◌, ℕ, List, None, IfOk, IfSome, IsSome, IsErrOf, is_some};
 ghost use Rattle.sm_model.specs.Channels.{IsChannel};
 ghost use Rattle.sm_model.specs.declared.entry.Entry.{Entry};
-ghost use Rattle.sm_site.specs.Clauses.{Rose, Throughout};
+ghost use Rattle.sm_site.specs.Clauses.{Rose, NoMore, Throughout};
 ghost use Rattle.sm_site.specs.Meanings.{SameLink};
 ghost use Rattle.sm_archive.specs.declared.opened.OpenFault.TheVariants as open_fault;
 ghost use Rattle.sm_archive.specs.declared.answers.Declared.TheVariants as answer;
@@ -43,6 +43,10 @@ impl State {
         // A run begins here.
         ensures begins { IfOk result (λ state. Begins S.Disk.view S.Disk.may_leave S.Disk.left_at state site.new) }
         ensures refused { (at : ℕ) → IsErrOf result (open_fault.NotAStore at) → IfSome (S.Disk.view site.old).contents (NotAStore at) }
+        // A store that is refused isn't written: the contents stay, and at no moment a crash leaves what it couldn't leave before.
+        ensures untouched { (at : ℕ) → IsErrOf result (open_fault.NotAStore at) → ((S.Disk.view site.new).contents ≡ (S.Disk.view site.old).contents)
+            × NoMore (S.Disk.may_leave site.old) (S.Disk.may_leave site.new)
+            × Throughout S.Disk.view S.Disk.left_at site.old site.new (λ t c. S.Disk.may_leave site.old c) }
         // Where every image is one store, it stays that at each moment.
         ensures any_moment { (log : List Entry) → HasOneStore log (S.Disk.may_leave site.old)
             → Throughout S.Disk.view S.Disk.left_at site.old site.new (λ t c. IsStore log c) }
