@@ -1,7 +1,7 @@
 -- How a store comes to be served.
 use Rattle.std.proofs.Common.{inl, inr, ◌≡◌, ℕ, Bool, true, false, List, [], ◌∷◌, ◌++◌, Option, Some, None, Result, Ok, Err, ◌≤◌, refl, sym, ap, subst, ◌∙◌, arith}
 use Rattle.std.proofs.lemmas.List.{append-nil}
-use Rattle.std.specs.Prelude.{IfSome, IsSome, IfOk, IfErr, ◌⊎◌}
+use Rattle.std.specs.Prelude.{IfSome, IsSome, IfOk, IfErr, IsErrOf, ◌⊎◌}
 use Rattle.sm_model.specs.declared.entry.Entry.{Entry}
 use Rattle.sm_model.specs.declared.track.Track.{Track}
 use Rattle.sm_site.specs.Clauses.{Rose}
@@ -30,8 +30,10 @@ use Rattle.sm_serve.specs.Standing.{History, StandsOn}
 use Rattle.sm_serve.specs.Serving.{AreResting, Begins, DeclaresIn, Serves, Served, Known, numbers_of}
 use Rattle.sm_serve.proofs.Lasting.{on_itself, on_then}
 use Rattle.sm_store.specs.declared.fault.StoreFault.{StoreFault}
+use Rattle.sm_store.specs.declared.fault.StoreFault.TheVariants as fault
+use Rattle.sm_store.specs.Choosing.{WhyUnchosen}
 use Rattle.sm_store.specs.Lasting.{AtEachMoment, Outlasts}
-use Rattle.sm_store.specs.Serving.{Input, Found, DeclaresTo, GoesUnseen, HasRun, IsBegun, PrepareMeans, ReadsLadder, RunLasts, RunsFrom, StopsFrom, TriesLadder, WhyUnread, WhyUnready, outcome_of}
+use Rattle.sm_store.specs.Serving.{Input, Found, DeclaresTo, GoesUnseen, HasRun, IsBegun, PrepareMeans, ReadsLadder, RunLasts, RunsFrom, StopsFrom, TriesLadder, WhyUnopened, WhyUnread, WhyUnready, outcome_of}
 use Rattle.sm_store.proofs.Lasting.{fits_found, log_is, store_since}
 
 pub found : {D : Type 0} (view : D → View) (leave : D → Image → Type 0) (state : State) (old new : D)
@@ -54,6 +56,24 @@ found {D} view leave state old new some told = by_contents (view old).contents r
       store = subst (λ (x : Option Image). IfSome x (IsStore h.0.log)) (sym e) h.1;
       stands = h.3;
     }
+
+pub stated_is : (why other : StoreFault) → (let r : Result State StoreFault = Err why in r) ≡ Err other → why ≡ other
+stated_is why other e = cc
+
+pub error_as : (why : StoreFault) (at : ℕ) → (let r : Result Outcome StoreFault = Err why in r) ≡ Err (fault.NotAStore at) → (let r : Result State StoreFault = Err why in r) ≡ Err (fault.NotAStore at)
+error_as why at e = let same : why ≡ fault.NotAStore at = cc in ap (λ (x : StoreFault). let r : Result State StoreFault = Err x in r) same
+
+pub unopened_chosen : (a b : View) (why : StoreFault) → WhyUnchosen a b why → WhyUnopened a b why
+unopened_chosen a b fault.DiskFault h = h
+unopened_chosen a b fault.LinkFault h = h
+unopened_chosen a b (fault.NotAStore at) h = absurd h
+unopened_chosen a b fault.Unread h = h
+unopened_chosen a b fault.LongLadder h = h
+unopened_chosen a b (fault.BadLadder at) h = h
+unopened_chosen a b (fault.Refused cause) h = h
+unopened_chosen a b fault.Full h = h
+unopened_chosen a b fault.Damaged h = h
+unopened_chosen a b fault.NoMemory h = h
 
 silent_by : (answer : Declared) → Ok tt ≡ outcome_of answer → reply_to_header answer ≡ silent Neither
 silent_by declared.Fixed e = refl
@@ -149,6 +169,24 @@ runs_from view leave left_at ladder told told' turns state d state' d' after e e
   blamed = λ is. same_rose (view d).link_faults (view d').link_faults (view e).link_faults same (blamed is);
   run = λ b serves none no_step. (let h = p.begun b serves none no_step in (h.0, h.1, h.2, (after, runs h.0 h.3)));
 }
+
+-- neither a ladder that isn't read nor one that is refused says that the files are no store
+no_place : (answer : Declared) (at : ℕ) → (let r : Result (Unit {0}) StoreFault = Err (fault.NotAStore at) in r) ≡ outcome_of answer → ⊥
+no_place declared.Fixed at e = cc
+no_place declared.Agreed at e = cc
+no_place (declared.Refused cause) at e = cc
+no_place declared.Full at e = cc
+no_place declared.DiskFault at e = cc
+no_place declared.NoMemory at e = cc
+
+pub ladder_is_placed : {D : Type 0} (view : D → View) (leave : D → Image → Type 0) (left_at : D → ℕ → Image → Type 0) (ladder : Bool) (input input' : Input) (state : State) (d d' : D)
+    (r : Result Outcome StoreFault) → IfErr r (λ why. StopsFrom view leave left_at ladder input input' state d d' why) → (at : ℕ) → IsErrOf r (fault.NotAStore at) → ⊥
+ladder_is_placed view leave left_at ladder input input' state d d' r h at is =
+    by_cause (subst (λ (x : Result Outcome StoreFault). IfErr x (λ why. StopsFrom view leave left_at ladder input input' state d d' why)) is h)
+  where
+    by_cause : StopsFrom view leave left_at ladder input input' state d d' (fault.NotAStore at) → ⊥
+    by_cause (asked, inl unread) = unread
+    by_cause (asked, inr declares) = no_place declares.1.0 at declares.1.1
 
 -- ---- a run that went on
 

@@ -1,12 +1,13 @@
 //! Serving a store.
-ghost use Rattle.std.specs.Prelude.{◌≡◌, List, Some, IsSome, IfOk, IfErr};
+ghost use Rattle.std.specs.Prelude.{◌≡◌, ℕ, List, Some, IsSome, IfOk, IfErr, IsErrOf};
 ghost use Rattle.sm_model.specs.declared.entry.Entry.{Entry};
 ghost use Rattle.sm_site.specs.Meanings.{Item};
 ghost use Rattle.sm_origin.specs.Machine.{Machine};
 ghost use Rattle.sm_origin.specs.Opening.{HasOneStore};
 ghost use Rattle.sm_serve.specs.Serving.{Begins, Serves};
 ghost use Rattle.sm_serve.specs.Standing.{History, StandsOn};
-ghost use Rattle.sm_store.specs.Lasting.{Outlasts};
+ghost use Rattle.sm_store.specs.declared.fault.StoreFault.TheVariants as fault;
+ghost use Rattle.sm_store.specs.Lasting.{AtEachMoment, Outlasts};
 ghost use Rattle.sm_store.specs.Serving.{HasRun, RunLasts, RunsFrom, StopsFrom, WhyUnready};
 
 use crate::StoreFault;
@@ -67,6 +68,9 @@ pub fn serve_store<I: Source, S: Site>(
     ensures any_moment { IsSome (S.Disk.view site.old).contents → (log : List Entry) → HasOneStore log (S.Disk.may_leave site.old)
         → (base : List Item) → (S.Disk.view site.old).transcript ≡ Some base
         → Outlasts S.Disk.view S.Disk.left_at log base site.old site.new }
+    // What is no store isn't written: the contents stay, and at no moment a crash leaves what it couldn't leave before.
+    ensures untouched { (at : ℕ) → IsErrOf result (fault.NotAStore at) → ((S.Disk.view site.new).contents ≡ (S.Disk.view site.old).contents)
+        × AtEachMoment S.Disk.view S.Disk.left_at site.old site.new (S.Disk.may_leave site.old) }
 {
     bodies_have_one_log();
     stores_have_one_reading();

@@ -1,13 +1,14 @@
 //! Opening a store to be served, with its ladder.
-ghost use Rattle.std.specs.Prelude.{◌≡◌, ◌≤◌, ℕ, List, Option, Ok, IfOk, IfErr};
+ghost use Rattle.std.specs.Prelude.{◌≡◌, ◌≤◌, ℕ, List, Option, Ok, IfOk, IfErr, IsErrOf};
 ghost use Rattle.sm_model.specs.Channels.{IsChannel};
 ghost use Rattle.sm_model.specs.declared.entry.Entry.{Entry};
-ghost use Rattle.sm_site.specs.Clauses.{Throughout};
+ghost use Rattle.sm_site.specs.Clauses.{NoMore, Throughout};
 ghost use Rattle.sm_archive.specs.Store.{IsStore};
 ghost use Rattle.sm_origin.specs.Machine.{Machine};
 ghost use Rattle.sm_origin.specs.Opening.{HasOneStore};
 ghost use Rattle.sm_serve.specs.Serving.{Begins, Serves};
 ghost use Rattle.sm_serve.specs.Standing.{History, StandsOn};
+ghost use Rattle.sm_store.specs.declared.fault.StoreFault.TheVariants as fault;
 ghost use Rattle.sm_store.specs.Lasting.{AtEachMoment};
 ghost use Rattle.sm_store.specs.Serving.{Found, IsLadderInput, DeclaresTo, GoesUnseen, LadderMeans, PrepareMeans, WhyUnopened, WhyUnread, outcome_of};
 
@@ -30,6 +31,9 @@ fn start<S: Site>(alloc: Global, site: &mut S) -> Result<State, StoreFault>
     ensures begins { IfOk result (λ state. Begins S.Disk.view S.Disk.may_leave S.Disk.left_at state site.new) }
     ensures any_moment { (log : List Entry) → HasOneStore log (S.Disk.may_leave site.old)
         → Throughout S.Disk.view S.Disk.left_at site.old site.new (λ t c. IsStore log c) }
+    ensures untouched { (at : ℕ) → IsErrOf result (fault.NotAStore at) → ((S.Disk.view site.new).contents ≡ (S.Disk.view site.old).contents)
+        × NoMore (S.Disk.may_leave site.old) (S.Disk.may_leave site.new)
+        × Throughout S.Disk.view S.Disk.left_at site.old site.new (λ t c. S.Disk.may_leave site.old c) }
     ensures transcript { (S.Disk.view site.new).transcript ≡ (S.Disk.view site.old).transcript }
     ensures why { IfErr result (λ why. WhyUnopened (S.Disk.view site.old) (S.Disk.view site.new) why) }
     ensures disk_faults { (S.Disk.view site.old).disk_faults ≤ (S.Disk.view site.new).disk_faults }
@@ -55,6 +59,8 @@ pub(crate) fn open_state<S: Site>(
     // Where every image was one store, it stays that at each moment.
     ensures any_moment { (log : List Entry) → HasOneStore log (S.Disk.may_leave site.old)
         → AtEachMoment S.Disk.view S.Disk.left_at site.old site.new (IsStore log) }
+    ensures untouched { (at : ℕ) → IsErrOf result (fault.NotAStore at) → ((S.Disk.view site.new).contents ≡ (S.Disk.view site.old).contents)
+        × AtEachMoment S.Disk.view S.Disk.left_at site.old site.new (S.Disk.may_leave site.old) }
     ensures transcript { (S.Disk.view site.new).transcript ≡ (S.Disk.view site.old).transcript }
     ensures why { IfErr result (λ why. WhyUnopened (S.Disk.view site.old) (S.Disk.view site.new) why) }
     ensures disk_faults { (S.Disk.view site.old).disk_faults ≤ (S.Disk.view site.new).disk_faults }

@@ -1,6 +1,6 @@
 use Rattle.std.proofs.Common.{◌∙◌}
 use Rattle.sm_store.proofs.Lasting.{silent_lasts}
-use Rattle.sm_store.proofs.Starting.{has_run, opened_lasts, why_stopped}
+use Rattle.sm_store.proofs.Starting.{has_run, error_as, ladder_is_placed, opened_lasts, why_stopped}
 use Rattle.sm_store.proofs.serving.serve_store.Goals as goal
 
 pub returns-in-Ok-clause-run : goal.returns-in-Ok-clause-run
@@ -22,3 +22,10 @@ returns-in-Ok-clause-any_moment g c =
 pub returns-in-Err-clause-any_moment : goal.returns-in-Err-clause-any_moment
 returns-in-Err-clause-any_moment g c some log one base told =
     silent_lasts g.S.Disk.view g.S.Disk.may_leave g.S.Disk.left_at g.met.S.Disk.at_now log base c.args.site.now c.open_state.new.site one (c.in-Err.ensures.any_moment log one) (c.in-Err.ensures.transcript ∙ told)
+
+pub returns-in-Ok-clause-untouched : goal.returns-in-Ok-clause-untouched
+returns-in-Ok-clause-untouched g c at is =
+    absurd (ladder_is_placed g.S.Disk.view g.S.Disk.may_leave g.S.Disk.left_at c.args.ladder _ _ c.in-Ok.state c.open_state.new.site c.serve_state.new.site c.serve_state.result c.serve_state.ensures.why at is)
+
+pub returns-in-Err-clause-untouched : goal.returns-in-Err-clause-untouched
+returns-in-Err-clause-untouched g c at is = c.in-Err.ensures.untouched at (error_as c.in-Err.fault at is)
