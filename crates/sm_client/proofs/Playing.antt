@@ -1,8 +1,9 @@
 -- Streams one after another.
 use Rattle.std.proofs.Common.{◌≡◌, ◌≢◌, ◌<◌, ◌≤◌, ◌+◌, ◌⊎◌, ℕ, zero, suc, List, [], ◌∷◌, ◌++◌, length, drop, get_or}
-use Rattle.std.proofs.Common.{Option, Some, None, refl, ap, sym, ◌∙◌, arith, inl, inr, append_assoc, append-nil, length-append, slice_index_or, remove, add-one, drop-cons}
+use Rattle.std.proofs.Common.{Option, Some, None, refl, ap, sym, ◌∙◌, subst, arith, inl, inr, append_assoc, append-nil, length-append, slice_index_or, remove, add-one, drop-cons}
 use Rattle.std.specs.Io.KnownBytes.{Appends, Keeps}
 use Rattle.std.proofs.KnownBytes.{Keeps-refl, Keeps-trans, Appends-kept}
+use Rattle.sm_model.specs.declared.entry.Entry.{Entry}
 use Rattle.sm_fetch.specs.declared.dial.Exchange.{Exchange}
 use Rattle.sm_fetch.specs.Exchanges.{with_all}
 use Rattle.sm_client.specs.declared.plan.Plan.{Plan}
@@ -13,25 +14,32 @@ use Rattle.sm_client.specs.Turns.{Meaning, Turn, fresh, settle, Behaves}
 use Rattle.sm_client.specs.Stands.{Item, State, nothing_read, state_after, written_at}
 use Rattle.sm_client.specs.Asks.{AsksLast, turn_after, exchanges}
 use Rattle.sm_client.specs.Ends.{IsTail}
-use Rattle.sm_client.specs.Plays.{Part, IsPart, PlaysAll, PlaysFrom, Played, count_of, all_exchanges, written_of}
+use Rattle.sm_client.specs.Kept.{KeepsOn}
+use Rattle.sm_client.specs.Plays.{Part, IsPart, PlaysAll, PlaysFrom, Played, PartsKept, PartsKeptOn, PlaysKept, PlayedKept, count_of, all_exchanges, written_of}
+use Rattle.sm_client.specs.Served.{PlayedServed}
 use Rattle.sm_client.specs.Calls.{StreamsEnd}
 use Rattle.sm_client.proofs.Turns.{behaves-same, turn_after-behaves, asks-behaves, last-behaves}
 use Rattle.sm_client.proofs.Went.{with_all-all, with_all-nil}
 use Rattle.sm_client.proofs.Laws.{gapless-law, few-law}
+use Rattle.sm_client.proofs.Kept.{parts-more}
+use Rattle.sm_client.proofs.EndingWell.{from-well}
+use Rattle.sm_client.proofs.ServedKept.{from-kept}
+use Rattle.sm_client.proofs.PlayedWhole.{from-whole}
 
 -- one stream, as a part of the call
 pub record PartBy {P : Type 0} (m : Meaning P) (plan : Plan) (name : List ℕ) (number : ℕ) (start now : Turn P) (count : ℕ) (end : End)
-    (log log' : Option (List Exchange)) (track track' : Option (List ℕ)) : Type 0 where
+    (log log' : Option (List Exchange)) (store store' : List Entry → Type 0) (track track' : Option (List ℕ)) : Type 0 where
   pub part : Part
   pub is : IsPart m plan name number start track track' part
   pub made : log' ≡ with_all log (exchanges (part.made ++ part.last))
   pub ended : part.end ≡ end
   pub counted : count ≡ length (written_of plan name part)
   pub turn : Behaves m (turn_after m start (part.made ++ part.last)) now
+  pub kept : KeepsOn plan store store' (written_of plan name part)
 
-pub part-by : {P : Type 0} {m : Meaning P} {plan : Plan} {name : List ℕ} {number : ℕ} {start now : Turn P} {count : ℕ} {end : End} {log log' : Option (List Exchange)} {track track' : Option (List ℕ)}
-    → 0 < plan.tries → 0 < plan.refresh → StreamsEnd m plan name number nothing_read start now count end log log' track track'
-    → PartBy m plan name number start now count end log log' track track'
+pub part-by : {P : Type 0} {m : Meaning P} {plan : Plan} {name : List ℕ} {number : ℕ} {start now : Turn P} {count : ℕ} {end : End} {log log' : Option (List Exchange)} {store store' : List Entry → Type 0} {track track' : Option (List ℕ)}
+    → 0 < plan.tries → 0 < plan.refresh → StreamsEnd m plan name number nothing_read start now count end log log' store store' track track'
+    → PartBy m plan name number start now count end log log' store store' track track'
 part-by {m = m} {plan = plan} {name = name} {number = number} {start = start} {end = end} {track = track} {track' = track'} tries refresh e =
     let w = e.streams.went in
     let at : state_after plan name nothing_read w.made ≡ e.to = w.state in
@@ -52,6 +60,7 @@ part-by {m = m} {plan = plan} {name = name} {number = number} {start = start} {e
       ended = refl;
       counted = e.counted ∙ ap (λ s. length (written_at s.stand)) (sym at);
       turn = w.turn;
+      kept = rw written e.streams.kept;
     }
 
 -- the same part, begun by a turn that does the same
@@ -106,7 +115,8 @@ drop-name : (names : List (List ℕ)) (i : ℕ) (name : List ℕ) → i < length
 drop-name names i name fits is = rw (add-one, drop-cons names i name) (ap (λ n. n ∷ drop (suc i) names) is)
 
 -- so many streams were played, each to its end
-pub record Playing {P : Type 0} (m : Meaning P) (plan : Plan) (start now : Turn P) (names : List (List ℕ)) (number played : ℕ) (log log' : Option (List Exchange)) (held held' : ℕ → Option (List ℕ)) : Type 0 where
+pub record Playing {P : Type 0} (m : Meaning P) (plan : Plan) (start now : Turn P) (names : List (List ℕ)) (number played : ℕ) (log log' : Option (List Exchange)) (store store' : List Entry → Type 0)
+    (held held' : ℕ → Option (List ℕ)) : Type 0 where
   pub parts : List Part
   pub count : length parts ≡ number
   pub made : log' ≡ with_all log (all_exchanges parts)
@@ -114,16 +124,23 @@ pub record Playing {P : Type 0} (m : Meaning P) (plan : Plan) (start now : Turn 
   pub leads : (rest : List Part) (end : End) (last : ℕ → Option (List ℕ)) → ((k : ℕ) → k < number → Keeps (held' k) (last k))
       → PlaysAll m plan now number (drop number names) held last rest end → PlaysAll m plan start 0 names held last (parts ++ rest) end
   pub counts : (rest : List Part) → count_of plan names (parts ++ rest) ≡ played + count_of plan (drop number names) rest
+  pub kept : PartsKeptOn plan store store' names parts
 
-pub playing-start : {P : Type 0} (m : Meaning P) (plan : Plan) (t : Turn P) (names : List (List ℕ)) (log : Option (List Exchange)) (held : ℕ → Option (List ℕ)) → Playing m plan t t names 0 0 log log held held
-playing-start m plan t names log held = record {
+pub playing-start : {P : Type 0} (m : Meaning P) (plan : Plan) (t : Turn P) (names : List (List ℕ)) (log : Option (List Exchange)) (store : List Entry → Type 0) (held : ℕ → Option (List ℕ))
+    → Playing m plan t t names 0 0 log log store store held held
+playing-start m plan t names log store held = record {
   parts = [];
   count = refl;
   made = with_all-nil log;
   others = λ k some. Keeps-refl (held k);
   leads = λ rest end last kept p. p;
   counts = λ rest. omega arith;
+  kept = record { on = λ kept told. ([], subst store (sym (append-nil kept)) told, none (kept ++ []) names) };
 }
+  where
+    none : (kept : List Entry) (ns : List (List ℕ)) → PartsKept plan kept ns []
+    none kept [] = tt
+    none kept (n ∷ ns) = tt
 
 exchanges-all : (xs ys : List Part) → all_exchanges (xs ++ ys) ≡ all_exchanges xs ++ all_exchanges ys
 exchanges-all [] ys = refl
@@ -135,16 +152,16 @@ made-more log mid new xs x p q =
     ∙ ap (with_all log) (ap (λ l. all_exchanges xs ++ l) (sym (append-nil (exchanges (x.made ++ x.last)))) ∙ sym (exchanges-all xs (x ∷ [])))))
 
 module _ {P : Type 0} {m : Meaning P} {plan : Plan} {start now then : Turn P} {names : List (List ℕ)} {name : List ℕ} {number played count : ℕ} {end : End}
-    {log mid new : Option (List Exchange)} {held there : ℕ → Option (List ℕ)} where
+    {log mid new : Option (List Exchange)} {store before store' : List Entry → Type 0} {held there : ℕ → Option (List ℕ)} where
   -- a stream that was played behind these, whatever its end
-  one-part : (held' : ℕ → Option (List ℕ)) → (k : Playing m plan start now names number played log mid held there) → (b : PartBy m plan name number now then count end mid new (there number) (held' number))
+  one-part : (held' : ℕ → Option (List ℕ)) → (k : Playing m plan start now names number played log mid store before held there) → (b : PartBy m plan name number now then count end mid new before store' (there number) (held' number))
       → ((j : ℕ) → j ≢ number → Keeps (there j) (held' j)) → (last : ℕ → Option (List ℕ)) → Keeps (held' number) (last number)
       → IsPart m plan name number now (held number) (last number) b.part
   one-part held' k b others last kept = part-tracks b.part (k.others number (omega arith)) kept b.is
 
-  pub playing-more : (held' : ℕ → Option (List ℕ)) → (k : Playing m plan start now names number played log mid held there) → number < length names → get_or names number name ≡ name
-      → PartBy m plan name number now then count end mid new (there number) (held' number) → end ≡ ends.Done
-      → ((j : ℕ) → j ≢ number → Keeps (there j) (held' j)) → Playing m plan start then names (number + 1) (played + count) log new held held'
+  pub playing-more : (held' : ℕ → Option (List ℕ)) → (k : Playing m plan start now names number played log mid store before held there) → number < length names → get_or names number name ≡ name
+      → PartBy m plan name number now then count end mid new before store' (there number) (held' number) → end ≡ ends.Done
+      → ((j : ℕ) → j ≢ number → Keeps (there j) (held' j)) → Playing m plan start then names (number + 1) (played + count) log new store store' held held'
   playing-more held' k fits at b done others =
       let part = b.part in
       let ended : part.end ≡ ends.Done = b.ended ∙ done in
@@ -162,6 +179,7 @@ module _ {P : Type 0} {m : Meaning P} {plan : Plan} {start now then : Turn P} {n
         counts = λ rest.
             ap (count_of plan names) (append_assoc k.parts (part ∷ []) rest) ∙ (k.counts (part ∷ rest)
             ∙ (ap (λ l. played + count_of plan l (part ∷ rest)) (drop-name names number name fits at) ∙ counted-more (length (written_of plan name part)) (count_of plan (drop (number + 1) names) rest) b.counted));
+        kept = parts-more store before store' names k.parts part number name (drop (number + 1) names) k.count (drop-name names number name fits at) k.kept b.kept;
       }
     where
       done-last : (s : State) (last : List Item) (tail : List ℕ) (e : End) → e ≡ ends.Done → IsTail plan name e s last tail → last ≡ []
@@ -170,18 +188,22 @@ module _ {P : Type 0} {m : Meaning P} {plan : Plan} {start now then : Turn P} {n
       counted-more : (n r : ℕ) → count ≡ n → played + (n + r) ≡ played + count + r
       counted-more n r is = omega (arith, is)
 
-  pub playing-ended : (held' : ℕ → Option (List ℕ)) → (k : Playing m plan start now names number played log mid held there) → number < length names → get_or names number name ≡ name
-      → PartBy m plan name number now then count end mid new (there number) (held' number) → end ≢ ends.Done
-      → ((j : ℕ) → j ≢ number → Keeps (there j) (held' j)) → PlaysFrom m plan start 0 names log new held held' (record { played = played + count; end = end })
+  pub playing-ended : (held' : ℕ → Option (List ℕ)) → (k : Playing m plan start now names number played log mid store before held there) → number < length names → get_or names number name ≡ name
+      → PartBy m plan name number now then count end mid new before store' (there number) (held' number) → end ≢ ends.Done
+      → ((j : ℕ) → j ≢ number → Keeps (there j) (held' j))
+      → PlaysKept m plan start 0 names log new store store' held held' (record { played = played + count; end = end })
   playing-ended held' k fits at b undone others =
       let part = b.part in record {
-        parts = k.parts ++ part ∷ [];
-        made = made-more log mid new k.parts part k.made b.made;
-        plays =
-            k.leads (part ∷ []) end held' (λ j under. others j (λ is. omega (arith, under, is)))
-            (rw (drop-name names number name fits at) (one-part held' k b others held' (Keeps-refl (held' number)), inr ((λ e. undone (sym b.ended ∙ e)), refl, sym b.ended)));
-        others = λ j over. others-past j over;
-        played = counted;
+        plays = record {
+          parts = k.parts ++ part ∷ [];
+          made = made-more log mid new k.parts part k.made b.made;
+          plays =
+              k.leads (part ∷ []) end held' (λ j under. others j (λ is. omega (arith, under, is)))
+              (rw (drop-name names number name fits at) (one-part held' k b others held' (Keeps-refl (held' number)), inr ((λ e. undone (sym b.ended ∙ e)), refl, sym b.ended)));
+          others = λ j over. others-past j over;
+          played = counted;
+        };
+        kept = parts-more store before store' names k.parts part number name (drop (number + 1) names) k.count (drop-name names number name fits at) k.kept b.kept;
       }
     where
       counted : played + count ≡ count_of plan names (k.parts ++ b.part ∷ [])
@@ -201,16 +223,21 @@ module _ {P : Type 0} {m : Meaning P} {plan : Plan} {start now then : Turn P} {n
           len : length (k.parts ++ b.part ∷ []) ≡ number + 1
           len = rw length-append (omega (arith, k.count))
 
-pub playing-done : {P : Type 0} {m : Meaning P} {plan : Plan} {start now : Turn P} {names : List (List ℕ)} {number played : ℕ} {log new : Option (List Exchange)} {held held' : ℕ → Option (List ℕ)}
-    → Playing m plan start now names number played log new held held' → length names ≤ number → PlaysFrom m plan start 0 names log new held held' (record { played = played; end = ends.Done })
+pub playing-done : {P : Type 0} {m : Meaning P} {plan : Plan} {start now : Turn P} {names : List (List ℕ)} {number played : ℕ} {log new : Option (List Exchange)} {store store' : List Entry → Type 0}
+    {held held' : ℕ → Option (List ℕ)}
+    → Playing m plan start now names number played log new store store' held held' → length names ≤ number
+    → PlaysKept m plan start 0 names log new store store' held held' (record { played = played; end = ends.Done })
 playing-done {plan = plan} {names = names} {number = number} {played = played} {held = held} {held' = held'} k all =
     let none : drop number names ≡ [] = drop_past names number all in
     record {
-      parts = k.parts;
-      made = k.made;
-      plays = rw append-nil at (k.leads [] ends.Done held' (λ j under. Keeps-refl (held' j)) (none, refl));
-      others = λ j over. past j over;
-      played = sym (ap (count_of plan names) (sym (append-nil k.parts)) ∙ (k.counts [] ∙ (ap (λ l. played + count_of plan l []) none ∙ omega arith)));
+      plays = record {
+        parts = k.parts;
+        made = k.made;
+        plays = rw append-nil at (k.leads [] ends.Done held' (λ j under. Keeps-refl (held' j)) (none, refl));
+        others = λ j over. past j over;
+        played = sym (ap (count_of plan names) (sym (append-nil k.parts)) ∙ (k.counts [] ∙ (ap (λ l. played + count_of plan l []) none ∙ omega arith)));
+      };
+      kept = k.kept;
     }
   where
     drop_past : (ns : List (List ℕ)) (i : ℕ) → length ns ≤ i → drop i ns ≡ []
@@ -225,10 +252,23 @@ playing-done {plan = plan} {names = names} {number = number} {played = played} {
 
 -- ---- the whole call
 
-pub played-by : {P : Type 0} {m : Meaning P} {plan : Plan} {log new : Option (List Exchange)} {held held' : ℕ → Option (List ℕ)} {report : Report} {acting now : P} {rest qs : List P} (ps : List P) (names : List (List ℕ))
-    → 0 < length ps → acting ≡ slice_index_or ps 0 acting → rest ≡ remove ps 0 → settle m acting [] rest ≡ fresh now qs → names ≡ plan.streams
-    → PlaysFrom m plan (fresh now qs) 0 names log new held held' report → Played m plan ps log new held held' report
-played-by [] names some first next settled same p = absurd (omega (arith, some))
-played-by {m = m} {plan = plan} {log = log} {new = new} {held = held} {held' = held'} {report = report} {acting = acting} {now = now} {rest = rest} {qs = qs} (q ∷ ps) names some first next settled same p =
-    let start : settle m q [] ps ≡ fresh now qs = ap (λ r. settle m q [] r) (sym next) ∙ (ap (λ a. settle m a [] rest) (sym first) ∙ settled) in
-    rw start (rw same at p)
+begins : {P : Type 0} (m : Meaning P) {acting now : P} {rest qs : List P} (q : P) (ps : List P) → acting ≡ q → rest ≡ ps → settle m acting [] rest ≡ fresh now qs → settle m q [] ps ≡ fresh now qs
+begins m {acting = acting} {rest = rest} q ps first next settled = ap (λ r. settle m q [] r) (sym next) ∙ (ap (λ a. settle m a [] rest) (sym first) ∙ settled)
+
+module _ {P : Type 0} {m : Meaning P} {plan : Plan} {log new : Option (List Exchange)} {held held' : ℕ → Option (List ℕ)} {report : Report} {acting now : P} {rest qs : List P} where
+  pub played-by : (ps : List P) (names : List (List ℕ)) → 0 < length ps → acting ≡ slice_index_or ps 0 acting → rest ≡ remove ps 0 → settle m acting [] rest ≡ fresh now qs → names ≡ plan.streams
+      → PlaysFrom m plan (fresh now qs) 0 names log new held held' report → Played m plan ps log new held held' report
+  played-by [] names some first next settled same p = absurd (omega (arith, some))
+  played-by (q ∷ ps) names some first next settled same p = rw (begins m q ps first next settled) (rw same at p)
+
+  pub kept-by : {store store' : List Entry → Type 0} (ps : List P) (names : List (List ℕ)) → 0 < length ps → acting ≡ slice_index_or ps 0 acting → rest ≡ remove ps 0 → settle m acting [] rest ≡ fresh now qs
+      → names ≡ plan.streams → PlaysKept m plan (fresh now qs) 0 names log new store store' held held' report → PlayedKept m plan ps log new store store' held held' report
+  kept-by [] names some first next settled same p = absurd (omega (arith, some))
+  kept-by (q ∷ ps) names some first next settled same p = rw (begins m q ps first next settled) (rw same at p)
+
+  pub served-by : (ps : List P) (names : List (List ℕ)) → 0 < length ps → acting ≡ slice_index_or ps 0 acting → rest ≡ remove ps 0 → settle m acting [] rest ≡ fresh now qs → names ≡ plan.streams
+      → PlaysFrom m plan (fresh now qs) 0 names log new held held' report → PlayedServed m plan ps log new held held' report
+  served-by [] names some first next settled same p = absurd (omega (arith, some))
+  served-by (q ∷ ps) names some first next settled same p =
+      let begun : PlaysFrom m plan (settle m q [] ps) 0 plan.streams log new held held' report = rw (begins m q ps first next settled) (rw same at p) in
+      record { plays = begun; kept = from-kept begun; well = from-well begun; whole = from-whole begun }

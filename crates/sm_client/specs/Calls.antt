@@ -1,6 +1,7 @@
 -- What the parts of a play do.
 use Rattle.std.specs.Prelude.{◌≡◌, ◌<◌, ◌≤◌, ◌+◌, ◌⊎◌, ◌&&◌, ℕ, true, List, [], ◌∷◌, ◌++◌, length, take, nat_le, Option, Some, None, IfSome}
 use Rattle.std.specs.Io.KnownBytes.{Appends}
+use Rattle.sm_model.specs.declared.entry.Entry.{Entry}
 use Rattle.sm_model.specs.declared.run.RawFragment.{RawFragment}
 use Rattle.sm_model.specs.Fragments.{IsValid}
 use Rattle.sm_manin.specs.declared.listing.Listing.{Listing}
@@ -28,10 +29,11 @@ use Rattle.sm_client.specs.declared.piece.Pieces.{Pieces}
 use Rattle.sm_client.specs.declared.piece.Pieces.TheVariants as pieces
 use Rattle.sm_client.specs.Turns.{Meaning, Turn, Continues, Behaves}
 use Rattle.sm_client.specs.Starts.{has, starts, Falls, AreAfter}
-use Rattle.sm_client.specs.Stands.{Item, list, piece, Piece, Standing, Stand, unread, standing}
+use Rattle.sm_client.specs.Stands.{Item, list, piece, Piece, piece_of, Standing, Stand, unread, standing}
 use Rattle.sm_client.specs.Stands.{State, listed, listed_starts, ladder_of, address_at, read_at, miss_of, state_after, written_at}
 use Rattle.sm_client.specs.Asks.{MadeList, Asks, AsksLast, IsRead, heard_of, turn_after, exchanges}
 use Rattle.sm_client.specs.Ends.{EndsAt, IsTail, texts}
+use Rattle.sm_client.specs.Kept.{KeepsOn}
 
 -- ---- where a stream stands
 
@@ -262,6 +264,17 @@ TookValid s start (pieces.Took raw level) = (level < length s.levels) × IsValid
 TookValid s start (pieces.GaveUp outcomes) = Unit {0}
 TookValid s start pieces.NoMemory = Unit {0}
 
+-- a fragment that was taken is kept
+abbrev pub AskedKept : Plan → List ℕ → StreamListing → (List Entry → Type 0) → (List Entry → Type 0) → Asked → Type 0
+AskedKept plan name s store store' (asked.Took raw level) = KeepsOn plan store store' (piece_of name s level raw ∷ [])
+AskedKept plan name s store store' (asked.Missed outcome) = Unit {0}
+AskedKept plan name s store store' asked.NoMemory = Unit {0}
+
+abbrev pub PiecesKept : Plan → List ℕ → StreamListing → (List Entry → Type 0) → (List Entry → Type 0) → Pieces → Type 0
+PiecesKept plan name s store store' (pieces.Took raw level) = KeepsOn plan store store' (piece_of name s level raw ∷ [])
+PiecesKept plan name s store store' (pieces.GaveUp outcomes) = Unit {0}
+PiecesKept plan name s store store' pieces.NoMemory = Unit {0}
+
 -- ---- the first manifest of a stream
 
 pub record BegunStanding (plan : Plan) (name : List ℕ) (new : code.Standing) (log log' : Option (List Exchange)) : Type 0 where
@@ -276,38 +289,40 @@ Began plan name number log log' (begun_as.Ended end) = ListEnded plan name numbe
 
 -- ---- a stream goes on
 
--- exchanges lead from one turn and state to another, and the track gets the texts of the fragments between them, and this behind
+-- exchanges lead from one turn and state to another, and the track gets the texts of the fragments between them, and this behind;
+-- the logs that are told at the end keep these fragments
 pub record Streams {P : Type 0} (m : Meaning P) (plan : Plan) (name : List ℕ) (start now : Turn P) (from to : State) (last : List Item) (tail : List ℕ)
-    (log log' : Option (List Exchange)) (track track' : Option (List ℕ)) : Type 0 where
+    (log log' : Option (List Exchange)) (store store' : List Entry → Type 0) (track track' : Option (List ℕ)) : Type 0 where
   pub went : Went m plan name start now from to last log log'
   pub added : List Piece
   pub written : written_at to.stand ≡ written_at from.stand ++ added
   pub text : Appends track track' (texts (length (written_at from.stand) + 1) added ++ tail)
+  pub kept : KeepsOn plan store store' added
 
 -- one fragment more
 pub record StreamsOn {P : Type 0} (m : Meaning P) (plan : Plan) (name : List ℕ) (p : Standing) (start now : Turn P) (new : code.Standing)
-    (log log' : Option (List Exchange)) (track track' : Option (List ℕ)) : Type 0 where
+    (log log' : Option (List Exchange)) (store store' : List Entry → Type 0) (track track' : Option (List ℕ)) : Type 0 where
   pub to : Standing
   pub holds : Holds new to
   pub more : length to.written ≡ length p.written + 1
-  pub streams : Streams m plan name start now (at (standing p) []) (at (standing to) []) [] [] log log' track track'
+  pub streams : Streams m plan name start now (at (standing p) []) (at (standing to) []) [] [] log log' store store' track track'
 
 -- or an end, with so many fragments written
 pub record StreamsEnd {P : Type 0} (m : Meaning P) (plan : Plan) (name : List ℕ) (number : ℕ) (from : State) (start now : Turn P) (count : ℕ) (end : End)
-    (log log' : Option (List Exchange)) (track track' : Option (List ℕ)) : Type 0 where
+    (log log' : Option (List Exchange)) (store store' : List Entry → Type 0) (track track' : Option (List ℕ)) : Type 0 where
   pub to : State
   pub last : List Item
   pub tail : List ℕ
-  pub streams : Streams m plan name start now from to last tail log log' track track'
+  pub streams : Streams m plan name start now from to last tail log log' store store' track track'
   pub ends : EndsAt plan number end to
   pub behind : IsTail plan name end to last tail
   pub counted : count ≡ length (written_at to.stand)
 
 abbrev pub StreamsBy : {P : Type 0} → Meaning P → Plan → List ℕ → ℕ → Standing → Turn P → Turn P → code.Standing
-    → Option (List Exchange) → Option (List Exchange) → Option (List ℕ) → Option (List ℕ) → Option End → Type 0
-StreamsBy m plan name number p start now new log log' track track' None = StreamsOn m plan name p start now new log log' track track'
-StreamsBy m plan name number p start now new log log' track track' (Some end) = StreamsEnd m plan name number (at
-    (standing p) []) start now new.written end log log' track track'
+    → Option (List Exchange) → Option (List Exchange) → (List Entry → Type 0) → (List Entry → Type 0) → Option (List ℕ) → Option (List ℕ) → Option End → Type 0
+StreamsBy m plan name number p start now new log log' store store' track track' None = StreamsOn m plan name p start now new log log' store store' track track'
+StreamsBy m plan name number p start now new log log' store store' track track' (Some end) = StreamsEnd m plan name number (at
+    (standing p) []) start now new.written end log log' store store' track track'
 
 -- what writing a text may end with: the track got a front of it and failed, or memory ran out before
 abbrev pub WritesFront : Option (List ℕ) → Option (List ℕ) → List ℕ → End → Type 0
@@ -322,6 +337,7 @@ WritesFront track track' text (ends.NoStream index) = ⊥
 
 -- the play of one stream, from its first exchange to its end
 abbrev pub Streamed : {P : Type 0} → Meaning P → Plan → List ℕ → ℕ → Turn P → Turn P → ℕ → End
-    → Option (List Exchange) → Option (List Exchange) → Option (List ℕ)
+    → Option (List Exchange) → Option (List Exchange) → (List Entry → Type 0) → (List Entry → Type 0) → Option (List ℕ)
     → Option (List ℕ) → Type 0
-Streamed m plan name number start now count end log log' track track' = StreamsEnd m plan name number (at unread []) start now count end log log' track track'
+Streamed m plan name number start now count end log log' store store' track track' =
+    StreamsEnd m plan name number (at unread []) start now count end log log' store store' track track'

@@ -3,5 +3,8 @@ pub mod Starts
 pub mod Stands
 pub mod Asks
 pub mod Ends
+pub mod Kept
 pub mod Plays
+pub mod Dials
+pub mod Served
 pub mod Calls

@@ -1,6 +1,7 @@
 -- What a whole call of `play` made and wrote.
 use Rattle.std.specs.Prelude.{◌≡◌, ◌≢◌, ◌≤◌, ◌+◌, ◌*◌, ◌⊎◌, ℕ, List, [], ◌∷◌, ◌++◌, length, Option}
 use Rattle.std.specs.Io.KnownBytes.{Appends, Keeps}
+use Rattle.sm_model.specs.declared.entry.Entry.{Entry}
 use Rattle.sm_fetch.specs.declared.dial.Exchange.{Exchange}
 use Rattle.sm_fetch.specs.declared.got.Got.TheVariants as got
 use Rattle.sm_fetch.specs.Exchanges.{with_all}
@@ -12,6 +13,7 @@ use Rattle.sm_client.specs.Turns.{Meaning, Turn, settle}
 use Rattle.sm_client.specs.Stands.{Item, list, piece, Piece, listed, times_of, first_start, nothing_read, state_after}
 use Rattle.sm_client.specs.Asks.{Asks, AsksLast, turn_after, exchanges}
 use Rattle.sm_client.specs.Ends.{EndsAt, IsTail, texts, written_after}
+use Rattle.sm_client.specs.Kept.{AreKept}
 
 -- each starts where the one before it ended, the first at this start
 abbrev pub Gapless : ℕ → List Piece → Type 0
@@ -87,3 +89,26 @@ abbrev pub Played : {P : Type 0} → Meaning P → Plan → List P → Option (L
     → Report → Type 0
 Played m plan [] log log' held held' report = ⊥
 Played m plan (p ∷ ps) log log' held held' report = PlaysFrom m plan (settle m p [] ps) 0 plan.streams log log' held held' report
+
+-- ---- what an origin keeps of it
+
+-- the fragments of each of these streams are kept in this log
+abbrev pub PartsKept : Plan → List Entry → List (List ℕ) → List Part → Type 0
+PartsKept plan kept [] parts = Unit {0}
+PartsKept plan kept (name ∷ names) [] = Unit {0}
+PartsKept plan kept (name ∷ names) (part ∷ rest) = AreKept plan kept (written_of plan name part) × PartsKept plan kept names rest
+
+-- for each log that is told before, one is told now that goes on from it and keeps them
+pub record PartsKeptOn (plan : Plan) (old now : List Entry → Type 0) (names : List (List ℕ)) (parts : List Part) : Type 0 where
+  pub on : (kept : List Entry) → old kept → (more : List Entry) × now (kept ++ more) × PartsKept plan (kept ++ more) names parts
+
+pub record PlaysKept {P : Type 0} (m : Meaning P) (plan : Plan) (start : Turn P) (number : ℕ) (names : List (List ℕ)) (log log' : Option (List Exchange))
+    (store store' : List Entry → Type 0) (held held' : ℕ → Option (List ℕ)) (report : Report) : Type 0 where
+  pub plays : PlaysFrom m plan start number names log log' held held' report
+  pub kept : PartsKeptOn plan store store' names plays.parts
+
+-- a whole call: for each log that the dial told before, it tells one behind that goes on from it and keeps each fragment that was written
+abbrev pub PlayedKept : {P : Type 0} → Meaning P → Plan → List P → Option (List Exchange) → Option (List Exchange) → (List Entry → Type 0) → (List Entry → Type 0)
+    → (ℕ → Option (List ℕ)) → (ℕ → Option (List ℕ)) → Report → Type 0
+PlayedKept m plan [] log log' store store' held held' report = ⊥
+PlayedKept m plan (p ∷ ps) log log' store store' held held' report = PlaysKept m plan (settle m p [] ps) 0 plan.streams log log' store store' held held' report

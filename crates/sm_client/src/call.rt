@@ -2,7 +2,9 @@
 ghost use Rattle.std.specs.Prelude.{◌≡◌, ◌≤◌, ◌<◌, ◌-◌, ◌^◌, ℕ, length};
 ghost use Rattle.sm_ends.specs.Faults.{Rose};
 ghost use Rattle.sm_client.specs.Turns.{fresh, settle};
-ghost use Rattle.sm_client.specs.Plays.{Played, PlaysFrom};
+ghost use Rattle.sm_client.specs.Plays.{Played, PlaysKept, PlayedKept};
+ghost use Rattle.sm_client.specs.Dials.{Dialed, carried};
+ghost use Rattle.sm_client.specs.Served.{PlayedServed};
 
 use crate::policies::Policies;
 use crate::stream::play_stream;
@@ -26,10 +28,11 @@ fn play_all<C: Dial, T: Tracks>(
     requires tries { 0 < plan.now.tries }
     requires refresh { 0 < plan.now.refresh }
     requires few { length names.now ≤ 16 }
-    ensures plays { PlaysFrom (record { pick = pick_after; retired = retired_after }) plan.now (fresh policies.old.acting policies.old.rest.items) 0 names.now
-        (C.log dial.old) (C.log dial.new) (T.held tracks.old) (T.held tracks.new) result }
+    ensures plays { PlaysKept (record { pick = pick_after; retired = retired_after }) plan.now (fresh policies.old.acting policies.old.rest.items) 0 names.now
+        (C.log dial.old) (C.log dial.new) (C.store dial.old) (C.store dial.new) (T.held tracks.old) (T.held tracks.new) result }
     ensures later { T.faults tracks.old ≤ T.faults tracks.new }
     ensures fault { result.end ≡ End.WriteFault → Rose (T.faults tracks.old) (T.faults tracks.new) }
+    ensures dial { Dialed (C.dial_faults dial.old) (C.dial_faults dial.new) (C.store dial.old) (C.store dial.new) (carried result.end) }
 {
     let mut played: u64 = 0;
     let mut number: u32 = 0;
@@ -66,8 +69,13 @@ pub fn play<C: Dial, T: Tracks>(
     requires refresh { 0 < plan.now.refresh }
     ensures played { Played (record { pick = pick_after; retired = retired_after }) plan.now policies.items
         (C.log dial.old) (C.log dial.new) (T.held tracks.old) (T.held tracks.new) result }
+    ensures kept { PlayedKept (record { pick = pick_after; retired = retired_after }) plan.now policies.items
+        (C.log dial.old) (C.log dial.new) (C.store dial.old) (C.store dial.new) (T.held tracks.old) (T.held tracks.new) result }
     ensures later { T.faults tracks.old ≤ T.faults tracks.new }
     ensures fault { result.end ≡ End.WriteFault → Rose (T.faults tracks.old) (T.faults tracks.new) }
+    ensures dial { Dialed (C.dial_faults dial.old) (C.dial_faults dial.new) (C.store dial.old) (C.store dial.new) (carried result.end) }
+    ensures served { PlayedServed (record { pick = pick_after; retired = retired_after }) plan.now policies.items
+        (C.log dial.old) (C.log dial.new) (T.held tracks.old) (T.held tracks.new) result }
 {
     let mut policies = Policies::new(policies);
     policies.settle();

@@ -1,9 +1,9 @@
 //! Manifests, asked for.
 ghost use Rattle.std.specs.Prelude.{◌≡◌, ◌≤◌, ℕ};
-ghost use Rattle.sm_fetch.specs.Origins.{Grows};
 ghost use Rattle.sm_client.specs.Stands.{Stand, listed, miss_of};
 ghost use Rattle.sm_client.specs.Asks.{MayList};
 ghost use Rattle.sm_client.specs.Calls.{ListedOnce, ListedBy, IsListedOf};
+ghost use Rattle.sm_client.specs.Dials.{Dialed, carried_listed, carried_manifest};
 
 use crate::{Miss, Outcomes, Plan};
 use sm_fetch::{Dial, Got, get_manifest};
@@ -69,7 +69,8 @@ fn listed_of(got: Got, name: &Name) -> Listed
 
 // One request.
 fn list_once<C: Dial>(alloc: Global, dial: &mut C, plan: &Plan, name: &Name) -> Listed
-    ensures { ListedOnce plan.now name.now (C.log dial.old) (C.log dial.new) result }
+    ensures listed { ListedOnce plan.now name.now (C.log dial.old) (C.log dial.new) result }
+    ensures dial { Dialed (C.dial_faults dial.old) (C.dial_faults dial.new) (C.store dial.old) (C.store dial.new) (carried_listed result) }
 {
     let got = get_manifest(alloc, dial, &plan.place);
     listed_of(got, name)
@@ -77,7 +78,8 @@ fn list_once<C: Dial>(alloc: Global, dial: &mut C, plan: &Plan, name: &Name) -> 
 
 /// As many requests as there are tries, until a manifest is read.
 pub fn list<C: Dial>(alloc: Global, dial: &mut C, plan: &Plan, name: &Name) -> Manifest
-    ensures { (stand : Stand) → MayList plan.now stand → ListedBy plan.now name.now stand (C.log dial.old) (C.log dial.new) result }
+    ensures listed { (stand : Stand) → MayList plan.now stand → ListedBy plan.now name.now stand (C.log dial.old) (C.log dial.new) result }
+    ensures dial { Dialed (C.dial_faults dial.old) (C.dial_faults dial.new) (C.store dial.old) (C.store dial.new) (carried_manifest result) }
 {
     let mut outcomes = Outcomes::new(alloc);
     for _ in 0..plan.tries {

@@ -7,7 +7,8 @@ ghost use Rattle.sm_client.specs.Stands.{Standing, address_at, ladder_of, miss_o
 ghost use Rattle.sm_client.specs.Asks.{outcome_of};
 ghost use Rattle.sm_fetch.specs.declared.dial.Exchange.{Exchange};
 ghost use Rattle.sm_fetch.specs.Exchanges.{answer_len};
-ghost use Rattle.sm_client.specs.Calls.{PieceOnce, PiecesBy, MayPiece, IsAskedOf, TookValid};
+ghost use Rattle.sm_client.specs.Calls.{PieceOnce, PiecesBy, MayPiece, IsAskedOf, TookValid, AskedKept, PiecesKept};
+ghost use Rattle.sm_client.specs.Dials.{Dialed, carried_asked, carried_pieces};
 
 use crate::list::miss_of;
 use crate::policies::Policies;
@@ -85,6 +86,8 @@ fn ask_once<C: Dial>(
     ensures once { PieceOnce (record { pick = pick_after; retired = retired_after }) plan.now name.now stream.now start ahead
         policies.old.acting policies.new.acting (C.log dial.old) (C.log dial.new) result }
     ensures rest { policies.new.rest.items ≡ policies.old.rest.items }
+    ensures dial { Dialed (C.dial_faults dial.old) (C.dial_faults dial.new) (C.store dial.old) (C.store dial.new) (carried_asked result) }
+    ensures kept { AskedKept plan.now name.now stream.now (C.store dial.old) (C.store dial.new) result }
 {
     let Ok(ladder) = ladder_of(alloc, stream.levels.as_slice()) else {
         return Asked::NoMemory;
@@ -131,6 +134,8 @@ pub fn ask<C: Dial>(
         PiecesBy (record { pick = pick_after; retired = retired_after }) plan.now name.now p stream.now
         (fresh policies.old.acting policies.old.rest.items) (fresh policies.new.acting policies.new.rest.items)
         (C.log dial.old) (C.log dial.new) result }
+    ensures dial { Dialed (C.dial_faults dial.old) (C.dial_faults dial.new) (C.store dial.old) (C.store dial.new) (carried_pieces result) }
+    ensures kept { PiecesKept plan.now name.now stream.now (C.store dial.old) (C.store dial.new) result }
 {
     let mut outcomes = Outcomes::new(alloc);
     for _ in 0..plan.tries {

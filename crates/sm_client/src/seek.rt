@@ -5,6 +5,7 @@ ghost use Rattle.sm_client.specs.Stands as stand;
 ghost use Rattle.sm_client.specs.Asks.{Relists};
 ghost use Rattle.sm_client.specs.Ends.{EndsAt, IsTail};
 ghost use Rattle.sm_client.specs.Calls.{Holds, HasLevels, Sought, Began, Relisted, at};
+ghost use Rattle.sm_client.specs.Dials.{Dialed, carried_begun, carried_if};
 
 use crate::list::{Manifest, list};
 use crate::standing::Standing;
@@ -24,6 +25,7 @@ pub enum Begun {
 pub fn begin<C: Dial>(alloc: Global, dial: &mut C, plan: &Plan, name: &Name, number: u32) -> Begun
     ensures began { Began plan.now name.now number (C.log dial.old) (C.log dial.new) result }
     ensures whole { result ≢ Begun.Ended End.WriteFault }
+    ensures dial { Dialed (C.dial_faults dial.old) (C.dial_faults dial.new) (C.store dial.old) (C.store dial.new) (carried_begun result) }
 {
     match list(alloc, dial, plan, name) {
         Manifest::Read(None) => Begun::Ended(End::NoStream { index: number }),
@@ -46,6 +48,7 @@ fn settled(plan: &Plan, standing: &Standing) -> Option<End>
     ensures whole { result ≢ Some End.WriteFault }
     ensures narrow { IfNone result (standing.now.manifests < 2 ^ 32 - 1) }
     ensures few { IfNone result (standing.now.manifests ≡ 0 ⊎ standing.now.manifests < plan.now.refresh) }
+    ensures quiet { carried_if result ≡ [] }
 {
     if standing.manifests == 0 {
         return None;
@@ -77,6 +80,7 @@ fn relist<C: Dial>(
     ensures manifests { IfNone result (standing.new.manifests ≡ standing.old.manifests + 1) }
     ensures levels { IfNone result (HasLevels standing.new.listing) }
     ensures whole { result ≢ Some End.WriteFault }
+    ensures dial { Dialed (C.dial_faults dial.old) (C.dial_faults dial.new) (C.store dial.old) (C.store dial.new) (carried_if result) }
 {
     dial.pause();
     match list(alloc, dial, plan, name) {
@@ -103,6 +107,7 @@ pub fn seek<C: Dial>(
     ensures written { standing.new.written ≡ standing.old.written }
     ensures levels { IfNone result (HasLevels standing.new.listing) }
     ensures whole { result ≢ Some End.WriteFault }
+    ensures dial { Dialed (C.dial_faults dial.old) (C.dial_faults dial.new) (C.store dial.old) (C.store dial.new) (carried_if result) }
 {
     while !standing.is_known() {
         if let Some(end) = settled(plan, standing) {

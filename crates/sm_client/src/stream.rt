@@ -9,6 +9,7 @@ ghost use Rattle.sm_client.specs.Starts.{has};
 ghost use Rattle.sm_client.specs.Stands as stand;
 ghost use Rattle.sm_client.specs.Stands.{piece_of};
 ghost use Rattle.sm_client.specs.Calls.{Holds, HasLevels, StreamsBy, Streamed};
+ghost use Rattle.sm_client.specs.Dials.{Dialed, carried, carried_if};
 
 use crate::piece::{Pieces, ask};
 use crate::policies::Policies;
@@ -69,13 +70,14 @@ fn add_piece<C: Dial, T: Tracks>(
     ensures added { (p : stand.Standing) → Holds standing.old p → length p.written < plan.now.count → has p.expected p.known ≡ true →
         StreamsBy (record { pick = pick_after; retired = retired_after }) plan.now name.now number p
         (fresh policies.old.acting policies.old.rest.items) (fresh policies.new.acting policies.new.rest.items)
-        standing.new (C.log dial.old) (C.log dial.new) (T.held tracks.old number) (T.held tracks.new number) result }
+        standing.new (C.log dial.old) (C.log dial.new) (C.store dial.old) (C.store dial.new) (T.held tracks.old number) (T.held tracks.new number) result }
     ensures others { (k : ℕ) → k ≢ number → Keeps (T.held tracks.old k) (T.held tracks.new k) }
     ensures later { T.faults tracks.old ≤ T.faults tracks.new }
     ensures fault { result ≡ Some End.WriteFault → Rose (T.faults tracks.old) (T.faults tracks.new) }
     ensures levels { standing.new.listing ≡ standing.old.listing }
     ensures written { IfNone result (standing.new.written ≡ standing.old.written + 1) }
     ensures upto { standing.new.written ≤ standing.old.written + 1 }
+    ensures dial { Dialed (C.dial_faults dial.old) (C.dial_faults dial.new) (C.store dial.old) (C.store dial.new) (carried_if result) }
 {
     let Some(stream) = &standing.listing else {
         return Some(End::NoMemory);
@@ -128,13 +130,14 @@ fn play_one<C: Dial, T: Tracks>(
     ensures added { (p : stand.Standing) → Holds standing.old p → length p.written < plan.now.count →
         StreamsBy (record { pick = pick_after; retired = retired_after }) plan.now name.now number p
         (fresh policies.old.acting policies.old.rest.items) (fresh policies.new.acting policies.new.rest.items)
-        standing.new (C.log dial.old) (C.log dial.new) (T.held tracks.old number) (T.held tracks.new number) result }
+        standing.new (C.log dial.old) (C.log dial.new) (C.store dial.old) (C.store dial.new) (T.held tracks.old number) (T.held tracks.new number) result }
     ensures others { (k : ℕ) → k ≢ number → Keeps (T.held tracks.old k) (T.held tracks.new k) }
     ensures later { T.faults tracks.old ≤ T.faults tracks.new }
     ensures fault { result ≡ Some End.WriteFault → Rose (T.faults tracks.old) (T.faults tracks.new) }
     ensures levels { IfNone result (HasLevels standing.new.listing) }
     ensures written { IfNone result (standing.new.written ≡ standing.old.written + 1) }
     ensures upto { standing.new.written ≤ standing.old.written + 1 }
+    ensures dial { Dialed (C.dial_faults dial.old) (C.dial_faults dial.new) (C.store dial.old) (C.store dial.new) (carried_if result) }
 {
     if let Some(end) = seek(alloc, dial, plan, name, standing) {
         return Some(end);
@@ -155,11 +158,12 @@ pub fn play_stream<C: Dial, T: Tracks>(
     requires count { plan.now.count ≤ 2 ^ 32 - 1 }
     ensures streamed { Streamed (record { pick = pick_after; retired = retired_after }) plan.now name.now number
         (fresh policies.old.acting policies.old.rest.items) (fresh policies.new.acting policies.new.rest.items)
-        result.written result.end (C.log dial.old) (C.log dial.new) (T.held tracks.old number) (T.held tracks.new number) }
+        result.written result.end (C.log dial.old) (C.log dial.new) (C.store dial.old) (C.store dial.new) (T.held tracks.old number) (T.held tracks.new number) }
     ensures others { (k : ℕ) → k ≢ number → Keeps (T.held tracks.old k) (T.held tracks.new k) }
     ensures later { T.faults tracks.old ≤ T.faults tracks.new }
     ensures fault { result.end ≡ End.WriteFault → Rose (T.faults tracks.old) (T.faults tracks.new) }
     ensures few { result.written ≤ plan.now.count }
+    ensures dial { Dialed (C.dial_faults dial.old) (C.dial_faults dial.new) (C.store dial.old) (C.store dial.new) (carried result.end) }
 {
     let mut standing = match begin(alloc, dial, plan, name, number) {
         Begun::Stands(standing) => standing,

@@ -5,6 +5,7 @@ ghost use Rattle.sm_ends.specs.Faults.{Rose};
 ghost use Rattle.sm_model.specs.Fragments.{IsValid};
 ghost use Rattle.sm_model.specs.FragText.{frag_text};
 ghost use Rattle.sm_client.specs.Calls.{WritesFront};
+ghost use Rattle.sm_client.specs.Dials.{carried_if};
 
 use crate::End;
 use sm_ends::Tracks;
@@ -27,6 +28,7 @@ pub fn write<T: Tracks>(
     ensures others { (k : ℕ) → k ≢ track → Keeps (T.held tracks.old k) (T.held tracks.new k) }
     ensures later { T.faults tracks.old ≤ T.faults tracks.new }
     ensures fault { IfSome result (λ end. end ≡ End.WriteFault → Rose (T.faults tracks.old) (T.faults tracks.new)) }
+    ensures quiet { carried_if result ≡ [] }
 {
     let Ok(text) = put_fragment(alloc, seq, id, fragment, &[]) else {
         return Some(End::NoMemory);

@@ -1,9 +1,10 @@
 use Rattle.std.proofs.Common.{refl, arith, sym}
+use Rattle.sm_client.proofs.Dials.{dialed-start, dialed-then, dialed-dropped}
 use Rattle.sm_client.proofs.Playing.{part-by, playing-start, playing-more, playing-ended, playing-done}
 use Rattle.sm_client.proofs.call.play_all.Goals as goal
 
 pub loop-name-init : goal.loop-name-init
-loop-name-init g c = record { playing = playing-start _ _ _ _ _ _; place = refl; few = omega arith; later = omega arith }
+loop-name-init g c = record { playing = playing-start _ _ _ _ _ _ _; place = refl; few = omega arith; later = omega arith; dial = dialed-start _ _ }
 
 pub loop-name-preserved : goal.loop-name-preserved
 loop-name-preserved g c =
@@ -15,6 +16,7 @@ loop-name-preserved g c =
       place = omega (arith, i.place);
       few = omega (arith, i.few, e.few, c.requires.count);
       later = omega (arith, i.later, e.later);
+      dial = dialed-dropped (dialed-then i.dial e.dial);
     }
 
 pub returns-clause-plays : goal.returns-clause-plays
@@ -26,3 +28,6 @@ returns-in_default-clause-plays g c =
     let e = c.play_stream-stream.ensures in
     playing-ended (g.T.Tracks.held c.play_stream-stream.new.tracks) i.playing (omega (arith, c.loop-name-test.true, i.place)) (rw i.place (sym c.name-item.is))
     (part-by c.requires.tries c.requires.refresh e.streamed) c.in_default.not-Done e.others
+
+pub returns-in_default-clause-dial : goal.returns-in_default-clause-dial
+returns-in_default-clause-dial g c = dialed-then c.loop-name.invariant.dial c.play_stream-stream.ensures.dial

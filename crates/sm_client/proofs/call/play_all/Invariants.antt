@@ -1,4 +1,5 @@
-use Rattle.std.proofs.Common.{◌≡◌, ◌≤◌, ◌*◌}
+use Rattle.std.proofs.Common.{◌≡◌, ◌≤◌, ◌*◌, []}
+use Rattle.sm_client.specs.Dials.{Dialed}
 use Rattle.sm_client.specs.Turns.{fresh}
 use Rattle.sm_client.proofs.Playing.{Playing}
 use Rattle.sm_client.proofs.call.play_all.Given as goal
@@ -11,8 +12,9 @@ invariant-loop-name g l = record {
         retired = λ b. (goal.Policy-dyn g (b.vtable, b.value)).retired_after b.value;
       })
       l.plan (fresh l.fn.policies.acting l.fn.policies.rest.items) (fresh l.policies.acting l.policies.rest.items)
-      l.names l.number l.played (g.C.Dial.log l.fn.dial) (g.C.Dial.log l.dial) (g.T.Tracks.held l.fn.tracks) (g.T.Tracks.held l.tracks);
+      l.names l.number l.played (g.C.Dial.log l.fn.dial) (g.C.Dial.log l.dial) (g.C.Dial.store l.fn.dial) (g.C.Dial.store l.dial) (g.T.Tracks.held l.fn.tracks) (g.T.Tracks.held l.tracks);
   place : l.number ≡ l.name-index;
   few : l.played ≤ l.number * 4294967295;
+  dial : Dialed (g.C.Dial.dial_faults l.fn.dial) (g.C.Dial.dial_faults l.dial) (g.C.Dial.store l.fn.dial) (g.C.Dial.store l.dial) [];
   later : g.T.Tracks.faults l.fn.tracks ≤ g.T.Tracks.faults l.tracks;
 }

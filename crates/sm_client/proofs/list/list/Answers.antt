@@ -1,21 +1,37 @@
 use Rattle.std.proofs.Common.{arith, refl}
+use Rattle.sm_client.proofs.Dials.{dialed-start, dialed-then, dialed-dropped, dialed-more, dialed-carried}
 use Rattle.sm_client.proofs.Tries.{list_tried-start, list_tried-same, list_tried-more, list_tried-found, list_tried-stopped, list_tried-lost, list_tried-end}
 use Rattle.sm_client.proofs.list.list.Goals as goal
 
 pub loop-init : goal.loop-init
-loop-init g c = list_tried-same c.new-outcomes.ensures (list_tried-start _ _ _)
+loop-init g c = record {
+  tried = list_tried-same c.new-outcomes.ensures (list_tried-start _ _ _);
+  dial = dialed-carried _ (dialed-start _ _) c.new-outcomes.ensures;
+}
 
 pub loop-preserved : goal.loop-preserved
-loop-preserved g c = list_tried-more _ _ c.loop.invariant c.loop-test.true c.in-Missed.ensures c.in-Ok.ensures.ok refl
+loop-preserved g c = record {
+  tried = list_tried-more _ _ c.loop.invariant.tried c.loop-test.true c.in-Missed.ensures.listed c.in-Ok.ensures.ok refl;
+  dial = dialed-more _ c.loop.invariant.dial c.in-Missed.ensures.dial c.in-Ok.ensures.ok;
+}
 
-pub returns-in-Found : goal.returns-in-Found
-returns-in-Found g c = list_tried-found c.loop.invariant c.loop-test.true c.in-Found.ensures
+pub returns-in-Found-clause-listed : goal.returns-in-Found-clause-listed
+returns-in-Found-clause-listed g c = list_tried-found c.loop.invariant.tried c.loop-test.true c.in-Found.ensures.listed
 
-pub returns-in_default : goal.returns-in_default
-returns-in_default g c = list_tried-stopped c.loop.invariant c.loop-test.true c.in-Missed.ensures
+pub returns-in-Found-clause-dial : goal.returns-in-Found-clause-dial
+returns-in-Found-clause-dial g c = dialed-then c.loop.invariant.dial c.in-Found.ensures.dial
 
-pub returns-in-NoMemory : goal.returns-in-NoMemory
-returns-in-NoMemory g c = list_tried-lost c.loop.invariant c.loop-test.true c.in-NoMemory.ensures
+pub returns-in_default-clause-listed : goal.returns-in_default-clause-listed
+returns-in_default-clause-listed g c = list_tried-stopped c.loop.invariant.tried c.loop-test.true c.in-Missed.ensures.listed
 
-pub returns : goal.returns
-returns g c = list_tried-end c.loop.invariant (omega (arith, c.loop-test.false, c.loop.auto.counter-end))
+pub returns-in_default-clause-dial : goal.returns-in_default-clause-dial
+returns-in_default-clause-dial g c = dialed-dropped (dialed-then c.loop.invariant.dial c.in-Missed.ensures.dial)
+
+pub returns-in-NoMemory-clause-listed : goal.returns-in-NoMemory-clause-listed
+returns-in-NoMemory-clause-listed g c = list_tried-lost c.loop.invariant.tried c.loop-test.true c.in-NoMemory.ensures.listed
+
+pub returns-in-NoMemory-clause-dial : goal.returns-in-NoMemory-clause-dial
+returns-in-NoMemory-clause-dial g c = dialed-then c.loop.invariant.dial c.in-NoMemory.ensures.dial
+
+pub returns-clause-listed : goal.returns-clause-listed
+returns-clause-listed g c = list_tried-end c.loop.invariant.tried (omega (arith, c.loop-test.false, c.loop.auto.counter-end))

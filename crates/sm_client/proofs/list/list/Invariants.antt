@@ -1,5 +1,9 @@
+use Rattle.sm_client.specs.Dials.{Dialed}
 use Rattle.sm_client.proofs.Tries.{ListTried}
 use Rattle.sm_client.proofs.list.list.Given as goal
 
 abbrev pub invariant-loop : goal.invariant-loop
-invariant-loop g l = ListTried l.plan l.name l.outcomes l.counter (g.C.Dial.log l.initial.dial) (g.C.Dial.log l.dial)
+invariant-loop g l = record {
+  tried : ListTried l.plan l.name l.outcomes l.counter (g.C.Dial.log l.initial.dial) (g.C.Dial.log l.dial);
+  dial : Dialed (g.C.Dial.dial_faults l.initial.dial) (g.C.Dial.dial_faults l.dial) (g.C.Dial.store l.initial.dial) (g.C.Dial.store l.dial) l.outcomes;
+}

@@ -1,25 +1,41 @@
 use Rattle.std.proofs.Common.{arith, refl}
+use Rattle.sm_client.proofs.Dials.{dialed-start, dialed-then, dialed-dropped, dialed-more, dialed-carried}
+use Rattle.sm_client.proofs.Kept.{keeps-behind}
 use Rattle.sm_client.proofs.Tries.{piece_tried-start, piece_tried-more, piece_tried-took, piece_tried-stopped, piece_tried-lost, piece_tried-end, took-valid}
 use Rattle.sm_client.proofs.piece.ask.Goals as goal
 
 pub loop-init : goal.loop-init
-loop-init g c = piece_tried-start _ _ _ _ _ _ _ _ _ c.new-outcomes.ensures
+loop-init g c = record { tried = piece_tried-start _ _ _ _ _ _ _ _ _ c.new-outcomes.ensures; dial = dialed-carried _ (dialed-start _ _) c.new-outcomes.ensures }
 
 pub loop-preserved : goal.loop-preserved
-loop-preserved g c =
-    piece_tried-more _ _ _ c.loop.invariant c.loop-test.true c.in-Missed.ensures.once c.in-Missed.ensures.rest c.settle-in-Missed.ensures c.in-Ok.ensures.ok refl
+loop-preserved g c = record {
+  tried = piece_tried-more _ _ _ c.loop.invariant.tried c.loop-test.true c.in-Missed.ensures.once c.in-Missed.ensures.rest c.settle-in-Missed.ensures c.in-Ok.ensures.ok refl;
+  dial = dialed-more _ c.loop.invariant.dial c.in-Missed.ensures.dial c.in-Ok.ensures.ok;
+}
 
 pub returns-in-Took-clause-made : goal.returns-in-Took-clause-made
-returns-in-Took-clause-made g c = piece_tried-took _ c.loop.invariant c.loop-test.true c.in-Took.ensures.once c.in-Took.ensures.rest c.settle.ensures
+returns-in-Took-clause-made g c = piece_tried-took _ c.loop.invariant.tried c.loop-test.true c.in-Took.ensures.once c.in-Took.ensures.rest c.settle.ensures
 
 pub returns-in_default-clause-made : goal.returns-in_default-clause-made
-returns-in_default-clause-made g c = piece_tried-stopped _ c.loop.invariant c.loop-test.true c.in-Missed.ensures.once c.in-Missed.ensures.rest c.settle-in-Missed.ensures
+returns-in_default-clause-made g c = piece_tried-stopped _ c.loop.invariant.tried c.loop-test.true c.in-Missed.ensures.once c.in-Missed.ensures.rest c.settle-in-Missed.ensures
 
 pub returns-in-NoMemory-clause-made : goal.returns-in-NoMemory-clause-made
-returns-in-NoMemory-clause-made g c = piece_tried-lost _ c.loop.invariant c.loop-test.true c.in-NoMemory.ensures.once c.in-NoMemory.ensures.rest
+returns-in-NoMemory-clause-made g c = piece_tried-lost _ c.loop.invariant.tried c.loop-test.true c.in-NoMemory.ensures.once c.in-NoMemory.ensures.rest
 
 pub returns-clause-made : goal.returns-clause-made
-returns-clause-made g c = piece_tried-end c.loop.invariant (omega (arith, c.loop-test.false, c.loop.auto.counter-end))
+returns-clause-made g c = piece_tried-end c.loop.invariant.tried (omega (arith, c.loop-test.false, c.loop.auto.counter-end))
 
 pub returns-in-Took-clause-took : goal.returns-in-Took-clause-took
 returns-in-Took-clause-took g c = took-valid c.in-Took.ensures.once
+
+pub returns-in-Took-clause-dial : goal.returns-in-Took-clause-dial
+returns-in-Took-clause-dial g c = dialed-then c.loop.invariant.dial c.in-Took.ensures.dial
+
+pub returns-in-Took-clause-kept : goal.returns-in-Took-clause-kept
+returns-in-Took-clause-kept g c = keeps-behind c.loop.invariant.dial.grows c.in-Took.ensures.kept
+
+pub returns-in_default-clause-dial : goal.returns-in_default-clause-dial
+returns-in_default-clause-dial g c = dialed-dropped (dialed-then c.loop.invariant.dial c.in-Missed.ensures.dial)
+
+pub returns-in-NoMemory-clause-dial : goal.returns-in-NoMemory-clause-dial
+returns-in-NoMemory-clause-dial g c = dialed-then c.loop.invariant.dial c.in-NoMemory.ensures.dial

@@ -1,18 +1,27 @@
 use Rattle.std.proofs.Common.{sym, ◌∙◌}
+use Rattle.sm_client.proofs.Dials.{dialed-start, dialed-then, dialed-carried}
 use Rattle.sm_client.proofs.Seeks.{seeking-start, seeking-more, seeking-found, seeking-ended}
 use Rattle.sm_client.proofs.seek.seek.Goals as goal
 
 pub loop-alloc-init : goal.loop-alloc-init
-loop-alloc-init g c = seeking-start _ _ _ _ c.requires.levels
+loop-alloc-init g c = record { seeking = seeking-start _ _ _ _ c.requires.levels; dial = dialed-start _ _ }
 
 pub loop-alloc-preserved : goal.loop-alloc-preserved
-loop-alloc-preserved g c =
-    seeking-more _ c.loop-alloc.invariant (λ q h more. c.in_default.ensures.none q h (sym
-    (c.is_known.ensures q h) ∙ c.loop-alloc-test.true) more) c.in_default-relist.ensures.relists c.in_default-relist.ensures.written c.in_default-relist.ensures.levels
+loop-alloc-preserved g c = record {
+  seeking = seeking-more _ c.loop-alloc.invariant.seeking (λ q h more. c.in_default.ensures.none q h (sym
+      (c.is_known.ensures q h) ∙ c.loop-alloc-test.true) more) c.in_default-relist.ensures.relists c.in_default-relist.ensures.written c.in_default-relist.ensures.levels;
+  dial = dialed-then c.loop-alloc.invariant.dial c.in_default-relist.ensures.dial;
+}
 
 pub returns-clause-sought : goal.returns-clause-sought
-returns-clause-sought g c p number = seeking-found c.loop-alloc.invariant c.loop-alloc-test.false c.is_known.ensures p
+returns-clause-sought g c p number = seeking-found c.loop-alloc.invariant.seeking c.loop-alloc-test.false c.is_known.ensures p
 
 pub returns-in-Some-relist-clause-sought : goal.returns-in-Some-relist-clause-sought
 returns-in-Some-relist-clause-sought g c =
-    seeking-ended c.loop-alloc.invariant (λ q h more. c.in_default.ensures.none q h (sym (c.is_known.ensures q h) ∙ c.loop-alloc-test.true) more) c.in-Some-relist.ensures.relists
+    seeking-ended c.loop-alloc.invariant.seeking (λ q h more. c.in_default.ensures.none q h (sym (c.is_known.ensures q h) ∙ c.loop-alloc-test.true) more) c.in-Some-relist.ensures.relists
+
+pub returns-in-Some-relist-clause-dial : goal.returns-in-Some-relist-clause-dial
+returns-in-Some-relist-clause-dial g c = dialed-then c.loop-alloc.invariant.dial c.in-Some-relist.ensures.dial
+
+pub returns-in-Some-clause-dial : goal.returns-in-Some-clause-dial
+returns-in-Some-clause-dial g c = dialed-carried _ c.loop-alloc.invariant.dial c.in-Some.ensures.quiet

@@ -1,6 +1,7 @@
-use Rattle.std.proofs.Common.{◌≡◌, ◌≢◌, ◌≤◌, ℕ}
+use Rattle.std.proofs.Common.{◌≡◌, ◌≢◌, ◌≤◌, ℕ, []}
 use Rattle.std.specs.Io.KnownBytes.{Keeps}
 use Rattle.sm_client.specs.Turns.{fresh}
+use Rattle.sm_client.specs.Dials.{Dialed}
 use Rattle.sm_client.specs.Calls.{HasLevels}
 use Rattle.sm_client.proofs.Streaming.{Streaming}
 use Rattle.sm_client.proofs.stream.play_stream.Given as goal
@@ -13,9 +14,10 @@ invariant-loop g l = record {
         retired = λ b. (goal.Policy-dyn g (b.vtable, b.value)).retired_after b.value;
       })
       l.plan l.name (fresh l.fn.policies.acting l.fn.policies.rest.items) (fresh l.policies.acting l.policies.rest.items)
-      l.standing l.counter (g.C.Dial.log l.fn.dial) (g.C.Dial.log l.dial) (g.T.Tracks.held l.fn.tracks l.number) (g.T.Tracks.held l.tracks l.number);
+      l.standing l.counter (g.C.Dial.log l.fn.dial) (g.C.Dial.log l.dial) (g.C.Dial.store l.fn.dial) (g.C.Dial.store l.dial) (g.T.Tracks.held l.fn.tracks l.number) (g.T.Tracks.held l.tracks l.number);
   levels : HasLevels l.standing.listing;
   written : l.standing.written ≡ l.counter;
   others : (k : ℕ) → k ≢ l.number → Keeps (g.T.Tracks.held l.fn.tracks k) (g.T.Tracks.held l.tracks k);
+  dial : Dialed (g.C.Dial.dial_faults l.fn.dial) (g.C.Dial.dial_faults l.dial) (g.C.Dial.store l.fn.dial) (g.C.Dial.store l.dial) [];
   later : g.T.Tracks.faults l.fn.tracks ≤ g.T.Tracks.faults l.tracks;
 }

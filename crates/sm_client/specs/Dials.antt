@@ -1,0 +1,65 @@
+-- What a play leaves of the dial: its count of faults, and the store behind it.
+use Rattle.std.specs.Prelude.{◌≤◌, ℕ, List, [], ◌∷◌, Option, Some, None, Contains}
+use Rattle.sm_model.specs.declared.entry.Entry.{Entry}
+use Rattle.sm_fetch.specs.Exchanges.{Rose}
+use Rattle.sm_fetch.specs.Origins.{Grows}
+use Rattle.sm_client.specs.declared.report.Miss.{Miss}
+use Rattle.sm_client.specs.declared.report.Miss.TheVariants as miss
+use Rattle.sm_client.specs.declared.report.End.{End}
+use Rattle.sm_client.specs.declared.report.End.TheVariants as ends
+use Rattle.sm_client.specs.declared.list.Listed.{Listed}
+use Rattle.sm_client.specs.declared.list.Listed.TheVariants as listed_once
+use Rattle.sm_client.specs.declared.list.Manifest.{Manifest}
+use Rattle.sm_client.specs.declared.list.Manifest.TheVariants as manifest
+use Rattle.sm_client.specs.declared.piece.Asked.{Asked}
+use Rattle.sm_client.specs.declared.piece.Asked.TheVariants as asked
+use Rattle.sm_client.specs.declared.piece.Pieces.{Pieces}
+use Rattle.sm_client.specs.declared.piece.Pieces.TheVariants as pieces
+use Rattle.sm_client.specs.declared.seek.Begun.{Begun}
+use Rattle.sm_client.specs.declared.seek.Begun.TheVariants as begun_as
+
+-- The count of faults doesn't fall, and the logs that are told only grow. A loss is among these outcomes only where the count rose.
+pub record Dialed (faults faults' : ℕ) (store store' : List Entry → Type 0) (outcomes : List Miss) : Type 0 where
+  pub later : faults ≤ faults'
+  pub lost : Contains outcomes miss.Lost → Rose faults faults'
+  pub grows : Grows store store'
+
+-- ---- what came in place of what was asked, as an answer carries it
+
+abbrev pub carried : End → List Miss
+carried ends.Done = []
+carried (ends.NoMore expected) = []
+carried (ends.Hole expected next) = []
+carried (ends.GaveUp time outcomes) = outcomes
+carried (ends.NoManifest outcomes) = outcomes
+carried (ends.NoStream index) = []
+carried ends.WriteFault = []
+carried ends.NoMemory = []
+
+abbrev pub carried_if : Option End → List Miss
+carried_if None = []
+carried_if (Some end) = carried end
+
+abbrev pub carried_listed : Listed → List Miss
+carried_listed (listed_once.Found found) = []
+carried_listed (listed_once.Missed m) = m ∷ []
+carried_listed listed_once.NoMemory = []
+
+abbrev pub carried_manifest : Manifest → List Miss
+carried_manifest (manifest.Read found) = []
+carried_manifest (manifest.GaveUp outcomes) = outcomes
+carried_manifest manifest.NoMemory = []
+
+abbrev pub carried_begun : Begun → List Miss
+carried_begun (begun_as.Stands new) = []
+carried_begun (begun_as.Ended end) = carried end
+
+abbrev pub carried_asked : Asked → List Miss
+carried_asked (asked.Took raw level) = []
+carried_asked (asked.Missed m) = m ∷ []
+carried_asked asked.NoMemory = []
+
+abbrev pub carried_pieces : Pieces → List Miss
+carried_pieces (pieces.Took raw level) = []
+carried_pieces (pieces.GaveUp outcomes) = outcomes
+carried_pieces pieces.NoMemory = []
