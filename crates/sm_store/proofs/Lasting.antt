@@ -7,6 +7,7 @@ use Rattle.sm_model.specs.declared.entry.Entry.{Entry}
 use Rattle.sm_site.specs.Clauses.{Elapses, SameOutcomes, Throughout}
 use Rattle.sm_site.specs.Image.{Image}
 use Rattle.sm_site.specs.Meanings.{View, Item}
+use Rattle.sm_site.proofs.Moments.{and_then, weakened}
 use Rattle.sm_seglog.specs.Stores.{HasStore}
 use Rattle.sm_archive.specs.Store.{IsStore, Spell}
 use Rattle.sm_origin.specs.Machine.{Machine}
@@ -87,6 +88,13 @@ module _ {D : Type 0} (view : D → View) (leave : D → Image → Type 0) (left
       let still : (view new).moment ≡ (view old).moment = omega (arith, before, later) in
       at_now old c (subst (λ (k : ℕ). left_at old k c) still ((all.keeps (view new).moment c before).0 (now_at new c left))))
       (cases_lt (view old).moment (view new).moment)
+
+  -- a part that leaves nothing else, and then another
+  pub no_other : (now_at : (d : D) (c : Image) → leave d c → left_at d (view d).moment c) → (old mid new : D) → Throughout view left_at old mid (λ t c. leave old c)
+      → Throughout view left_at mid new (λ t c. leave mid c) → Throughout view left_at old new (λ t c. leave old c)
+  no_other now_at old mid new first second =
+      and_then view left_at old mid new (λ t c. leave old c) first
+      (weakened view left_at mid new (λ t c. leave mid c) (λ t c. leave old c) second (λ t c left. no_more now_at old mid first c left))
 
 -- ---- nothing was shown
 

@@ -152,9 +152,9 @@ base_of (Some base) h = (base, refl)
 pub known : {D : Type 0} (view : D → View) (leave : D → Image → Type 0) (left_at : D → ℕ → Image → Type 0) (ladder : Bool) (told told' : Option (List ℕ)) (state : State) (d : D) (state' : State)
     (d' : D) → Begins view leave left_at state d → IsPrepared view leave left_at ladder told told' state d state' d' → ((m : Machine) × StandsOn view leave m state.origin d)
     → (view d').transcript ≡ (view d).transcript → Known view leave left_at state' d'
-known view leave left_at ladder told told' state d state' d' begins p stands same some =
+known view leave left_at ladder told told' state d state' d' begin p stands same some =
     let base = base_of (view d').transcript some in
-    let b = begins stands.0 base.0 stands.1 (sym same ∙ base.1) in
+    let b = begin stands.0 base.0 stands.1 (sym same ∙ base.1) in
     let h = p.begun b.0 b.6 b.4 b.5 in
     (h.0, h.3)
 
@@ -240,7 +240,7 @@ no_lives [] e = refl
 no_lives (l ∷ ls) e = absurd (cc)
 
 -- a run that begins when the call did
-pub early : Machine → ℕ → List Item → History
+abbrev pub early : Machine → ℕ → List Item → History
 early m begin base = record { first = m; begin = begin; base = base; items = []; steps = []; point = start m begin }
 
 module _ {D : Type 0} (view : D → View) (leave : D → Image → Type 0) (left_at : D → ℕ → Image → Type 0) (pass : (d : D) → IfSome (view d).contents (leave d))
@@ -315,10 +315,10 @@ module _ {D : Type 0} (view : D → View) (leave : D → Image → Type 0) (left
 pub why_stopped : {D : Type 0} (view : D → View) (leave : D → Image → Type 0) (left_at : D → ℕ → Image → Type 0) (ladder : Bool) (input input' : Input) (state : State) (old mid new : D)
     (r : Result Outcome StoreFault) → Found view leave state old mid → (view old).disk_faults ≤ (view mid).disk_faults → Begins view leave left_at state mid
     → IfErr r (λ why. StopsFrom view leave left_at ladder input input' state mid new why) → IfErr r (λ why. WhyUnready view leave left_at ladder input input' old new why)
-why_stopped view leave left_at ladder input input' state old mid new (Ok end) f le begins h = tt
-why_stopped view leave left_at ladder input input' state old mid new (Err why) f le begins h = inr (h.0, by_cause h.1)
+why_stopped view leave left_at ladder input input' state old mid new (Ok end) f le begin h = tt
+why_stopped view leave left_at ladder input input' state old mid new (Err why) f le begin h = inr (h.0, by_cause h.1)
   where
     by_cause : (WhyUnread input input' why ⊎ ((after : State) × DeclaresTo view leave left_at input.told input'.told state mid after new (Err why)))
         → WhyUnread input input' why ⊎ TriesLadder view leave left_at input.told input'.told old new (Err why)
     by_cause (inl unread) = inl unread
-    by_cause (inr declares) = inr (record { state = state; opened = mid; found = f; no_fewer = le; begins = begins; after = declares.0; declares = declares.1 })
+    by_cause (inr declares) = inr (record { state = state; opened = mid; found = f; no_fewer = le; begins = begin; after = declares.0; declares = declares.1 })
