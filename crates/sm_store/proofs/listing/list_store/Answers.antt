@@ -24,7 +24,7 @@ returns-in-Ok-clause-untouched g c at is =
     let u = c.list_disk.ensures.untouched at is in (
       u.0 ∙ c.choose.ensures.contents,
       one_by_one V L c.args.site.now c.choose.new.site c.list_disk.new.disk (g.S.Disk.may_leave c.args.site.now) c.choose.ensures.any_moment
-      (at_each V L c.choose.new.site c.list_disk.new.disk _ (g.S.Disk.may_leave c.args.site.now) u.2 (λ t image left. (c.choose.ensures.crash image).0 left)),
+          (at_each V L c.choose.new.site c.list_disk.new.disk _ (g.S.Disk.may_leave c.args.site.now) u.2 (λ t image left. (c.choose.ensures.crash image).0 left)),
     )
 
 pub returns-in-Err-clause-untouched : goal.returns-in-Err-clause-untouched
