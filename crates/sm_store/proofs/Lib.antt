@@ -1,2 +1,4 @@
+pub mod Lasting
 pub mod Lines
+pub mod Real
 pub mod Starting

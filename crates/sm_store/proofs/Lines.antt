@@ -1,6 +1,6 @@
 -- The lines of a log, one entry after the other, and where its entries stand.
 use Rattle.std.proofs.Common.{◌≡◌, ◌<◌, ◌≤◌, ◌+◌, ℕ, zero, suc, List, [], ◌∷◌, ◌++◌, length, take, Option, Some, None, Result, Ok, Err, refl, sym, ap, subst, ◌∙◌, arith}
-use Rattle.std.specs.Prelude.{is_some, slice_get, IfSome, IsSome, IfOk, IfErr}
+use Rattle.std.specs.Prelude.{is_some, slice_get, IfSome, IsSome, IfOk, IfErr, IsErrOf}
 use Rattle.std.specs.Option.{option_map}
 use Rattle.std.proofs.lemmas.List.{append-nil, append_assoc, take_all}
 use Rattle.sm_model.specs.declared.address.Address.{Address}
@@ -19,6 +19,7 @@ use Rattle.sm_archive.specs.Stands.{Stands}
 use Rattle.sm_archive.specs.Store.{IsStore}
 use Rattle.sm_store.specs.declared.fault.StoreFault.{StoreFault}
 use Rattle.sm_store.specs.declared.fault.StoreFault.TheVariants as fault
+use Rattle.sm_store.specs.Choosing.{WhyUnchosen}
 use Rattle.sm_store.specs.Listing.{kept_line, line_at, line_in, lines_from, lines_of, WhyUnlisted, WhyUnput}
 
 -- ---- lines
@@ -152,6 +153,28 @@ unlisted_later a b c (fault.Refused cause) same disk link h = h
 unlisted_later a b c fault.Full same disk link h = h
 unlisted_later a b c fault.Damaged same disk link h = λ some. h (ap (λ (x : Option Image). is_some x) same ∙ some)
 unlisted_later a b c fault.NoMemory same disk link h = tt
+
+pub unlisted_chosen : (a b : View) (why : StoreFault) → WhyUnchosen a b why → WhyUnlisted a b why
+unlisted_chosen a b fault.DiskFault h = h
+unlisted_chosen a b fault.LinkFault h = h
+unlisted_chosen a b (fault.NotAStore at) h = absurd h
+unlisted_chosen a b fault.Unread h = h
+unlisted_chosen a b fault.LongLadder h = h
+unlisted_chosen a b (fault.BadLadder at) h = h
+unlisted_chosen a b (fault.Refused cause) h = h
+unlisted_chosen a b fault.Full h = h
+unlisted_chosen a b fault.Damaged h = absurd h
+unlisted_chosen a b fault.NoMemory h = h
+
+pub error_is : (why other : StoreFault) → (let r : Result (List ℕ) StoreFault = Err why in r) ≡ Err other → why ≡ other
+error_is why other e = cc
+
+-- neither a place nor the choice of a site says that the files are no store
+pub put_is_placed : (a b : View) (r : Result (List ℕ) StoreFault) → IfErr r (λ why. WhyUnput a b why) → (at : ℕ) → IsErrOf r (fault.NotAStore at) → ⊥
+put_is_placed a b r h at is = subst (λ (x : Result (List ℕ) StoreFault). IfErr x (λ why. WhyUnput a b why)) is h
+
+pub chosen_is_placed : (a b : View) (why : StoreFault) → WhyUnchosen a b why → (at : ℕ) → why ≡ fault.NotAStore at → ⊥
+chosen_is_placed a b why h at is = subst (λ (x : StoreFault). WhyUnchosen a b x) is h
 
 -- ---- the list
 

@@ -1,2 +1,4 @@
+pub mod Choosing
+pub mod Lasting
 pub mod Listing
 pub mod Serving

@@ -1,8 +1,9 @@
 -- What serving a store comes to.
-use Rattle.std.specs.Prelude.{◌≡◌, ◌⊎◌, ◌<◌, ◌≤◌, ◌+◌, ℕ, Bool, true, false, IsTrue, List, [], ◌∷◌, length, Option, Some, None, IfSome, Result, Ok, Err}
+use Rattle.std.specs.Prelude.{◌≡◌, ◌⊎◌, ◌<◌, ◌≤◌, ◌+◌, ◌++◌, ℕ, Bool, true, false, IsTrue, List, [], ◌∷◌, length, Option, Some, None, IfSome, IsSome, Result, Ok, Err}
 use Rattle.std.specs.Io.KnownBytes.{Consumes, IsAtEnd}
 use Rattle.sm_ends.specs.Faults.{Rose}
 use Rattle.sm_ends.specs.Moves.{TakesCount}
+use Rattle.sm_model.specs.declared.entry.Entry.{Entry}
 use Rattle.sm_model.specs.declared.track.Track.{Track}
 use Rattle.sm_model.specs.declared.act.Act.TheVariants.{Header}
 use Rattle.sm_model.specs.LiveManifests.{IsLadder}
@@ -14,6 +15,7 @@ use Rattle.sm_archive.specs.declared.answers.Declared.TheVariants as declared
 use Rattle.sm_archive.specs.Store.{IsStore}
 use Rattle.sm_archive.specs.Opening as opening
 use Rattle.sm_origin.specs.Machine.{Machine}
+use Rattle.sm_origin.specs.Opening.{HasOneStore}
 use Rattle.sm_origin.specs.declared.reply.Counted.TheVariants.{Neither}
 use Rattle.sm_origin.specs.Replies.{silent}
 use Rattle.sm_serve.specs.declared.state.State.{State}
@@ -21,7 +23,8 @@ use Rattle.sm_serve.specs.declared.outcome.Served.{Served as Outcome}
 use Rattle.sm_serve.specs.declared.outcome.Served.TheVariants as served
 use Rattle.sm_serve.specs.Run.{Stepped}
 use Rattle.sm_serve.specs.Standing.{History, StandsOn}
-use Rattle.sm_serve.specs.Serving.{Begins, Serves, DeclaresIn, Served}
+use Rattle.sm_serve.specs.Serving.{Begins, Serves, Since, DeclaresIn, Served}
+use Rattle.sm_serve.specs.Surviving.{Survives}
 use Rattle.sm_store.specs.declared.fault.StoreFault.{StoreFault}
 use Rattle.sm_store.specs.declared.fault.StoreFault.TheVariants as fault
 
@@ -88,6 +91,14 @@ abbrev pub DeclaresTo : {D : Type 0} (view : D → View) (leave : D → Image �
     → Result (Unit {0}) StoreFault → Type 0
 DeclaresTo view leave left_at told told' state d state' d' result = (answer : Declared) × (result ≡ outcome_of answer)
     × Declares view leave left_at told told' state d state' d' answer
+
+-- the run went on, perhaps by a step, and without an entry
+pub record GoesUnseen {D : Type 0} (view : D → View) (leave : D → Image → Type 0) (left_at : D → ℕ → Image → Type 0) (h : History) (state : State)
+    (d : D) : Type 0 where
+  pub later : History
+  pub serves : Serves view leave left_at later state d
+  pub since : Since h later
+  pub same : later.items ≡ h.items
 
 abbrev pub NotRead : Input → Input → Result (Unit {0}) StoreFault → Type 0
 NotRead old new (Ok x) = ⊥
@@ -168,15 +179,22 @@ pub record IsBegun (machine : Machine) (channel : Option (List Track)) (base : L
   pub items : h.items ≡ []
   pub steps : LadderSteps channel h.steps
 
--- from a state that was opened the loop ran to the end that it tells, with the ladder's step in front
+-- from a state where a run begins the loop ran to the end that it tells, with the ladder's step in front
 pub record RunsFrom {D : Type 0} (view : D → View) (leave : D → Image → Type 0) (left_at : D → ℕ → Image → Type 0) (ladder : Bool)
     (told told' : Option (List ℕ)) (turns : ℕ) (state : State)
     (d d' : D) (end : Outcome) : Type 0 where
   pub channel : Option (List Track)
   pub input : ReadsLadder ladder told told' channel
   pub blamed : end ≡ served.LinkFault → site.Rose (view d).link_faults (view d').link_faults
-  pub run : (m : Machine) (base : List Item) → StandsOn view leave m state.origin d → (view d).transcript ≡ Some base
-      → (h : History) × IsBegun m channel base h × ((after : State) × Served view leave left_at h end turns after d')
+  pub run : (b : History) → Serves view leave left_at b state d → b.items ≡ [] → b.steps ≡ []
+      → (h : History) × (h.begin ≡ b.begin) × IsBegun b.first channel b.base h × ((after : State) × Served view leave left_at h end turns after d')
+
+-- However it ended, a run that had come to the state went on; whatever a crash may leave at a moment since its start survives.
+pub record RunLasts {D : Type 0} (view : D → View) (left_at : D → ℕ → Image → Type 0) (h : History) (d : D) : Type 0 where
+  pub later : History
+  pub since : Since h later
+  pub told : (view d).transcript ≡ Some (later.base ++ later.items)
+  pub survives : (t : ℕ) (image : Image) → later.begin ≤ t → left_at d t image → Survives later.first later.items t image
 
 -- the ladder that was asked for was not read, or this was answered to it
 abbrev pub StopsFrom : {D : Type 0} (view : D → View) (leave : D → Image → Type 0) (left_at : D → ℕ → Image → Type 0) → Bool → Input → Input
@@ -198,3 +216,6 @@ pub record HasRun {D : Type 0} (view : D → View) (leave : D → Image → Type
   pub blamed : end ≡ served.LinkFault → site.Rose (view old).link_faults (view new).link_faults
   pub run : (base : List Item) → (view old).transcript ≡ Some base
       → (h : History) × IsBegun machine channel base h × ((state : State) × Served view leave left_at h end turns state new)
+  -- Where each image that a crash might leave was one store, it is a run of the whole call: its moments begin with the call's.
+  pub whole : IsSome (view old).contents → (log : List Entry) → HasOneStore log (leave old) → (base : List Item) → (view old).transcript ≡ Some base
+      → (h : History) × (h.begin ≡ (view old).moment) × IsBegun machine channel base h × ((state : State) × Served view leave left_at h end turns state new)

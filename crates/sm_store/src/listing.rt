@@ -1,15 +1,21 @@
 //! Listing what a store keeps.
-ghost use Rattle.std.specs.Prelude.{◌≡◌, ◌≤◌, ◌++◌, ℕ, List, Option, None, IfOk, IfErr, IfSome, OnOk, IsSome, is_some, string_bytes, slice_get};
+ghost use Rattle.std.specs.Prelude.{◌≡◌, ◌≤◌, ◌++◌, ℕ, List, Option, None, IfOk, IfErr, IfSome, OnOk, IsErrOf, IsSome, is_some, string_bytes, slice_get};
 ghost use Rattle.sm_model.specs.declared.entry.Entry.{Entry};
+ghost use Rattle.sm_site.specs.Clauses.{NoMore, Throughout};
+ghost use Rattle.sm_site.specs.Meanings.{SameLink};
 ghost use Rattle.sm_archive.specs.Stands.{Keeps, Stands};
 ghost use Rattle.sm_archive.specs.Store.{IsStore};
+ghost use Rattle.sm_origin.specs.Opening.{HasOneStore};
+ghost use Rattle.sm_store.specs.declared.fault.StoreFault.TheVariants as fault;
+ghost use Rattle.sm_store.specs.Lasting.{AtEachMoment};
 ghost use Rattle.sm_store.specs.Listing.{kept_line, line_in, place_text, span_text, lines_of, AddressIs, WhyUnlisted, WhyUnput};
 
 use crate::StoreFault;
+use crate::choosing::choose;
 use sm_archive::{Archive, Fetched, Limits, OpenFault, open_store};
 use sm_log::law::kept_is_added;
 use sm_model::{Address, Bytes, Fragment, NoMemory};
-use sm_site::{Disk, Site, SiteError};
+use sm_site::{Disk, Site};
 use std::alloc::Global;
 
 fn put_place(alloc: Global, place: u64, fragment: &Fragment) -> Result<String, NoMemory>
@@ -84,7 +90,9 @@ fn line_of<D: Disk>(
     ensures stands { (log : List Entry) → Stands archive.now log None (D.may_leave disk.old) → Stands archive.now log None (D.may_leave disk.new) }
     ensures why { IfErr result (λ why. WhyUnput (D.view disk.old) (D.view disk.new) why) }
     ensures told { is_some (D.view disk.new).contents ≡ is_some (D.view disk.old).contents }
+    ensures any_moment { Throughout D.view D.left_at disk.old disk.new (λ t c. D.may_leave disk.old c) }
     ensures no_fewer { (D.view disk.old).disk_faults ≤ (D.view disk.new).disk_faults }
+    ensures link { SameLink (D.view disk.old) (D.view disk.new) }
 {
     kept_is_added();
     let address = match address_at(alloc, archive, place) {
@@ -116,6 +124,8 @@ fn lines<D: Disk>(alloc: Global, disk: &mut D, archive: &Archive) -> Result<Byte
     ensures lines { IfOk result (λ text. (log : List Entry) → Stands archive.now log None (D.may_leave disk.old) → IsSome (D.view disk.old).contents
         → text ≡ lines_of log) }
     ensures why { IfErr result (λ why. WhyUnput (D.view disk.old) (D.view disk.new) why) }
+    ensures any_moment { Throughout D.view D.left_at disk.old disk.new (λ t c. D.may_leave disk.old c) }
+    ensures link { SameLink (D.view disk.old) (D.view disk.new) }
 {
     let mut text = String::new(alloc);
     for place in 0..archive.len() {
@@ -132,6 +142,11 @@ fn lines<D: Disk>(alloc: Global, disk: &mut D, archive: &Archive) -> Result<Byte
 fn list_disk<D: Disk>(alloc: Global, disk: &mut D) -> Result<Bytes, StoreFault>
     ensures listed { IfOk result (λ text. IfSome (D.view disk.old).contents (λ c. (log : List Entry) × IsStore log c × (text ≡ lines_of log))) }
     ensures why { IfErr result (λ why. WhyUnlisted (D.view disk.old) (D.view disk.new) why) }
+    ensures any_moment { (log : List Entry) → HasOneStore log (D.may_leave disk.old)
+        → Throughout D.view D.left_at disk.old disk.new (λ t c. IsStore log c) }
+    ensures untouched { (at : ℕ) → IsErrOf result (fault.NotAStore at) → ((D.view disk.new).contents ≡ (D.view disk.old).contents)
+        × NoMore (D.may_leave disk.old) (D.may_leave disk.new) × Throughout D.view D.left_at disk.old disk.new (λ t c. D.may_leave disk.old c) }
+    ensures link { SameLink (D.view disk.old) (D.view disk.new) }
 {
     match open_store(alloc, disk, Limits::standard()) {
         Ok(archive) => lines(alloc, disk, &archive),
@@ -142,15 +157,23 @@ fn list_disk<D: Disk>(alloc: Global, disk: &mut D) -> Result<Bytes, StoreFault>
 }
 
 /// The list of what is kept in the store in that folder: for each fragment, in the order of the log, a line with its place, its
-/// stream's name, its bitrate, its start, its duration and the number of its samples.
+/// stream's name, its bitrate, its start, its duration and the number of its samples. The store stays as it is: a file that is fresh is
+/// made, and nothing else is written.
 pub fn list_store<S: Site>(alloc: Global, site: &mut S, store: &str) -> Result<Bytes, StoreFault>
     ensures listed { IfOk result (λ text. IfSome (S.Disk.view site.old).contents (λ c. (log : List Entry) × IsStore log c × (text ≡ lines_of log))) }
     ensures why { IfErr result (λ why. WhyUnlisted (S.Disk.view site.old) (S.Disk.view site.new) why) }
+    // Where each image that a crash might have left was one store, a crash leaves that store at each moment.
+    ensures any_moment { (log : List Entry) → HasOneStore log (S.Disk.may_leave site.old)
+        → AtEachMoment S.Disk.view S.Disk.left_at site.old site.new (IsStore log) }
+    // What is no store isn't written: the contents stay, and at no moment a crash leaves what it couldn't leave before.
+    ensures untouched { (at : ℕ) → IsErrOf result (fault.NotAStore at) → ((S.Disk.view site.new).contents ≡ (S.Disk.view site.old).contents)
+        × AtEachMoment S.Disk.view S.Disk.left_at site.old site.new (S.Disk.may_leave site.old) }
+    // Nothing is taken from the link, and nothing is sent.
+    ensures transcript { (S.Disk.view site.new).transcript ≡ (S.Disk.view site.old).transcript }
+    ensures send_faults { (S.Disk.view site.new).send_faults ≡ (S.Disk.view site.old).send_faults }
 {
-    match site.select(store, 0) {
+    match choose(site, store, 0) {
         Ok(()) => list_disk(alloc, site),
-        Err(SiteError::Disk) => Err(StoreFault::DiskFault),
-        Err(SiteError::Link) => Err(StoreFault::LinkFault),
-        Err(SiteError::NoMemory) => Err(StoreFault::NoMemory),
+        Err(fault) => Err(fault),
     }
 }

@@ -1,14 +1,21 @@
 //! Serving a store.
-ghost use Rattle.std.specs.Prelude.{◌≡◌, IfOk, IfErr, Ok};
-ghost use Rattle.sm_serve.specs.declared.outcome.Served.TheVariants as served;
+ghost use Rattle.std.specs.Prelude.{◌≡◌, ℕ, List, Some, IsSome, IfOk, IfErr, IsErrOf};
+ghost use Rattle.sm_model.specs.declared.entry.Entry.{Entry};
+ghost use Rattle.sm_site.specs.Meanings.{Item};
 ghost use Rattle.sm_origin.specs.Machine.{Machine};
-ghost use Rattle.sm_serve.specs.Serving.{Begins};
-ghost use Rattle.sm_serve.specs.Standing.{StandsOn};
-ghost use Rattle.sm_store.specs.Serving.{Found, HasRun, RunsFrom, StopsFrom, WhyUnready};
+ghost use Rattle.sm_origin.specs.Opening.{HasOneStore};
+ghost use Rattle.sm_serve.specs.Serving.{Begins, Serves};
+ghost use Rattle.sm_serve.specs.Standing.{History, StandsOn};
+ghost use Rattle.sm_store.specs.declared.fault.StoreFault.TheVariants as fault;
+ghost use Rattle.sm_store.specs.Lasting.{AtEachMoment, Outlasts};
+ghost use Rattle.sm_store.specs.Serving.{HasRun, RunLasts, RunsFrom, StopsFrom, WhyUnready};
 
 use crate::StoreFault;
 use crate::start::{open_state, prepare};
+use sm_archive::bodies_have_one_log;
 use sm_ends::Source;
+use sm_seglog::law::stores_have_one_reading;
+use sm_serve::shown::crashes_hold_what_was_shown;
 use sm_serve::{Served, State, serve};
 use sm_site::Site;
 use std::alloc::Global;
@@ -29,7 +36,10 @@ fn serve_state<I: Source, S: Site>(
     ensures why { IfErr result (λ why. StopsFrom S.Disk.view S.Disk.may_leave S.Disk.left_at ladder
         (record { told = I.left input.old; faults = I.faults input.old })
         (record { told = I.left input.new; faults = I.faults input.new }) state.old site.old site.new why) }
+    ensures lasts { (h : History) → Serves S.Disk.view S.Disk.may_leave S.Disk.left_at h state.old site.old
+        → RunLasts S.Disk.view S.Disk.left_at h site.new }
 {
+    crashes_hold_what_was_shown();
     match prepare(alloc, input, site, state, ladder) {
         Ok(()) => Ok(serve(site, state, turns)),
         Err(fault) => Err(fault),
@@ -53,7 +63,17 @@ pub fn serve_store<I: Source, S: Site>(
     ensures why { IfErr result (λ why. WhyUnready S.Disk.view S.Disk.may_leave S.Disk.left_at ladder
         (record { told = I.left input.old; faults = I.faults input.old })
         (record { told = I.left input.new; faults = I.faults input.new }) site.old site.new why) }
+    // However it ends, on a disk that tells its contents: where each image that a crash might have left was one store, what a crash may leave
+    // at any moment since the call began is a store whose log begins with that one, and holds what the call had shown by then.
+    ensures any_moment { IsSome (S.Disk.view site.old).contents → (log : List Entry) → HasOneStore log (S.Disk.may_leave site.old)
+        → (base : List Item) → (S.Disk.view site.old).transcript ≡ Some base
+        → Outlasts S.Disk.view S.Disk.left_at log base site.old site.new }
+    // What is no store isn't written: the contents stay, and at no moment a crash leaves what it couldn't leave before.
+    ensures untouched { (at : ℕ) → IsErrOf result (fault.NotAStore at) → ((S.Disk.view site.new).contents ≡ (S.Disk.view site.old).contents)
+        × AtEachMoment S.Disk.view S.Disk.left_at site.old site.new (S.Disk.may_leave site.old) }
 {
+    bodies_have_one_log();
+    stores_have_one_reading();
     match open_state(alloc, site, store, port) {
         Ok(mut state) => serve_state(alloc, input, site, &mut state, ladder, turns),
         Err(fault) => Err(fault),

@@ -1,17 +1,24 @@
 //! Opening a store to be served, with its ladder.
-ghost use Rattle.std.specs.Prelude.{◌≡◌, ◌≤◌, ℕ, List, Option, Ok, IfOk, IfErr};
+ghost use Rattle.std.specs.Prelude.{◌≡◌, ◌≤◌, ℕ, List, Option, Ok, IfOk, IfErr, IsErrOf};
 ghost use Rattle.sm_model.specs.Channels.{IsChannel};
+ghost use Rattle.sm_model.specs.declared.entry.Entry.{Entry};
+ghost use Rattle.sm_site.specs.Clauses.{NoMore, Throughout};
+ghost use Rattle.sm_archive.specs.Store.{IsStore};
 ghost use Rattle.sm_origin.specs.Machine.{Machine};
-ghost use Rattle.sm_serve.specs.Serving.{Begins};
-ghost use Rattle.sm_serve.specs.Standing.{StandsOn};
-ghost use Rattle.sm_store.specs.Serving.{Found, IsLadderInput, DeclaresTo, LadderMeans, PrepareMeans, WhyUnopened, WhyUnread, outcome_of};
+ghost use Rattle.sm_origin.specs.Opening.{HasOneStore};
+ghost use Rattle.sm_serve.specs.Serving.{Begins, Serves};
+ghost use Rattle.sm_serve.specs.Standing.{History, StandsOn};
+ghost use Rattle.sm_store.specs.declared.fault.StoreFault.TheVariants as fault;
+ghost use Rattle.sm_store.specs.Lasting.{AtEachMoment};
+ghost use Rattle.sm_store.specs.Serving.{Found, IsLadderInput, DeclaresTo, GoesUnseen, LadderMeans, PrepareMeans, WhyUnopened, WhyUnread, outcome_of};
 
 use crate::StoreFault;
+use crate::choosing::choose;
 use sm_archive::{Declared, Limits, OpenFault};
 use sm_ends::{InputFault, Source, read_input};
 use sm_model::Channel;
 use sm_serve::State;
-use sm_site::{Site, SiteError};
+use sm_site::Site;
 use sm_smil::{SmilFault, read_ladder};
 use std::alloc::Global;
 
@@ -22,6 +29,11 @@ const LADDER: u64 = 1_048_576;
 fn start<S: Site>(alloc: Global, site: &mut S) -> Result<State, StoreFault>
     ensures found { IfOk result (λ state. Found S.Disk.view S.Disk.may_leave state site.old site.new) }
     ensures begins { IfOk result (λ state. Begins S.Disk.view S.Disk.may_leave S.Disk.left_at state site.new) }
+    ensures any_moment { (log : List Entry) → HasOneStore log (S.Disk.may_leave site.old)
+        → Throughout S.Disk.view S.Disk.left_at site.old site.new (λ t c. IsStore log c) }
+    ensures untouched { (at : ℕ) → IsErrOf result (fault.NotAStore at) → ((S.Disk.view site.new).contents ≡ (S.Disk.view site.old).contents)
+        × NoMore (S.Disk.may_leave site.old) (S.Disk.may_leave site.new)
+        × Throughout S.Disk.view S.Disk.left_at site.old site.new (λ t c. S.Disk.may_leave site.old c) }
     ensures transcript { (S.Disk.view site.new).transcript ≡ (S.Disk.view site.old).transcript }
     ensures why { IfErr result (λ why. WhyUnopened (S.Disk.view site.old) (S.Disk.view site.new) why) }
     ensures disk_faults { (S.Disk.view site.old).disk_faults ≤ (S.Disk.view site.new).disk_faults }
@@ -44,16 +56,19 @@ pub(crate) fn open_state<S: Site>(
 ) -> Result<State, StoreFault>
     ensures found { IfOk result (λ state. Found S.Disk.view S.Disk.may_leave state site.old site.new) }
     ensures begins { IfOk result (λ state. Begins S.Disk.view S.Disk.may_leave S.Disk.left_at state site.new) }
+    // Where every image was one store, it stays that at each moment.
+    ensures any_moment { (log : List Entry) → HasOneStore log (S.Disk.may_leave site.old)
+        → AtEachMoment S.Disk.view S.Disk.left_at site.old site.new (IsStore log) }
+    ensures untouched { (at : ℕ) → IsErrOf result (fault.NotAStore at) → ((S.Disk.view site.new).contents ≡ (S.Disk.view site.old).contents)
+        × AtEachMoment S.Disk.view S.Disk.left_at site.old site.new (S.Disk.may_leave site.old) }
     ensures transcript { (S.Disk.view site.new).transcript ≡ (S.Disk.view site.old).transcript }
     ensures why { IfErr result (λ why. WhyUnopened (S.Disk.view site.old) (S.Disk.view site.new) why) }
     ensures disk_faults { (S.Disk.view site.old).disk_faults ≤ (S.Disk.view site.new).disk_faults }
     ensures link_faults { (S.Disk.view site.old).link_faults ≤ (S.Disk.view site.new).link_faults }
 {
-    match site.select(store, port) {
+    match choose(site, store, port) {
         Ok(()) => start(alloc, site),
-        Err(SiteError::Disk) => Err(StoreFault::DiskFault),
-        Err(SiteError::Link) => Err(StoreFault::LinkFault),
-        Err(SiteError::NoMemory) => Err(StoreFault::NoMemory),
+        Err(fault) => Err(fault),
     }
 }
 
@@ -96,6 +111,8 @@ fn declare<S: Site>(site: &mut S, state: &mut State, channel: &Channel) -> Resul
     requires stands { (m : Machine) × StandsOn S.Disk.view S.Disk.may_leave m state.old.origin site.old }
     ensures declares { (told told' : Option (List ℕ)) → IsLadderInput told told' (Ok channel.now)
         → DeclaresTo S.Disk.view S.Disk.may_leave S.Disk.left_at told told' state.old site.old state.new site.new result }
+    ensures unseen { (h : History) → Serves S.Disk.view S.Disk.may_leave S.Disk.left_at h state.old site.old
+        → GoesUnseen S.Disk.view S.Disk.may_leave S.Disk.left_at h state.new site.new }
     ensures stands { (m : Machine) × StandsOn S.Disk.view S.Disk.may_leave m state.new.origin site.new }
     ensures transcript { (S.Disk.view site.new).transcript ≡ (S.Disk.view site.old).transcript }
     ensures link_faults { (S.Disk.view site.new).link_faults ≡ (S.Disk.view site.old).link_faults }
@@ -114,6 +131,8 @@ fn declare_ladder<I: Source, S: Site>(
     requires stands { (m : Machine) × StandsOn S.Disk.view S.Disk.may_leave m state.old.origin site.old }
     ensures means { LadderMeans S.Disk.view S.Disk.may_leave S.Disk.left_at (record { told = I.left input.old; faults = I.faults input.old })
         (record { told = I.left input.new; faults = I.faults input.new }) state.old site.old state.new site.new result }
+    ensures unseen { (h : History) → Serves S.Disk.view S.Disk.may_leave S.Disk.left_at h state.old site.old
+        → GoesUnseen S.Disk.view S.Disk.may_leave S.Disk.left_at h state.new site.new }
     ensures stands { (m : Machine) × StandsOn S.Disk.view S.Disk.may_leave m state.new.origin site.new }
     ensures transcript { (S.Disk.view site.new).transcript ≡ (S.Disk.view site.old).transcript }
     ensures link_faults { (S.Disk.view site.new).link_faults ≡ (S.Disk.view site.old).link_faults }
@@ -135,6 +154,8 @@ pub(crate) fn prepare<I: Source, S: Site>(
     requires stands { (m : Machine) × StandsOn S.Disk.view S.Disk.may_leave m state.old.origin site.old }
     ensures means { PrepareMeans S.Disk.view S.Disk.may_leave S.Disk.left_at ladder (record { told = I.left input.old; faults = I.faults input.old })
         (record { told = I.left input.new; faults = I.faults input.new }) state.old site.old state.new site.new result }
+    ensures unseen { (h : History) → Serves S.Disk.view S.Disk.may_leave S.Disk.left_at h state.old site.old
+        → GoesUnseen S.Disk.view S.Disk.may_leave S.Disk.left_at h state.new site.new }
     ensures stands { (m : Machine) × StandsOn S.Disk.view S.Disk.may_leave m state.new.origin site.new }
     ensures transcript { (S.Disk.view site.new).transcript ≡ (S.Disk.view site.old).transcript }
     ensures link_faults { (S.Disk.view site.new).link_faults ≡ (S.Disk.view site.old).link_faults }

@@ -67,6 +67,26 @@ pub fn send(
     Ok(())
 }
 
+// The same, in pieces of 1 to 7 bytes in turn.
+pub fn send_in_turn(
+    alloc: Global,
+    events: &mut Vec<Event>,
+    number: u64,
+    bytes: &[u8],
+) -> Result<(), Fail> {
+    events.push(Event::Opened(number))?;
+    let mut done = 0;
+    let mut size = 1;
+    while done < bytes.len() && size > 0 {
+        let rest = &bytes[done..];
+        let count = rest.len().min(size);
+        events.push(Event::Piece(number, Piece::from_vec(rest[..count].to_vec(alloc)?)))?;
+        done += count;
+        size = size % 7 + 1;
+    }
+    Ok(())
+}
+
 // The limit of entries of a store, the number of the disk call that fails, from 1, and whether a write that fails reaches the disk.
 #[derive(Clone, Copy)]
 pub struct Stage {

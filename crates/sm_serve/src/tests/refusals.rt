@@ -2,7 +2,7 @@
 use super::texts::{
     GET_MANIFEST, M1, MFRA, fragment, given, header, header_of, joined, push, reply, sealed,
 };
-use super::{PLAIN, first_wrong, part, wrong_in_pieces};
+use super::{PLAIN, first_wrong, part, play, send_in_turn, sent, wrong_in_pieces};
 use std::alloc::Global;
 use std::test::Fail;
 
@@ -32,8 +32,43 @@ fn a_head_has_at_most_8192_bytes(rt: HostRuntime) -> Result<(), Fail> {
         true,
     )?;
     let rows: [(&[u8], &[u8]); 3] = [(&whole, &channel), (&longer, &large), (&open, &large)];
-    // smaller pieces take long, since a head is read anew with each
     for size in [65_536, 4_096, 1_021] {
+        assert_eq!(rt;
+            first_wrong(alloc, &rows, size)?,
+            None,
+            "in pieces of {size}"
+        );
+    }
+    let mut events = Vec::new(alloc);
+    for (number, (bytes, _)) in rows.iter().enumerate() {
+        send_in_turn(alloc, &mut events, number as u64, bytes)?;
+    }
+    let (site, _) = play(alloc, events, 1_000_000)?;
+    for (number, (_, wanted)) in rows.iter().enumerate() {
+        assert_eq!(rt; sent(&site, number as u64)?.as_slice(), *wanted);
+    }
+    Ok(())
+}
+
+#[test]
+fn what_is_wrong_in_a_request_is_told_in_any_pieces(rt: HostRuntime) -> Result<(), Fail> {
+    let alloc = rt.alloc();
+    let method = reply(alloc, "405 Method Not Allowed", "43 Method\n", true)?;
+    let length = reply(alloc, "411 Length Required", "46 LengthRequired\n", true)?;
+    let chunk = reply(alloc, "400 Bad Request", "45 BadChunk\n", true)?;
+    let target = reply(alloc, "404 Not Found", "42 NoTarget\n", false)?;
+    let channel = reply(alloc, "404 Not Found", "48 NoChannel\n", false)?;
+    let rows: [(&[u8], &[u8]); 5] = [
+        (b"PUT / HTTP/1.1\r\n\r\n", &method),
+        (b"POST /live.isml/Streams(a) HTTP/1.1\r\n\r\n", &length),
+        (
+            b"POST /live.isml/Streams(a) HTTP/1.1\r\nTransfer-Encoding: chunked\r\n\r\nzz\r\n",
+            &chunk,
+        ),
+        (b"GET /x HTTP/1.1\r\n\r\n", &target),
+        (GET_MANIFEST, &channel),
+    ];
+    for size in [65_536, 1, 2, 3, 4, 5, 6, 7] {
         assert_eq!(rt;
             first_wrong(alloc, &rows, size)?,
             None,

@@ -1,0 +1,28 @@
+-- What a crash leaves at the moments of a command on a store.
+use Rattle.std.specs.Prelude.{◌≡◌, ◌≤◌, ◌<◌, ◌↔◌, ◌++◌, ℕ, List, Some}
+use Rattle.sm_model.specs.declared.entry.Entry.{Entry}
+use Rattle.sm_site.specs.Image.{Image}
+use Rattle.sm_site.specs.Meanings.{View, Item}
+use Rattle.sm_archive.specs.Store.{IsStore}
+use Rattle.sm_origin.specs.Shown.{Claim, Holds}
+use Rattle.sm_serve.specs.Shown.{Shown}
+
+-- At each moment of a call a crash leaves what has P. What might have been left before it stays.
+pub record AtEachMoment {D : Type 0} (view : D → View) (left_at : D → ℕ → Image → Type 0) (old new : D) (P : Image → Type 0) : Type 0 where
+  pub later : (view old).moment ≤ (view new).moment
+  pub keeps : (t : ℕ) (image : Image) → t ≤ (view old).moment → left_at new t image ↔ left_at old t image
+  pub each : (t : ℕ) (image : Image) → (view old).moment < t → left_at new t image → P image
+
+-- The image is a store. Its log begins with this one, and holds whatever the entries had shown by the moment.
+pub record Outlives (log : List Entry) (items : List Item) (t : ℕ) (image : Image) : Type 0 where
+  pub now : List Entry
+  pub store : IsStore now image
+  pub more : List Entry
+  pub extends : now ≡ log ++ more
+  pub holds : (claim : Claim) → Shown items t claim → Holds now claim
+
+-- The call put entries behind the transcript. Whatever a crash may leave at a moment since the call began outlives what these had shown.
+pub record Outlasts {D : Type 0} (view : D → View) (left_at : D → ℕ → Image → Type 0) (log : List Entry) (base : List Item) (old new : D) : Type 0 where
+  pub items : List Item
+  pub told : (view new).transcript ≡ Some (base ++ items)
+  pub survives : (t : ℕ) (image : Image) → (view old).moment ≤ t → left_at new t image → Outlives log items t image
