@@ -170,7 +170,8 @@ module _ {P : Type 0} (m : Meaning P) {plan : Plan} {channel : List Track} {name
   GivesWhole i = IsWhole (exchange_of i).answer → miss_of (got_of i) ≡ None
 
   pub served : (xs : List Item) (log last : List Entry) (s : State) (t : Turn P) → Asks m plan name t s xs → AnsweredBy channel log (exchanges xs) last
-      → AllByRecursion (λ (x : Exchange). IsUnrefused x.answer) (exchanges xs) → StandsBy channel name log s.stand → ((later : List Entry) × StandsBy channel name later (state_after plan name s xs).stand) × AllByRecursion GivesWhole xs
+      → AllByRecursion (λ (x : Exchange). IsUnrefused x.answer) (exchanges xs) → StandsBy channel name log s.stand
+      → ((later : List Entry) × StandsBy channel name later (state_after plan name s xs).stand) × AllByRecursion GivesWhole xs
   served [] log last s t a b free h = ((log, h), tt)
   served (i ∷ xs) log last s t a (more, is, from, rest) free h =
       let on = stands-on channel name log more s.stand h in

@@ -37,7 +37,8 @@ pub record PartBy {P : Type 0} (m : Meaning P) (plan : Plan) (name : List ℕ) (
   pub turn : Behaves m (turn_after m start (part.made ++ part.last)) now
   pub kept : KeepsOn plan store store' (written_of plan name part)
 
-pub part-by : {P : Type 0} {m : Meaning P} {plan : Plan} {name : List ℕ} {number : ℕ} {start now : Turn P} {count : ℕ} {end : End} {log log' : Option (List Exchange)} {store store' : List Entry → Type 0} {track track' : Option (List ℕ)}
+pub part-by : {P : Type 0} {m : Meaning P} {plan : Plan} {name : List ℕ} {number : ℕ} {start now : Turn P} {count : ℕ} {end : End} {log log' : Option (List Exchange)}
+    {store store' : List Entry → Type 0} {track track' : Option (List ℕ)}
     → 0 < plan.tries → 0 < plan.refresh → StreamsEnd m plan name number nothing_read start now count end log log' store store' track track'
     → PartBy m plan name number start now count end log log' store store' track track'
 part-by {m = m} {plan = plan} {name = name} {number = number} {start = start} {end = end} {track = track} {track' = track'} tries refresh e =
@@ -154,7 +155,8 @@ made-more log mid new xs x p q =
 module _ {P : Type 0} {m : Meaning P} {plan : Plan} {start now then : Turn P} {names : List (List ℕ)} {name : List ℕ} {number played count : ℕ} {end : End}
     {log mid new : Option (List Exchange)} {store before store' : List Entry → Type 0} {held there : ℕ → Option (List ℕ)} where
   -- a stream that was played behind these, whatever its end
-  one-part : (held' : ℕ → Option (List ℕ)) → (k : Playing m plan start now names number played log mid store before held there) → (b : PartBy m plan name number now then count end mid new before store' (there number) (held' number))
+  one-part : (held' : ℕ → Option (List ℕ)) → (k : Playing m plan start now names number played log mid store before held there)
+      → (b : PartBy m plan name number now then count end mid new before store' (there number) (held' number))
       → ((j : ℕ) → j ≢ number → Keeps (there j) (held' j)) → (last : ℕ → Option (List ℕ)) → Keeps (held' number) (last number)
       → IsPart m plan name number now (held number) (last number) b.part
   one-part held' k b others last kept = part-tracks b.part (k.others number (omega arith)) kept b.is

@@ -199,7 +199,8 @@ module _ {P : Type 0} {m : Meaning P} {plan : Plan} {name : List ℕ} where
     kept = kept;
   }
 
-  pub streams-on : {p : Standing} {listing : StreamListing} {start now : Turn P} {raw : RawFragment} {level : ℕ} {log log' : Option (List Exchange)} {store store' : List Entry → Type 0} {track track' : Option (List ℕ)} (new : code.Standing)
+  pub streams-on : {p : Standing} {listing : StreamListing} {start now : Turn P} {raw : RawFragment} {level : ℕ} {log log' : Option (List Exchange)} {store store' : List Entry → Type 0} {track track' : Option (List ℕ)}
+      (new : code.Standing)
       (seq id : ℕ) (f : Fragment) → p.listing ≡ Some listing → PiecesBy m plan name p listing start now log log' (pieces.Took raw level) → PiecesKept plan name listing store store' (pieces.Took raw level)
       → seq ≡ length p.written + 1 → id ≡ level + 1 → f ≡ (piece_of name listing level raw).fragment → Appends track track' (frag_text seq id f [])
       → Holds new (wrote name p listing level raw) → StreamsOn m plan name p start now new log log' store store' track track'
@@ -211,7 +212,8 @@ module _ {P : Type 0} {m : Meaning P} {plan : Plan} {name : List ℕ} where
   }
 
   -- and memory ran out behind it
-  pub ends-written : {p : Standing} {listing : StreamListing} {start now : Turn P} {raw : RawFragment} {level : ℕ} {log log' : Option (List Exchange)} {store store' : List Entry → Type 0} {track track' : Option (List ℕ)} {number count : ℕ}
+  pub ends-written : {p : Standing} {listing : StreamListing} {start now : Turn P} {raw : RawFragment} {level : ℕ} {log log' : Option (List Exchange)} {store store' : List Entry → Type 0} {track track' : Option (List ℕ)}
+      {number count : ℕ}
       (seq id : ℕ) (f : Fragment) → p.listing ≡ Some listing → PiecesBy m plan name p listing start now log log' (pieces.Took raw level) → PiecesKept plan name listing store store' (pieces.Took raw level)
       → seq ≡ length p.written + 1 → id ≡ level + 1 → f ≡ (piece_of name listing level raw).fragment → Appends track track' (frag_text seq id f []) → count ≡ length p.written + 1
       → StreamsEnd m plan name number (at (standing p) []) start now count ends.NoMemory log log' store store' track track'

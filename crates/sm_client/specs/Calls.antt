@@ -319,7 +319,8 @@ pub record StreamsEnd {P : Type 0} (m : Meaning P) (plan : Plan) (name : List �
   pub counted : count ≡ length (written_at to.stand)
 
 abbrev pub StreamsBy : {P : Type 0} → Meaning P → Plan → List ℕ → ℕ → Standing → Turn P → Turn P → code.Standing
-    → Option (List Exchange) → Option (List Exchange) → (List Entry → Type 0) → (List Entry → Type 0) → Option (List ℕ) → Option (List ℕ) → Option End → Type 0
+    → Option (List Exchange) → Option (List Exchange) → (List Entry → Type 0) → (List Entry → Type 0)
+    → Option (List ℕ) → Option (List ℕ) → Option End → Type 0
 StreamsBy m plan name number p start now new log log' store store' track track' None = StreamsOn m plan name p start now new log log' store store' track track'
 StreamsBy m plan name number p start now new log log' store store' track track' (Some end) = StreamsEnd m plan name number (at
     (standing p) []) start now new.written end log log' store store' track track'

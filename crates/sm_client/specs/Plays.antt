@@ -108,7 +108,8 @@ pub record PlaysKept {P : Type 0} (m : Meaning P) (plan : Plan) (start : Turn P)
   pub kept : PartsKeptOn plan store store' names plays.parts
 
 -- a whole call: for each log that the dial told before, it tells one behind that goes on from it and keeps each fragment that was written
-abbrev pub PlayedKept : {P : Type 0} → Meaning P → Plan → List P → Option (List Exchange) → Option (List Exchange) → (List Entry → Type 0) → (List Entry → Type 0)
+abbrev pub PlayedKept : {P : Type 0} → Meaning P → Plan → List P → Option (List Exchange) → Option (List Exchange)
+    → (List Entry → Type 0) → (List Entry → Type 0)
     → (ℕ → Option (List ℕ)) → (ℕ → Option (List ℕ)) → Report → Type 0
 PlayedKept m plan [] log log' store store' held held' report = ⊥
 PlayedKept m plan (p ∷ ps) log log' store store' held held' report = PlaysKept m plan (settle m p [] ps) 0 plan.streams log log' store store' held held' report

@@ -96,7 +96,7 @@ cut_body front more status at f framed head within some is ends = inr (record {
   head = head;
   unended = λ ended. longer (same_framed (start f) (drop at front) more framed [] (joined ∙ sym (append-nil framed)) ended ends);
   unfailed = λ failed. let wrong : Failed ≡ Ended = sym (failed_stays more) ∙ ap (λ (p : Place). place_after p more) (sym failed) ∙ sym (place_on (start f) (drop at front) more)
-        ∙ ap (place_after (start f)) joined ∙ ends in absurd (cc);
+      ∙ ap (place_after (start f)) joined ∙ ends in absurd (cc);
 })
   where
     joined : drop at front ++ more ≡ framed

@@ -221,8 +221,7 @@ pub answer_is_kept : (old now : List Entry → Type 0) (place : Place) (url : Li
     → AnswersFrom old now (fragment_request place url a) (answers.Bytes bytes) → SpellsFragment a.time (answers.Bytes bytes) g → GrowsWith place url a old now g
 answer_is_kept old now place url a bytes g from spells = λ log told.
     let (until, since, is, origin) = from log told in
-    let one = append_assoc log until since in
-    (
+    let one = append_assoc log until since in (
       until ++ since,
       subst now one is,
       subst (λ (l : List Entry). IsKeptAt place url a l g) one (kept_on place url a (log ++ until) since g (front_is_kept (log ++ until) place url a bytes g origin spells)),

@@ -83,7 +83,7 @@ number64_len n = refl
 bytes_len : (ss : List Sample) → length (flat_map (λ s. s.bytes) ss) ≡ sample_bytes ss
 bytes_len [] = refl
 bytes_len (s ∷ ss) = ap length (flat_map-cons (λ (t : Sample). t.bytes) s ss) ∙ length-append s.bytes (flat_map (λ t. t.bytes) ss) ∙ ap (λ (n : ℕ). length s.bytes + n) (bytes_len ss)
-        ∙ sym (sum_by-cons (λ (t : Sample). length t.bytes) s ss)
+    ∙ sym (sum_by-cons (λ (t : Sample). length t.bytes) s ss)
 
 keep_len : (place : ℕ) (f : Fragment) → length (keep_text place f) ≡ 25 + 16 * length f.samples + sample_bytes f.samples
 unfolding keep_text

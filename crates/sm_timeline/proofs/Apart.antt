@@ -53,10 +53,10 @@ over_behind t d [] i times none is front within over = absurd (omega arith)
 over_behind t d (x ∷ xs) i times none is front within over = by_test (ltb x.0 t) (eqb x.0 t) refl refl none i is front within over (λ n k e f w o. over_behind t d xs k times.2 n e f w o)
   where
     by_test : (b c : Bool) → ltb x.0 t ≡ b → eqb x.0 t ≡ c → cond c (Some x.1) (entry_at t xs) ≡ None → (i : ℕ) → i ≡ cond b (place_in t xs + 1) 0
-          → ((j : ℕ) → suc j ≡ i → ends (get_or (x ∷ xs) j (0, 0)) ≤ t)
+        → ((j : ℕ) → suc j ≡ i → ends (get_or (x ∷ xs) j (0, 0)) ≤ t)
         → i < suc (length xs) → (get_or (x ∷ xs) i (0, 0)).0 < t + d
         → (entry_at t xs ≡ None → (k : ℕ) → k ≡ place_in t xs → ((j : ℕ) → suc j ≡ k → ends (get_or xs j (0, 0)) ≤ t)
-            → k < length xs → (get_or xs k (0, 0)).0 < t + d → overlapped_end (t, d) xs ≡ Some (ends (get_or xs k (0, 0))))
+        → k < length xs → (get_or xs k (0, 0)).0 < t + d → overlapped_end (t, d) xs ≡ Some (ends (get_or xs k (0, 0))))
         → overlapped_end (t, d) (x ∷ xs) ≡ Some (ends (get_or (x ∷ xs) i (0, 0)))
     by_test b true r u none i is front within over rest = absurd cc
     by_test true false r u none zero is front within over rest = absurd (omega (arith, is))

@@ -142,7 +142,8 @@ impl Search {
     // Why the bytes are no whole push, if they are none.
     fn refusal_at_end(&mut self) -> Result<Option<Refusal>, NoMemory>
         ensures refusal { (b : List ℕ) → Looks self.old b → IfOk result (λ r. r ≡ body_end true b) }
-        ensures asked { (self.new.track ≡ self.old.track) × (self.new.time ≡ self.old.time) × (self.new.found ≡ self.old.found) × (self.new.count ≡ self.old.count) }
+        ensures asked { (self.new.track ≡ self.old.track) × (self.new.time ≡ self.old.time) × (self.new.found ≡ self.old.found)
+            × (self.new.count ≡ self.old.count) }
     {
         if self.refusal.is_some() {
             return Ok(self.refusal.take());
