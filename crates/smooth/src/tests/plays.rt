@@ -203,9 +203,9 @@ fn fragments_are_written_to_the_tracks(rt: HostRuntime) -> Result<(), Fail> {
         script.push(Step::Serves(1, *time, 2usize.saturating_sub(place)))?;
         let text = served(alloc, 1, *time, 0)?;
         let number = u8::try_from(place)?.saturating_add(1);
-        wanted.extend_from_slice(&text[..23])?;
+        wanted.extend_from_slice(text.as_slice().get(..23).ok_or("short")?)?;
         wanted.push(number)?;
-        wanted.extend_from_slice(&text[24..])?;
+        wanted.extend_from_slice(text.as_slice().get(24..).ok_or("short")?)?;
     }
     let ran = run_at(alloc, &["--count=3", "video"], &script, 0)?;
     assert_eq!(rt; ran.printed.as_slice(), b"played 3\n".as_slice());
