@@ -22,7 +22,8 @@ use Rattle.sm_manout.proofs.ReadValues.{wide_plain}
 abbrev pub Leads : (Walk → Type 0) → Left → Walk → Type 0
 Leads Good s w = (tags : List Tag) × Runs s tags × (bad_of tags ≡ None) × Good (walk w tags)
 
-pub on_start : (Good : Walk → Type 0) (s t : Left) (name : List ℕ) (attributes : List Attribute) (empty : Bool) (at : ℕ) (w : Walk) → Next s (Start name attributes empty at) t → Leads Good t (step w (Start name attributes empty at))
+pub on_start : (Good : Walk → Type 0) (s t : Left) (name : List ℕ) (attributes : List Attribute) (empty : Bool) (at : ℕ) (w : Walk)
+    → Next s (Start name attributes empty at) t → Leads Good t (step w (Start name attributes empty at))
     → Leads Good s w
 on_start Good s t name attributes empty at w next (tags, runs, bad, good) =
     (Start name attributes empty at ∷ tags, follows t next refl runs, bad, good)
@@ -140,7 +141,8 @@ none_written names name = record {
   go = λ seen within. (tt, λ n none. subst (λ (l : List Attribute). has_name n l ≡ false) (sym (append_nil seen)) (within n (last_name n name names none).0));
 }
 
-pub option_written : (names : List (List ℕ)) (name : List ℕ) (o : Option ℕ) → IsTagName name → ((n : ℕ) → o ≡ Some n → n < 2 ^ 64) → list_any (is_same name) names ≡ false → Written names (names ++ name ∷ []) (option_attr name o)
+pub option_written : (names : List (List ℕ)) (name : List ℕ) (o : Option ℕ) → IsTagName name → ((n : ℕ) → o ≡ Some n → n < 2 ^ 64)
+    → list_any (is_same name) names ≡ false → Written names (names ++ name ∷ []) (option_attr name o)
 option_written names name None is narrow new = none_written names name
 option_written names name (Some n) is narrow new = one_written names name (decimal n) is (wide_plain n (narrow n refl)) new
 

@@ -99,7 +99,8 @@ runs_again start count last (x ∷ xs) at = by_test (follows last x) refl (λ k.
     r : TimeRun
     r = record { start = start; duration = last.1; count = count }
 
-    by_test : (b : Bool) → follows last x ≡ b → (ends x ≡ start + x.1 * (count + 1) → run_times (runs_from start (count + 1) x xs) ≡ expand start x.1 (count + 1) ++ xs) → run_times (runs_from x.0 1 x xs) ≡ expand x.0 x.1 1 ++ xs
+    by_test : (b : Bool) → follows last x ≡ b → (ends x ≡ start + x.1 * (count + 1) → run_times (runs_from start (count + 1) x xs) ≡ expand start x.1 (count + 1) ++ xs)
+        → run_times (runs_from x.0 1 x xs) ≡ expand x.0 x.1 1 ++ xs
         → run_times (cond b (runs_from start (count + 1) x xs) (r ∷ runs_from x.0 1 x xs)) ≡ expand start last.1 count ++ (x ∷ xs)
     by_test true is more other =
         let parts = and_parts (eqb x.1 last.1) (eqb x.0 (last.0 + last.1)) is in

@@ -18,7 +18,8 @@ front_none i b more li lb none =
 abbrev pub IsLine : (List ℕ → ℕ → Type 0) → Track → Type 0
 IsLine R t = (t.bitrate < 2 ^ 32) × (has_no 10 (level_more t) ≡ true) × R t.name t.bitrate
 
-pub levels_read : (P : Address → Type 0) (R : List ℕ → ℕ → Type 0) (name : List ℕ) (bs : List ℕ) (i : ℕ) (ts : List Track) (x : List ℕ) → ((t : Track) → is_same t.name name ≡ true → R t.name t.bitrate → R name t.bitrate)
+pub levels_read : (P : Address → Type 0) (R : List ℕ → ℕ → Type 0) (name : List ℕ) (bs : List ℕ) (i : ℕ) (ts : List Track) (x : List ℕ)
+    → ((t : Track) → is_same t.name name ≡ true → R t.name t.bitrate → R name t.bitrate)
     → i + length ts < 2 ^ 64 → AllByRecursion (IsLine R) ts → AllByRecursion (R name) bs → ((rates : List ℕ) → AllByRecursion (R name) rates → Good P (record { stream = name; bitrates = rates }) x)
     → Good P (record { stream = name; bitrates = bs }) (level_lines i name ts ++ x)
 levels_read P R name bs i [] x same fits lines rates go = go bs rates

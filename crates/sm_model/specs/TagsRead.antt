@@ -32,7 +32,8 @@ abbrev pub attribute_by : List Attribute → Result (Attribute × List ℕ) Stop
 attribute_by seen (Err e) go = Err e
 attribute_by seen (Ok (a, more)) go = if has_name a.name seen then Err wrong else go (seen ++ a ∷ []) more
 
-abbrev pub tail_by : ℕ → List Attribute → Result (Option Bool × List ℕ) Stop → (List Attribute → List ℕ → Result (List Attribute × Bool × List ℕ) Stop)
+abbrev pub tail_by : ℕ → List Attribute → Result (Option Bool × List ℕ) Stop
+    → (List Attribute → List ℕ → Result (List Attribute × Bool × List ℕ) Stop)
     → Result (List Attribute × Bool × List ℕ) Stop
 tail_by n seen (Err e) go = Err e
 tail_by n seen (Ok (Some empty, rest)) go = Ok (seen, empty, rest)

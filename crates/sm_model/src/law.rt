@@ -58,7 +58,8 @@ pub fn sizes_are_lengths()
     ensures trun { (start : ℕ) (signed : Bool) (samples : List Sample) → length (text.trun start signed samples) ≡ 20 + 16 * length samples }
     ensures tfxd { (time duration : ℕ) → length (text.tfxd_box time duration) ≡ 44 }
     ensures tfrf { (ahead : List (ℕ × ℕ)) → length (text.tfrf ahead) ≡ ahead_len ahead }
-    ensures traf { (id start : ℕ) (f : Fragment) (ahead : List (ℕ × ℕ)) → length (text.traf_box id start f ahead) ≡ 88 + 16 * length f.samples + ahead_len ahead }
+    ensures traf { (id start : ℕ) (f : Fragment) (ahead : List (ℕ × ℕ)) → length (text.traf_box id start f ahead)
+        ≡ 88 + 16 * length f.samples + ahead_len ahead }
     ensures moof { (seq id : ℕ) (f : Fragment) (ahead : List (ℕ × ℕ)) → length (text.moof seq id f ahead) ≡ moof_len f.samples ahead }
     ensures mdat { (samples : List Sample) → length (text.mdat samples) ≡ 8 + sample_bytes samples }
 {}

@@ -13,7 +13,8 @@ pub struct Fixed {
 impl Fixed {
     /// Chooses that place in the ladder, or the last where there are fewer.
     pub fn new(level: usize) -> Fixed
-        ensures picks { (hs : List Heard) (ladder : List ℕ) (ahead : ℕ) → ⟦<Fixed as Policy>⟧.pick_after result hs ladder ahead ≡ min level (length ladder - 1) }
+        ensures picks { (hs : List Heard) (ladder : List ℕ) (ahead : ℕ) → ⟦<Fixed as Policy>⟧.pick_after result hs ladder ahead
+            ≡ min level (length ladder - 1) }
         ensures retires { (hs : List Heard) → ⟦<Fixed as Policy>⟧.retired_after result hs ≡ false }
     {
         Fixed { level }

@@ -14,7 +14,8 @@ pub struct Ladder {
 impl Ladder {
     /// Chooses as many places above the lowest as starts are known ahead, or the last where there are fewer.
     pub fn new() -> Ladder
-        ensures picks { (hs : List Heard) (ladder : List ℕ) (ahead : ℕ) → ⟦<Ladder as Policy>⟧.pick_after result hs ladder ahead ≡ min ahead (length ladder - 1) }
+        ensures picks { (hs : List Heard) (ladder : List ℕ) (ahead : ℕ) → ⟦<Ladder as Policy>⟧.pick_after result hs ladder ahead
+            ≡ min ahead (length ladder - 1) }
         ensures retires { (hs : List Heard) → ⟦<Ladder as Policy>⟧.retired_after result hs ≡ nat_le 3 (misses hs) }
     {
         Ladder { missed: 0 }

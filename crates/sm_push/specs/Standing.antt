@@ -101,7 +101,8 @@ pub record Stands (headerless : Bool) (p : Standing) (b : List ℕ) : Type 0 whe
 -- the answer to a piece is what the bytes with the piece give beyond what the bytes give; the header stays
 abbrev pub Answers : Bool → List ℕ → List ℕ → Standing → Result (List Given) PushFault → Type 0
 Answers headerless b piece new (Ok items) = Stands headerless new (b ++ piece) × ((body headerless (b ++ piece)).items ≡ (body headerless b).items ++ items)
-Answers headerless b piece new (Err (pushes.Refused before r)) = body headerless (b ++ piece) ≡ led_by ((body headerless b).items ++ before) (refused (push_header new) r)
+Answers headerless b piece new (Err (pushes.Refused before r)) = body headerless (b ++ piece) ≡
+    led_by ((body headerless b).items ++ before) (refused (push_header new) r)
 Answers headerless b piece new (Err pushes.Failed) = ⊥
 Answers headerless b piece new (Err pushes.NoMemory) = (push_header new ≡ (body headerless b).header) ⊎ (push_header new ≡ (body headerless (b ++ piece)).header)
 

@@ -61,7 +61,8 @@ pub(crate) fn note_write(
     ensures past { OnOk result ((own : _) × (own.items ≡ bytes.now)
         × (past.new.items ≡ past.old.items ++ Step.Wrote file at own fails reached ∷ [])) }
     ensures past_err { OnErr result (past.new.items ≡ past.old.items) }
-    ensures pending { OnOk result ((p : _) × (pending.new.items ≡ pending.old.items ++ p ∷ []) × (p.file ≡ file) × (p.at ≡ at) × (p.count ≡ length bytes.now)
+    ensures pending { OnOk result ((p : _) × (pending.new.items ≡ pending.old.items ++ p ∷ []) × (p.file ≡ file) × (p.at ≡ at)
+        × (p.count ≡ length bytes.now)
         × (p.length ≡ length (bytes_of (image_of files.old.items) file))
         × (p.old.items ≡ take (length bytes.now) (drop at (bytes_of (image_of files.old.items) file)))) }
     ensures pending_err { OnErr result (pending.new.items ≡ pending.old.items) }
@@ -138,7 +139,8 @@ pub(crate) fn note_send(
     fails: bool,
 ) -> Result<(), AllocError>
     requires { live < 2 ^ 63 }
-    ensures past { OnOk result ((own : _) × (own.items ≡ (if fails then [] else bytes.now)) × (past.new.items ≡ past.old.items ++ Step.Sent conn own fails ∷ [])) }
+    ensures past { OnOk result ((own : _) × (own.items ≡ (if fails then [] else bytes.now))
+        × (past.new.items ≡ past.old.items ++ Step.Sent conn own fails ∷ [])) }
     ensures past_err { OnErr result (past.new.items ≡ past.old.items) }
     ensures spare { (IsTrue (is_open past.old.items) → live + vec_len past.old + 1 ≤ vec_capacity past.old)
         → IsTrue (is_open past.new.items) → live + vec_len past.new + 1 ≤ vec_capacity past.new }

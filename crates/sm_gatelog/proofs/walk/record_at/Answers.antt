@@ -31,7 +31,8 @@ returns-then-size-at-lt5-clause-found g c =
 pub returns-clause-found : goal.returns-clause-found
 returns-clause-found g c =
     let bytes : IfSome (g.D.Disk.view c.args.disk.now).contents (λ x. c.in_ok-front.front ≡ read (bytes_of x c.args.file) c.args.at 5) = search rules in
-    some_both _ (λ x. c.in_ok-front.front ≡ read (bytes_of x c.args.file) c.args.at 5) (λ x. c.args.size ≡ length (bytes_of x c.args.file)) (λ x. Begins (found.Open c.length_in-length.result) (drop c.args.at (bytes_of x c.args.file)))
+    some_both _ (λ x. c.in_ok-front.front ≡ read (bytes_of x c.args.file) c.args.at 5) (λ x. c.args.size ≡ length (bytes_of x c.args.file))
+    (λ x. Begins (found.Open c.length_in-length.result) (drop c.args.at (bytes_of x c.args.file)))
     (λ x is long.
     let rest : List ℕ = drop c.args.at (bytes_of x c.args.file) in
     let left : length rest ≡ length (bytes_of x c.args.file) - c.args.at = length-drop c.args.at (bytes_of x c.args.file) in
