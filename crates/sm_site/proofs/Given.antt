@@ -25,7 +25,7 @@ no_less n (Piece k piece) = omega arith
 no_less n (Closed k) = omega arith
 no_less n Ended = omega arith
 
-step_no_less : (n : ℕ) (step : Step) → n ≤ number_on n step
+pub step_no_less : (n : ℕ) (step : Step) → n ≤ number_on n step
 step_no_less n (Sized file failed) = omega arith
 step_no_less n (Read file at k failed) = omega arith
 step_no_less n (Wrote file at bytes failed reached) = omega arith
@@ -35,7 +35,7 @@ step_no_less n (Sent conn bytes failed) = omega arith
 step_no_less n (Shut conn) = omega arith
 step_no_less n (Crashed choice) = omega arith
 
-numbers_no_less : (n : ℕ) (steps : List Step) → n ≤ numbers_from n steps
+pub numbers_no_less : (n : ℕ) (steps : List Step) → n ≤ numbers_from n steps
 numbers_no_less n [] = omega arith
 numbers_no_less n (step ∷ steps) = omega (arith, step_no_less n step, numbers_no_less (number_on n step) steps)
 
@@ -70,8 +70,11 @@ items_under n k m items (step ∷ steps) le all = items_under n (number_on k ste
     either true = All-nil (Under n)
     either false = All-append (Under n) items (item_of (m + 1) step) all (item_under n k (m + 1) step (omega (arith, numbers_no_less (number_on k step) steps, le)))
 
+pub all_under : (steps : List Step) (n : ℕ) → numbers_of steps ≤ n → All (Under n) (items_from 0 steps)
+all_under steps n le = items_under n 0 0 [] steps le (All-nil (Under n))
+
 pub rising : (steps : List Step) (now : ℕ) (event : Event) → Gives event (numbers_of steps) now → IsNext event (items_from 0 steps)
-rising steps now (Opened n) gives = items_under n 0 0 [] steps gives.0 (All-nil (Under n))
+rising steps now (Opened n) gives = all_under steps n gives.0
 rising steps now (Piece n piece) gives = tt
 rising steps now (Closed n) gives = tt
 rising steps now Ended gives = tt
@@ -82,15 +85,15 @@ pub record IsGood (n : ℕ) (event : Event) (rest : List Event) : Type 0 where
   pub gives : Gives event n (number_after n (deal_of event))
   pub script : IsTrue (is_script (number_after n (deal_of event)) rest)
 
-left_of : (a b : Bool) → IsTrue (a && b) → IsTrue a
+pub left_of : (a b : Bool) → IsTrue (a && b) → IsTrue a
 left_of true b t = refl
 left_of false b t = absurd (cc)
 
-right_of : (a b : Bool) → IsTrue (a && b) → IsTrue b
+pub right_of : (a b : Bool) → IsTrue (a && b) → IsTrue b
 right_of true b t = t
 right_of false b t = absurd (cc)
 
-le_from : (m n : ℕ) → IsTrue (nat_le m n) → m ≤ n
+pub le_from : (m n : ℕ) → IsTrue (nat_le m n) → m ≤ n
 le_from m n t = grind (arith, nat_tests)
 
 next_number : (n k : ℕ) → n ≤ k → k + 1 ≡ max n (k + 1)

@@ -9,6 +9,7 @@ mod Filled
 mod Given
 mod Kept
 mod Opens
+mod Ordered
 mod Outcomes
 mod Places
 mod Sends

@@ -24,7 +24,7 @@ event_sends conn m Ended = refl
 nothing : (conn : ℕ) (items more : List Item) → sent_on conn more ≡ [] → sent_on conn (items ++ more) ≡ sent_on conn items
 nothing conn items more none = sent_append conn items more ∙ ap (λ (l : List ℕ). sent_on conn items ++ l) none ∙ append-nil (sent_on conn items)
 
-sent_step : (conn m : ℕ) (items : List Item) (step : Step) → sent_on conn (if is_crash step then [] else items ++ item_of m step) ≡ sent_after conn (sent_on conn items) step
+pub sent_step : (conn m : ℕ) (items : List Item) (step : Step) → sent_on conn (if is_crash step then [] else items ++ item_of m step) ≡ sent_after conn (sent_on conn items) step
 sent_step conn m items (Sized file failed) = nothing conn items [] refl
 sent_step conn m items (Read file at n failed) = nothing conn items [] refl
 sent_step conn m items (Wrote file at bytes failed reached) = nothing conn items [] refl

@@ -1,7 +1,9 @@
 -- The state of a disk in memory after its calls, and what a crash leaves of it.
 use Rattle.std.specs.Prelude.{◌≡◌, ◌⊎◌, ℕ, zero, suc, ◌+◌, ◌-◌, ◌≤◌, ◌<◌, max, min, Bool, true, false, ◌&&◌, ◌||◌}
-use Rattle.std.specs.Prelude.{◌==◌, not, nat_le, nat_lt, if◌then◌else◌, List, [], ◌∷◌, ◌++◌, length, take, drop, replicate, get_or, Some, IsTrue}
+use Rattle.std.specs.Prelude.{◌==◌, not, nat_le, nat_lt, if◌then◌else◌, List, [], ◌∷◌, ◌++◌, length, take, drop, replicate, get_or, Option, None, Some, IsTrue}
 use Rattle.std.specs.FinMap as map
+use Rattle.sm_site.specs.declared.event.Event.{Event}
+use Rattle.sm_site.specs.declared.event.Event.TheVariants.{Opened, Piece, Closed, Ended}
 use Rattle.sm_site.specs.declared.step.FileBytes.{FileBytes}
 use Rattle.sm_site.specs.declared.step.Pending.{Pending}
 use Rattle.sm_site.specs.declared.step.Step.{Step}
@@ -216,6 +218,62 @@ numbers_from n (step ∷ steps) = numbers_from (number_on n step) steps
 
 abbrev pub numbers_of : List Step → ℕ
 numbers_of steps = numbers_from 0 steps
+
+-- the number that a step gave
+abbrev pub opened_by : Event → Option ℕ
+opened_by (Opened n) = Some n
+opened_by (Piece n piece) = None
+opened_by (Closed n) = None
+opened_by Ended = None
+
+abbrev pub opened_in : Step → Option ℕ
+opened_in (Sized file failed) = None
+opened_in (Read file at n failed) = None
+opened_in (Wrote file at bytes failed reached) = None
+opened_in (Synced file failed) = None
+opened_in (Took event) = opened_by event
+opened_in (Sent conn bytes failed) = None
+opened_in (Shut conn) = None
+opened_in (Crashed choice) = None
+
+-- all that went out on a connection since the last crash stands behind such a step
+abbrev pub is_opening : ℕ → Event → Bool
+is_opening conn (Opened n) = n == conn
+is_opening conn (Piece n piece) = false
+is_opening conn (Closed n) = false
+is_opening conn Ended = false
+
+abbrev pub begins : ℕ → Step → Bool
+begins conn (Sized file failed) = false
+begins conn (Read file at n failed) = false
+begins conn (Wrote file at bytes failed reached) = false
+begins conn (Synced file failed) = false
+begins conn (Took event) = is_opening conn event
+begins conn (Sent n bytes failed) = false
+begins conn (Shut n) = false
+begins conn (Crashed choice) = true
+
+-- a connection is opened under a number that is none of those below the first free one, and bytes go out on one of those
+abbrev pub is_new : ℕ → Event → Bool
+is_new n (Opened k) = nat_le n k
+is_new n (Piece k piece) = true
+is_new n (Closed k) = true
+is_new n Ended = true
+
+abbrev pub keeps_order : ℕ → Step → Bool
+keeps_order n (Sized file failed) = true
+keeps_order n (Read file at k failed) = true
+keeps_order n (Wrote file at bytes failed reached) = true
+keeps_order n (Synced file failed) = true
+keeps_order n (Took event) = is_new n event
+keeps_order n (Sent conn bytes failed) = nat_lt conn n
+keeps_order n (Shut conn) = true
+keeps_order n (Crashed choice) = true
+
+-- so the numbers of connections rise, through all crashes, and nothing goes out on a connection before it is opened
+abbrev pub is_ordered : ℕ → List Step → Bool
+is_ordered n [] = true
+is_ordered n (step ∷ steps) = keeps_order n step && is_ordered (number_on n step) steps
 
 -- something was done since the last crash
 abbrev pub open_on : Bool → List Step → Bool

@@ -1,6 +1,6 @@
 //! A site in memory.
 ghost use Rattle.std.specs.Prelude.{◌≡◌, ◌≤◌, ◌<◌, ◌+◌, IsTrue, [], length, drop, vec_len, vec_capacity};
-ghost use Rattle.sm_site.specs.Past.{Agrees, IsAfter, Tracks, Undoes, after, image_of, is_open, numbers_of, ranges_from, start};
+ghost use Rattle.sm_site.specs.Past.{Agrees, IsAfter, Tracks, Undoes, after, image_of, is_open, is_ordered, numbers_of, ranges_from, start};
 ghost use Rattle.sm_site.specs.Scripts.{is_script};
 
 use crate::{Event, FileBytes, Numbers, Pending, Script, Step};
@@ -41,6 +41,7 @@ pub struct MemorySite {
     ghost spare: { IsTrue (is_open past.items) → length live.items + vec_len past + 1 ≤ vec_capacity past },
     ghost within: { taken ≤ length script.items },
     ghost scripted: { IsTrue (is_script (numbers_of past.items) (drop taken script.items)) },
+    ghost ordered: { IsTrue (is_ordered 0 past.items) },
 }
 
 impl MemorySite {

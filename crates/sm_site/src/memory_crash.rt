@@ -1,9 +1,10 @@
 //! How a site in memory is selected, how it goes on, and how it crashes.
 ghost use Rattle.std.specs.Prelude.{◌≡◌, ◌↔◌, ◌≤◌, ◌++◌, ◌∷◌, [], ℕ, List, IfOk, IfSome, IsErrOf, IsOk, IsTrue, OnOk, OnErr, None, Some, refl, false, is_some};
+ghost use Rattle.std.specs.Prelude.{length, take};
 ghost use Rattle.sm_site.specs.Image.{Image, bytes_of};
 ghost use Rattle.sm_site.specs.Meanings.{sent_on};
 ghost use Rattle.sm_site.specs.Clauses.{Both, Elapses, Kept, Rose, SameOutcomes, Settled};
-ghost use Rattle.sm_site.specs.Past.{chosen, is_open};
+ghost use Rattle.sm_site.specs.Past.{begins, chosen, is_open, is_ordered, items_from};
 ghost use Rattle.sm_site.specs.Scripts.{deals_of, is_script, numbers_after};
 ghost use Rattle.sm_site.specs.Sites.{SameBut, SameCounts};
 ghost use Rattle.sm_site.specs.Sending.{sent_after};
@@ -39,6 +40,30 @@ fn add_sent(bytes: &mut Vec<u8>, conn: u64, step: &Step) -> Result<(), AllocErro
         _ => {}
     }
     Ok(())
+}
+
+/// Whether all that went out on a connection since the last crash stands behind this step.
+fn begins(step: &Step, conn: u64) -> bool
+    ensures { result ≡ begins conn step.now }
+{
+    match step {
+        Step::Took(Event::Opened(number)) => *number == conn,
+        Step::Crashed(_) => true,
+        _ => false,
+    }
+}
+
+/// A place before which nothing went out on a connection since the last crash: behind its opening, or behind the crash.
+fn begun_at(past: &[Step], conn: u64) -> usize
+    requires { IsTrue (is_ordered 0 past.now) }
+    ensures within { result ≤ length past.now }
+    ensures before { sent_on conn (items_from 0 (take result past.now)) ≡ [] }
+{
+    let mut at = past.len();
+    while at > 0 && !begins(&past[at - 1], conn) {
+        at -= 1;
+    }
+    at
 }
 
 impl MemorySite {
@@ -124,8 +149,9 @@ impl Crashing for MemorySite {
     }
 
     fn sent(&self, conn: u64) -> Result<Piece, AllocError> {
+        let begun = begun_at(&self.past, conn);
         let mut bytes = Vec::new(self.alloc);
-        for step in &self.past {
+        for step in &self.past[begun..] {
             add_sent(&mut bytes, conn, step)?;
         }
         Ok(Piece::from_vec(bytes))

@@ -135,8 +135,10 @@ fn a_script_is_brought_and_goes_on_behind_its_end(rt: HostRuntime) -> Result<(),
     assert!(rt; matches!(site.next(), Ok(Event::Ended)));
     assert_eq!(rt; site.sent(5)?.len(), 0);
     assert_eq!(rt; site.sent(6)?.as_slice(), b"hello".as_slice());
+    assert_eq!(rt; site.next_number(), Some(7));
     site.crash_here(1);
     assert_eq!(rt; site.sent(6)?.len(), 0);
+    assert_eq!(rt; site.next_number(), Some(7));
     assert!(rt; matches!(site.next(), Ok(Event::Ended)));
     Ok(())
 }

@@ -1,7 +1,9 @@
-use Rattle.std.proofs.Common.{take}
-use Rattle.sm_site.specs.NextNumber.{IsNumber}
-use Rattle.sm_site.specs.Past.{numbers_from}
+use Rattle.std.proofs.Common.{◌≡◌, ◌≤◌, length, take}
+use Rattle.sm_site.specs.Past.{numbers_of}
 use Rattle.sm_site.proofs.next_number.above_past.Given as goal
 
-abbrev pub invariant-loop-step : goal.invariant-loop-step
-invariant-loop-step l = IsNumber l.from (numbers_from 0 (take l.step-index l.past))
+abbrev pub invariant-loop-at : goal.invariant-loop-at
+invariant-loop-at l = record { within : l.at ≤ length l.past; last : numbers_of l.past ≡ numbers_of (take l.at l.past) }
+
+abbrev pub decreases-loop-at : goal.decreases-loop-at
+decreases-loop-at l = l.at

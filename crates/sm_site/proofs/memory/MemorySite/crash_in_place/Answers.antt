@@ -8,6 +8,7 @@ use Rattle.sm_site.specs.Past.{State, Undoes, Agrees, after, after_step, start, 
 use Rattle.sm_site.proofs.Steps.{after_push, items_push}
 use Rattle.sm_site.proofs.Kept.{crashed_files}
 use Rattle.sm_site.proofs.Opens.{IsAtRest, at_rest, no_items, open_push}
+use Rattle.sm_site.proofs.Ordered.{ordered_step}
 use Rattle.sm_site.proofs.Crashes.{chosen_rest}
 use Rattle.sm_site.proofs.Outcomes.{agrees_start}
 use Rattle.sm_site.proofs.memory.MemorySite.crash_in_place.Goals as goal
@@ -107,3 +108,9 @@ invariant_of-self-else-has_begun-clause-tracked c =
     let self = c.args.self.now in
     let shut : is_open self.past.items ≡ false = search rules in
     λ conn live. absurd (no_live conn (subst (λ (l : List Item). IsLive conn l) (no_items self.past.items shut) live))
+
+pub invariant_of-self-clause-ordered : goal.invariant_of-self-clause-ordered
+invariant_of-self-clause-ordered c =
+    let self = c.args.self.now in
+    let later : c.push.new.self.items ≡ self.past.items ++ Crashed c.args.choice ∷ [] = search rules in
+    ordered_step self.past.items c.push.new.self.items (Crashed c.args.choice) later refl self.ordered

@@ -1,4 +1,4 @@
-use Rattle.std.proofs.Common.{drop, refl, rules, ◌≡◌, false, List, ◌++◌, ◌∷◌, [], ap, ◌∙◌, subst, sym}
+use Rattle.std.proofs.Common.{drop, refl, rules, ◌≡◌, true, false, List, ◌++◌, ◌∷◌, [], ap, ◌∙◌, subst, sym}
 use Rattle.sm_site.specs.declared.step.Step.{Step}
 use Rattle.sm_site.specs.declared.step.Step.TheVariants.{Synced}
 use Rattle.sm_site.specs.Image.{bytes_of}
@@ -7,6 +7,7 @@ use Rattle.sm_site.proofs.Kept.{undoes_sync}
 use Rattle.sm_site.proofs.Connections.{tracks_quiet}
 use Rattle.sm_site.proofs.Steps.{after_push}
 use Rattle.sm_site.proofs.Given.{script_quiet}
+use Rattle.sm_site.proofs.Ordered.{ordered_step}
 use Rattle.sm_site.proofs.Outcomes.{agrees_sync, no_more_sync, durable_sync}
 use Rattle.sm_site.proofs.memory_disk.MemorySiteDisk.sync.Goals as goal
 
@@ -55,3 +56,23 @@ pub invariant_of-self-2-clause-scripted : goal.invariant_of-self-2-clause-script
 invariant_of-self-2-clause-scripted c =
     let later : c.note.new.past.items ≡ c.args.self.now.past.items ++ Synced c.args.file false ∷ [] = search rules in
     script_quiet c.args.self.now.past.items c.note.new.past.items (Synced c.args.file false) (drop c.args.self.now.taken c.args.self.now.script.items) later refl c.args.self.now.scripted
+
+pub invariant_of-self-then-fails-clause-ordered : goal.invariant_of-self-then-fails-clause-ordered
+invariant_of-self-then-fails-clause-ordered c =
+    let later : c.note.new.past.items ≡ c.args.self.now.past.items ++ Synced c.args.file true ∷ [] = search rules in
+    ordered_step c.args.self.now.past.items c.note.new.past.items (Synced c.args.file true) later refl c.args.self.now.ordered
+
+pub invariant_of-self-2-clause-ordered : goal.invariant_of-self-2-clause-ordered
+invariant_of-self-2-clause-ordered c =
+    let later : c.note.new.past.items ≡ c.args.self.now.past.items ++ Synced c.args.file false ∷ [] = search rules in
+    ordered_step c.args.self.now.past.items c.note.new.past.items (Synced c.args.file false) later refl c.args.self.now.ordered
+
+pub invariant_of-self-then-fails-clause-tracked : goal.invariant_of-self-then-fails-clause-tracked
+invariant_of-self-then-fails-clause-tracked c =
+    let later : c.note.new.past.items ≡ c.args.self.now.past.items ++ Synced c.args.file true ∷ [] = search rules in
+    tracks_quiet c.args.self.now.past.items c.note.new.past.items (Synced c.args.file true) c.args.self.now.live.items refl later refl c.args.self.now.tracked
+
+pub invariant_of-self-then-fails-clause-scripted : goal.invariant_of-self-then-fails-clause-scripted
+invariant_of-self-then-fails-clause-scripted c =
+    let later : c.note.new.past.items ≡ c.args.self.now.past.items ++ Synced c.args.file true ∷ [] = search rules in
+    script_quiet c.args.self.now.past.items c.note.new.past.items (Synced c.args.file true) (drop c.args.self.now.taken c.args.self.now.script.items) later refl c.args.self.now.scripted

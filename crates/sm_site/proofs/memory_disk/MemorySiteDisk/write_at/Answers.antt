@@ -8,6 +8,7 @@ use Rattle.sm_site.proofs.Tearing.{not_torn}
 use Rattle.sm_site.proofs.Told.{when_ok}
 use Rattle.sm_site.proofs.Connections.{tracks_quiet}
 use Rattle.sm_site.proofs.Given.{script_quiet}
+use Rattle.sm_site.proofs.Ordered.{ordered_step}
 use Rattle.sm_site.proofs.Writes.{Put, put_state, noted_agrees, noted_write, noted_tears, cached_write, note_write}
 use Rattle.sm_site.specs.declared.step.Pending.{Pending}
 use Rattle.sm_site.specs.Past.{Range, Undoes, ranges_from}
@@ -340,3 +341,25 @@ returns-clause-time c =
     let own = noted.0 in
     let is = put_state first past c.note_write-noted.new.past.items file at bytes fails reached noted in
     elapses_step c.args.self.now.first.items _ _ past c.note_write-noted.new.past.items (Wrote file at own fails reached) noted.2 refl refl
+
+pub invariant_of-self-then-fails-clause-ordered : goal.invariant_of-self-then-fails-clause-ordered
+invariant_of-self-then-fails-clause-ordered c =
+    let past = c.args.self.now.past.items in
+    let file = c.args.file in
+    let at = c.args.at in
+    let bytes = c.args.bytes.now in
+    let fails = c.if-is_failing.fails in
+    let reached = c.if-not-fails.reached in
+    let noted : Put past c.note_write-noted.new.past.items file at bytes fails reached = when_ok c.note_write-noted.result (sym c.is_err.ensures.value ∙ c.if-is_err.false) c.note_write-noted.ensures.past in
+    ordered_step past c.note_write-noted.new.past.items (Wrote file at noted.0 fails reached) noted.2 refl c.args.self.now.ordered
+
+pub invariant_of-self-else-fails-clause-ordered : goal.invariant_of-self-else-fails-clause-ordered
+invariant_of-self-else-fails-clause-ordered c =
+    let past = c.args.self.now.past.items in
+    let file = c.args.file in
+    let at = c.args.at in
+    let bytes = c.args.bytes.now in
+    let fails = c.if-is_failing.fails in
+    let reached = c.if-not-fails.reached in
+    let noted : Put past c.note_write-noted.new.past.items file at bytes fails reached = when_ok c.note_write-noted.result (sym c.is_err.ensures.value ∙ c.if-is_err.false) c.note_write-noted.ensures.past in
+    ordered_step past c.note_write-noted.new.past.items (Wrote file at noted.0 fails reached) noted.2 refl c.args.self.now.ordered

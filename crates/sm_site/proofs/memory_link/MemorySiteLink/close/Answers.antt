@@ -3,6 +3,7 @@ use Rattle.sm_site.specs.declared.step.Step.TheVariants.{Shut}
 use Rattle.sm_site.specs.Meanings.Deal.{Shut as ShutDeal}
 use Rattle.sm_site.proofs.Connections.{tracks_shut}
 use Rattle.sm_site.proofs.Given.{script_quiet}
+use Rattle.sm_site.proofs.Ordered.{ordered_step}
 use Rattle.sm_site.proofs.Opens.{live_open}
 use Rattle.sm_site.proofs.Steps.{adds_item}
 use Rattle.sm_site.proofs.memory_link.MemorySiteLink.close.Goals as goal
@@ -19,3 +20,6 @@ note_shut-requires-clause-room c = c.args.self.now.spare (live_open c.args.conn 
 
 pub invariant_of-self-clause-scripted : goal.invariant_of-self-clause-scripted
 invariant_of-self-clause-scripted c = script_quiet c.args.self.now.past.items c.note_shut.new.past.items (Shut c.args.conn) (drop c.args.self.now.taken c.args.self.now.script.items) c.note_shut.ensures.past refl c.args.self.now.scripted
+
+pub invariant_of-self-clause-ordered : goal.invariant_of-self-clause-ordered
+invariant_of-self-clause-ordered c = ordered_step c.args.self.now.past.items c.note_shut.new.past.items (Shut c.args.conn) c.note_shut.ensures.past refl c.args.self.now.ordered

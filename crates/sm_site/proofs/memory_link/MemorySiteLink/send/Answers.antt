@@ -5,6 +5,7 @@ use Rattle.sm_site.specs.Meanings.Deal.{Sent as SentDeal}
 use Rattle.sm_site.specs.Past.{item_of}
 use Rattle.sm_site.proofs.Connections.{tracks_sent}
 use Rattle.sm_site.proofs.Given.{script_quiet}
+use Rattle.sm_site.proofs.Ordered.{live_keeps, ordered_step}
 use Rattle.sm_site.proofs.Steps.{adds_item, elapses_step}
 use Rattle.sm_site.proofs.Told.{when_ok}
 use Rattle.sm_site.proofs.memory_link.MemorySiteLink.send.Goals as goal
@@ -70,3 +71,17 @@ returns-then-fails-clause-time c =
     let noted : (own : Vec ℕ Global) × (own.items ≡ (if c.is_failing-fails.result then [] else c.args.bytes.now)) × (c.note_send-noted.new.past.items ≡ past ++ Sent c.args.conn own c.is_failing-fails.result ∷ []) =
     when_ok c.note_send-noted.result (sym c.is_err.ensures.value ∙ c.if-is_err.false) c.note_send-noted.ensures.past in
     elapses_step c.args.self.now.first.items _ _ past c.note_send-noted.new.past.items (Sent c.args.conn noted.0 c.is_failing-fails.result) noted.2 refl refl
+
+pub invariant_of-self-then-fails-clause-ordered : goal.invariant_of-self-then-fails-clause-ordered
+invariant_of-self-then-fails-clause-ordered c =
+    let past = c.args.self.now.past.items in
+    let noted : (own : Vec ℕ Global) × (own.items ≡ (if c.is_failing-fails.result then [] else c.args.bytes.now)) × (c.note_send-noted.new.past.items ≡ past ++ Sent c.args.conn own c.is_failing-fails.result ∷ []) =
+    when_ok c.note_send-noted.result (sym c.is_err.ensures.value ∙ c.if-is_err.false) c.note_send-noted.ensures.past in
+    ordered_step past c.note_send-noted.new.past.items (Sent c.args.conn noted.0 c.is_failing-fails.result) noted.2 (live_keeps c.args.conn past c.requires.live) c.args.self.now.ordered
+
+pub invariant_of-self-else-fails-clause-ordered : goal.invariant_of-self-else-fails-clause-ordered
+invariant_of-self-else-fails-clause-ordered c =
+    let past = c.args.self.now.past.items in
+    let noted : (own : Vec ℕ Global) × (own.items ≡ (if c.is_failing-fails.result then [] else c.args.bytes.now)) × (c.note_send-noted.new.past.items ≡ past ++ Sent c.args.conn own c.is_failing-fails.result ∷ []) =
+    when_ok c.note_send-noted.result (sym c.is_err.ensures.value ∙ c.if-is_err.false) c.note_send-noted.ensures.past in
+    ordered_step past c.note_send-noted.new.past.items (Sent c.args.conn noted.0 c.is_failing-fails.result) noted.2 (live_keeps c.args.conn past c.requires.live) c.args.self.now.ordered
