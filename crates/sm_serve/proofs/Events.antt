@@ -182,7 +182,7 @@ module _ {D : Type 0} (view W : D → View) (leave leave' : D → Image → Type
             resting = serves.rest.resting;
           };
         };
-        since = record { first = refl; begin = refl; base = refl; on = on_itself h h refl refl };
+        since = record { first = refl; begin = refl; base = refl; on = on_itself h };
         taken = sym (append-nil (deals_in h.items));
       }
 
@@ -290,7 +290,7 @@ module _ {D : Type 0} (view : D → View) (leave : D → Image → Type 0) (left
     turns = record {
       later = h;
       serves = serves;
-      since = record { first = refl; begin = refl; base = refl; on = on_itself h h refl refl };
+      since = record { first = refl; begin = refl; base = refl; on = on_itself h };
       taken = sym (append-nil (deals_in h.items));
     };
     script_is = script_stays (view d).script;
@@ -388,7 +388,7 @@ declares view leave left_at h channel result old new d e serves lives a =
           resting = subst (λ (ls : List Live). AreResting k ls) (sym (ap (λ (ls : _). ls.items) lives)) (rest_all h k (λ l rest. record { rests = rest.rests; counts = rest.counts }) old.lives.items serves.rest.resting);
         };
       };
-      since = record { first = refl; begin = refl; base = refl; on = on_stepped h k a.x refl refl };
+      since = record { first = refl; begin = refl; base = refl; on = on_stepped (is_told (view e)) h a.x q (declared channel a.x serves.rest.phase_is a.conn_is a.is_step refl refl refl) };
       same = refl;
       step = a.x;
       steps = refl;

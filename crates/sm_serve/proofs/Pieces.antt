@@ -18,14 +18,14 @@ use Rattle.sm_origin.specs.declared.origin.Origin.{Origin}
 use Rattle.sm_serve.specs.declared.live.Live.{Live}
 use Rattle.sm_head.specs.declared.reply.TheConstants.{NO_MEMORY}
 use Rattle.sm_serve.specs.Connections.{received, is_open}
-use Rattle.sm_serve.specs.Run.{Counts, idle, acting, sending, came, unread, done, at, at_event, in_phase}
-use Rattle.sm_serve.specs.Standing.{History, Keeps, Pending, moved, Reaches}
+use Rattle.sm_serve.specs.Run.{Counts, Moves, idle, acting, sending, came, unread, done, at, at_event, in_phase}
+use Rattle.sm_serve.specs.Standing.{History, Keeps, Pending, moved, Reaches, is_told}
 use Rattle.sm_serve.specs.Resting.{counts_of, PlaceIs, Rests}
 use Rattle.sm_serve.specs.Giving.{PartGives, PieceGives}
 use Rattle.sm_serve.proofs.Going.{silent_move, paused}
 use Rattle.sm_serve.proofs.Sending.{follows_then}
 use Rattle.sm_serve.proofs.Reaching.{follows_itself}
-use Rattle.sm_serve.proofs.Lasting.{on_itself}
+use Rattle.sm_serve.proofs.Lasting.{on_paused}
 use Rattle.sm_serve.proofs.Giving.{place_clear}
 
 -- nothing is left where no part is left
@@ -49,19 +49,24 @@ module _ {D : Type 0} (view : D → View) (leave : D → Image → Type 0) (left
         keeps = silent_move view leave left_at k d (in_phase k.point idle) was.keeps (done n phase refl refl refl) refl refl refl;
         stands = was.stands;
         follows = follows_then n true h k (paused view leave left_at k (in_phase k.point idle)) was.follows (follows_itself n k (paused view leave left_at k (in_phase k.point idle)) refl refl refl refl
-            (on_itself k (paused view leave left_at k (in_phase k.point idle)) refl refl) (λ j other. refl));
+            (on_paused false k (in_phase k.point idle) (done n phase refl refl refl)) (λ j other. refl));
         phase_is = refl;
         counts_are = was.counts_are;
       }
 
   -- what was read of a piece
+  pub came_move : (told : Bool) (h : History) (m n : ℕ) (piece : List ℕ) (live : Live) (conn : Conn) (ps : List PartItem) → h.point.phase ≡ idle → is_open n h.items ≡ true
+      → (rests : Rests live (received n h.items)) → Gave conn (received n h.items ++ piece) (rests.parts ++ ps) → (items : List WireItem) → Left rests.place (ps ++ []) items
+      → Moves told h.items h.point (at m (Came n piece)) [] (at_event h.point (acting n items) m)
+  came_move told h m n piece live conn ps phase is_live rests gave items left =
+      let all : wire None (rests.parts ++ ps) ≡ wire None rests.parts ++ items = ap (λ (qs : List PartItem). wire None (rests.parts ++ qs)) (sym (append-nil ps)) ∙ rests.later (ps ++ []) items left in
+      came m n piece (wire None rests.parts) items phase is_live refl refl (rests.parts, (_, rests.stands), refl) (rests.parts ++ ps, (_, gave), sym all) refl
+
   pub read_move : (h : History) (m n : ℕ) (piece : List ℕ) (live : Live) (conn : Conn) (ps : List PartItem) (d : D) → Pending view leave left_at h m (Came n piece) d → h.point.phase ≡ idle → is_open n h.items ≡ true
       → (rests : Rests live (received n h.items)) → Gave conn (received n h.items ++ piece) (rests.parts ++ ps) → (items : List WireItem) → Left rests.place (ps ++ []) items
       → Keeps view leave left_at (moved h (at m (Came n piece)) (at_event h.point (acting n items) m)) d
   read_move h m n piece live conn ps d pending phase is_live rests gave items left =
-      let all : wire None (rests.parts ++ ps) ≡ wire None rests.parts ++ items = ap (λ (qs : List PartItem). wire None (rests.parts ++ qs)) (sym (append-nil ps)) ∙ rests.later (ps ++ []) items left in
-      pending (at_event h.point (acting n items) m)
-      (came m n piece (wire None rests.parts) items phase is_live refl refl (rests.parts, (_, rests.stands), refl) (rests.parts ++ ps, (_, gave), sym all) refl) refl refl refl
+      pending (at_event h.point (acting n items) m) (came_move (is_told (view d)) h m n piece live conn ps phase is_live rests gave items left) refl refl refl
 
   pub unread_move : (h : History) (m n : ℕ) (piece : List ℕ) (d : D) → Pending view leave left_at h m (Came n piece) d → h.point.phase ≡ idle → is_open n h.items ≡ true
       → Keeps view leave left_at (moved h (at m (Came n piece)) (at_event h.point (sending n NO_MEMORY.now true []) m)) d
@@ -69,16 +74,17 @@ module _ {D : Type 0} (view : D → View) (leave : D → Image → Type 0) (left
 
   -- the connection rests behind the piece
   pub piece_gives : (h : History) (m n : ℕ) (piece : List ℕ) (old new : Live) (r : Bool) (ps : List PartItem) (items : List WireItem) (origin : Origin) (d : D) (rests : Rests old (received n h.items))
-      → Gave new.conn (received n h.items ++ piece) (rests.parts ++ ps)
+      → Gave new.conn (received n h.items ++ piece) (rests.parts ++ ps) → Moves false h.items h.point (at m (Came n piece)) [] (at_event h.point (acting n items) m)
       → PartGives view leave left_at (moved h (at m (Came n piece)) (at_event h.point (acting n items) m)) n r new.push (counts_of new) rests.place ps [] origin d
       → PieceGives view leave left_at h m piece n r new origin d
-  piece_gives h m n piece old new false ps items origin d rests gave gives = record {
+  piece_gives h m n piece old new false ps items origin d rests gave move gives = record {
     from = at_event h.point (acting n items) m;
     from_counts = refl;
+    move = move;
     reaches = gives;
     rests = λ t. absurd (cc);
   }
-  piece_gives h m n piece old new true ps items origin d rests gave gives =
+  piece_gives h m n piece old new true ps items origin d rests gave move gives =
       let none : gives.left ≡ [] = none_left new.push gives.after gives.left gives.after_is gives.left_is in
       let all : wire None (rests.parts ++ ps) ≡ wire None rests.parts ++ gives.given =
       ap (λ (qs : List PartItem). wire None (rests.parts ++ qs)) (sym (append-nil ps))
@@ -87,6 +93,7 @@ module _ {D : Type 0} (view : D → View) (leave : D → Image → Type 0) (left
       record {
         from = at_event h.point (acting n items) m;
         from_counts = refl;
+        move = move;
         reaches = rests_now (moved h (at m (Came n piece)) (at_event h.point (acting n items) m)) n gives.left (counts_of new) origin d none gives.reaches;
         rests = λ t. record {
           parts = rests.parts ++ ps;

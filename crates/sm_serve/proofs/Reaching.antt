@@ -9,11 +9,11 @@ use Rattle.sm_wire.specs.declared.item.WireItem.{WireItem}
 use Rattle.sm_wire.specs.declared.item.WireItem.TheVariants.{Continue}
 use Rattle.sm_origin.specs.declared.origin.Origin.{Origin}
 use Rattle.sm_serve.specs.Standing.{StandsOn}
-use Rattle.sm_serve.specs.Run.{Counts, Point, Phase, acting, sending, in_phase, wants, continues, acts_on, act_of, closes, counts_after, set_counts, phase_after, sent_of, behind_step}
+use Rattle.sm_serve.specs.Run.{Counts, Point, Phase, Moves, acting, sending, in_phase, wants, continues, acts_on, act_of, closes, counts_after, set_counts, phase_after, sent_of, behind_step}
 use Rattle.std.proofs.lemmas.Bool.{eq-eqb, ne_eqb}
 use Rattle.sm_serve.specs.Connections.{received, live, deals_in}
-use Rattle.sm_serve.specs.Standing.{History, GoesOn, Keeps, Follows, Reaches}
-use Rattle.sm_serve.proofs.Lasting.{on_itself, on_stepped}
+use Rattle.sm_serve.specs.Standing.{History, GoesOn, Keeps, Follows, Reaches, is_told}
+use Rattle.sm_serve.proofs.Lasting.{on_itself, on_paused, on_stepped}
 use Rattle.sm_serve.proofs.Sending.{follows_then}
 use Rattle.sm_head.specs.declared.reply.TheConstants.{NO_MEMORY, CONTINUE}
 use Rattle.sm_serve.proofs.Going.{Acted, stepped, silent_move, paused}
@@ -76,7 +76,8 @@ module _ {D : Type 0} (view : D → View) (leave : D → Image → Type 0) (left
     behind_keeps = acted.keeps point_of (acts_on n item more act acted.x phase does acted.conn_is acted.is_step refl refl refl) refl refl refl
 
     pub behind_follows : Follows n true h behind
-    behind_follows = follows_itself n h behind refl refl refl refl (on_stepped h behind acted.x refl refl) (λ j other. other_counts n j _ h.point.counts other)
+    behind_follows = follows_itself n h behind refl refl refl refl
+        (on_stepped (is_told (view e)) h acted.x point_of (acts_on n item more act acted.x phase does acted.conn_is acted.is_step refl refl refl)) (λ j other. other_counts n j _ h.point.counts other)
 
     pub behind_counts : behind.point.counts n ≡ counts_after item reply.counted (h.point.counts n)
     behind_counts = these_counts n _ h.point.counts ∙ ap (λ (r : Reply). counts_after item r.counted (h.point.counts n)) acted.reply_is
@@ -100,8 +101,8 @@ module _ {D : Type 0} (view : D → View) (leave : D → Image → Type 0) (left
       → Keeps view leave left_at (paused view leave left_at h (in_phase h.point (sending n NO_MEMORY.now true []))) d
   starving h d n more keeps phase = silent_move view leave left_at h d (in_phase h.point (sending n NO_MEMORY.now true [])) keeps (wants n more phase refl refl refl) refl refl refl
 
-  pub paused_follows : (h : History) (n : ℕ) (phase : Phase) → Follows n true h (paused view leave left_at h (in_phase h.point phase))
-  paused_follows h n phase = follows_itself n h (paused view leave left_at h (in_phase h.point phase)) refl refl refl refl (on_itself h (paused view leave left_at h (in_phase h.point phase)) refl refl) (λ j other. refl)
+  pub paused_follows : (h : History) (n : ℕ) (phase : Phase) → Moves false h.items h.point [] [] (in_phase h.point phase) → Follows n true h (paused view leave left_at h (in_phase h.point phase))
+  paused_follows h n phase move = follows_itself n h (paused view leave left_at h (in_phase h.point phase)) refl refl refl refl (on_paused false h (in_phase h.point phase) move) (λ j other. refl)
 
   -- a run that reached a phase goes on from there
   pub goes_then : (h : History) (n : ℕ) (from phase : Phase) (counts all : Counts) (origin after : Origin) (d e : D) (is_open : Bool) → Reaches view leave left_at h n true from counts origin d
@@ -126,7 +127,7 @@ module _ {D : Type 0} (view : D → View) (leave : D → Image → Type 0) (left
     later = h;
     keeps = keeps;
     stands = stands;
-    follows = follows_itself n h h refl refl refl refl (on_itself h h refl refl) (λ j other. refl);
+    follows = follows_itself n h h refl refl refl refl (on_itself h) (λ j other. refl);
     phase_is = at;
     counts_are = λ t. is;
   }
@@ -148,7 +149,7 @@ reached_here view leave left_at h n phase counts origin d keeps stands phase_is 
     first = refl;
     begin = refl;
     base = refl;
-    on = on_itself h h refl refl;
+    on = on_itself h;
     received = λ j. refl;
     deals = refl;
     live = refl;

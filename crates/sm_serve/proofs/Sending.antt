@@ -54,7 +54,7 @@ module _ {D : Type 0} (view W : D → View) (leave leave' : D → Image → Type
   added : (h : History) (d e : D) (deal : Deal) (q : Point) → Keeps view leave left_at h d → LinkCall d e → Adds deal (W d) (W e)
       → ((m : ℕ) → (IsTrue (is_told (view e)) → h.point.ended < m) → Moves (is_told (view e)) h.items h.point (at m deal) [] q)
       → q.machine ≡ h.point.machine → q.ended ≡ h.point.ended → ((view e).send_faults < 2 ^ 64 - 1 → q.failed ≤ (view e).send_faults)
-      → (m : ℕ) × Keeps view leave left_at (moved h (at m deal) q) e
+      → (m : ℕ) × Keeps view leave left_at (moved h (at m deal) q) e × Moves (is_told (view e)) h.items h.point (at m deal) [] q
   added h d e deal q keeps call adds move machine ended blamed =
       let here = seen_here view W leave leave' left_at left' one_view one_disk one_past (Adds deal) d e adds in
       let t = told_adds (view d) (view e) (h.base ++ h.items) deal keeps.told here in
@@ -67,14 +67,16 @@ module _ {D : Type 0} (view W : D → View) (leave leave' : D → Image → Type
         m,
         link_move view leave left_at told h d e (at m deal) q keeps (move m behind) machine (λ has. omega (arith, ended))
             t.3 time same (calls_here d e call) (contents_here d e call) (λ has. (let b = behind has in omega (arith, ended, b, within))) blamed,
+        move m behind,
       )
 
-  follows_sent : (h : History) (m n : ℕ) (bytes : List ℕ) (fails : Bool) (q : Point) → q.counts ≡ h.point.counts → Follows n true h (moved h (at m (Sent n bytes fails)) q)
-  follows_sent h m n bytes fails q counts = record {
+  follows_sent : (told_ : Bool) (h : History) (m n : ℕ) (bytes : List ℕ) (fails : Bool) (q : Point) → Moves told_ h.items h.point (at m (Sent n bytes fails)) [] q → q.counts ≡ h.point.counts
+      → Follows n true h (moved h (at m (Sent n bytes fails)) q)
+  follows_sent told_ h m n bytes fails q move counts = record {
     first = refl;
     begin = refl;
     base = refl;
-    on = on_moved h (at m (Sent n bytes fails)) q;
+    on = on_moved told_ h (at m (Sent n bytes fails)) q move;
     received = λ j. received_push j h.items (record { moment = m; deal = Sent n bytes fails });
     deals = deals_push h.items (record { moment = m; deal = Sent n bytes fails });
     live = live_push h.items (record { moment = m; deal = Sent n bytes fails });
@@ -88,7 +90,7 @@ module _ {D : Type 0} (view W : D → View) (leave leave' : D → Image → Type
       let same : (view e).send_faults ≡ (view d).send_faults = ap (λ (v : View). v.send_faults) (one_view e) ∙ faults ∙ ap (λ (v : View). v.send_faults) (sym (one_view d)) in
       let a = added h d e (Sent n bytes false) q keeps call adds (λ m behind. sent m n bytes close more phase behind refl refl refl) refl refl
       (λ below. subst (λ (k : ℕ). h.point.failed ≤ k) (sym same) (keeps.blamed (subst (λ (k : ℕ). k < 2 ^ 64 - 1) same below))) in
-      record { later = moved h (at a.0 (Sent n bytes false)) q; keeps = a.1; follows = follows_sent h a.0 n bytes false q refl; point_is = refl }
+      record { later = moved h (at a.0 (Sent n bytes false)) q; keeps = a.1; follows = follows_sent (is_told (view e)) h a.0 n bytes false q a.2 refl; point_is = refl }
 
   blame : (d e : D) (h : History) → Keeps view leave left_at h d → Rose (W d).send_faults (W e).send_faults → (view e).send_faults < 2 ^ 64 - 1 → h.point.failed + 1 ≤ (view e).send_faults
   blame d e h keeps rose below =
@@ -103,7 +105,7 @@ module _ {D : Type 0} (view W : D → View) (leave leave' : D → Image → Type
       let q = behind_failure h.point (shutting n) in
       let a = added h d e (Sent n (take k bytes) true) q keeps call adds (λ m behind. failed m n k bytes close more phase behind refl refl refl) refl refl
       (λ below. blame d e h keeps rose below) in
-      record { later = moved h (at a.0 (Sent n (take k bytes) true)) q; keeps = a.1; follows = follows_sent h a.0 n (take k bytes) true q refl; point_is = refl }
+      record { later = moved h (at a.0 (Sent n (take k bytes) true)) q; keeps = a.1; follows = follows_sent (is_told (view e)) h a.0 n (take k bytes) true q a.2 refl; point_is = refl }
 
   pub unsent_after : (h : History) (d e : D) (n : ℕ) (bytes : List ℕ) (close : Bool) (more : List WireItem) → Keeps view leave left_at h d → LinkCall d e → h.point.phase ≡ sending n bytes close more
       → (W e).transcript ≡ (W d).transcript → Rose (W d).send_faults (W e).send_faults → After h n true e (behind_failure h.point (shutting n))
@@ -122,7 +124,7 @@ module _ {D : Type 0} (view W : D → View) (leave leave' : D → Image → Type
           first = refl;
           begin = refl;
           base = refl;
-          on = on_moved h [] q;
+          on = on_moved (is_told (view e)) h [] q (unsent n bytes close more phase refl refl refl);
           received = λ j. ap (received j) (append-nil h.items);
           deals = ap deals_in (append-nil h.items);
           live = ap live (append-nil h.items);
@@ -145,7 +147,7 @@ module _ {D : Type 0} (view W : D → View) (leave leave' : D → Image → Type
           first = refl;
           begin = refl;
           base = refl;
-          on = on_moved h (at a.0 (Shut n)) q;
+          on = on_moved (is_told (view e)) h (at a.0 (Shut n)) q a.2;
           received = λ j. received_push j h.items (record { moment = a.0; deal = Shut n });
           deals = deals_push h.items (record { moment = a.0; deal = Shut n });
           live = live_push h.items (record { moment = a.0; deal = Shut n });

@@ -11,7 +11,7 @@ use Rattle.sm_serve.specs.Standing.{StandsOn}
 use Rattle.sm_serve.specs.declared.live.Live.{Live}
 use Rattle.sm_serve.specs.declared.state.State.{State}
 use Rattle.sm_serve.specs.Connections.{received, live, without, is_among, AreDistinct, deals_in}
-use Rattle.sm_serve.specs.Run.{Counts, no_counts, Point, idle, passed, left, over, at, at_event}
+use Rattle.sm_serve.specs.Run.{Counts, no_counts, Point, Moves, idle, passed, left, over, at, at_event}
 use Rattle.sm_serve.specs.Standing.{History, Pending, moved, Follows, Reaches}
 use Rattle.sm_serve.proofs.Lasting.{on_behind, on_moved}
 use Rattle.sm_serve.specs.Resting.{Rests, counts_of, IsNewborn}
@@ -67,7 +67,7 @@ module _ {D : Type 0} (view : D → View) (leave : D → Image → Type 0) (left
                 (now_resting h k m n piece gives.from new r.follows number (gives.rests refl) (r.counts_are refl)) rest);
           };
         };
-        since = record { first = r.follows.first; begin = r.follows.begin; base = r.follows.base; on = on_behind h k _ _ r.follows.on };
+        since = record { first = r.follows.first; begin = r.follows.begin; base = r.follows.base; on = on_behind false h k _ _ gives.move r.follows.on };
         taken = r.follows.deals ∙ deals_push h.items _ ∙ ap (λ (l : ℕ). deals_in h.items ++ Came l piece ∷ []) same;
       }
 
@@ -89,7 +89,7 @@ module _ {D : Type 0} (view : D → View) (leave : D → Image → Type 0) (left
                 (rest_remove h k n (others_after h k m n piece gives.from false gives.from_counts r.follows) old i (distinct_numbers h old numbers) within is rest);
           };
         };
-        since = record { first = r.follows.first; begin = r.follows.begin; base = r.follows.base; on = on_behind h k _ _ r.follows.on };
+        since = record { first = r.follows.first; begin = r.follows.begin; base = r.follows.base; on = on_behind false h k _ _ gives.move r.follows.on };
         taken = r.follows.deals ∙ deals_push h.items _ ∙ ap (λ (l : ℕ). deals_in h.items ++ Came l piece ∷ []) same;
       }
 
@@ -111,7 +111,7 @@ module _ {D : Type 0} (view : D → View) (leave : D → Image → Type 0) (left
             resting = rest_others h k n (λ l other was. same_rest h k l (other_bytes l.number n m piece h other) refl was) state.lives.items none rest.resting;
           };
         };
-        since = record { first = refl; begin = refl; base = refl; on = on_moved h (at m (Came n piece)) q };
+        since = record { first = refl; begin = refl; base = refl; on = on_moved false h (at m (Came n piece)) q (passed m n piece rest.phase_is gone refl refl refl) };
         taken = deals_push h.items _;
       }
 
@@ -132,9 +132,10 @@ without_last n (j ∷ ns) = ap (λ (ks : List ℕ). if j == n then ks else j ∷
 
 module _ {D : Type 0} (view : D → View) (leave : D → Image → Type 0) (left_at : D → ℕ → Image → Type 0) where
   -- a connection that was opened and closed again
-  pub opened_shut : (h : History) (m n : ℕ) (q : Point) (counts : Counts) (state : State) (e : D) → numbers_of state.lives.items ≡ live h.items → AreResting h state.lives.items → is_among n (live h.items) ≡ false
+  pub opened_shut : (told : Bool) (h : History) (m n : ℕ) (q : Point) (counts : Counts) (state : State) (e : D) → numbers_of state.lives.items ≡ live h.items → AreResting h state.lives.items → is_among n (live h.items) ≡ false
+      → Moves told h.items h.point (at m (Began n)) [] q
       → ((j : ℕ) → j ≢ n → q.counts j ≡ h.point.counts j) → Reaches view leave left_at (moved h (at m (Began n)) q) n false idle counts state.origin e → Turns view leave left_at h (Began n ∷ []) state e
-  opened_shut h m n q counts state e numbers rest none others r =
+  opened_shut told h m n q counts state e numbers rest none move others r =
       let k = r.later in
       let same_live : live k.items ≡ live h.items = r.follows.live ∙ ap (without n) (began_live n m h none) ∙ without_last n (live h.items) ∙ without_none n (live h.items) none in
       record {
@@ -149,15 +150,16 @@ module _ {D : Type 0} (view : D → View) (leave : D → Image → Type 0) (left
                 state.lives.items (subst (λ (ns : List ℕ). is_among n ns ≡ false) (sym numbers) none) rest;
           };
         };
-        since = record { first = r.follows.first; begin = r.follows.begin; base = r.follows.base; on = on_behind h k _ _ r.follows.on };
+        since = record { first = r.follows.first; begin = r.follows.begin; base = r.follows.base; on = on_behind told h k _ _ move r.follows.on };
         taken = r.follows.deals ∙ deals_push h.items _;
       }
 
   -- a connection that was taken in
-  pub opened_open : (h : History) (m n : ℕ) (q : Point) (old : List Live) (new : Live) (state : State) (e : D) → numbers_of old ≡ live h.items → AreResting h old → is_among n (live h.items) ≡ false
+  pub opened_open : (told : Bool) (h : History) (m n : ℕ) (q : Point) (old : List Live) (new : Live) (state : State) (e : D) → numbers_of old ≡ live h.items → AreResting h old → is_among n (live h.items) ≡ false
+      → Moves told h.items h.point (at m (Began n)) [] q
       → ((j : ℕ) → j ≢ n → q.counts j ≡ h.point.counts j) → IsNewborn n new → state.lives.items ≡ old ++ new ∷ [] → Reaches view leave left_at (moved h (at m (Began n)) q) n true idle no_counts state.origin e
       → Turns view leave left_at h (Began n ∷ []) state e
-  opened_open h m n q old new state e numbers rest none others born lives r =
+  opened_open told h m n q old new state e numbers rest none move others born lives r =
       let k = r.later in
       let more_live : live k.items ≡ live h.items ++ n ∷ [] = r.follows.live ∙ began_live n m h none in
       let resting_old = rest_others h k n (λ l other was. same_rest h k l (r.follows.received l.number ∙ began_others l.number n m h other) (r.follows.counts l.number other ∙ others l.number other) was)
@@ -178,7 +180,7 @@ module _ {D : Type 0} (view : D → View) (leave : D → Image → Type 0) (left
             resting = subst (λ (ls : List Live). AreResting k ls) (sym lives) (rest_push k old new resting_old now);
           };
         };
-        since = record { first = r.follows.first; begin = r.follows.begin; base = r.follows.base; on = on_behind h k _ _ r.follows.on };
+        since = record { first = r.follows.first; begin = r.follows.begin; base = r.follows.base; on = on_behind told h k _ _ move r.follows.on };
         taken = r.follows.deals ∙ deals_push h.items _;
       }
 
@@ -203,7 +205,7 @@ module _ {D : Type 0} (view : D → View) (leave : D → Image → Type 0) (left
             resting = forgets.resting h k (λ l other was. same_rest h k l (left_bytes l.number n m h) refl was) distinct rest.resting;
           };
         };
-        since = record { first = refl; begin = refl; base = refl; on = on_moved h (at m (Left n)) q };
+        since = record { first = refl; begin = refl; base = refl; on = on_moved false h (at m (Left n)) q (left m n rest.phase_is refl refl refl) };
         taken = deals_push h.items _;
       }
 
@@ -222,6 +224,6 @@ module _ {D : Type 0} (view : D → View) (leave : D → Image → Type 0) (left
             resting = rest_all h k (λ l was. same_rest h k l (received_push l.number h.items (record { moment = m; deal = Over })) refl was) state.lives.items rest.resting;
           };
         };
-        since = record { first = refl; begin = refl; base = refl; on = on_moved h (at m Over) q };
+        since = record { first = refl; begin = refl; base = refl; on = on_moved false h (at m Over) q (over m rest.phase_is refl refl refl) };
         taken = deals_push h.items _;
       }

@@ -1,5 +1,5 @@
 -- What parts give to a run.
-use Rattle.std.specs.Prelude.{◌≡◌, ℕ, Bool, true, false, List, ◌++◌, Option, Some, None, Result, IsTrue}
+use Rattle.std.specs.Prelude.{◌≡◌, ℕ, Bool, true, false, List, [], ◌++◌, Option, Some, None, Result, IsTrue}
 use Rattle.sm_site.specs.Image.{Image}
 use Rattle.sm_site.specs.Meanings.{View}
 use Rattle.sm_model.specs.Items.{Given}
@@ -9,7 +9,7 @@ use Rattle.sm_conn.specs.Parts.{PartItem}
 use Rattle.sm_wire.specs.declared.item.WireItem.{WireItem}
 use Rattle.sm_wire.specs.Wire.{Left}
 use Rattle.sm_origin.specs.declared.origin.Origin.{Origin}
-use Rattle.sm_serve.specs.Run.{Counts, Point, idle, acting, at}
+use Rattle.sm_serve.specs.Run.{Counts, Point, Moves, idle, acting, at}
 use Rattle.sm_serve.specs.Standing.{History, moved, Reaches}
 use Rattle.sm_serve.specs.Resting.{PlaceIs, counts_of, Rests}
 use Rattle.sm_serve.specs.Connections.{received}
@@ -49,5 +49,6 @@ pub record PieceGives {D : Type 0} (view : D → View) (leave : D → Image → 
     (origin : Origin) (d : D) : Type 0 where
   pub from : Point
   pub from_counts : from.counts ≡ h.point.counts
+  pub move : Moves false h.items h.point (at m (Came n piece)) [] from
   pub reaches : Reaches view leave left_at (moved h (at m (Came n piece)) from) n is_open idle (counts_of live) origin d
   pub rests : IsTrue is_open → Rests live (received n h.items ++ piece)

@@ -211,3 +211,9 @@ pub data Run (told : Bool) (first : Machine) (begin : ℕ) : List Item → List 
   begins : Run told first begin [] [] (start first begin)
   goes_on : (items es now : List Item) (steps xs all : List Stepped) (p q : Point) → Run told first begin items steps p → Moves told items p es xs q
       → now ≡ items ++ es → all ≡ steps ++ xs → Run told first begin now all q
+
+-- From one point of a run by moves to a later one, behind further entries and steps. Whether the disk tells its contents is left open.
+pub data LeadsTo (items : List Item) (steps : List Stepped) (p : Point) : List Item → List Stepped → Point → Type 0 where
+  rests : (now : List Item) (all : List Stepped) (q : Point) → now ≡ items → all ≡ steps → q ≡ p → LeadsTo items steps p now all q
+  moves_on : (was es now : List Item) (ss xs all : List Stepped) (r q : Point) → LeadsTo items steps p was ss r → Moves false was r es xs q
+      → now ≡ was ++ es → all ≡ ss ++ xs → LeadsTo items steps p now all q

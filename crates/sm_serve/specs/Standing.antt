@@ -9,7 +9,7 @@ use Rattle.sm_origin.specs.Machine.{Machine}
 use Rattle.sm_origin.specs.Stores.{Fits}
 use Rattle.sm_origin.specs.Acting.{StandsFor}
 use Rattle.sm_serve.specs.Connections.{received, live, without, deals_in}
-use Rattle.sm_serve.specs.Run.{Counts, counts_after, Phase, Point, Stepped, Moves, at, Run}
+use Rattle.sm_serve.specs.Run.{Counts, counts_after, Phase, Point, Stepped, Moves, at, Run, LeadsTo}
 use Rattle.sm_serve.specs.Moments.{machine_at, FitsAt}
 
 -- the machine found at the start and its moment, the transcript before it, and what has happened since
@@ -58,12 +58,13 @@ Pending view leave left_at h m deal d =
     (q : Point) → Moves (is_told (view d)) h.items h.point (at m deal) [] q → q.machine ≡ h.point.machine → q.ended ≡ m → q.failed ≡ h.point.failed
     → Keeps view leave left_at (moved h (at m deal) q) d
 
--- A later history goes on from an earlier one: its entries and its steps begin with those of that one.
+-- A later history goes on from an earlier one: its entries and its steps begin with those of that one, and moves lead from its point on.
 pub record GoesOn (h k : History) : Type 0 where
   pub entries : List Item
   pub items : k.items ≡ h.items ++ entries
   pub further : List Stepped
   pub steps : k.steps ≡ h.steps ++ further
+  pub path : LeadsTo h.items h.steps h.point k.items k.steps k.point
 
 -- A later history, in which one connection alone went on, and is still open or was closed.
 pub record Follows (n : ℕ) (is_open : Bool) (h k : History) : Type 0 where

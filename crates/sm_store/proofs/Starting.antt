@@ -192,7 +192,7 @@ ladder_is_placed view leave left_at ladder input input' state d d' r h at is =
 
 pub unseen_itself : {D : Type 0} (view : D → View) (leave : D → Image → Type 0) (left_at : D → ℕ → Image → Type 0) (h : History) (state : State) (d : D) → Serves view leave left_at h state d
     → GoesUnseen view leave left_at h state d
-unseen_itself view leave left_at h state d serves = record { later = h; serves = serves; since = record { first = refl; begin = refl; base = refl; on = on_itself h h refl refl }; same = refl }
+unseen_itself view leave left_at h state d serves = record { later = h; serves = serves; since = record { first = refl; begin = refl; base = refl; on = on_itself h }; same = refl }
 
 pub unseen_declared : {D : Type 0} (view : D → View) (leave : D → Image → Type 0) (left_at : D → ℕ → Image → Type 0) (h : History) (channel : List Track) (answer : Declared) (state : State) (d : D)
     → DeclaresIn view leave left_at h channel answer state d → GoesUnseen view leave left_at h state d

@@ -1,5 +1,5 @@
 use Rattle.std.proofs.Common.{◌≡◌, true, false, if◌then◌else◌, [], refl, subst, Bool}
-use Rattle.sm_serve.specs.Run.{idle, acting, sending, in_phase}
+use Rattle.sm_serve.specs.Run.{idle, acting, sending, in_phase, wants}
 use Rattle.sm_serve.specs.Standing.{Reaches}
 use Rattle.sm_head.specs.declared.reply.TheConstants.{NO_MEMORY}
 use Rattle.sm_serve.proofs.Going.{paused}
@@ -17,7 +17,7 @@ returns-clause-goes_on g c h more counts origin keeps stands phase =
     let told = c.tell.ensures.goes_on k [] origin (starving V A L h d n more keeps phase) stands refl in
     let shut : c.tell.result ≡ false = c.tell.ensures.closed refl in
     closed_counts V A L h n idle (h.point.counts n) counts origin c.tell.new.site
-    (reach_then V A L h k n false idle (h.point.counts n) (h.point.counts n) origin c.tell.new.site (paused_follows V A L h n (sending n NO_MEMORY.now true []))
+    (reach_then V A L h k n false idle (h.point.counts n) (h.point.counts n) origin c.tell.new.site (paused_follows V A L h n (sending n NO_MEMORY.now true []) (wants n more phase refl refl refl))
     (subst (λ (b : Bool). Reaches V A L k n b (if b then acting n [] else idle) (h.point.counts n) origin c.tell.new.site) shut told) (λ t. refl))
 
 pub returns-clause-stands : goal.returns-clause-stands

@@ -8,7 +8,7 @@ use Rattle.sm_wire.specs.Wire.{Left, unplaced, wire}
 use Rattle.sm_wire.proofs.WireLaw.{left_unique, continue_left, posted_left, posted_back, bad_left}
 use Rattle.sm_conn.specs.Stands.{items_of}
 use Rattle.sm_head.specs.declared.reply.TheConstants.{CONTINUE}
-use Rattle.sm_serve.specs.Run.{idle, acting, sending, in_phase}
+use Rattle.sm_serve.specs.Run.{idle, acting, sending, in_phase, continues}
 use Rattle.sm_serve.specs.Resting.{PlaceIs, counts_of}
 use Rattle.sm_serve.specs.Giving.{PartGives, StaysOpen}
 use Rattle.sm_serve.proofs.Going.{paused}
@@ -44,7 +44,7 @@ returns-in-Continue-clause-goes_on g c h more items keeps stands place left phas
     let k = paused V A L h (in_phase h.point (sending n CONTINUE.now false (wire None more))) in
     let told = c.tell.ensures.goes_on k (wire None more) c.args.origin.now (continuing V A L h c.args.site.now n (wire None more) keeps at) stands refl in
     let reaches = reach_then V A L h k n r (if r then acting n (wire None more) else idle) (h.point.counts n) (counts_of c.args.live.now) c.args.origin.now c.tell.new.site
-    (paused_follows V A L h n (sending n CONTINUE.now false (wire None more))) told (λ t. counts) in
+    (paused_follows V A L h n (sending n CONTINUE.now false (wire None more)) (continues n (wire None more) at refl refl refl)) told (λ t. counts) in
     let gives = continue_gives V A L h n r c.args.live.now.push (counts_of c.args.live.now) more c.args.origin.now c.tell.new.site place reaches in
     subst (λ (p : Part). PartGives V A L h n r c.args.live.now.push (counts_of c.args.live.now) None (items_of p) more c.args.origin.now c.tell.new.site) (sym c.in-Continue.is) gives
 

@@ -6,11 +6,11 @@ use Rattle.sm_conn.specs.Stands.{StandsFor as Gave}
 use Rattle.sm_conn.specs.Stands.{joined}
 use Rattle.sm_head.specs.declared.reply.TheConstants.{NO_MEMORY}
 use Rattle.sm_serve.specs.Connections.{received}
-use Rattle.sm_serve.specs.Run.{idle, acting, sending, at, at_event}
+use Rattle.sm_serve.specs.Run.{idle, acting, sending, at, at_event, unread}
 use Rattle.sm_serve.specs.Standing.{moved, Reaches}
 use Rattle.sm_serve.specs.Resting.{counts_of}
 use Rattle.sm_serve.proofs.Reaching.{closed_counts}
-use Rattle.sm_serve.proofs.Pieces.{read_move, unread_move, piece_gives}
+use Rattle.sm_serve.proofs.Pieces.{came_move, read_move, unread_move, piece_gives}
 use Rattle.sm_serve.proofs.piece.take_piece.Goals as goal
 
 pub returns-in-Ok-clause-goes_on : goal.returns-in-Ok-clause-goes_on
@@ -27,7 +27,8 @@ returns-in-Ok-clause-goes_on g c h m pending stands phase is_live counts rests =
     let keeps = read_move V A L h m n piece c.args.live.now c.feed.new.self ps c.args.site.now pending phase is_live rests gave items.0 items.1 in
     let gives = c.take_parts.ensures.goes_on (moved h (at m (Came n piece)) (at_event h.point (acting n items.0) m)) rests.place [] items.0 keeps stands rests.place_is items.1 refl counts in
     piece_gives V A L h m n piece c.args.live.now c.take_parts.new.live c.take_parts.result ps items.0 c.take_parts.new.origin c.take_parts.new.site rests
-    (subst (λ (k : Conn). Gave k (received n h.items ++ piece) (rests.parts ++ ps)) (sym c.take_parts.ensures.same.conn) gave) gives
+    (subst (λ (k : Conn). Gave k (received n h.items ++ piece) (rests.parts ++ ps)) (sym c.take_parts.ensures.same.conn) gave)
+    (came_move V A L false h m n piece c.args.live.now c.feed.new.self ps phase is_live rests gave items.0 items.1) gives
 
 pub returns-in-Err-clause-goes_on : goal.returns-in-Err-clause-goes_on
 returns-in-Err-clause-goes_on g c h m pending stands phase is_live counts rests =
@@ -43,6 +44,7 @@ returns-in-Err-clause-goes_on g c h m pending stands phase is_live counts rests 
     record {
       from = at_event h.point (sending n NO_MEMORY.now true []) m;
       from_counts = refl;
+      move = unread m n piece phase is_live refl refl refl;
       reaches = subst (λ (b : Bool). Reaches V A L k n b idle (counts_of c.args.live.now) c.args.origin.now c.tell.new.site) (sym shut)
           (closed_counts V A L k n idle _ (counts_of c.args.live.now) c.args.origin.now c.tell.new.site
           (subst (λ (b : Bool). Reaches V A L k n b (if b then acting n [] else idle) (k.point.counts n) c.args.origin.now c.tell.new.site) shut told));

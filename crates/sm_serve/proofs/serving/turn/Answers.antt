@@ -1,4 +1,4 @@
-use Rattle.std.proofs.Common.{◌≡◌, ⊎_elim, ℕ, IfSome, refl, sym, ap, subst, arith}
+use Rattle.std.proofs.Common.{◌≡◌, ⊎_elim, IfSome, refl, sym, ap, subst, arith}
 use Rattle.sm_site.specs.declared.event.Event.{Event}
 use Rattle.sm_site.specs.declared.event.Event.TheVariants.{Ended}
 use Rattle.sm_site.specs.Meanings.Deal.{Over}
