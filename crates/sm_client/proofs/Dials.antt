@@ -1,12 +1,14 @@
 -- What a play leaves of the dial.
-use Rattle.std.proofs.Common.{◌≡◌, ◌≤◌, ◌+◌, ◌⊎◌, ℕ, List, [], ◌∷◌, ◌++◌, min, Some, refl, ap, sym, ◌∙◌, subst, arith, inl, inr, append_assoc, append-nil}
+use Rattle.std.proofs.Common.{◌≡◌, ◌≤◌, ◌+◌, ◌⊎◌, ℕ, List, [], ◌∷◌, ◌++◌, min, Option, Some, refl, ap, sym, ◌∙◌, subst, arith, inl, inr, append_assoc, append-nil}
 use Rattle.std.specs.Prelude.{Contains}
 use Rattle.std.proofs.lemmas.List.Elements.{Contains-push_cases}
 use Rattle.sm_model.specs.declared.entry.Entry.{Entry}
 use Rattle.sm_fetch.specs.declared.got.Got.{Got}
 use Rattle.sm_fetch.specs.declared.got.Got.TheVariants as got
+use Rattle.sm_fetch.specs.declared.dial.Exchange.{Exchange}
 use Rattle.sm_fetch.specs.Exchanges.{Rose}
-use Rattle.sm_fetch.specs.Origins.{Grows}
+use Rattle.sm_fetch.specs.Origins.{Grows, Answered}
+use Rattle.sm_fetch.proofs.Answering.{answered_same, answered_none, answered_then}
 use Rattle.sm_client.specs.declared.report.Miss.{Miss}
 use Rattle.sm_client.specs.declared.report.Miss.TheVariants as miss
 use Rattle.sm_client.specs.declared.list.Listed.{Listed}
@@ -47,37 +49,44 @@ grows-more s t u g h log told =
 none-lost : (m : Miss) → Contains [] m → ⊥
 none-lost m h = omega (arith, h.1)
 
-pub dialed-start : (f : ℕ) (s : List Entry → Type 0) → Dialed f f s s []
-dialed-start f s = record { later = omega arith; lost = λ h. absurd (none-lost miss.Lost h); grows = grows-same s }
+pub dialed-start : (l : Option (List Exchange)) (f : ℕ) (s : List Entry → Type 0) → Dialed l l f f s s []
+dialed-start l f s = record { later = omega arith; lost = λ h. absurd (none-lost miss.Lost h); grows = grows-same s; answered = answered_same l s }
 
-pub dialed-none : {f f' : ℕ} {s s' : List Entry → Type 0} → f ≤ f' → Grows s s' → Dialed f f' s s' []
-dialed-none later grows = record { later = later; lost = λ h. absurd (none-lost miss.Lost h); grows = grows }
+none-carried : {l l' : Option (List Exchange)} {f f' : ℕ} {s s' : List Entry → Type 0} → f ≤ f' → Grows s s' → Answered l l' s s' → Dialed l l' f f' s s' []
+none-carried later grows answered = record { later = later; lost = λ h. absurd (none-lost miss.Lost h); grows = grows; answered = answered }
+
+-- no exchange was made
+pub dialed-none : {l l' : Option (List Exchange)} {f f' : ℕ} {s s' : List Entry → Type 0} → l' ≡ l → f ≤ f' → Grows s s' → Dialed l l' f f' s s' []
+dialed-none same later grows = none-carried later grows (answered_none same grows)
 
 -- what was carried before is forgotten
-pub dialed-then : {f g h : ℕ} {s t u : List Entry → Type 0} {xs ys : List Miss} → Dialed f g s t xs → Dialed g h t u ys → Dialed f h s u ys
+pub dialed-then : {k l m : Option (List Exchange)} {f g h : ℕ} {s t u : List Entry → Type 0} {xs ys : List Miss} → Dialed k l f g s t xs → Dialed l m g h t u ys → Dialed k m f h s u ys
 dialed-then {f = f} {g = g} {h = h} {s = s} {t = t} {u = u} a b = record {
   later = omega (arith, a.later, b.later);
   lost = λ l. rose-before f g h a.later (b.lost l);
   grows = grows-more s t u a.grows b.grows;
+  answered = answered_then a.answered b.answered;
 }
 
 -- nothing is carried
-pub dialed-dropped : {f g : ℕ} {s t : List Entry → Type 0} {xs : List Miss} → Dialed f g s t xs → Dialed f g s t []
-dialed-dropped a = dialed-none a.later a.grows
+pub dialed-dropped : {l l' : Option (List Exchange)} {f g : ℕ} {s t : List Entry → Type 0} {xs : List Miss} → Dialed l l' f g s t xs → Dialed l l' f g s t []
+dialed-dropped a = none-carried a.later a.grows a.answered
 
 -- one outcome more is carried
-pub dialed-more : {f g h : ℕ} {s t u : List Entry → Type 0} {xs : List Miss} {m : Miss} (ys : List Miss) → Dialed f g s t xs → Dialed g h t u (m ∷ []) → ys ≡ xs ++ m ∷ [] → Dialed f h s u ys
+pub dialed-more : {j k l : Option (List Exchange)} {f g h : ℕ} {s t u : List Entry → Type 0} {xs : List Miss} {m : Miss} (ys : List Miss) → Dialed j k f g s t xs
+    → Dialed k l g h t u (m ∷ []) → ys ≡ xs ++ m ∷ [] → Dialed j l f h s u ys
 dialed-more {f = f} {g = g} {h = h} {s = s} {t = t} {u = u} {xs = xs} {m = m} ys a b is = record {
   later = omega (arith, a.later, b.later);
   lost = λ l. by (Contains-push_cases xs m miss.Lost (rw is at l));
   grows = grows-more s t u a.grows b.grows;
+  answered = answered_then a.answered b.answered;
 }
   where
     by : Contains xs miss.Lost ⊎ (m ≡ miss.Lost) → Rose f h
     by (inl l) = rose-later f g h (a.lost l) b.later
     by (inr e) = rose-before f g h a.later (b.lost (0, omega arith, e))
 
-pub dialed-carried : {f g : ℕ} {s t : List Entry → Type 0} {xs : List Miss} (ys : List Miss) → Dialed f g s t xs → ys ≡ xs → Dialed f g s t ys
+pub dialed-carried : {l l' : Option (List Exchange)} {f g : ℕ} {s t : List Entry → Type 0} {xs : List Miss} (ys : List Miss) → Dialed l l' f g s t xs → ys ≡ xs → Dialed l l' f g s t ys
 dialed-carried ys a is = rw is a
 
 -- ---- as calls tell it
@@ -91,23 +100,27 @@ lost-got (got.Unreadable at) e = absurd (cc)
 lost-got got.Lost e = refl
 lost-got got.NoMemory e = absurd (cc)
 
-missed-dialed : {f f' : ℕ} {s s' : List Entry → Type 0} (g : Got) (m : Miss) → f ≤ f' → (g ≡ got.Lost → Rose f f') → Grows s s' → miss_of g ≡ Some m → Dialed f f' s s' (m ∷ [])
-missed-dialed {f = f} {f' = f'} g m later lost grows is = record {
+missed-dialed : {l l' : Option (List Exchange)} {f f' : ℕ} {s s' : List Entry → Type 0} (g : Got) (m : Miss) → f ≤ f' → (g ≡ got.Lost → Rose f f') → Grows s s' → Answered l l' s s'
+    → miss_of g ≡ Some m → Dialed l l' f f' s s' (m ∷ [])
+missed-dialed {f = f} {f' = f'} g m later lost grows answered is = record {
   later = later;
   lost = λ l. by (Contains-push_cases [] m miss.Lost l);
   grows = grows;
+  answered = answered;
 }
   where
     by : Contains [] miss.Lost ⊎ (m ≡ miss.Lost) → Rose f f'
     by (inl l) = absurd (none-lost miss.Lost l)
     by (inr e) = lost (lost-got g (is ∙ ap (λ (n : Miss). Some n) e))
 
-pub listed-dialed : {f f' : ℕ} {s s' : List Entry → Type 0} {g : Got} (name : List ℕ) (r : Listed) → f ≤ f' → (g ≡ got.Lost → Rose f f') → Grows s s' → IsListedOf g name r → Dialed f f' s s' (carried_listed r)
-listed-dialed name (listed_once.Found found) later lost grows is = dialed-none later grows
-listed-dialed {g = g} name (listed_once.Missed m) later lost grows is = missed-dialed g m later lost grows is
-listed-dialed name listed_once.NoMemory later lost grows is = dialed-none later grows
+pub listed-dialed : {l l' : Option (List Exchange)} {f f' : ℕ} {s s' : List Entry → Type 0} {g : Got} (name : List ℕ) (r : Listed) → f ≤ f' → (g ≡ got.Lost → Rose f f') → Grows s s' → Answered l l' s s'
+    → IsListedOf g name r → Dialed l l' f f' s s' (carried_listed r)
+listed-dialed name (listed_once.Found found) later lost grows answered is = none-carried later grows answered
+listed-dialed {g = g} name (listed_once.Missed m) later lost grows answered is = missed-dialed g m later lost grows answered is
+listed-dialed name listed_once.NoMemory later lost grows answered is = none-carried later grows answered
 
-pub asked-dialed : {f f' : ℕ} {s s' : List Entry → Type 0} {g : Got} (level : ℕ) (r : Asked) → f ≤ f' → (g ≡ got.Lost → Rose f f') → Grows s s' → IsAskedOf g level r → Dialed f f' s s' (carried_asked r)
-asked-dialed level (asked.Took raw place) later lost grows is = dialed-none later grows
-asked-dialed {g = g} level (asked.Missed m) later lost grows is = missed-dialed g m later lost grows is
-asked-dialed level asked.NoMemory later lost grows is = dialed-none later grows
+pub asked-dialed : {l l' : Option (List Exchange)} {f f' : ℕ} {s s' : List Entry → Type 0} {g : Got} (level : ℕ) (r : Asked) → f ≤ f' → (g ≡ got.Lost → Rose f f') → Grows s s' → Answered l l' s s'
+    → IsAskedOf g level r → Dialed l l' f f' s s' (carried_asked r)
+asked-dialed level (asked.Took raw place) later lost grows answered is = none-carried later grows answered
+asked-dialed {g = g} level (asked.Missed m) later lost grows answered is = missed-dialed g m later lost grows answered is
+asked-dialed level asked.NoMemory later lost grows answered is = none-carried later grows answered

@@ -1,8 +1,9 @@
--- What a play leaves of the dial: its count of faults, and the store behind it.
+-- What a play leaves of the dial: its exchanges, its count of faults, and the store behind it.
 use Rattle.std.specs.Prelude.{◌≤◌, ℕ, List, [], ◌∷◌, Option, Some, None, Contains}
 use Rattle.sm_model.specs.declared.entry.Entry.{Entry}
+use Rattle.sm_fetch.specs.declared.dial.Exchange.{Exchange}
 use Rattle.sm_fetch.specs.Exchanges.{Rose}
-use Rattle.sm_fetch.specs.Origins.{Grows}
+use Rattle.sm_fetch.specs.Origins.{Grows, Answered}
 use Rattle.sm_client.specs.declared.report.Miss.{Miss}
 use Rattle.sm_client.specs.declared.report.Miss.TheVariants as miss
 use Rattle.sm_client.specs.declared.report.End.{End}
@@ -18,11 +19,13 @@ use Rattle.sm_client.specs.declared.piece.Pieces.TheVariants as pieces
 use Rattle.sm_client.specs.declared.seek.Begun.{Begun}
 use Rattle.sm_client.specs.declared.seek.Begun.TheVariants as begun_as
 
--- The count of faults doesn't fall, and the logs that are told only grow. A loss is among these outcomes only where the count rose.
-pub record Dialed (faults faults' : ℕ) (store store' : List Entry → Type 0) (outcomes : List Miss) : Type 0 where
+-- The count of faults doesn't fall, and the logs that are told only grow, and answer the exchanges on the way. A loss is among these
+-- outcomes only where the count rose.
+pub record Dialed (log log' : Option (List Exchange)) (faults faults' : ℕ) (store store' : List Entry → Type 0) (outcomes : List Miss) : Type 0 where
   pub later : faults ≤ faults'
   pub lost : Contains outcomes miss.Lost → Rose faults faults'
   pub grows : Grows store store'
+  pub answered : Answered log log' store store'
 
 -- ---- what came in place of what was asked, as an answer carries it
 

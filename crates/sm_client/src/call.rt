@@ -32,7 +32,8 @@ fn play_all<C: Dial, T: Tracks>(
         (C.log dial.old) (C.log dial.new) (C.store dial.old) (C.store dial.new) (T.held tracks.old) (T.held tracks.new) result }
     ensures later { T.faults tracks.old ≤ T.faults tracks.new }
     ensures fault { result.end ≡ End.WriteFault → Rose (T.faults tracks.old) (T.faults tracks.new) }
-    ensures dial { Dialed (C.dial_faults dial.old) (C.dial_faults dial.new) (C.store dial.old) (C.store dial.new) (carried result.end) }
+    ensures goes_on { C.later dial.old dial.new }
+    ensures dial { Dialed (C.log dial.old) (C.log dial.new) (C.dial_faults dial.old) (C.dial_faults dial.new) (C.store dial.old) (C.store dial.new) (carried result.end) }
 {
     let mut played: u64 = 0;
     let mut number: u32 = 0;
@@ -73,7 +74,8 @@ pub fn play<C: Dial, T: Tracks>(
         (C.log dial.old) (C.log dial.new) (C.store dial.old) (C.store dial.new) (T.held tracks.old) (T.held tracks.new) result }
     ensures later { T.faults tracks.old ≤ T.faults tracks.new }
     ensures fault { result.end ≡ End.WriteFault → Rose (T.faults tracks.old) (T.faults tracks.new) }
-    ensures dial { Dialed (C.dial_faults dial.old) (C.dial_faults dial.new) (C.store dial.old) (C.store dial.new) (carried result.end) }
+    ensures goes_on { C.later dial.old dial.new }
+    ensures dial { Dialed (C.log dial.old) (C.log dial.new) (C.dial_faults dial.old) (C.dial_faults dial.new) (C.store dial.old) (C.store dial.new) (carried result.end) }
     ensures served { PlayedServed (record { pick = pick_after; retired = retired_after }) plan.now policies.items
         (C.log dial.old) (C.log dial.new) (T.held tracks.old) (T.held tracks.new) result }
 {

@@ -70,7 +70,9 @@ fn listed_of(got: Got, name: &Name) -> Listed
 // One request.
 fn list_once<C: Dial>(alloc: Global, dial: &mut C, plan: &Plan, name: &Name) -> Listed
     ensures listed { ListedOnce plan.now name.now (C.log dial.old) (C.log dial.new) result }
-    ensures dial { Dialed (C.dial_faults dial.old) (C.dial_faults dial.new) (C.store dial.old) (C.store dial.new) (carried_listed result) }
+    ensures goes_on { C.later dial.old dial.new }
+    ensures dial { Dialed (C.log dial.old) (C.log dial.new) (C.dial_faults dial.old) (C.dial_faults dial.new) (C.store dial.old) (C.store dial.new)
+        (carried_listed result) }
 {
     let got = get_manifest(alloc, dial, &plan.place);
     listed_of(got, name)
@@ -79,7 +81,9 @@ fn list_once<C: Dial>(alloc: Global, dial: &mut C, plan: &Plan, name: &Name) -> 
 /// As many requests as there are tries, until a manifest is read.
 pub fn list<C: Dial>(alloc: Global, dial: &mut C, plan: &Plan, name: &Name) -> Manifest
     ensures listed { (stand : Stand) → MayList plan.now stand → ListedBy plan.now name.now stand (C.log dial.old) (C.log dial.new) result }
-    ensures dial { Dialed (C.dial_faults dial.old) (C.dial_faults dial.new) (C.store dial.old) (C.store dial.new) (carried_manifest result) }
+    ensures goes_on { C.later dial.old dial.new }
+    ensures dial { Dialed (C.log dial.old) (C.log dial.new) (C.dial_faults dial.old) (C.dial_faults dial.new) (C.store dial.old) (C.store dial.new)
+        (carried_manifest result) }
 {
     let mut outcomes = Outcomes::new(alloc);
     for _ in 0..plan.tries {

@@ -86,7 +86,9 @@ fn ask_once<C: Dial>(
     ensures once { PieceOnce (record { pick = pick_after; retired = retired_after }) plan.now name.now stream.now start ahead
         policies.old.acting policies.new.acting (C.log dial.old) (C.log dial.new) result }
     ensures rest { policies.new.rest.items ≡ policies.old.rest.items }
-    ensures dial { Dialed (C.dial_faults dial.old) (C.dial_faults dial.new) (C.store dial.old) (C.store dial.new) (carried_asked result) }
+    ensures goes_on { C.later dial.old dial.new }
+    ensures dial { Dialed (C.log dial.old) (C.log dial.new) (C.dial_faults dial.old) (C.dial_faults dial.new) (C.store dial.old) (C.store dial.new)
+        (carried_asked result) }
     ensures kept { AskedKept plan.now name.now stream.now (C.store dial.old) (C.store dial.new) result }
 {
     let Ok(ladder) = ladder_of(alloc, stream.levels.as_slice()) else {
@@ -134,7 +136,9 @@ pub fn ask<C: Dial>(
         PiecesBy (record { pick = pick_after; retired = retired_after }) plan.now name.now p stream.now
         (fresh policies.old.acting policies.old.rest.items) (fresh policies.new.acting policies.new.rest.items)
         (C.log dial.old) (C.log dial.new) result }
-    ensures dial { Dialed (C.dial_faults dial.old) (C.dial_faults dial.new) (C.store dial.old) (C.store dial.new) (carried_pieces result) }
+    ensures goes_on { C.later dial.old dial.new }
+    ensures dial { Dialed (C.log dial.old) (C.log dial.new) (C.dial_faults dial.old) (C.dial_faults dial.new) (C.store dial.old) (C.store dial.new)
+        (carried_pieces result) }
     ensures kept { PiecesKept plan.now name.now stream.now (C.store dial.old) (C.store dial.new) result }
 {
     let mut outcomes = Outcomes::new(alloc);

@@ -25,7 +25,9 @@ pub enum Begun {
 pub fn begin<C: Dial>(alloc: Global, dial: &mut C, plan: &Plan, name: &Name, number: u32) -> Begun
     ensures began { Began plan.now name.now number (C.log dial.old) (C.log dial.new) result }
     ensures whole { result ≢ Begun.Ended End.WriteFault }
-    ensures dial { Dialed (C.dial_faults dial.old) (C.dial_faults dial.new) (C.store dial.old) (C.store dial.new) (carried_begun result) }
+    ensures goes_on { C.later dial.old dial.new }
+    ensures dial { Dialed (C.log dial.old) (C.log dial.new) (C.dial_faults dial.old) (C.dial_faults dial.new) (C.store dial.old) (C.store dial.new)
+        (carried_begun result) }
 {
     match list(alloc, dial, plan, name) {
         Manifest::Read(None) => Begun::Ended(End::NoStream { index: number }),
@@ -80,7 +82,8 @@ fn relist<C: Dial>(
     ensures manifests { IfNone result (standing.new.manifests ≡ standing.old.manifests + 1) }
     ensures levels { IfNone result (HasLevels standing.new.listing) }
     ensures whole { result ≢ Some End.WriteFault }
-    ensures dial { Dialed (C.dial_faults dial.old) (C.dial_faults dial.new) (C.store dial.old) (C.store dial.new) (carried_if result) }
+    ensures goes_on { C.later dial.old dial.new }
+    ensures dial { Dialed (C.log dial.old) (C.log dial.new) (C.dial_faults dial.old) (C.dial_faults dial.new) (C.store dial.old) (C.store dial.new) (carried_if result) }
 {
     dial.pause();
     match list(alloc, dial, plan, name) {
@@ -107,7 +110,8 @@ pub fn seek<C: Dial>(
     ensures written { standing.new.written ≡ standing.old.written }
     ensures levels { IfNone result (HasLevels standing.new.listing) }
     ensures whole { result ≢ Some End.WriteFault }
-    ensures dial { Dialed (C.dial_faults dial.old) (C.dial_faults dial.new) (C.store dial.old) (C.store dial.new) (carried_if result) }
+    ensures goes_on { C.later dial.old dial.new }
+    ensures dial { Dialed (C.log dial.old) (C.log dial.new) (C.dial_faults dial.old) (C.dial_faults dial.new) (C.store dial.old) (C.store dial.new) (carried_if result) }
 {
     while !standing.is_known() {
         if let Some(end) = settled(plan, standing) {

@@ -77,7 +77,8 @@ fn add_piece<C: Dial, T: Tracks>(
     ensures levels { standing.new.listing ≡ standing.old.listing }
     ensures written { IfNone result (standing.new.written ≡ standing.old.written + 1) }
     ensures upto { standing.new.written ≤ standing.old.written + 1 }
-    ensures dial { Dialed (C.dial_faults dial.old) (C.dial_faults dial.new) (C.store dial.old) (C.store dial.new) (carried_if result) }
+    ensures goes_on { C.later dial.old dial.new }
+    ensures dial { Dialed (C.log dial.old) (C.log dial.new) (C.dial_faults dial.old) (C.dial_faults dial.new) (C.store dial.old) (C.store dial.new) (carried_if result) }
 {
     let Some(stream) = &standing.listing else {
         return Some(End::NoMemory);
@@ -137,7 +138,8 @@ fn play_one<C: Dial, T: Tracks>(
     ensures levels { IfNone result (HasLevels standing.new.listing) }
     ensures written { IfNone result (standing.new.written ≡ standing.old.written + 1) }
     ensures upto { standing.new.written ≤ standing.old.written + 1 }
-    ensures dial { Dialed (C.dial_faults dial.old) (C.dial_faults dial.new) (C.store dial.old) (C.store dial.new) (carried_if result) }
+    ensures goes_on { C.later dial.old dial.new }
+    ensures dial { Dialed (C.log dial.old) (C.log dial.new) (C.dial_faults dial.old) (C.dial_faults dial.new) (C.store dial.old) (C.store dial.new) (carried_if result) }
 {
     if let Some(end) = seek(alloc, dial, plan, name, standing) {
         return Some(end);
@@ -163,7 +165,8 @@ pub fn play_stream<C: Dial, T: Tracks>(
     ensures later { T.faults tracks.old ≤ T.faults tracks.new }
     ensures fault { result.end ≡ End.WriteFault → Rose (T.faults tracks.old) (T.faults tracks.new) }
     ensures few { result.written ≤ plan.now.count }
-    ensures dial { Dialed (C.dial_faults dial.old) (C.dial_faults dial.new) (C.store dial.old) (C.store dial.new) (carried result.end) }
+    ensures goes_on { C.later dial.old dial.new }
+    ensures dial { Dialed (C.log dial.old) (C.log dial.new) (C.dial_faults dial.old) (C.dial_faults dial.new) (C.store dial.old) (C.store dial.new) (carried result.end) }
 {
     let mut standing = match begin(alloc, dial, plan, name, number) {
         Begun::Stands(standing) => standing,

@@ -5,6 +5,7 @@ pub mod Chunks
 pub mod Pairs
 pub mod Fronts
 pub mod Origin
+pub mod Answering
 pub mod OneReply
 pub mod OneGot
 pub mod Listed

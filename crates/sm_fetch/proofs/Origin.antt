@@ -1,6 +1,6 @@
 -- What a front of an origin's reply spells: nothing but what the reply says.
 use Rattle.std.proofs.Common.{◌≡◌, ◌<◌, ◌≤◌, ◌^◌, ℕ, zero, suc, ◌+◌, ◌⊎◌, Bool, List, [], ◌∷◌, ◌++◌, length, drop, refl, ap, ◌∙◌, sym, subst, arith, inl, inr, ⊎_elim, append_assoc, length-append, zero-add}
-use Rattle.std.specs.Prelude.{Option, Some, None, Ok, Err, Result, Contains}
+use Rattle.std.specs.Prelude.{Option, Some, Ok, Err, Result, Contains}
 use Rattle.std.proofs.lemmas.List.{append-nil, drop-append-le}
 use Rattle.std.proofs.lemmas.List.Elements.{Contains-append_left}
 use Rattle.std.proofs.lemmas.Bool.Decides.{nat_tests}

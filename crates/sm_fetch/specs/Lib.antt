@@ -1,6 +1,7 @@
 pub mod Exchanges
 pub mod Origins
 pub mod Memory
+pub mod MemoryLaws
 pub mod Patterns
 pub mod Requests
 pub mod Answered

@@ -1,5 +1,5 @@
 -- The store of an origin behind a dial, which only grows, and the replies that it may give.
-use Rattle.std.specs.Prelude.{◌≡◌, ◌<◌, ◌≤◌, ◌^◌, ◌⊎◌, ℕ, Bool, List, ◌++◌, length, None, Some, Contains, IsUtf8}
+use Rattle.std.specs.Prelude.{◌≡◌, ◌<◌, ◌≤◌, ◌^◌, ◌⊎◌, ℕ, Bool, List, [], ◌∷◌, ◌++◌, length, Option, None, Some, Contains, IsUtf8}
 use Rattle.http.specs.StatusCode.{IsStatusCode}
 use Rattle.httparse.specs.Grammar.{AllPass, is_uri_byte, is_value_byte}
 use Rattle.sm_model.specs.declared.address.Address.{Address}
@@ -18,6 +18,8 @@ use Rattle.sm_head.specs.declared.reply.Content.{Content}
 use Rattle.sm_head.specs.Replies.{reply_text}
 use Rattle.sm_fetch.specs.declared.dial.Answer.{Answer}
 use Rattle.sm_fetch.specs.declared.dial.Answer.TheVariants as answers
+use Rattle.sm_fetch.specs.declared.dial.Exchange.{Exchange}
+use Rattle.sm_fetch.specs.Exchanges.{with_all}
 use Rattle.sm_fetch.specs.Requests.{get_text}
 
 -- ---- what an origin replies
@@ -94,3 +96,18 @@ Grows old now = (log : List Entry) → old log → (more : List Entry) × now (l
 abbrev pub AnswersFrom : (List Entry → Type 0) → (List Entry → Type 0) → List ℕ → Answer → Type 0
 AnswersFrom old now request answer =
     (log : List Entry) → old log → (until since : List Entry) × now ((log ++ until) ++ since) × FromOrigin (log ++ until) request answer
+
+-- ---- exchanges that a dial was told to have made
+
+-- each of these was answered at some moment of a log that only grows, from this one to that
+abbrev pub AnsweredFrom : List Entry → List Exchange → List Entry → Type 0
+AnsweredFrom log [] later = (more : List Entry) × (later ≡ log ++ more)
+AnsweredFrom log (x ∷ xs) later =
+    (more : List Entry) × FromOrigin (log ++ more) x.request x.answer × AnsweredFrom (log ++ more) xs later
+
+-- The list of a dial got these exchanges. For each log that is told before, one is told now that goes on from it, and on the way they
+-- were answered, in their order.
+pub record Answered (told told' : Option (List Exchange)) (old now : List Entry → Type 0) : Type 0 where
+  pub made : List Exchange
+  pub told_is : told' ≡ with_all told made
+  pub on : (log : List Entry) → old log → (more : List Entry) × now (log ++ more) × AnsweredFrom log made (log ++ more)

@@ -73,10 +73,15 @@ pub trait Dial {
     /// The logs that the origin behind it may have, where the dial tells any. They only grow.
     ghost store: { Self → List Entry → Type 0 };
 
+    /// That the second of two dials is a later one than the first: what a dial promises of whatever is done with it. Each call
+    /// leaves a later dial than the one it was made on.
+    ghost later: { Self → Self → Type 0 };
+
     /// Turns to the origin at this host and port, for the exchanges that follow. It makes none.
     fn select(&mut self, host: &str, port: u16) -> Result<(), DialError>
         ensures log { log self.new ≡ log self.old }
         ensures later { dial_faults self.old ≤ dial_faults self.new }
+        ensures goes_on { later self.old self.new }
         ensures failed { IsErrOf result DialError.Failed → Rose (dial_faults self.old) (dial_faults self.new) }
         ensures store { Grows (store self.old) (store self.new) };
 
@@ -85,6 +90,7 @@ pub trait Dial {
         ensures log { log self.new ≡ logged (log self.old) request.now limit result }
         ensures within { IsWithin limit result }
         ensures later { dial_faults self.old ≤ dial_faults self.new }
+        ensures goes_on { later self.old self.new }
         ensures lost { result ≡ Answer.Lost → Rose (dial_faults self.old) (dial_faults self.new) }
         ensures store { AnswersFrom (store self.old) (store self.new) request.now result };
 
@@ -92,5 +98,12 @@ pub trait Dial {
     fn pause(&mut self)
         ensures log { log self.new ≡ log self.old }
         ensures later { dial_faults self.old ≤ dial_faults self.new }
+        ensures goes_on { later self.old self.new }
         ensures store { Grows (store self.old) (store self.new) };
+
+    /// A dial that nothing was done with is later than itself.
+    ghost later_same: { (d : Self) → later d d };
+
+    /// What is later than a later dial is later.
+    ghost later_then: { (d e f : Self) → later d e → later e f → later d f };
 }

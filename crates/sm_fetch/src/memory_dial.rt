@@ -2,6 +2,7 @@
 ghost use Rattle.std.specs.Prelude.{◌≡◌, ◌≢◌, ◌≤◌, ◌++◌, [], ◌∷◌, Some, None, Ok, OnOk, OnErr, IsErrOf, take};
 ghost use Rattle.sm_fetch.specs.Exchanges.{logged, Rose, IsWithin};
 ghost use Rattle.sm_fetch.specs.Memory.{DialState, one_more, cut_at, coming_at, rest_of, made_one, passed_one};
+ghost use Rattle.sm_fetch.specs.MemoryLaws.{no_fewer, no_fewer_then};
 ghost use Rattle.sm_fetch.specs.Origins.{Untold, Grows, AnswersFrom};
 
 use crate::{Answer, Answers, Dial, DialError, Exchange, Given};
@@ -111,9 +112,17 @@ impl Dial for MemoryDial {
 
     ghost store = { λ d. Untold };
 
+    /// It was asked to pause no less often.
+    ghost later = { λ d e. d.pauses ≤ e.pauses };
+
+    ghost later_same = { λ d. no_fewer d.pauses };
+
+    ghost later_then = { λ d e f. no_fewer_then d.pauses e.pauses f.pauses };
+
     fn select(&mut self, _host: &str, _port: u16) -> Result<(), DialError>
         ensures log { Some self.new.made ≡ Some self.old.made }
         ensures later { self.old.faults ≤ self.new.faults }
+        ensures goes_on { self.old.pauses ≤ self.new.pauses }
         ensures failed { IsErrOf result DialError.Failed → Rose self.old.faults self.new.faults }
         ensures store { Grows Untold Untold }
 
@@ -127,6 +136,7 @@ impl Dial for MemoryDial {
         ensures log { Some self.new.made ≡ logged (Some self.old.made) request.now limit result }
         ensures within { IsWithin limit result }
         ensures later { self.old.faults ≤ self.new.faults }
+        ensures goes_on { self.old.pauses ≤ self.new.pauses }
         ensures lost { result ≡ Answer.Lost → Rose self.old.faults self.new.faults }
         ensures store { AnswersFrom Untold Untold request.now result }
 
@@ -154,6 +164,7 @@ impl Dial for MemoryDial {
     fn pause(&mut self)
         ensures log { Some self.new.made ≡ Some self.old.made }
         ensures later { self.old.faults ≤ self.new.faults }
+        ensures goes_on { self.old.pauses ≤ self.new.pauses }
         ensures store { Grows Untold Untold }
 
         ensures counted { self.new ≡ record self.old { pauses = one_more self.old.pauses } }

@@ -157,6 +157,12 @@ impl<R: Net<Stream = TcpStream> + Clock + Drop> Dial for TcpDial<R> {
 
     ghost store = { λ _. Untold };
 
+    ghost later = { λ _ _. Unit {0} };
+
+    ghost later_same = { λ _. tt };
+
+    ghost later_then = { λ _ _ _ _ _. tt };
+
     fn select(&mut self, host: &str, port: u16) -> Result<(), DialError> {
         self.addresses.clear();
         match resolve(&self.rt, self.alloc, host, port) {

@@ -1,5 +1,6 @@
 //! Pushing an input.
 ghost use Rattle.std.specs.Prelude.{◌≡◌, ◌≤◌, IfOk, IfErr};
+ghost use Rattle.sm_fetch.specs.Origins.{Answered};
 ghost use Rattle.sm_visit.specs.Pushing.{HasPushed, WhyUnpushed};
 
 use crate::VisitFault;
@@ -28,6 +29,8 @@ pub fn push_input<I: Source, C: Dial>(
         (record { told = I.left input.old; faults = I.faults input.old }) (record { told = I.left input.new; faults = I.faults input.new })
         (record { log = C.log dial.old; faults = C.dial_faults dial.old }) (record { log = C.log dial.new; faults = C.dial_faults dial.new }) why) }
     ensures later { C.dial_faults dial.old ≤ C.dial_faults dial.new }
+    ensures goes_on { C.later dial.old dial.new }
+    ensures answered { Answered (C.log dial.old) (C.log dial.new) (C.store dial.old) (C.store dial.new) }
 {
     dial.select(host, place.port)?;
     let body = read_input(alloc, input, MOST)?;

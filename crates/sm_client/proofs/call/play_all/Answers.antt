@@ -4,7 +4,14 @@ use Rattle.sm_client.proofs.Playing.{part-by, playing-start, playing-more, playi
 use Rattle.sm_client.proofs.call.play_all.Goals as goal
 
 pub loop-name-init : goal.loop-name-init
-loop-name-init g c = record { playing = playing-start _ _ _ _ _ _ _; place = refl; few = omega arith; later = omega arith; dial = dialed-start _ _ }
+loop-name-init g c = record {
+  playing = playing-start _ _ _ _ _ _ _;
+  place = refl;
+  few = omega arith;
+  later = omega arith;
+  goes_on = g.met.C.Dial.later_same _;
+  dial = dialed-start _ _ _;
+}
 
 pub loop-name-preserved : goal.loop-name-preserved
 loop-name-preserved g c =
@@ -16,6 +23,7 @@ loop-name-preserved g c =
       place = omega (arith, i.place);
       few = omega (arith, i.few, e.few, c.requires.count);
       later = omega (arith, i.later, e.later);
+      goes_on = g.met.C.Dial.later_then _ _ _ i.goes_on e.goes_on;
       dial = dialed-dropped (dialed-then i.dial e.dial);
     }
 
@@ -31,3 +39,6 @@ returns-in_default-clause-plays g c =
 
 pub returns-in_default-clause-dial : goal.returns-in_default-clause-dial
 returns-in_default-clause-dial g c = dialed-then c.loop-name.invariant.dial c.play_stream-stream.ensures.dial
+
+pub returns-in_default-clause-goes_on : goal.returns-in_default-clause-goes_on
+returns-in_default-clause-goes_on g c = g.met.C.Dial.later_then _ _ _ c.loop-name.invariant.goes_on c.play_stream-stream.ensures.goes_on

@@ -6,12 +6,14 @@ use Rattle.sm_client.proofs.list.list.Goals as goal
 pub loop-init : goal.loop-init
 loop-init g c = record {
   tried = list_tried-same c.new-outcomes.ensures (list_tried-start _ _ _);
-  dial = dialed-carried _ (dialed-start _ _) c.new-outcomes.ensures;
+  goes_on = g.met.C.Dial.later_same _;
+  dial = dialed-carried _ (dialed-start _ _ _) c.new-outcomes.ensures;
 }
 
 pub loop-preserved : goal.loop-preserved
 loop-preserved g c = record {
   tried = list_tried-more _ _ c.loop.invariant.tried c.loop-test.true c.in-Missed.ensures.listed c.in-Ok.ensures.ok refl;
+  goes_on = g.met.C.Dial.later_then _ _ _ c.loop.invariant.goes_on c.in-Missed.ensures.goes_on;
   dial = dialed-more _ c.loop.invariant.dial c.in-Missed.ensures.dial c.in-Ok.ensures.ok;
 }
 
@@ -35,3 +37,12 @@ returns-in-NoMemory-clause-dial g c = dialed-then c.loop.invariant.dial c.in-NoM
 
 pub returns-clause-listed : goal.returns-clause-listed
 returns-clause-listed g c = list_tried-end c.loop.invariant.tried (omega (arith, c.loop-test.false, c.loop.auto.counter-end))
+
+pub returns-in-Found-clause-goes_on : goal.returns-in-Found-clause-goes_on
+returns-in-Found-clause-goes_on g c = g.met.C.Dial.later_then _ _ _ c.loop.invariant.goes_on c.in-Found.ensures.goes_on
+
+pub returns-in_default-clause-goes_on : goal.returns-in_default-clause-goes_on
+returns-in_default-clause-goes_on g c = g.met.C.Dial.later_then _ _ _ c.loop.invariant.goes_on c.in-Missed.ensures.goes_on
+
+pub returns-in-NoMemory-clause-goes_on : goal.returns-in-NoMemory-clause-goes_on
+returns-in-NoMemory-clause-goes_on g c = g.met.C.Dial.later_then _ _ _ c.loop.invariant.goes_on c.in-NoMemory.ensures.goes_on

@@ -5,5 +5,6 @@ use Rattle.sm_client.proofs.list.list.Given as goal
 abbrev pub invariant-loop : goal.invariant-loop
 invariant-loop g l = record {
   tried : ListTried l.plan l.name l.outcomes l.counter (g.C.Dial.log l.initial.dial) (g.C.Dial.log l.dial);
-  dial : Dialed (g.C.Dial.dial_faults l.initial.dial) (g.C.Dial.dial_faults l.dial) (g.C.Dial.store l.initial.dial) (g.C.Dial.store l.dial) l.outcomes;
+  goes_on : g.C.Dial.later l.initial.dial l.dial;
+  dial : Dialed (g.C.Dial.log l.initial.dial) (g.C.Dial.log l.dial) (g.C.Dial.dial_faults l.initial.dial) (g.C.Dial.dial_faults l.dial) (g.C.Dial.store l.initial.dial) (g.C.Dial.store l.dial) l.outcomes;
 }

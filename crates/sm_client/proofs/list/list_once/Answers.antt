@@ -8,4 +8,4 @@ returns-clause-listed g c = listed-once c.args.plan.now c.args.name.now c.listed
 pub returns-clause-dial : goal.returns-clause-dial
 returns-clause-dial g c =
     let e = c.get_manifest-got.ensures in
-    listed-dialed c.args.name.now c.listed_of.result e.later e.lost e.grows c.listed_of.ensures
+    listed-dialed c.args.name.now c.listed_of.result e.later e.lost e.grows e.answered c.listed_of.ensures

@@ -5,11 +5,16 @@ use Rattle.sm_client.proofs.Tries.{piece_tried-start, piece_tried-more, piece_tr
 use Rattle.sm_client.proofs.piece.ask.Goals as goal
 
 pub loop-init : goal.loop-init
-loop-init g c = record { tried = piece_tried-start _ _ _ _ _ _ _ _ _ c.new-outcomes.ensures; dial = dialed-carried _ (dialed-start _ _) c.new-outcomes.ensures }
+loop-init g c = record {
+  tried = piece_tried-start _ _ _ _ _ _ _ _ _ c.new-outcomes.ensures;
+  goes_on = g.met.C.Dial.later_same _;
+  dial = dialed-carried _ (dialed-start _ _ _) c.new-outcomes.ensures;
+}
 
 pub loop-preserved : goal.loop-preserved
 loop-preserved g c = record {
   tried = piece_tried-more _ _ _ c.loop.invariant.tried c.loop-test.true c.in-Missed.ensures.once c.in-Missed.ensures.rest c.settle-in-Missed.ensures c.in-Ok.ensures.ok refl;
+  goes_on = g.met.C.Dial.later_then _ _ _ c.loop.invariant.goes_on c.in-Missed.ensures.goes_on;
   dial = dialed-more _ c.loop.invariant.dial c.in-Missed.ensures.dial c.in-Ok.ensures.ok;
 }
 
@@ -39,3 +44,12 @@ returns-in_default-clause-dial g c = dialed-dropped (dialed-then c.loop.invarian
 
 pub returns-in-NoMemory-clause-dial : goal.returns-in-NoMemory-clause-dial
 returns-in-NoMemory-clause-dial g c = dialed-then c.loop.invariant.dial c.in-NoMemory.ensures.dial
+
+pub returns-in-Took-clause-goes_on : goal.returns-in-Took-clause-goes_on
+returns-in-Took-clause-goes_on g c = g.met.C.Dial.later_then _ _ _ c.loop.invariant.goes_on c.in-Took.ensures.goes_on
+
+pub returns-in_default-clause-goes_on : goal.returns-in_default-clause-goes_on
+returns-in_default-clause-goes_on g c = g.met.C.Dial.later_then _ _ _ c.loop.invariant.goes_on c.in-Missed.ensures.goes_on
+
+pub returns-in-NoMemory-clause-goes_on : goal.returns-in-NoMemory-clause-goes_on
+returns-in-NoMemory-clause-goes_on g c = g.met.C.Dial.later_then _ _ _ c.loop.invariant.goes_on c.in-NoMemory.ensures.goes_on

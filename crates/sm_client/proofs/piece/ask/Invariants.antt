@@ -13,5 +13,6 @@ invariant-loop g l = record {
       l.plan l.name l.stream l.start l.ahead
       (fresh l.initial.policies.acting l.initial.policies.rest.items) (fresh l.policies.acting l.policies.rest.items)
       l.outcomes l.counter (g.C.Dial.log l.initial.dial) (g.C.Dial.log l.dial);
-  dial : Dialed (g.C.Dial.dial_faults l.initial.dial) (g.C.Dial.dial_faults l.dial) (g.C.Dial.store l.initial.dial) (g.C.Dial.store l.dial) l.outcomes;
+  goes_on : g.C.Dial.later l.initial.dial l.dial;
+  dial : Dialed (g.C.Dial.log l.initial.dial) (g.C.Dial.log l.dial) (g.C.Dial.dial_faults l.initial.dial) (g.C.Dial.dial_faults l.dial) (g.C.Dial.store l.initial.dial) (g.C.Dial.store l.dial) l.outcomes;
 }

@@ -24,7 +24,7 @@ returns-clause-once g c =
 pub returns-clause-dial : goal.returns-clause-dial
 returns-clause-dial g c =
     let e = c.fetch_fragment-got.ensures in
-    asked-dialed c.choose-level.result c.asked_of.result e.later e.lost e.grows c.asked_of.ensures
+    asked-dialed c.choose-level.result c.asked_of.result e.later e.lost e.grows e.answered c.asked_of.ensures
 
 pub returns-clause-kept : goal.returns-clause-kept
 returns-clause-kept g c =

@@ -4,12 +4,13 @@ use Rattle.sm_client.proofs.Seeks.{seeking-start, seeking-more, seeking-found, s
 use Rattle.sm_client.proofs.seek.seek.Goals as goal
 
 pub loop-alloc-init : goal.loop-alloc-init
-loop-alloc-init g c = record { seeking = seeking-start _ _ _ _ c.requires.levels; dial = dialed-start _ _ }
+loop-alloc-init g c = record { seeking = seeking-start _ _ _ _ c.requires.levels; goes_on = g.met.C.Dial.later_same _; dial = dialed-start _ _ _ }
 
 pub loop-alloc-preserved : goal.loop-alloc-preserved
 loop-alloc-preserved g c = record {
   seeking = seeking-more _ c.loop-alloc.invariant.seeking (λ q h more. c.in_default.ensures.none q h (sym
       (c.is_known.ensures q h) ∙ c.loop-alloc-test.true) more) c.in_default-relist.ensures.relists c.in_default-relist.ensures.written c.in_default-relist.ensures.levels;
+  goes_on = g.met.C.Dial.later_then _ _ _ c.loop-alloc.invariant.goes_on c.in_default-relist.ensures.goes_on;
   dial = dialed-then c.loop-alloc.invariant.dial c.in_default-relist.ensures.dial;
 }
 
@@ -25,3 +26,6 @@ returns-in-Some-relist-clause-dial g c = dialed-then c.loop-alloc.invariant.dial
 
 pub returns-in-Some-clause-dial : goal.returns-in-Some-clause-dial
 returns-in-Some-clause-dial g c = dialed-carried _ c.loop-alloc.invariant.dial c.in-Some.ensures.quiet
+
+pub returns-in-Some-relist-clause-goes_on : goal.returns-in-Some-relist-clause-goes_on
+returns-in-Some-relist-clause-goes_on g c = g.met.C.Dial.later_then _ _ _ c.loop-alloc.invariant.goes_on c.in-Some-relist.ensures.goes_on

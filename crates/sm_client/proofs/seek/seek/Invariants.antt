@@ -6,7 +6,8 @@ use Rattle.sm_client.proofs.seek.seek.Given as goal
 abbrev pub invariant-loop-alloc : goal.invariant-loop-alloc
 invariant-loop-alloc g l = record {
   seeking : Seeking l.plan l.name l.initial.standing l.standing (g.C.Dial.log l.initial.dial) (g.C.Dial.log l.dial);
-  dial : Dialed (g.C.Dial.dial_faults l.initial.dial) (g.C.Dial.dial_faults l.dial) (g.C.Dial.store l.initial.dial) (g.C.Dial.store l.dial) [];
+  goes_on : g.C.Dial.later l.initial.dial l.dial;
+  dial : Dialed (g.C.Dial.log l.initial.dial) (g.C.Dial.log l.dial) (g.C.Dial.dial_faults l.initial.dial) (g.C.Dial.dial_faults l.dial) (g.C.Dial.store l.initial.dial) (g.C.Dial.store l.dial) [];
 }
 
 abbrev pub decreases-loop-alloc : goal.decreases-loop-alloc

@@ -11,3 +11,6 @@ returns-in-Some-clause-added g c p h more = ends-lists _ _ c.in-Some.ensures.dia
 
 pub returns-clause-dial : goal.returns-clause-dial
 returns-clause-dial g c = dialed-then c.in_default.ensures.dial c.add_piece.ensures.dial
+
+pub returns-clause-goes_on : goal.returns-clause-goes_on
+returns-clause-goes_on g c = g.met.C.Dial.later_then _ _ _ c.in_default.ensures.goes_on c.add_piece.ensures.goes_on

@@ -11,6 +11,7 @@ loop-init g c = record {
   written = begun-written c.in-Stands.ensures.began;
   others = λ k other. Keeps-refl _;
   later = omega arith;
+  goes_on = c.in-Stands.ensures.goes_on;
   dial = c.in-Stands.ensures.dial;
 }
 
@@ -24,6 +25,7 @@ loop-preserved g c =
       written = e.written ∙ ap (λ n. n + 1) i.written;
       others = λ k other. Keeps-trans _ _ _ (i.others k other) (e.others k other);
       later = omega (arith, i.later, e.later);
+      goes_on = g.met.C.Dial.later_then _ _ _ i.goes_on e.goes_on;
       dial = dialed-then i.dial e.dial;
     }
 
@@ -40,3 +42,6 @@ returns-clause-streamed g c = streaming-done _ c.loop.invariant.streaming (omega
 
 pub returns-in-Some-clause-dial : goal.returns-in-Some-clause-dial
 returns-in-Some-clause-dial g c = dialed-then c.loop.invariant.dial c.in-Some.ensures.dial
+
+pub returns-in-Some-clause-goes_on : goal.returns-in-Some-clause-goes_on
+returns-in-Some-clause-goes_on g c = g.met.C.Dial.later_then _ _ _ c.loop.invariant.goes_on c.in-Some.ensures.goes_on

@@ -18,6 +18,7 @@ invariant-loop g l = record {
   levels : HasLevels l.standing.listing;
   written : l.standing.written ≡ l.counter;
   others : (k : ℕ) → k ≢ l.number → Keeps (g.T.Tracks.held l.fn.tracks k) (g.T.Tracks.held l.tracks k);
-  dial : Dialed (g.C.Dial.dial_faults l.fn.dial) (g.C.Dial.dial_faults l.dial) (g.C.Dial.store l.fn.dial) (g.C.Dial.store l.dial) [];
+  goes_on : g.C.Dial.later l.fn.dial l.dial;
+  dial : Dialed (g.C.Dial.log l.fn.dial) (g.C.Dial.log l.dial) (g.C.Dial.dial_faults l.fn.dial) (g.C.Dial.dial_faults l.dial) (g.C.Dial.store l.fn.dial) (g.C.Dial.store l.dial) [];
   later : g.T.Tracks.faults l.fn.tracks ≤ g.T.Tracks.faults l.tracks;
 }

@@ -2,6 +2,7 @@ use Rattle.std.proofs.Common.{ℕ, List, subst, ◌∙◌}
 use Rattle.sm_fetch.specs.declared.dial.Answer.TheVariants as answers
 use Rattle.sm_fetch.specs.Origins.{AnswersFrom}
 use Rattle.sm_fetch.specs.Spelt.{SpellsSamples}
+use Rattle.sm_fetch.proofs.Answering.{answered_by}
 use Rattle.sm_fetch.proofs.Origin.{grown, answer_is_kept}
 use Rattle.sm_fetch.proofs.get.fetch_fragment.Goals as goal
 
@@ -16,3 +17,12 @@ returns-in-Lost-clause-grows g c = grown (g.C.Dial.store c.args.dial.now) (g.C.D
 
 pub returns-clause-grows : goal.returns-clause-grows
 returns-clause-grows g c = grown (g.C.Dial.store c.args.dial.now) (g.C.Dial.store c.exchange.new.self) c.as_slice.result.now c.exchange.result c.exchange.ensures.store
+
+pub returns-in-Bytes-clause-answered : goal.returns-in-Bytes-clause-answered
+returns-in-Bytes-clause-answered g c = answered_by _ _ _ _ c.exchange.result c.exchange.ensures.log c.exchange.ensures.store
+
+pub returns-in-Lost-clause-answered : goal.returns-in-Lost-clause-answered
+returns-in-Lost-clause-answered g c = answered_by _ _ _ _ c.exchange.result c.exchange.ensures.log c.exchange.ensures.store
+
+pub returns-clause-answered : goal.returns-clause-answered
+returns-clause-answered g c = answered_by _ _ _ _ c.exchange.result c.exchange.ensures.log c.exchange.ensures.store

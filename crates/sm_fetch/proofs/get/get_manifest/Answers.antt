@@ -1,4 +1,5 @@
 use Rattle.sm_fetch.proofs.Listed.{got_has_levels}
+use Rattle.sm_fetch.proofs.Answering.{answered_by}
 use Rattle.sm_fetch.proofs.Origin.{grown}
 use Rattle.sm_fetch.proofs.get.get_manifest.Goals as goal
 
@@ -13,3 +14,12 @@ returns-clause-grows g c = grown (g.C.Dial.store c.args.dial.now) (g.C.Dial.stor
 
 pub returns-in-Bytes-clause-levels : goal.returns-in-Bytes-clause-levels
 returns-in-Bytes-clause-levels g c = got_has_levels c.as_slice-in-Bytes.result.now c.read_listing.result c.read_listing.ensures
+
+pub returns-in-Bytes-clause-answered : goal.returns-in-Bytes-clause-answered
+returns-in-Bytes-clause-answered g c = answered_by _ _ _ _ c.exchange.result c.exchange.ensures.log c.exchange.ensures.store
+
+pub returns-in-Lost-clause-answered : goal.returns-in-Lost-clause-answered
+returns-in-Lost-clause-answered g c = answered_by _ _ _ _ c.exchange.result c.exchange.ensures.log c.exchange.ensures.store
+
+pub returns-clause-answered : goal.returns-clause-answered
+returns-clause-answered g c = answered_by _ _ _ _ c.exchange.result c.exchange.ensures.log c.exchange.ensures.store
