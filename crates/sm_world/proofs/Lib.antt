@@ -7,3 +7,19 @@ pub mod Stores
 pub mod Standing
 pub mod NoFault
 pub mod Calls
+mod Logs
+mod Numbering
+mod ReadBack
+mod Staging
+mod Empty
+pub mod ManifestSize
+pub mod GetText
+pub mod OriginReplies
+pub mod Fronts
+pub mod OneRequest
+pub mod Speaking
+mod Numbers
+mod Trio
+mod Rehearsing
+mod ClientsKept
+mod ClientsPlayed

@@ -186,10 +186,10 @@ module _ {D : Type 0} (view : D → View) (leave : D → Image → Type 0) (left
 
   -- ---- serving
 
-  pub serves_on : (w : World) (state : State) (d : D) (new : State) (e : D) → IsSome (view d).contents → IsSome (view e).contents
-      → ((h : History) → Serves view leave left_at h state d → (n : ℕ) × TurnsBy view leave left_at h n (view d).script new e)
-      → IsOpen view leave left_at w state d → (now : World) × IsOpen view leave left_at now new e × Grows w now
-  serves_on w state d new e told after turns o = (
+  pub serves_to : (w : World) (state : State) (d : D) (new : State) (e : D) → IsSome (view d).contents → IsSome (view e).contents
+      → (turns : (h : History) → Serves view leave left_at h state d → (n : ℕ) × TurnsBy view leave left_at h n (view d).script new e)
+      → (o : IsOpen view leave left_at w state d) → (now : World) × IsOpen view leave left_at now new e × Grows w now × (now.log ≡ (turns o.run o.serves).1.turns.later.point.machine.log)
+  serves_to w state d new e told after turns o = (
     now,
     record {
       run = k;
@@ -199,6 +199,7 @@ module _ {D : Type 0} (view : D → View) (leave : D → Image → Type 0) (left
       log_is = refl;
     },
     record { first = refl; past = refl; more = grown.0; log = grown.1 ∙ ap (λ (l : List Entry). l ++ grown.0) o.log_is },
+    refl,
   )
     where
       h : History
@@ -225,6 +226,11 @@ module _ {D : Type 0} (view : D → View) (leave : D → Image → Type 0) (left
 
       grown : Extends h.point.machine k.point.machine
       grown = later_extends h.first h.begin k.begin h.items k.items h.steps since.on.further k.steps h.point k.point run later since.on.steps
+
+  pub serves_on : (w : World) (state : State) (d : D) (new : State) (e : D) → IsSome (view d).contents → IsSome (view e).contents
+      → ((h : History) → Serves view leave left_at h state d → (n : ℕ) × TurnsBy view leave left_at h n (view d).script new e)
+      → IsOpen view leave left_at w state d → (now : World) × IsOpen view leave left_at now new e × Grows w now
+  serves_on w state d new e told after turns o = let all = serves_to w state d new e told after turns o in (all.0, all.1, all.2)
 
   -- ---- a crash
 

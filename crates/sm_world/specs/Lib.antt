@@ -1,5 +1,15 @@
 pub mod Dialing
 pub mod Bringing
 pub mod Answering
+pub mod Numbered
 pub mod Pushed
 pub mod Worlds
+pub mod Later
+pub mod Rounds
+pub mod Encoders
+pub mod Told
+pub mod Stages
+pub mod Clients
+pub mod Rehearsed
+pub mod LaterLaws
+pub mod Saying

@@ -23,15 +23,16 @@ pub record IsClosed {D : Type 0} (view : D → View) (leave : D → Image → Ty
   pub comes : ComesOf w.first w.past items w.log
 
 -- The store is open: the state is where a run is, that began with a log which comes of what was pushed, and now has this log.
-pub record IsOpen {D : Type 0} (view : D → View) (leave : D → Image → Type 0) (left_at : D → ℕ → Image → Type 0) (w : World) (state : State)
-    (d : D) : Type 0 where
+pub record IsOpen {D : Type 0} (view : D → View) (leave : D → Image → Type 0) (left_at : D → ℕ → Image → Type 0) (w : World)
+    (state : State) (d : D) : Type 0 where
   pub run : History
   pub serves : Serves view leave left_at run state d
   pub settled : run.first.doubt ≡ None
   pub found : ComesOf w.first w.past run.base run.first.log
   pub log_is : run.point.machine.log ≡ w.log
 
-abbrev pub Stands : {D : Type 0} (view : D → View) (leave : D → Image → Type 0) (left_at : D → ℕ → Image → Type 0) → World → Option State → D → Type 0
+abbrev pub Stands : {D : Type 0} (view : D → View) (leave : D → Image → Type 0) (left_at : D → ℕ → Image → Type 0) → World → Option State → D
+    → Type 0
 Stands view leave left_at w None d = IsClosed view leave w d
 Stands view leave left_at w (Some state) d = IsOpen view leave left_at w state d
 
@@ -50,7 +51,7 @@ pub record Crashes (items : Option (List Item)) (old new : World) : Type 0 where
   pub log : new.log ≡ old.log ++ more
 
 -- wherever it stood, it stands at a log that goes on
-abbrev pub GoesOn : {D : Type 0} (view : D → View) (leave : D → Image → Type 0) (left_at : D → ℕ → Image → Type 0) → Option State → D → Option State → D
-    → Type 0
+abbrev pub GoesOn : {D : Type 0} (view : D → View) (leave : D → Image → Type 0) (left_at : D → ℕ → Image → Type 0) → Option State → D
+    → Option State → D → Type 0
 GoesOn view leave left_at state d state' d' =
     (w : World) → Stands view leave left_at w state d → (now : World) × Stands view leave left_at now state' d' × Grows w now

@@ -1,8 +1,11 @@
 //! An origin on a site.
-ghost use Rattle.std.specs.Prelude.{◌≡◌, ◌≤◌, ◌<◌, ◌^◌, [], List, None, IfSome};
+ghost use Rattle.std.specs.Prelude.{◌≡◌, ◌≤◌, ◌<◌, ◌^◌, [], List, None, IfSome, drop, length};
 ghost use Rattle.sm_model.specs.declared.entry.Entry.{Entry};
 ghost use Rattle.sm_site.specs.Clauses.{SameOutcomes, Settled};
 ghost use Rattle.sm_archive.specs.Store.{IsStore};
+ghost use Rattle.sm_world.specs.Answering.{one_more};
+ghost use Rattle.sm_world.specs.Dialing.{next_number};
+ghost use Rattle.sm_world.specs.Numbered.{AreByNumber};
 ghost use Rattle.sm_world.specs.Worlds.{World, Stands, Crashes};
 
 use sm_archive::Limits;
@@ -17,7 +20,7 @@ use std::marker::Model;
 /// nothing more comes; the store is opened by the first exchange, and by the next one after a crash or after an opening that failed.
 ///
 /// Exchanges have numbers, from 1: the reply of those in one list is lost, and of those in another only the first half of it
-/// comes. Contracts see a dial as its site and what is kept beside it.
+/// comes. One that wants memory isn't told and has no number. Contracts see a dial as its site and what is kept beside it.
 #[derive(Drop)]
 pub struct OriginDial<S: Crashing> {
     pub(crate) alloc: Global,
@@ -26,22 +29,38 @@ pub struct OriginDial<S: Crashing> {
     pub(crate) limits: Limits,
     pub(crate) lost: Numbers,
     pub(crate) cut: Numbers,
-    pub(crate) count: u64,
+    // so many exchanges were told before they were counted from 1
+    pub(crate) since: usize,
     pub(crate) made: Vec<Exchange>,
     pub(crate) faults: u64,
+    pub(crate) crashes: u64,
 }
 
 impl<S: Crashing> Model for OriginDial<S> {
-    ghost use Rattle.std.specs.Prelude.{ℕ, ◌≤◌, ◌<◌, ◌^◌};
+    ghost use Rattle.std.specs.Prelude.{ℕ, ◌≤◌, ◌<◌, ◌^◌, drop, length};
     ghost use Rattle.sm_world.specs.Dialing.{Dialing};
+    ghost use Rattle.sm_world.specs.Numbered.{AreByNumber};
     ghost use Rattle.sm_world.specs.Worlds.{World, Stands};
 
     ghost Value = { S × Dialing };
 
-    ghost view = { λ d. (d.site, record { state = d.state; limits = d.limits; lost = d.lost; cut = d.cut; count = d.count; made = d.made.items; faults = d.faults }) };
+    ghost view = { λ d. (
+      d.site,
+      record {
+        state = d.state;
+        limits = d.limits;
+        lost = d.lost;
+        cut = d.cut;
+        since = d.since;
+        made = d.made.items;
+        faults = d.faults;
+        crashes = d.crashes;
+      },
+    ) };
 
     ghost invariant = { λ d. (d.limits.store_bytes ≤ 2 ^ 62) × (d.limits.entries < 2 ^ 32)
-        × ((w : World) × Stands S.Disk.view S.Disk.may_leave S.Disk.left_at w d.state d.site) };
+        × ((w : World) × Stands S.Disk.view S.Disk.may_leave S.Disk.left_at w d.state d.site)
+        × (d.since ≤ length d.made.items) × AreByNumber d.lost d.cut 1 (drop d.since d.made.items) };
 }
 
 impl<S: Crashing> OriginDial<S> {
@@ -53,7 +72,7 @@ impl<S: Crashing> OriginDial<S> {
         requires settled { IfSome (S.Disk.view site).contents (λ now. Settled now (S.Disk.may_leave site)) }
         requires store { IfSome (S.Disk.view site).contents (λ now. (log : List Entry) × IsStore log now) }
         ensures site { result.0 ≡ site }
-        ensures dialing { result.1 ≡ record { state = None; limits = limits; lost = lost; cut = cut; count = 0; made = []; faults = 0 } }
+        ensures dialing { result.1 ≡ record { state = None; limits = limits; lost = lost; cut = cut; since = 0; made = []; faults = 0; crashes = 0 } }
         ensures stands { (log : List Entry) → IfSome (S.Disk.view site).contents (IsStore log)
             → Stands S.Disk.view S.Disk.may_leave S.Disk.left_at (record { first = log; past = S.openings site; log = log }) None result.0 }
     {
@@ -64,9 +83,10 @@ impl<S: Crashing> OriginDial<S> {
             limits,
             lost,
             cut,
-            count: 0,
+            since: 0,
             made: Vec::new(alloc),
             faults: 0,
+            crashes: 0,
         }
     }
 
@@ -91,12 +111,20 @@ impl<S: Crashing> OriginDial<S> {
             → (now : World) × Stands S.Disk.view S.Disk.may_leave S.Disk.left_at now self.new.1.state self.new.0
             × Crashes (S.Disk.view self.old.0).transcript w now }
         ensures image { IfSome (S.Disk.view self.new.0).contents (S.Disk.may_leave self.old.0) }
-        ensures dialing { self.new.1 ≡ record self.old.1 { state = None } }
+        ensures dialing { self.new.1 ≡ record self.old.1 { state = None; crashes = one_more self.old.1.crashes } }
         ensures starved { S.is_starved self.new.0 ≡ S.is_starved self.old.0 }
     {
         an_image_fits::<S>();
         self.site.crash_here(choice);
         self.state = None;
+        self.crashes = self.crashes.saturating_add(1);
+    }
+
+    /// How often it was crashed. The count stands still at 2^64 - 1.
+    pub fn crashes(&self) -> u64
+        ensures { result ≡ self.now.1.crashes }
+    {
+        self.crashes
     }
 
     /// The site.
@@ -110,11 +138,25 @@ impl<S: Crashing> OriginDial<S> {
     /// Counts the exchanges from 1 again, with these lists.
     pub fn renumber(&mut self, lost: Numbers, cut: Numbers)
         ensures site { self.new.0 ≡ self.old.0 }
-        ensures dialing { self.new.1 ≡ record self.old.1 { lost = lost; cut = cut; count = 0 } }
+        ensures dialing { self.new.1 ≡ record self.old.1 { lost = lost; cut = cut; since = length self.old.1.made } }
     {
         self.lost = lost;
         self.cut = cut;
-        self.count = 0;
+        self.since = self.made.len();
+    }
+
+    // The number of the next exchange.
+    pub(crate) fn number(&self) -> u64
+        ensures { result ≡ next_number self.now.1 }
+    {
+        (self.made.len() - self.since) as u64 + 1
+    }
+
+    /// The exchanges told since they were counted from 1 were answered as their numbers say.
+    pub fn numbered(&self)
+        ensures { (self.now.1.since ≤ length self.now.1.made) × AreByNumber self.now.1.lost self.now.1.cut 1 (drop self.now.1.since self.now.1.made) }
+    {
+        let _ = &self.site;
     }
 
     /// Lets so many further writes and syncs of the site pass. All behind them fail, up to the next crash.

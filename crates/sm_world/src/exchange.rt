@@ -1,10 +1,13 @@
 //! The exchanges of an origin on a site.
 ghost use Rattle.std.specs.Prelude.{◌≡◌, ◌≤◌, ◌⊎◌, ◌++◌, ◌∷◌, [], Ok, Some, None, OnOk, OnErr, IsErrOf};
 ghost use Rattle.sm_fetch.specs.Exchanges.{logged, Rose, IsWithin};
-ghost use Rattle.sm_fetch.specs.Origins.{Untold, Grows, AnswersFrom};
+ghost use Rattle.sm_fetch.specs.Origins.{Grows, AnswersFrom};
 ghost use Rattle.sm_site.specs.Faults.{is_listed};
-ghost use Rattle.sm_world.specs.Answering.{HasCause, answer_for, faults_after, one_more};
-ghost use Rattle.sm_world.specs.Worlds.{GoesOn};
+ghost use Rattle.sm_world.specs.Answering.{HasCause, answer_for, faults_after};
+ghost use Rattle.sm_world.specs.Dialing.{next_number};
+ghost use Rattle.sm_world.specs.Later.{IsLater};
+ghost use Rattle.sm_world.specs.LaterLaws.{is_later_same, is_later_then};
+ghost use Rattle.sm_world.specs.Saying.{StandsAt};
 ghost use Rattle.sm_world.specs.declared.acted.Acted.{Acted as Came};
 
 use crate::OriginDial;
@@ -63,19 +66,24 @@ fn told(
     }
 }
 
-/// It tells its exchanges, and no store.
+/// It tells its exchanges, and the logs that the origin may have behind it.
 impl<S: Crashing> Dial for OriginDial<S> {
     ghost log = { λ d. Some d.1.made };
 
     ghost dial_faults = { λ d. d.1.faults };
 
-    ghost store = { λ d. Untold };
+    ghost store = { λ d. StandsAt S.Disk.view S.Disk.may_leave S.Disk.left_at d.1.state d.0 };
+
+    /// Nothing that an exchange doesn't do was done: no crash, and no new numbers; and the log only goes on.
+    ghost later = { λ d e. IsLater S.Disk.view S.Disk.may_leave S.Disk.left_at d e };
 
     fn select(&mut self, _host: &str, _port: u16) -> Result<(), DialError>
         ensures log { Some self.new.1.made ≡ Some self.old.1.made }
         ensures later { self.old.1.faults ≤ self.new.1.faults }
         ensures failed { IsErrOf result DialError.Failed → Rose self.old.1.faults self.new.1.faults }
-        ensures store { Grows Untold Untold }
+        ensures store { Grows (StandsAt S.Disk.view S.Disk.may_leave S.Disk.left_at self.old.1.state self.old.0)
+            (StandsAt S.Disk.view S.Disk.may_leave S.Disk.left_at self.new.1.state self.new.0) }
+        ensures goes_on { IsLater S.Disk.view S.Disk.may_leave S.Disk.left_at self.old self.new }
         ensures always { result ≡ Ok tt }
         ensures same { self.new ≡ self.old }
     {
@@ -89,20 +97,19 @@ impl<S: Crashing> Dial for OriginDial<S> {
         ensures within { IsWithin limit result }
         ensures later { self.old.1.faults ≤ self.new.1.faults }
         ensures lost { result ≡ Answer.Lost → Rose self.old.1.faults self.new.1.faults }
-        ensures store { AnswersFrom Untold Untold request.now result }
-        ensures counted { self.new.1.count ≡ one_more self.old.1.count }
+        ensures store { AnswersFrom (StandsAt S.Disk.view S.Disk.may_leave S.Disk.left_at self.old.1.state self.old.0)
+            (StandsAt S.Disk.view S.Disk.may_leave S.Disk.left_at self.new.1.state self.new.0) request.now result }
         ensures faults { self.new.1.faults ≡ faults_after self.old.1.faults result }
-        ensures lists { (self.new.1.lost ≡ self.old.1.lost) × (self.new.1.cut ≡ self.old.1.cut) × (self.new.1.limits ≡ self.old.1.limits) }
-        ensures goes_on { GoesOn S.Disk.view S.Disk.may_leave S.Disk.left_at self.old.1.state self.old.0 self.new.1.state self.new.0 }
+        ensures goes_on { IsLater S.Disk.view S.Disk.may_leave S.Disk.left_at self.old self.new }
         ensures answers { (came : Came) × HasCause S.Disk.view self.old.0 self.new.0 request.now came × ((result ≡ Answer.NoMemory)
-            ⊎ (result ≡ answer_for (is_listed self.new.1.count self.old.1.lost) (is_listed self.new.1.count self.old.1.cut) limit came)) }
+            ⊎ (result ≡ answer_for (is_listed (next_number self.old.1) self.old.1.lost) (is_listed (next_number self.old.1) self.old.1.cut) limit came)) }
     {
-        self.count = self.count.saturating_add(1);
+        let number = self.number();
         let state = self.state.take();
         let Asked { state, acted } = ask(self.alloc, &mut self.site, state, self.limits, request);
         self.state = state;
-        let lost = self.lost.contains(self.count);
-        let cut = self.cut.contains(self.count);
+        let lost = self.lost.contains(number);
+        let cut = self.cut.contains(number);
         let answer = answer_for(lost, cut, limit, acted);
         told(
             self.alloc,
@@ -117,7 +124,13 @@ impl<S: Crashing> Dial for OriginDial<S> {
     fn pause(&mut self)
         ensures log { Some self.new.1.made ≡ Some self.old.1.made }
         ensures later { self.old.1.faults ≤ self.new.1.faults }
-        ensures store { Grows Untold Untold }
+        ensures store { Grows (StandsAt S.Disk.view S.Disk.may_leave S.Disk.left_at self.old.1.state self.old.0)
+            (StandsAt S.Disk.view S.Disk.may_leave S.Disk.left_at self.new.1.state self.new.0) }
+        ensures goes_on { IsLater S.Disk.view S.Disk.may_leave S.Disk.left_at self.old self.new }
         ensures same { self.new ≡ self.old }
     {}
+
+    ghost later_same = { λ d. is_later_same S.Disk.view S.Disk.may_leave S.Disk.left_at d };
+
+    ghost later_then = { λ d e f first then. is_later_then S.Disk.view S.Disk.may_leave S.Disk.left_at d e f first then };
 }

@@ -1,14 +1,17 @@
 //! Asking an origin, which is opened first where it isn't.
-ghost use Rattle.std.specs.Prelude.{◌≡◌, ◌≢◌, ◌≤◌, ◌<◌, ◌^◌, ◌++◌, ℕ, List, None, Some, IfOk, IfSome, IsErrOf, IsTrue, OnErr};
+ghost use Rattle.std.specs.Prelude.{◌≡◌, ◌≢◌, ◌≤◌, ◌<◌, ◌^◌, ◌++◌, ℕ, List, [], None, Some, IfOk, IfSome, IsErrOf, IsTrue, OnErr, false};
 ghost use Rattle.sm_archive.specs.declared.opened.OpenFault.TheVariants as open_fault;
 ghost use Rattle.sm_serve.specs.declared.state.State.{State as Kept};
+ghost use Rattle.sm_serve.specs.Connections.{is_among};
+ghost use Rattle.sm_serve.specs.Serving.{numbers_of};
 ghost use Rattle.sm_site.specs.declared.event.Event.{Event};
 ghost use Rattle.sm_site.specs.Clauses.{Both, Rose};
-ghost use Rattle.sm_site.specs.Meanings.{SameLink};
+ghost use Rattle.sm_site.specs.Meanings.{SameLink, sent_on};
 ghost use Rattle.sm_site.specs.Scripts.{deals_of, is_script, numbers_after};
 ghost use Rattle.sm_site.specs.Sites.{SameBut};
 ghost use Rattle.sm_world.specs.Answering.{HasCause, HasSent};
 ghost use Rattle.sm_world.specs.Bringing.{Brings};
+ghost use Rattle.sm_world.specs.Saying.{SaysOn};
 ghost use Rattle.sm_world.specs.Worlds.{World, Stands, IsOpen, Grows, GoesOn};
 
 use crate::Acted;
@@ -72,9 +75,38 @@ fn put<S: Crashing>(site: &mut S, conn: u64, script: Script) -> Option<u64>
     }
 }
 
-// Puts a request, as a connection of its own, behind the script. None where memory wants.
-fn bring<S: Crashing>(alloc: Global, site: &mut S, request: &[u8]) -> Option<u64>
+// Whether a connection is live.
+fn is_live(state: &State, conn: u64) -> bool
+    ensures { result ≡ is_among conn (numbers_of state.now.lives.items) }
+{
+    for live in &state.lives {
+        if live.number == conn {
+            return true;
+        }
+    }
+    false
+}
+
+// Whether a connection isn't live and nothing went out on it. Each that is new is unused; so is none where memory wants.
+fn is_unused<S: Crashing>(site: &S, state: &State, conn: u64) -> bool
+    ensures live { IsTrue result → is_among conn (numbers_of state.now.lives.items) ≡ false }
+    ensures sent { IsTrue result → IfSome (S.Disk.view site.now).transcript (λ items. sent_on conn items ≡ []) }
+{
+    if is_live(state, conn) {
+        return false;
+    }
+    match site.sent(conn) {
+        Ok(piece) => piece.as_slice().is_empty(),
+        Err(AllocError) => false,
+    }
+}
+
+// Puts a request, as an unused connection of its own, behind the script. None where memory wants.
+fn bring<S: Crashing>(alloc: Global, site: &mut S, state: &State, request: &[u8]) -> Option<u64>
     ensures first { IfSome result (λ n. 2 ^ 63 ≤ n) }
+    ensures above { IfSome result (λ n. IfSome (S.Disk.view site.old).script (λ deals. numbers_after (S.Link.numbers site.old) deals ≤ n)) }
+    ensures live { IfSome result (λ n. is_among n (numbers_of state.now.lives.items) ≡ false) }
+    ensures sent { IfSome result (λ n. IfSome (S.Disk.view site.old).transcript (λ items. sent_on n items ≡ [])) }
     ensures brings { IfSome result (λ n. (events : List Event) × Brings n request.now events
         × Both (S.Disk.view site.old).script (S.Disk.view site.new).script (λ was now. now ≡ was ++ deals_of events)) }
     ensures stays { (w : World) (state : Kept) → IsOpen S.Disk.view S.Disk.may_leave S.Disk.left_at w state site.old
@@ -83,10 +115,15 @@ fn bring<S: Crashing>(alloc: Global, site: &mut S, request: &[u8]) -> Option<u64
 {
     match next_connection(site) {
         None => None,
-        Some(conn) => match script_of(alloc, conn, request) {
-            Ok(script) => put(site, conn, script),
-            Err(AllocError) => None,
-        },
+        Some(conn) => {
+            if !is_unused(site, state, conn) {
+                return None;
+            }
+            match script_of(alloc, conn, request) {
+                Ok(script) => put(site, conn, script),
+                Err(AllocError) => None,
+            }
+        }
     }
 }
 
@@ -107,10 +144,11 @@ fn serve_request<S: Crashing>(
 ) -> Acted
     requires stands { (w : World) × IsOpen S.Disk.view S.Disk.may_leave S.Disk.left_at w state.old site.old }
     ensures goes_on { GoesOn S.Disk.view S.Disk.may_leave S.Disk.left_at (Some state.old) site.old (Some state.new) site.new }
+    ensures says { SaysOn S.Disk.view S.Disk.may_leave S.Disk.left_at (Some state.old) site.old request.now result (Some state.new) site.new }
     ensures cause { HasCause S.Disk.view site.old site.new request.now result }
     ensures opened { result ≢ Acted.Unopened }
 {
-    match bring(alloc, site, request) {
+    match bring(alloc, site, state, request) {
         None => Acted::NoMemory,
         Some(conn) => match serve(site, state, u64::MAX) {
             Served::Done { .. } => sent_on(site, conn),
@@ -132,6 +170,7 @@ pub(crate) fn ask<S: Crashing>(
     requires entries { limits.entries < 2 ^ 32 }
     requires stands { (w : World) × Stands S.Disk.view S.Disk.may_leave S.Disk.left_at w state site.old }
     ensures goes_on { GoesOn S.Disk.view S.Disk.may_leave S.Disk.left_at state site.old result.state site.new }
+    ensures says { SaysOn S.Disk.view S.Disk.may_leave S.Disk.left_at state site.old request.now result.acted result.state site.new }
     ensures cause { HasCause S.Disk.view site.old site.new request.now result.acted }
 {
     match opened(alloc, site, state, limits) {

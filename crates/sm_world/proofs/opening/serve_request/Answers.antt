@@ -1,6 +1,8 @@
-use Rattle.std.proofs.Common.{arith}
+use Rattle.std.proofs.Common.{Some, arith}
 use Rattle.sm_world.proofs.Standing.{serves_on}
 use Rattle.sm_world.proofs.Calls.{grows_not, handed, served_all}
+use Rattle.sm_world.specs.declared.acted.Acted.TheVariants as acted
+use Rattle.sm_world.proofs.Speaking.{says_nothing, says_sent}
 use Rattle.sm_world.proofs.opening.serve_request.Goals as goal
 
 pub serve-requires-clause-stands : goal.serve-requires-clause-stands
@@ -41,3 +43,31 @@ returns-in-Done-clause-cause g c =
     c.sent_on.ensures c.in-Some.ensures.first c.in-Some.ensures.brings
     (served_all g.S.Disk.view g.S.Disk.may_leave g.S.Disk.left_at kept.run c.in-Done.turns c.in-Done.behind c.in-Done.short 18446744073709551615
     c.serve.new.state c.serve.new.site (omega arith) (c.in-Done.ensures.runs kept.run kept.serves))
+
+pub returns-in-None-clause-says : goal.returns-in-None-clause-says
+returns-in-None-clause-says g c w open_ =
+    says_nothing g.S.Disk.view g.S.Disk.may_leave g.S.Disk.left_at w c.args.request.now acted.NoMemory (Some c.args.state.now) c.bring.new.site (λ log. tt)
+    (w, c.bring.ensures.stays w c.args.state.now open_, grows_not w)
+
+pub returns-in-Done-clause-says : goal.returns-in-Done-clause-says
+returns-in-Done-clause-says g c w open_ =
+    let brought = c.in-Some.ensures.brings in
+    says_sent g.S.Disk.view g.S.Disk.may_leave g.S.Disk.left_at w c.args.state.now c.args.site.now c.bring.new.site c.serve.new.state c.serve.new.site
+    (g.S.Link.numbers c.args.site.now) c.in-Some.conn c.args.request.now brought.0 c.sent_on.result (g.met.S.Crashing.tells c.bring.new.site).contents
+    (g.met.S.Crashing.tells c.serve.new.site).contents (g.met.S.Disk.contents_pass c.serve.new.site) (g.met.S.Crashing.tells c.args.site.now).script
+    c.in-Some.ensures.above c.in-Some.ensures.live c.in-Some.ensures.sent c.bring.ensures.view.transcript brought.1 brought.2 c.sent_on.ensures
+    c.serve.ensures.goes_on (c.bring.ensures.stays w c.args.state.now open_)
+
+pub returns-in-LinkFault-clause-says : goal.returns-in-LinkFault-clause-says
+returns-in-LinkFault-clause-says g c w open_ =
+    says_nothing g.S.Disk.view g.S.Disk.may_leave g.S.Disk.left_at w c.args.request.now acted.Broken (Some c.serve.new.state) c.serve.new.site (λ log. tt)
+    (serves_on g.S.Disk.view g.S.Disk.may_leave g.S.Disk.left_at w c.args.state.now c.bring.new.site c.serve.new.state c.serve.new.site
+    (g.met.S.Crashing.tells c.bring.new.site).contents (g.met.S.Crashing.tells c.serve.new.site).contents
+    c.serve.ensures.goes_on (c.bring.ensures.stays w c.args.state.now open_))
+
+pub returns-in-NoMemory-clause-says : goal.returns-in-NoMemory-clause-says
+returns-in-NoMemory-clause-says g c w open_ =
+    says_nothing g.S.Disk.view g.S.Disk.may_leave g.S.Disk.left_at w c.args.request.now acted.NoMemory (Some c.serve.new.state) c.serve.new.site (λ log. tt)
+    (serves_on g.S.Disk.view g.S.Disk.may_leave g.S.Disk.left_at w c.args.state.now c.bring.new.site c.serve.new.state c.serve.new.site
+    (g.met.S.Crashing.tells c.bring.new.site).contents (g.met.S.Crashing.tells c.serve.new.site).contents
+    c.serve.ensures.goes_on (c.bring.ensures.stays w c.args.state.now open_))

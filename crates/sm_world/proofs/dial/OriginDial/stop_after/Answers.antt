@@ -16,6 +16,8 @@ invariant_of-self g c =
         stays g.S.Disk.view g.S.Disk.may_leave g.S.Disk.left_at c.fewer_images_stand.ensures i.2.0 d e
             (same_view (g.S.Disk.view d) (g.S.Disk.view e) c.stop_after.ensures.view) c.stop_after.ensures.crash c.stop_after.ensures.past c.self.inside.state i.2.1,
       ),
+      i.3,
+      i.4,
     )
 
 pub returns-clause-stands : goal.returns-clause-stands

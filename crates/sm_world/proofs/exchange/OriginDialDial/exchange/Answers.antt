@@ -1,23 +1,80 @@
-use Rattle.std.proofs.Common.{◌≡◌, ⊎_elim, inl, inr, Bool, ◌∙◌, ap, subst}
+use Rattle.std.proofs.Common.{◌≡◌, ⊎_elim, inl, inr, ℕ, ◌+◌, ◌-◌, Option, Bool, length, ◌∙◌, sym, ap, subst, arith}
+use Rattle.sm_fetch.specs.Exchanges.{IsWithin}
+use Rattle.sm_world.specs.Worlds.{GoesOn}
+use Rattle.sm_world.proofs.Numbering.{answer_within, numbered}
+use Rattle.sm_fetch.specs.Origins.{AnswersFrom}
 use Rattle.sm_site.specs.Faults.{is_listed}
+use Rattle.sm_serve.specs.declared.state.State.{State}
+use Rattle.sm_fetch.specs.declared.dial.Answer.TheVariants as answers
+use Rattle.sm_world.specs.Saying.{StandsAt, SaysOn}
+use Rattle.sm_world.proofs.Speaking.{answers_on}
 use Rattle.sm_world.specs.Answering.{HasCause, answer_for}
+use Rattle.sm_world.specs.Dialing.{next_number}
 use Rattle.sm_world.proofs.exchange.OriginDialDial.exchange.Goals as goal
 
 pub returns-clause-answers : goal.returns-clause-answers
 returns-clause-answers g c =
-    let count = c.saturating_add-self-inside.result in
+    let number = c.number-number.result in
+    let v = c.args.self.now.1 in
     let came = c.ask-state.result.acted in
-    let lost : c.contains-lost.result ≡ is_listed count c.args.self.now.1.lost =
-    c.contains-lost.ensures ∙ ap (λ (v : _). is_listed count v.1.lost) c.self.view_is
+    let is : number ≡ next_number v = c.number-number.ensures in
+    let lost : c.contains-lost.result ≡ is_listed (next_number v) v.lost =
+    c.contains-lost.ensures ∙ ap (λ (v : _). is_listed number v.1.lost) c.self.view_is ∙ ap (λ (n : ℕ). is_listed n v.lost) is
     in
-    let cut : c.contains-cut.result ≡ is_listed count c.args.self.now.1.cut =
-    c.contains-cut.ensures ∙ ap (λ (v : _). is_listed count v.1.cut) c.self.view_is
+    let cut : c.contains-cut.result ≡ is_listed (next_number v) v.cut =
+    c.contains-cut.ensures ∙ ap (λ (v : _). is_listed number v.1.cut) c.self.view_is ∙ ap (λ (n : ℕ). is_listed n v.cut) is
     in (
       came,
       subst (λ (s : _). HasCause g.S.Disk.view s c.ask-state.new.site c.args.request.now came) (ap (λ (v : _). v.0) c.self.view_is) c.ask-state.ensures.cause,
       ⊎_elim
           (λ wants. inl wants)
           (λ same. inr (same ∙ c.answer_for-answer.ensures ∙ ap (λ (b : Bool). answer_for b c.contains-cut.result c.args.limit came) lost
-          ∙ ap (λ (b : Bool). answer_for (is_listed count c.args.self.now.1.lost) b c.args.limit came) cut))
+          ∙ ap (λ (b : Bool). answer_for (is_listed (next_number v) v.lost) b c.args.limit came) cut))
           c.told.ensures.same,
     )
+
+pub returns-clause-store : goal.returns-clause-store
+returns-clause-store g c =
+    let V = g.S.Disk.view in
+    let A = g.S.Disk.may_leave in
+    let L = g.S.Disk.left_at in
+    let e = c.ask-state.new.site in
+    let state = c.ask-state.result.state in
+    let answer = c.told.result in
+    let came = c.ask-state.result.acted in
+    let says : SaysOn V A L c.self.inside.state c.self.inside.site c.args.request.now came state e =
+    subst (λ (o : Option State). SaysOn V A L o c.self.inside.site c.args.request.now came state e) c.take-state.ensures.value c.ask-state.ensures.says
+    in
+    subst (λ (v : _). AnswersFrom (StandsAt V A L v.1.state v.0) (StandsAt V A L state e) c.args.request.now answer) c.self.view_is
+    (answers_on V A L c.self.inside.state state c.self.inside.site e c.args.request.now c.contains-lost.result c.contains-cut.result c.args.limit came answer says
+    (⊎_elim (λ (wants : answer ≡ answers.NoMemory). inl wants) (λ (same : answer ≡ c.answer_for-answer.result). inr (same ∙ c.answer_for-answer.ensures)) c.told.ensures.same))
+
+pub returns-clause-within : goal.returns-clause-within
+returns-clause-within g c = ⊎_elim
+    (λ (wants : c.told.result ≡ answers.NoMemory). subst (IsWithin c.args.limit) (sym wants) (omega arith))
+    (λ (same : c.told.result ≡ c.answer_for-answer.result). subst (IsWithin c.args.limit) (sym (same ∙ c.answer_for-answer.ensures))
+    (answer_within c.contains-lost.result c.contains-cut.result c.args.limit c.ask-state.result.acted))
+    c.told.ensures.same
+
+pub invariant_of-self : goal.invariant_of-self
+invariant_of-self g c =
+    let i = c.self.invariant in
+    let s = c.self.inside in
+    let V = g.S.Disk.view in
+    let A = g.S.Disk.may_leave in
+    let L = g.S.Disk.left_at in
+    let e = c.ask-state.new.site in
+    let state = c.ask-state.result.state in
+    let came = c.ask-state.result.acted in
+    let n = length s.made.items - s.since + 1 in
+    let goes : GoesOn V A L s.state s.site state e = subst (λ (o : Option State). GoesOn V A L o s.site state e) c.take-state.ensures.value c.ask-state.ensures.goes_on in
+    let w = goes i.2.0 i.2.1 in
+    let number : c.number-number.result ≡ n = c.number-number.ensures ∙ sym (ap (λ (v : _). next_number v.1) c.self.view_is) in
+    let lost : c.contains-lost.result ≡ is_listed n s.lost = c.contains-lost.ensures ∙ ap (λ (k : ℕ). is_listed k s.lost) number in
+    let cut : c.contains-cut.result ≡ is_listed n s.cut = c.contains-cut.ensures ∙ ap (λ (k : ℕ). is_listed k s.cut) number in
+    let numbers = numbered s.lost s.cut s.since s.made.items i.3 i.4 c.told.new.made.items c.args.request.now c.args.limit c.told.result came c.told.ensures.made
+    (⊎_elim (λ (wants : c.told.result ≡ answers.NoMemory). inl wants)
+    (λ (same : c.told.result ≡ c.answer_for-answer.result). inr (same ∙ c.answer_for-answer.ensures ∙ ap (λ (b : Bool). answer_for b c.contains-cut.result c.args.limit came) lost
+    ∙ ap (λ (b : Bool). answer_for (is_listed n s.lost) b c.args.limit came) cut))
+    c.told.ensures.same)
+    in (i.0, i.1, (w.0, w.1), numbers.0, numbers.1)

@@ -1,0 +1,151 @@
+-- What the exchanges of a client of a rehearsal and its fragments come to.
+use Rattle.std.proofs.Common.{◌≡◌, ℕ, zero, suc, ◌+◌, ◌*◌, ◌%◌, ◌==◌, ◌<◌, ◌≤◌, ⊎_elim, Bool, true, false, List, [], ◌∷◌, ◌++◌, length, refl, sym, ap, ◌∙◌, subst, arith}
+use Rattle.std.specs.Prelude.{Contains, ◌||◌}
+use Rattle.std.proofs.Math.Bool.{or-false}
+use Rattle.std.proofs.lemmas.Bool.{ne_eqb, eq-eqb}
+use Rattle.std.proofs.lemmas.Bool.Decides.{eqb_tells}
+use Rattle.std.proofs.lemmas.List.{length-append}
+use Rattle.std.proofs.lemmas.List.Elements.{Contains-append_cases}
+use Rattle.std.proofs.lemmas.List.Folds.{list_any-append}
+use Rattle.sm_model.specs.declared.entry.Entry.TheVariants.{Keep}
+use Rattle.sm_model.specs.declared.fragment.Fragment.{Fragment}
+use Rattle.sm_fetch.specs.declared.dial.Exchange.{Exchange}
+use Rattle.sm_site.specs.Faults.{is_listed}
+use Rattle.sm_client.specs.Plays.{Gapless}
+use Rattle.sm_client.specs.Served.{AreIn}
+use Rattle.sm_client.specs.Stands.{Piece}
+use Rattle.sm_world.specs.Answering.{answer_for}
+use Rattle.sm_world.specs.Clients.{AreDue}
+use Rattle.sm_world.specs.Encoders.{of_encoder_a, keeps, log_of, entries_after}
+use Rattle.sm_world.specs.Numbered.{AreByNumber}
+use Rattle.sm_world.proofs.Sources.{in_none}
+
+-- ---- multiples
+
+-- those below are listed where they are multiples, and none from there on
+abbrev pub Multiples : ℕ → ℕ → List ℕ → Type 0
+Multiples of next xs = ((n : ℕ) → 0 < n → n < next → is_listed n xs ≡ (n % of == 0)) × ((n : ℕ) → next ≤ n → is_listed n xs ≡ false)
+
+listed_push : (n k : ℕ) (xs : List ℕ) → is_listed n (xs ++ k ∷ []) ≡ (is_listed n xs || (k == n))
+listed_push n k xs = list_any-append (λ x. x == n) xs (k ∷ []) ∙ ap (λ (b : Bool). is_listed n xs || b) (or-false (k == n))
+
+listed_other : (n k : ℕ) (xs : List ℕ) → (k ≡ n → ⊥) → is_listed n (xs ++ k ∷ []) ≡ is_listed n xs
+listed_other n k xs other = listed_push n k xs ∙ ap (λ (b : Bool). is_listed n xs || b) (ne_eqb k n other) ∙ or-false (is_listed n xs)
+
+listed_here : (n : ℕ) (xs : List ℕ) → is_listed n xs ≡ false → is_listed n (xs ++ n ∷ []) ≡ true
+listed_here n xs none = listed_push n n xs ∙ ap (λ (b : Bool). b || (n == n)) none ∙ eq-eqb n n refl
+
+pub multiple_more : (of k : ℕ) (xs : List ℕ) → (k % of == 0) ≡ true → Multiples of k xs → Multiples of (k + 1) (xs ++ k ∷ [])
+multiple_more of k xs is m = (
+  λ n some below. ⊎_elim
+      (λ same. let here = listed_here k xs (m.1 k (omega arith)) in let e : k ≡ n = same.1 in subst (λ (j : ℕ). is_listed j (xs ++ k ∷ []) ≡ (j % of == 0)) e (here ∙ sym is))
+      (λ other. listed_other n k xs other.1 ∙ m.0 n some (let ne = other.1 in omega (arith, ne, below)))
+      (eqb_tells k n),
+  λ n from. listed_other n k xs (λ same. absurd (omega (arith, same, from))) ∙ m.1 n (omega (arith, from)),
+)
+
+pub multiple_not : (of k : ℕ) (xs : List ℕ) → (k % of == 0) ≡ false → Multiples of k xs → Multiples of (k + 1) xs
+multiple_not of k xs is m = (
+  λ n some below. ⊎_elim
+      (λ same. let e : k ≡ n = same.1 in subst (λ (j : ℕ). is_listed j xs ≡ (j % of == 0)) e (m.1 k (omega arith) ∙ sym is))
+      (λ other. m.0 n some (let ne = other.1 in omega (arith, ne, below)))
+      (eqb_tells k n),
+  λ n from. m.1 n (omega (arith, from)),
+)
+
+pub no_multiples : (of : ℕ) (xs : List ℕ) → xs ≡ [] → Multiples of 1 xs
+no_multiples of [] is = (λ n some below. absurd (omega (arith, some, below)), λ n from. refl)
+no_multiples of (x ∷ xs) is = absurd (cc)
+
+-- ---- what is lost and cut
+
+-- such a list has the multiples of this number up to that one
+abbrev pub Lists : ℕ → ℕ → List ℕ → Type 0
+Lists of most xs = (n : ℕ) → 0 < n → n ≤ most → is_listed n xs ≡ (n % of == 0)
+
+pub are_due : (lost cut : List ℕ) (most number : ℕ) (xs : List Exchange) → Lists 5 most lost → Lists 7 most cut → 0 < number → number + length xs ≤ most + 1
+    → AreByNumber lost cut number xs → AreDue number xs
+are_due lost cut most number [] five seven some few by = tt
+are_due lost cut most number (x ∷ xs) five seven some few by = (
+  record {
+    came = by.0.came;
+    answer = by.0.answer ∙ ap (λ (b : Bool). answer_for b (is_listed number cut) x.limit by.0.came) (five number some (omega (arith, few)))
+        ∙ ap (λ (b : Bool). answer_for (number % 5 == 0) b x.limit by.0.came) (seven number some (omega (arith, few)));
+  },
+  are_due lost cut most (number + 1) xs five seven (omega arith) (omega (arith, few)) by.1,
+)
+
+-- ---- the log
+
+length_keeps : (n : ℕ) → length (keeps n) ≡ 3 * n
+length_keeps zero = refl
+length_keeps (suc n) =
+    let more = length-append (keeps n) (Keep (of_encoder_a n 1) ∷ Keep (of_encoder_a n 2) ∷ Keep (of_encoder_a n 3) ∷ []) in
+    omega (arith, length_keeps n, more)
+
+pub length_log : (n : ℕ) → length (log_of n) ≡ entries_after n
+length_log zero = refl
+length_log (suc n) = omega (arith, length_keeps (suc n))
+
+-- a fragment of a round
+record IsOfRound (n : ℕ) (f : Fragment) : Type 0 where
+  round : ℕ
+  below : round < n
+  time : f.time ≡ 20000000 * round
+  duration : f.duration ≡ 20000000
+
+of_round : (n i id : ℕ) (f : Fragment) → i < n → Keep (of_encoder_a i id) ≡ Keep f → IsOfRound n f
+of_round n i id f below is = let same : of_encoder_a i id ≡ f = cc in record {
+  round = i;
+  below = below;
+  time = sym (ap (λ (g : Fragment). g.time) same);
+  duration = sym (ap (λ (g : Fragment). g.duration) same);
+}
+
+later_round : (n : ℕ) (f : Fragment) → IsOfRound n f → IsOfRound (suc n) f
+later_round n f r = record { round = r.round; below = (let low = r.below in omega (arith, low)); time = r.time; duration = r.duration }
+
+among_three : (n : ℕ) (f : Fragment) → Contains (Keep (of_encoder_a n 1) ∷ Keep (of_encoder_a n 2) ∷ Keep (of_encoder_a n 3) ∷ []) (Keep f) → IsOfRound (suc n) f
+among_three n f (zero, fits, is) = of_round (suc n) n 1 f (omega arith) is
+among_three n f (suc zero, fits, is) = of_round (suc n) n 2 f (omega arith) is
+among_three n f (suc (suc zero), fits, is) = of_round (suc n) n 3 f (omega arith) is
+among_three n f (suc (suc (suc k)), fits, is) = absurd (omega (arith, fits))
+
+round_of : (n : ℕ) (f : Fragment) → Contains (keeps n) (Keep f) → IsOfRound n f
+round_of zero f there = absurd (in_none (Keep f) there)
+round_of (suc n) f there = ⊎_elim
+    (λ before. later_round n f (round_of n f before))
+    (λ last. among_three n f last)
+    (Contains-append_cases (keeps n) (Keep (of_encoder_a n 1) ∷ Keep (of_encoder_a n 2) ∷ Keep (of_encoder_a n 3) ∷ []) (Keep f) there)
+
+kept_round : (n : ℕ) (f : Fragment) → Contains (log_of n) (Keep f) → IsOfRound n f
+kept_round zero f there = absurd (in_none (Keep f) there)
+kept_round (suc n) f (zero, fits, is) = absurd (cc)
+kept_round (suc n) f (suc k, fits, is) = round_of (suc n) f (k, omega (arith, fits), is)
+
+-- ---- a run of fragments
+
+-- from one round on they are of one round after another
+in_rounds : (n i : ℕ) (p : Piece) (ps : List Piece) → AreIn (log_of n) (p ∷ ps) → Gapless (20000000 * i) (p ∷ ps) → i + length (p ∷ ps) ≤ n
+in_rounds n i p [] kept gapless =
+    let r = kept_round n p.fragment kept.0 in
+    let below = r.below in
+    let time : 20000000 * i ≡ 20000000 * r.round = sym gapless.0 ∙ r.time in
+    omega (arith, below, time)
+in_rounds n i p (q ∷ ps) kept gapless =
+    let r = kept_round n p.fragment kept.0 in
+    let time = gapless.0 in
+    let duration = r.duration in
+    let next : p.fragment.time + p.fragment.duration ≡ 20000000 * (i + 1) = omega (arith, time, duration) in
+    let rest = in_rounds n (i + 1) q ps kept.1 (subst (λ (t : ℕ). Gapless t (q ∷ ps)) next gapless.1) in
+    omega (arith, rest)
+
+-- as many of them as there are rounds begin at 0
+pub all_rounds : (n start : ℕ) (ps : List Piece) → 0 < n → length ps ≡ n → AreIn (log_of n) ps → Gapless start ps → Gapless 0 ps
+all_rounds n start [] some whole kept gapless = absurd (omega (arith, some, whole))
+all_rounds n start (p ∷ ps) some whole kept gapless =
+    let r = kept_round n p.fragment kept.0 in
+    let first : start ≡ 20000000 * r.round = sym gapless.0 ∙ r.time in
+    let from = in_rounds n r.round p ps kept (subst (λ (t : ℕ). Gapless t (p ∷ ps)) first gapless) in
+    let none : start ≡ 0 = omega (arith, first, from, whole) in
+    subst (λ (t : ℕ). Gapless t (p ∷ ps)) none gapless

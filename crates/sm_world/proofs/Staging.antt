@@ -1,0 +1,179 @@
+-- What pushes leave, one after another.
+use Rattle.std.proofs.Common.{◌≡◌, ◌≢◌, ℕ, zero, suc, ◌+◌, ◌-◌, ◌*◌, ◌≤◌, ◌<◌, ◌^◌, Bool, true, false, if◌then◌else◌, List, [], ◌∷◌, ◌++◌, Some, Result, Ok, Err, refl, sym, ◌∙◌, ap, subst, arith, append_assoc, append-nil}
+use Rattle.std.specs.Prelude.{OnOk}
+use Rattle.sm_fetch.specs.declared.dial.Answer.{Answer}
+use Rattle.sm_fetch.specs.declared.dial.Answer.TheVariants as answers
+use Rattle.sm_fetch.specs.declared.dial.Exchange.{Exchange}
+use Rattle.sm_fetch.specs.declared.place.Place.{Place}
+use Rattle.sm_fetch.specs.declared.push.Pushed.{Pushed}
+use Rattle.sm_fetch.specs.declared.push.Pushed.TheVariants as pushed
+use Rattle.sm_fetch.specs.Exchanges.{logged}
+use Rattle.sm_fetch.specs.Fetched.{PushedBody}
+use Rattle.sm_fetch.specs.Spelt.{SpellsPush}
+use Rattle.sm_origin.specs.Replies.{counts_line}
+use Rattle.sm_site.specs.Memory.{site_view, site_may_leave, site_left_at}
+use Rattle.sm_world.specs.Later.{IsLater}
+use Rattle.sm_world.specs.LaterLaws.{continues_later, continues_same, continues_then}
+use Rattle.sm_world.specs.Rounds.{behind, crashes, is_crash, is_refused, kind_at, kind_by, refusals, state_at, state_by}
+use Rattle.sm_world.specs.declared.kind.Kind.{Kind}
+use Rattle.sm_world.specs.Stages.{HasPushed, StaysOn}
+use Rattle.sm_world.specs.Told.{Says, SaysOf, Tell, known_by, refused_by}
+use Rattle.sm_world.specs.declared.stage.Stage.{Stage}
+use Rattle.sm_world.specs.declared.told.Told.{Told}
+use Rattle.sm_world.specs.declared.told.Told.TheVariants as told
+
+-- ---- what answers tell
+
+tell_one : (x : Exchange) (t : Told) → SaysOf x t → Tell (x ∷ []) (known_by t) (refused_by t)
+tell_one x t says = (t, says, (0, 0, (refl, refl), omega arith, omega arith))
+
+tell_both : (xs ys : List Exchange) (k r k' r' : ℕ) → Tell xs k r → Tell ys k' r' → Tell (xs ++ ys) (k + k') (r + r')
+tell_both [] ys k r k' r' a b =
+    let known : k' ≡ k + k' = (let z = a.0 in omega (arith, z)) in
+    let refused : r' ≡ r + r' = (let z = a.1 in omega (arith, z)) in
+    subst (λ (n : ℕ). Tell ys n (r + r')) known (subst (λ (n : ℕ). Tell ys k' n) refused b)
+tell_both (x ∷ xs) ys k r k' r' a b = (
+  a.0,
+  a.1,
+  (
+    a.2.0 + k',
+    a.2.1 + r',
+    tell_both xs ys a.2.0 a.2.1 k' r' a.2.2 b,
+    (let e = a.2.3 in omega (arith, e)),
+    (let e = a.2.4 in omega (arith, e)),
+  ),
+)
+
+-- ---- one push
+
+said_something : (fragments : ℕ) (came : Pushed) (t : Told) → Says fragments came t → came ≢ pushed.NoMemory
+said_something fragments came (told.Taken known) says none = absurd (let bad : pushed.Status 200 (counts_line (fragments - known) known) ≡ pushed.NoMemory = sym says.1 ∙ none in cc)
+said_something fragments came told.Refused says none = absurd (let bad : pushed.Status 409 says.0 ≡ pushed.NoMemory = sym says.1 ∙ none in cc)
+said_something fragments came told.Failed says none = says.0 none
+
+few_known : (fragments : ℕ) (came : Pushed) (t : Told) → fragments ≤ 3 → Says fragments came t → known_by t ≤ 3
+few_known fragments came (told.Taken known) few says = let a = says.0 in omega (arith, few, a)
+few_known fragments came told.Refused few says = omega arith
+few_known fragments came told.Failed few says = omega arith
+
+-- the exchange of a push that got an answer
+one_more : (made made' : List Exchange) (request : List ℕ) (limit : ℕ) (answer : Answer) (came : Pushed) → Some made' ≡ logged (Some made) request limit answer → SpellsPush answer came → came ≢ pushed.NoMemory
+    → made' ≡ made ++ (record { request = request; limit = limit; answer = answer }) ∷ []
+one_more made made' request limit (answers.Bytes bytes) came log spells something = cc
+one_more made made' request limit answers.Lost came log spells something = cc
+one_more made made' request limit answers.NoMemory came log spells something = absurd (something spells)
+
+module _ (old new : Stage) where
+  pub has_pushed : (place : Place) (id body : List ℕ) (came : Pushed) (t : Told) (fragments : ℕ) → PushedBody place id body (Some old.dial.1.made) (Some new.dial.1.made) came
+      → Says fragments came t → fragments ≤ 3 → new.known ≡ old.known + known_by t → new.refused ≡ old.refused + refused_by t
+      → IsLater site_view site_may_leave site_left_at old.dial new.dial → HasPushed old new 0 (refused_by t) 3
+  has_pushed place id body came t fragments p says few known refused later =
+      let x : Exchange = record { request = _; limit = _; answer = p.answer } in
+      record {
+        more = x ∷ [];
+        made = one_more old.dial.1.made new.dial.1.made _ _ p.answer came p.log p.spells (said_something fragments came t says);
+        known = known_by t;
+        tell = tell_one x t (record { fragments = fragments; came = came; spells = p.spells; says = says });
+        known_is = known;
+        few = few_known fragments came t few says;
+        refused_is = refused;
+        crashed = λ low. (let e = later.crashes in omega (arith, e));
+        stays_on = continues_later site_view site_may_leave site_left_at old.dial new.dial later;
+      }
+
+  -- no push, but perhaps crashes
+  pub quiet : (crashes : ℕ) → new.dial.1.made ≡ old.dial.1.made → new.known ≡ old.known → new.refused ≡ old.refused
+      → (old.dial.1.crashes + crashes < 2 ^ 62 → new.dial.1.crashes ≡ old.dial.1.crashes + crashes) → StaysOn old.dial new.dial → HasPushed old new crashes 0 0
+  quiet crashes made known refused crashed stays = record {
+    more = [];
+    made = made ∙ sym (append-nil old.dial.1.made);
+    known = 0;
+    tell = (refl, refl);
+    known_is = omega (arith, known);
+    few = omega arith;
+    refused_is = omega (arith, refused);
+    crashed = crashed;
+    stays_on = stays;
+  }
+
+-- ---- one after another
+
+pub pushed_then : (a b c : Stage) (n n' r r' m m' : ℕ) → HasPushed a b n r m → HasPushed b c n' r' m' → HasPushed a c (n + n') (r + r') (m + m')
+pushed_then a b c n n' r r' m m' x y = record {
+  more = x.more ++ y.more;
+  made = y.made ∙ ap (λ (l : List Exchange). l ++ y.more) x.made ∙ append_assoc a.dial.1.made x.more y.more;
+  known = x.known + y.known;
+  tell = tell_both x.more y.more x.known r y.known r' x.tell y.tell;
+  known_is = (let e = x.known_is in let f = y.known_is in omega (arith, e, f));
+  few = (let e = x.few in let f = y.few in omega (arith, e, f));
+  refused_is = (let e = x.refused_is in let f = y.refused_is in omega (arith, e, f));
+  crashed = λ low.
+      (let e = x.crashed (omega (arith, low)) in
+      let f = y.crashed (omega (arith, low, e)) in
+      omega (arith, e, f));
+  stays_on = continues_then site_view site_may_leave site_left_at a.dial b.dial c.dial x.stays_on y.stays_on;
+}
+
+-- as many, in other words; and as many known at most
+pub pushed_as : (a b : Stage) (n n' r r' m m' : ℕ) → n ≡ n' → r ≡ r' → m ≤ m' → HasPushed a b n r m → HasPushed a b n' r' m'
+pushed_as a b n n' r r' m m' crashes refusals most x = record {
+  more = x.more;
+  made = x.made;
+  known = x.known;
+  tell = subst (Tell x.more x.known) refusals x.tell;
+  known_is = x.known_is;
+  few = (let e = x.few in omega (arith, e, most));
+  refused_is = (let e = x.refused_is in omega (arith, e, refusals));
+  crashed = λ low. (let e = x.crashed (omega (arith, low, crashes)) in omega (arith, e, crashes));
+  stays_on = x.stays_on;
+}
+
+-- nothing was done
+pub pushed_not : (a : Stage) → HasPushed a a 0 0 3
+pushed_not a = record {
+  more = [];
+  made = sym (append-nil a.dial.1.made);
+  known = 0;
+  tell = (refl, refl);
+  known_is = omega arith;
+  few = omega arith;
+  refused_is = omega arith;
+  crashed = λ low. omega arith;
+  stays_on = continues_same site_view site_may_leave site_left_at a.dial;
+}
+
+-- ---- rounds
+
+counted : (b : Bool) (n : ℕ) → n + (if b then 1 else 0) ≡ (if b then n + 1 else n)
+counted true n = refl
+counted false n = omega arith
+
+pub round_more : (a b c : Stage) (i x y : ℕ) → y ≡ state_at i x → HasPushed a b (crashes i x) (refusals i x) (9 * i)
+    → HasPushed b c (if is_crash (kind_by y) then 1 else 0) (if is_refused (kind_by y) then 1 else 0) 9
+    → HasPushed a c (crashes (suc i) x) (refusals (suc i) x) (9 * suc i)
+round_more a b c i x y is before round =
+    let k : kind_by y ≡ kind_at i x = ap kind_by is in
+    let crashed : (if is_crash (kind_by y) then 1 else 0) ≡ (if is_crash (kind_at i x) then 1 else 0) = ap (λ (k : Kind). if is_crash k then 1 else 0) k in
+    let refused : (if is_refused (kind_by y) then 1 else 0) ≡ (if is_refused (kind_at i x) then 1 else 0) = ap (λ (k : Kind). if is_refused k then 1 else 0) k in
+    pushed_as a c _ _ _ _ _ _ (ap (λ (n : ℕ). crashes i x + n) crashed ∙ counted (is_crash (kind_at i x)) (crashes i x))
+    (ap (λ (n : ℕ). refusals i x + n) refused ∙ counted (is_refused (kind_at i x)) (refusals i x)) (omega arith)
+    (pushed_then a b c _ _ _ _ _ _ before round)
+
+pub state_more : (i x y z : ℕ) → y ≡ state_at i x → z ≡ behind (kind_by y) (state_by y) → z ≡ state_at (suc i) x
+state_more i x y z is next = next ∙ ap (λ (n : ℕ). behind (kind_by n) (state_by n)) is
+
+pub on_ok : {A E : Type 0} (r : Result A E) (P Q : Type 0) → (P → Q) → OnOk r P → OnOk r Q
+on_ok (Ok a) P Q so holds = so holds
+on_ok (Err e) P Q so holds = tt
+
+at_most : (b : Bool) (n i : ℕ) → n ≤ i → (if b then n + 1 else n) ≤ suc i
+at_most true n i below = omega (arith, below)
+at_most false n i below = omega (arith, below)
+
+pub few_refusals : (i x : ℕ) → refusals i x ≤ i
+few_refusals zero x = omega arith
+few_refusals (suc i) x = at_most (is_refused (kind_at i x)) (refusals i x) i (few_refusals i x)
+
+pub few_crashes : (i x : ℕ) → crashes i x ≤ i
+few_crashes zero x = omega arith
+few_crashes (suc i) x = at_most (is_crash (kind_at i x)) (crashes i x) i (few_crashes i x)

@@ -1,0 +1,104 @@
+-- The clients of a rehearsal.
+use Rattle.std.specs.Prelude.{◌≡◌, ◌==◌, ◌+◌, ◌-◌, ◌*◌, ◌/◌, ◌%◌, ◌^◌, ◌<◌, ◌≤◌, ℕ, List, [], ◌∷◌, ◌++◌, length, codes, None, Some}
+use Rattle.sm_fetch.specs.declared.dial.Exchange.{Exchange}
+use Rattle.sm_fetch.specs.declared.place.Place.{Place}
+use Rattle.sm_ends.specs.TracksHeld.{TracksState, held_at}
+use Rattle.sm_client.specs.declared.plan.Plan.{Plan}
+use Rattle.sm_client.specs.declared.report.End.TheVariants.{Done}
+use Rattle.sm_client.specs.Turns.{Meaning, settle}
+use Rattle.sm_client.specs.Asks.{exchanges}
+use Rattle.sm_client.specs.Plays.{Part, IsPart, Gapless, written_of}
+use Rattle.sm_client.specs.Served.{AreIn}
+use Rattle.sm_world.specs.Answering.{answer_for}
+use Rattle.sm_site.specs.declared.memory.MemorySite.{MemorySite}
+use Rattle.sm_site.specs.Memory.{site_view, site_may_leave, site_left_at}
+use Rattle.sm_world.specs.Dialing.{Dialing}
+use Rattle.sm_world.specs.Encoders.{entries_after, log_of}
+use Rattle.sm_world.specs.Stages.{HasEntries, StaysOn}
+use Rattle.sm_world.specs.Worlds.{World, Stands}
+use Rattle.sm_world.specs.declared.client.Client.{Client}
+use Rattle.sm_world.specs.declared.clients.Clients.{Clients}
+use Rattle.sm_world.specs.declared.acted.Acted.{Acted}
+
+abbrev pub place : Place
+place = record { host = codes "rehearsal"; port = 80; path = codes "live" }
+
+-- so many fragments of a stream, from the first that is listed
+abbrev pub plan_of : List ℕ → ℕ → Plan
+plan_of name count = record { place = place; streams = name ∷ []; from = None; count = count; tries = 3; refresh = 2 }
+
+-- ---- what is lost and cut
+
+-- Of the exchanges of a client, numbered from 1, a multiple of five is lost, and of another multiple of seven the first half comes.
+pub record IsDue (number : ℕ) (x : Exchange) : Type 0 where
+  pub came : Acted
+  pub answer : x.answer ≡ answer_for (number % 5 == 0) (number % 7 == 0) x.limit came
+
+abbrev pub AreDue : ℕ → List Exchange → Type 0
+AreDue number [] = Unit {0}
+AreDue number (x ∷ xs) = IsDue number x × AreDue (number + 1) xs
+
+-- how many of them these are
+abbrev pub lost_among : List Exchange → ℕ
+lost_among xs = length xs / 5
+
+abbrev pub cut_among : List Exchange → ℕ
+cut_among xs = length xs / 7 - length xs / 35
+
+-- ---- a client
+
+-- These are the exchanges of a client that played a stream with one policy into the first of these tracks: so many fragments, each from
+-- where the one before it ended, the first at 0, and each of them kept by the store. Where none is wanted it only asked for a manifest.
+pub record IsClient {P : Type 0} (m : Meaning P) (p : P) (name : List ℕ) (count : ℕ) (xs : List Exchange) (tracks : TracksState) : Type 0 where
+  pub part : Part
+  pub plays : IsPart m (plan_of name count) name 0 (settle m p [] []) (Some []) (Some (held_at tracks.tracks 0)) part
+  pub made : xs ≡ exchanges (part.made ++ part.last)
+  pub due : AreDue 1 xs
+  pub done : 0 < count → part.end ≡ Done
+  pub whole : 0 < count → length (written_of (plan_of name count) name part) ≡ count
+  pub gapless : 0 < count → Gapless 0 (written_of (plan_of name count) name part)
+  pub kept : 0 < count → AreIn (log_of count) (written_of (plan_of name count) name part)
+
+-- What playing a stream leaves of an origin in memory: further exchanges, which are those of a client where the store kept all that encoder
+-- A pushed before, and as many entries behind.
+pub record HasPlayed {P : Type 0} (m : Meaning P) (p : P) (name : List ℕ) (count : ℕ) (old new : MemorySite × Dialing) (c : Client) : Type 0 where
+  pub more : List Exchange
+  pub made : new.1.made ≡ old.1.made ++ more
+  pub client : (w : World) → Stands site_view site_may_leave site_left_at w old.1.state old.0 → w.log ≡ log_of count
+      → ((now : World) → Stands site_view site_may_leave site_left_at now new.1.state new.0 → length now.log ≡ entries_after count)
+      → IsClient m p name count more c.tracks
+  pub few : length more ≤ (count + 1) * 9
+  pub lost : c.lost ≡ lost_among more
+  pub cut : c.cut ≡ cut_among more
+  pub played : c.played ≡ count
+  pub crashes : new.1.crashes ≡ old.1.crashes
+  pub stays_on : StaysOn old new
+
+-- The first client, behind which the site crashed: the store keeps all that encoder A pushed, if it had as many entries before.
+pub record HasPlayedFirst {P : Type 0} (m : Meaning P) (p : P) (count : ℕ) (old new : MemorySite × Dialing) (c : Client) : Type 0 where
+  pub more : List Exchange
+  pub made : new.1.made ≡ old.1.made ++ more
+  pub client : (0 < count → HasEntries old (entries_after count)) → (w : World) → Stands site_view site_may_leave site_left_at w old.1.state old.0
+      → IsClient m p (codes "video") count more c.tracks × ((now : World) × Stands site_view site_may_leave site_left_at now new.1.state new.0
+      × (now.first ≡ w.first) × (now.log ≡ log_of count))
+  pub few : length more ≤ (count + 1) * 9
+  pub lost : c.lost ≡ lost_among more
+  pub cut : c.cut ≡ cut_among more
+  pub played : c.played ≡ count
+  pub crashes : old.1.crashes + 1 < 2 ^ 62 → new.1.crashes ≡ old.1.crashes + 1
+
+-- The three clients, and one crash.
+pub record HavePlayed {P : Type 0} (m : Meaning P) (p q r : P) (count : ℕ) (old new : MemorySite × Dialing) (c : Clients) : Type 0 where
+  pub ones : List Exchange
+  pub twos : List Exchange
+  pub threes : List Exchange
+  pub made : new.1.made ≡ ((old.1.made ++ ones) ++ twos) ++ threes
+  pub client : (0 < count → HasEntries old (entries_after count)) → (w : World) → Stands site_view site_may_leave site_left_at w old.1.state old.0
+      → IsClient m p (codes "video") count ones c.first.tracks × IsClient m q (codes "video") count twos c.second.tracks
+      × IsClient m r (codes "audio") count threes c.third.tracks
+      × ((now : World) × Stands site_view site_may_leave site_left_at now new.1.state new.0 × (now.first ≡ w.first) × (now.log ≡ log_of count))
+  pub few : length ones + length twos + length threes ≤ (count + 1) * 27
+  pub lost : c.first.lost + c.second.lost + c.third.lost ≡ lost_among ones + lost_among twos + lost_among threes
+  pub cut : c.first.cut + c.second.cut + c.third.cut ≡ cut_among ones + cut_among twos + cut_among threes
+  pub played : c.first.played + c.second.played + c.third.played ≡ 3 * count
+  pub crashes : old.1.crashes + 1 < 2 ^ 62 → new.1.crashes ≡ old.1.crashes + 1

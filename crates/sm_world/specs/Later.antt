@@ -1,0 +1,23 @@
+-- What becomes of a dial.
+use Rattle.std.specs.Prelude.{◌≡◌, ℕ, List, ◌++◌}
+use Rattle.sm_model.specs.declared.entry.Entry.{Entry}
+use Rattle.sm_site.specs.Image.{Image}
+use Rattle.sm_site.specs.Meanings.{View}
+use Rattle.sm_world.specs.Dialing.{Dialing}
+use Rattle.sm_world.specs.Worlds.{World, Stands, GoesOn}
+
+-- A dial after any exchanges: the same numbers are lost and cut, counted from the same place; the site was not crashed; and wherever it
+-- stood, it stands at a log that goes on.
+pub record IsLater {D : Type 0} (view : D → View) (leave : D → Image → Type 0) (left_at : D → ℕ → Image → Type 0) (old new : D × Dialing) : Type 0 where
+  pub limits : new.1.limits ≡ old.1.limits
+  pub lost : new.1.lost ≡ old.1.lost
+  pub cut : new.1.cut ≡ old.1.cut
+  pub since : new.1.since ≡ old.1.since
+  pub crashes : new.1.crashes ≡ old.1.crashes
+  pub goes_on : GoesOn view leave left_at old.1.state old.0 new.1.state new.0
+
+-- Wherever it stood, it stands at a log that began as that one did and goes on from it, through crashes too.
+abbrev pub Continues : {D : Type 0} (view : D → View) (leave : D → Image → Type 0) (left_at : D → ℕ → Image → Type 0) → D × Dialing → D × Dialing
+    → Type 0
+Continues view leave left_at old new = (w : World) → Stands view leave left_at w old.1.state old.0
+    → (now : World) × Stands view leave left_at now new.1.state new.0 × (now.first ≡ w.first) × ((more : List Entry) × (now.log ≡ w.log ++ more))

@@ -1,0 +1,41 @@
+-- A rehearsal that was held.
+use Rattle.std.specs.Prelude.{◌≡◌, ◌+◌, ◌*◌, ℕ, List, [], ◌∷◌, ◌++◌, codes, false}
+use Rattle.sm_fetch.specs.declared.dial.Exchange.{Exchange}
+use Rattle.sm_client.specs.Turns.{Meaning}
+use Rattle.sm_site.specs.Memory.{site_view, site_may_leave, site_left_at, faults_of}
+use Rattle.sm_world.specs.Clients.{IsClient, lost_among, cut_among}
+use Rattle.sm_world.specs.Encoders.{log_of}
+use Rattle.sm_world.specs.Rounds.{crashes, refusals}
+use Rattle.sm_world.specs.Told.{Tell}
+use Rattle.sm_world.specs.Worlds.{World, Stands}
+use Rattle.sm_world.specs.declared.rehearsal.Rehearsal.{Rehearsal}
+
+-- The store began empty and keeps the channel and all that encoder A pushed, in order. The exchanges of the dial are the pushes of both
+-- encoders and then those of the three clients, one for each policy. The numbers are those of the store, of what the pushes were
+-- answered, of the rounds that were drawn, and of the clients' exchanges and fragments.
+pub record Rehearsed {P : Type 0} (m : Meaning P) (number size : ℕ) (policies : List P) (r : Rehearsal) : Type 0 where
+  pub world : World
+  pub stands : Stands site_view site_may_leave site_left_at world r.dial.1.state r.dial.0
+  pub began : world.first ≡ []
+  pub log : world.log ≡ log_of size
+  pub first : P
+  pub second : P
+  pub third : P
+  pub policies_are : policies ≡ first ∷ second ∷ third ∷ []
+  pub pushes : List Exchange
+  pub ones : List Exchange
+  pub twos : List Exchange
+  pub threes : List Exchange
+  pub made : r.dial.1.made ≡ ((pushes ++ ones) ++ twos) ++ threes
+  pub tell : Tell pushes r.summary.known r.summary.refused
+  pub one : IsClient m first (codes "video") size ones r.first
+  pub two : IsClient m second (codes "video") size twos r.second
+  pub three : IsClient m third (codes "audio") size threes r.third
+  pub kept : r.summary.kept ≡ 3 * size
+  pub refused : r.summary.refused ≡ refusals size number
+  pub crashed : r.summary.crashes ≡ 1 + crashes size number
+  pub crashes_are : r.summary.crashes ≡ r.dial.1.crashes
+  pub lost : r.summary.lost ≡ lost_among ones + lost_among twos + lost_among threes
+  pub cut : r.summary.cut ≡ cut_among ones + cut_among twos + cut_among threes
+  pub played : r.summary.played ≡ 3 * size
+  pub fed : (faults_of r.dial.0).starved ≡ false

@@ -1,0 +1,42 @@
+-- What an exchange says of the log behind a dial.
+use Rattle.std.specs.Prelude.{◌≡◌, ℕ, List, ◌++◌, Option}
+use Rattle.sm_model.specs.declared.entry.Entry.{Entry}
+use Rattle.sm_site.specs.Image.{Image}
+use Rattle.sm_site.specs.Meanings.{View}
+use Rattle.sm_serve.specs.declared.state.State.{State}
+use Rattle.sm_fetch.specs.declared.dial.Answer.TheVariants as answers
+use Rattle.sm_fetch.specs.Origins.{FromOrigin}
+use Rattle.sm_world.specs.declared.acted.Acted.{Acted}
+use Rattle.sm_world.specs.declared.acted.Acted.TheVariants as acted
+use Rattle.sm_world.specs.Worlds.{World, Stands, Grows}
+
+-- in some world with this log it stands
+pub record StandsAt {D : Type 0} (view : D → View) (leave : D → Image → Type 0) (left_at : D → ℕ → Image → Type 0) (state : Option State) (d : D)
+    (log : List Entry) : Type 0 where
+  pub world : World
+  pub stands : Stands view leave left_at world state d
+  pub log_is : world.log ≡ log
+
+-- what went out in answer to a GET is the origin's reply, or a front of it
+abbrev pub IsSaid : List Entry → List ℕ → Acted → Type 0
+IsSaid log request acted.Unopened = Unit {0}
+IsSaid log request acted.Broken = Unit {0}
+IsSaid log request acted.NoMemory = Unit {0}
+IsSaid log request (acted.Sent bytes) = FromOrigin log request (answers.Bytes bytes)
+
+-- The world went on, and what came of the request was said of its log at some moment of that.
+pub record Says {D : Type 0} (view : D → View) (leave : D → Image → Type 0) (left_at : D → ℕ → Image → Type 0) (w : World) (request : List ℕ)
+    (came : Acted) (state : Option State) (d : D) : Type 0 where
+  pub now : World
+  pub stands : Stands view leave left_at now state d
+  pub grows : Grows w now
+  pub until : List Entry
+  pub since : List Entry
+  pub log_is : now.log ≡ (w.log ++ until) ++ since
+  pub said : IsSaid (w.log ++ until) request came
+
+-- wherever it stood
+abbrev pub SaysOn : {D : Type 0} (view : D → View) (leave : D → Image → Type 0) (left_at : D → ℕ → Image → Type 0) → Option State → D → List ℕ
+    → Acted → Option State → D → Type 0
+SaysOn view leave left_at state d request came state' d' =
+    (w : World) → Stands view leave left_at w state d → Says view leave left_at w request came state' d'
