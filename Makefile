@@ -50,6 +50,7 @@ bench: build
 	bash scripts/bench_catalog $(CATALOG_BENCH)
 	cd crates/archive_bench && rt run -- copy 1 1 > /dev/null
 	bash scripts/bench_archive $(ARCHIVE_BENCH)
+	SMOOTH=$(PROGRAM) scripts/bench_rehearse
 	SMOOTH=$(PROGRAM) scripts/bench_serve
 
 clean:

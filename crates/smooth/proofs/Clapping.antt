@@ -6,7 +6,7 @@ use Rattle.clap.specs.declared.parser.matches.Found.{Found}
 use Rattle.clap.proofs.OnLiterals.{clap_on_literals}
 use Rattle.clap.proofs.WalkLemmas.{first_value-rows, one_text-rows}
 use Rattle.smooth.specs.Words.{Text, PushTexts, ServeTexts}
-use Rattle.smooth.specs.Clapped.{list_app, list_words, pick_app, pick_words, push_app, push_words, serve_app, serve_words}
+use Rattle.smooth.specs.Clapped.{list_app, list_words, pick_app, pick_words, push_app, push_words, rehearse_app, rehearse_words, serve_app, serve_words}
 
 -- the rows of a command that is known, at words that are known
 pub rows_read : (a b : App) (words ws : List Text) (m : ArgMatches) → a ≡ b → words ≡ ws → is_simple b ≡ true → HasMatchesOf a words m
@@ -39,6 +39,24 @@ track_read x = refl
 pub time_read : (x : Text × Text) → first_of (codes "TIME") (matches_of pick_app (pick_words x)) ≡ Some x.1
 unfolding clap_on_literals
 time_read x = refl
+
+-- ---- rehearse
+
+pub rehearse_simple : is_simple rehearse_app ≡ true
+unfolding clap_on_literals
+rehearse_simple = refl
+
+pub rehearse_taken : (x : Text × Text) → takes rehearse_app (rehearse_words x) ≡ true
+unfolding clap_on_literals
+rehearse_taken x = refl
+
+pub number_read : (x : Text × Text) → first_of (codes "NUMBER") (matches_of rehearse_app (rehearse_words x)) ≡ Some x.0
+unfolding clap_on_literals
+number_read x = refl
+
+pub size_read : (x : Text × Text) → first_of (codes "SIZE") (matches_of rehearse_app (rehearse_words x)) ≡ Some x.1
+unfolding clap_on_literals
+size_read x = refl
 
 -- ---- list
 

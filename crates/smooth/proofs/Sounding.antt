@@ -1,4 +1,4 @@
--- What is asked for may be played.
+-- What is asked for may be played, or rehearsed.
 use Rattle.std.proofs.Common.{◌≡◌, ◌≤◌, ◌<◌, ℕ, Bool, true, false, cond, ◌&&◌, nat_le, List, [], ◌∷◌, length, codes, Option, Some, None, IfSome, refl, sym, ap, subst, ◌^◌, ◌-◌, arith}
 use Rattle.std.specs.Option.{option_map, option_and_then}
 use Rattle.std.specs.List.{list_all}
@@ -8,11 +8,11 @@ use Rattle.sm_model.specs.Digits.{is_digit, decimal_from}
 use Rattle.sm_model.specs.Names.{is_name}
 use Rattle.sm_client.specs.declared.plan.Plan.{Plan}
 use Rattle.smooth.specs.Options.{play_options, serve_options}
-use Rattle.smooth.specs.Words.{Text, Read, Wanted, Pick, Serve, Push, Play, Listing, PlayNumbers, PlayTexts, PushTexts, ServeTexts, asked, is, is_numeral, numeral, read}
+use Rattle.smooth.specs.Words.{Text, Read, Wanted, Pick, Serve, Push, Play, Listing, Rehearse, PlayNumbers, PlayTexts, PushTexts, ServeTexts, asked, is, is_numeral, numeral, read}
 use Rattle.smooth.specs.Words.{folder, list_of, number_or, numbers_by, pick_by, pick_of, plan_by, play_by, play_of, play_texts, push_by, push_of, push_texts, serve_by, serve_of}
-use Rattle.smooth.specs.Words.{serve_texts, start_by, streams_by, two_words, only_word}
+use Rattle.smooth.specs.Words.{rehearse_by, rehearse_of, serve_texts, start_by, streams_by, two_words, only_word}
 use Rattle.smooth.specs.Places.{is_host, is_path}
-use Rattle.smooth.specs.Orders.{IsPlayable}
+use Rattle.smooth.specs.Orders.{IsPlayable, IsWorld}
 
 abbrev IsFit : Wanted → Type 0
 IsFit (Pick track time) = Unit {0}
@@ -20,6 +20,7 @@ IsFit (Serve store port ladder turns) = Unit {0}
 IsFit (Push host port path id) = Unit {0}
 IsFit (Play plan) = IsPlayable plan
 IsFit (Listing store) = Unit {0}
+IsFit (Rehearse number size) = IsWorld number size
 
 -- ---- options
 
@@ -124,6 +125,16 @@ play_fits x =
     record { streams = few (x.stream ∷ x.more) streams s; count = fit.count; tries = fit.tries; refresh = fit.refresh }))
     tt)
 
+-- a number and a size make a world
+rounds_fit : (n : ℕ) (size : Text) → n < 2 ^ 31 → IfSome (option_map (λ s. Rehearse n s) (numeral 0 2000 size)) IsFit
+rounds_fit n size low =
+    of_map IsFit (λ s. Rehearse n s) (numeral 0 2000 size) (λ s e. let few_rounds = between 0 2000 size s e in record { number_fits = low; size_fits = few_rounds.high_is })
+
+rehearse_fits : (x : Text × Text) → IfSome (rehearse_by x.0 x.1) IsFit
+rehearse_fits x =
+    of_then IsFit (λ n. option_map (λ s. Rehearse n s) (numeral 0 2000 x.1)) (numeral 0 (2 ^ 31 - 1) x.0)
+    (λ n e. let world = between 0 (2 ^ 31 - 1) x.0 n e in rounds_fit n x.1 (omega (arith, world.high_is)))
+
 -- what another command asks for is nothing to play
 pick_fits : (x : Text × Text) → IfSome (pick_by x.0 x.1) IsFit
 pick_fits x =
@@ -164,10 +175,16 @@ asked_fits (command ∷ words) =
     (of_read (λ r. push_texts r.words) push_by (read [] words) push_fits)
     (of_both IsFit (is command (codes "list")) (option_and_then list_of (read [] words)) _
     (of_then IsFit list_of (read [] words) (λ r e. list_fits r))
-    (of_both IsFit (is command (codes "play")) (option_and_then play_of (read play_options words)) None
+    (of_both IsFit (is command (codes "play")) (option_and_then play_of (read play_options words)) _
     (of_read play_texts play_by (read play_options words) play_fits)
-    tt))))
+    (of_both IsFit (is command (codes "rehearse")) (option_and_then rehearse_of (read [] words)) None
+    (of_read (λ r. two_words r.words) (λ x. rehearse_by x.0 x.1) (read [] words) rehearse_fits)
+    tt)))))
 
 -- what the words ask to play may be played
 pub playable : (plan : Plan) (words : List Text) → Some (Play plan) ≡ asked words → IsPlayable plan
 playable plan words e = if_some IsFit (asked words) (Play plan) (asked_fits words) (sym e)
+
+-- and what they ask to rehearse may be rehearsed
+pub rehearsable : (number size : ℕ) (words : List Text) → Some (Rehearse number size) ≡ asked words → IsWorld number size
+rehearsable number size words e = if_some IsFit (asked words) (Rehearse number size) (asked_fits words) (sym e)

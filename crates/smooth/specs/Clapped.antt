@@ -22,6 +22,9 @@ without_help a = record a { top = record a.top { disable_help_flag = true } }
 abbrev pub pick_app : App
 pick_app = with_rule (with_rule (without_help (new_app (codes "pick"))) (word_rule (codes "TRACK"))) (word_rule (codes "TIME"))
 
+abbrev pub rehearse_app : App
+rehearse_app = with_rule (with_rule (without_help (new_app (codes "rehearse"))) (word_rule (codes "NUMBER"))) (word_rule (codes "SIZE"))
+
 abbrev pub list_app : App
 list_app = with_rule (without_help (new_app (codes "list"))) (word_rule (codes "STORE"))
 
@@ -81,6 +84,9 @@ serve_words x = codes "serve" ∷ (codes "--port=" ++ x.port) ∷ (ladder_words 
 
 abbrev pub pick_words : Text × Text → List Text
 pick_words x = codes "pick" ∷ codes "--" ∷ x.0 ∷ x.1 ∷ []
+
+abbrev pub rehearse_words : Text × Text → List Text
+rehearse_words x = codes "rehearse" ∷ codes "--" ∷ x.0 ∷ x.1 ∷ []
 
 abbrev pub list_words : Text → List Text
 list_words store = codes "list" ∷ codes "--" ∷ store ∷ []

@@ -10,4 +10,5 @@ pub mod Search
 pub mod Stores
 pub mod Origins
 pub mod Plays
+pub mod Rehearsals
 pub mod Ran

@@ -10,12 +10,13 @@ use Rattle.smooth.specs.declared.answer.Picked.TheVariants as picked
 use Rattle.smooth.specs.declared.answer.Answer.{Answer}
 use Rattle.smooth.specs.declared.answer.Answer.TheVariants.{Found, Words, Unread, TooLong, LongLadder, Refused, NotKept, Clash, Undone}
 use Rattle.smooth.specs.declared.answer.Answer.TheVariants.{Damaged, DiskFault, LinkFault, TrackFault, Starved, Full, NotAStore}
-use Rattle.smooth.specs.Words.{Wanted, Pick, Serve, Push, Play, Listing, asked}
+use Rattle.smooth.specs.Words.{Wanted, Pick, Serve, Push, Play, Listing, Rehearse, asked}
 use Rattle.smooth.specs.Answers.{IsAnswered, limit, status_of, unwritten_status_of, line_of}
 use Rattle.sm_visit.specs.Pushing.{Line}
 use Rattle.smooth.specs.Stores.{End, ListMeans, ServeMeans}
 use Rattle.smooth.specs.Origins.{PushMeans}
 use Rattle.smooth.specs.Plays.{PlayMeans, Tape}
+use Rattle.smooth.specs.Rehearsals.{RehearseMeans}
 
 -- ---- pick
 
@@ -75,6 +76,8 @@ MeansBy view leave left_at m policies (Some (Play plan)) old new d d' answer =
     PlayMeans m plan policies old.dial new.dial old.tracks new.tracks answer × (new.input ≡ old.input) × (d' ≡ d)
 MeansBy view leave left_at m policies (Some (Listing store)) old new d d' answer =
     ListMeans view d d' answer × (new.input ≡ old.input) × (new.dial ≡ old.dial) × (new.tracks ≡ old.tracks)
+MeansBy view leave left_at m policies (Some (Rehearse number size)) old new d d' answer =
+    RehearseMeans m number size policies answer × IsIdle old new d d'
 
 abbrev pub Means : {D P : Type 0} (view : D → View) (leave : D → Image → Type 0) (left_at : D → ℕ → Image → Type 0) → Meaning P → List P
     → List (List ℕ) → Around → Around → D → D → Answer → Type 0

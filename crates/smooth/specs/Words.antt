@@ -165,6 +165,8 @@ pub data Wanted : Type 0 where
   Play : Plan → Wanted
   -- a folder
   Listing : Text → Wanted
+  -- the number of a world and its size
+  Rehearse : ℕ → ℕ → Wanted
 
 abbrev pub folder : Text → Option Text
 folder [] = None
@@ -180,6 +182,12 @@ pick_by track time = option_and_then (λ t. option_map (λ at. Pick t at) (numer
 
 abbrev pub pick_of : Read → Option Wanted
 pick_of r = option_and_then (λ texts. pick_by texts.0 texts.1) (two_words r.words)
+
+abbrev pub rehearse_by : Text → Text → Option Wanted
+rehearse_by number size = option_and_then (λ n. option_map (λ s. Rehearse n s) (numeral 0 2000 size)) (numeral 0 (2 ^ 31 - 1) number)
+
+abbrev pub rehearse_of : Read → Option Wanted
+rehearse_of r = option_and_then (λ texts. rehearse_by texts.0 texts.1) (two_words r.words)
 
 -- the texts that `serve` is given
 pub record ServeTexts : Type 0 where
@@ -322,8 +330,8 @@ play_by x =
 abbrev pub play_of : Read → Option Wanted
 play_of r = option_and_then play_by (play_texts r)
 
--- what the words ask for: `pick TRACK TIME`, `serve STORE --port N [--ladder] [--turns N]`, `push HOST PORT PATH ID`, `list STORE` or
--- `play HOST PORT PATH STREAM... [--from N] [--count N] [--tries N] [--refresh N]`
+-- what the words ask for: `pick TRACK TIME`, `serve STORE --port N [--ladder] [--turns N]`, `push HOST PORT PATH ID`, `list STORE`,
+-- `play HOST PORT PATH STREAM... [--from N] [--count N] [--tries N] [--refresh N]` or `rehearse NUMBER SIZE`
 unfoldable pub asked : List Text → Option Wanted
 asked [] = None
 asked (command ∷ words) =
@@ -332,4 +340,5 @@ asked (command ∷ words) =
     else if is command (codes "push") then option_and_then push_of (read [] words)
     else if is command (codes "list") then option_and_then list_of (read [] words)
     else if is command (codes "play") then option_and_then play_of (read play_options words)
+    else if is command (codes "rehearse") then option_and_then rehearse_of (read [] words)
     else None

@@ -1,5 +1,5 @@
 //! The program `smooth`: a live origin and client for Smooth Streaming. It picks a fragment out of an input, serves a store and
-//! lists it, pushes an input to an origin, and plays streams of one.
+//! lists it, pushes an input to an origin, plays streams of one, and rehearses both together.
 #![tactic(auto)]
 
 ghost use Rattle.std.specs.Prelude.{◌≡◌, length, map, string_bytes};
@@ -20,6 +20,7 @@ mod place;
 mod play;
 mod print;
 mod put;
+mod rehearse;
 mod search;
 mod seek;
 mod std_ends;

@@ -4,7 +4,7 @@ ghost use Rattle.std.specs.Option.{option_map};
 ghost use Rattle.clap.specs.Words.{HasMatchesOf, app_of, found_of, first_value, matched_of, new_app, raw_values, rule_of, takes, with_rule};
 ghost use Rattle.smooth.specs.Words.{PlayTexts as Played, PushTexts as Sent, ServeTexts as Asked, Text};
 ghost use Rattle.smooth.specs.Clapped.{list_app, list_words, option_rule, pick_app, pick_words, play_app, play_options_app, play_words, push_app, push_words};
-ghost use Rattle.smooth.specs.Clapped.{serve_app, serve_words};
+ghost use Rattle.smooth.specs.Clapped.{rehearse_app, rehearse_words, serve_app, serve_words};
 ghost use Rattle.smooth.specs.Clapped.{switch_rule, without_help, word_rule, words_rule};
 ghost use Rattle.smooth.specs.Matched.{IsPlayRead, IsPushRead, IsReadOf};
 
@@ -96,6 +96,13 @@ fn pick_command<'w>(alloc: Global) -> Result<Command<'w>, NoMemory>
 {
     let command = with(command(alloc, "pick"), word(alloc, "TRACK"))?;
     with(command, word(alloc, "TIME"))
+}
+
+fn rehearse_command<'w>(alloc: Global) -> Result<Command<'w>, NoMemory>
+    ensures { IfOk result (λ command. app_of command ≡ rehearse_app) }
+{
+    let command = with(command(alloc, "rehearse"), word(alloc, "NUMBER"))?;
+    with(command, word(alloc, "SIZE"))
 }
 
 fn list_command<'w>(alloc: Global) -> Result<Command<'w>, NoMemory>
@@ -199,6 +206,21 @@ pub fn read_pick(
     let track = text_of(alloc, &matches, "TRACK")?;
     let time = text_of(alloc, &matches, "TIME")?;
     Ok((track, time))
+}
+
+/// Reads the words of `rehearse`: the number of the world and its size.
+pub fn read_rehearse(
+    alloc: Global,
+    words: &[String],
+) -> Result<(Option<String>, Option<String>), NoMemory>
+    requires put { (x : Text × Text) × (map string_bytes words.now ≡ rehearse_words x) }
+    ensures first { IfOk result (λ texts. (x : Text × Text) → map string_bytes words.now ≡ rehearse_words x → option_map string_bytes texts.0 ≡ Some x.0) }
+    ensures second { IfOk result (λ texts. (x : Text × Text) → map string_bytes words.now ≡ rehearse_words x → option_map string_bytes texts.1 ≡ Some x.1) }
+{
+    let matches = matched(rehearse_command(alloc)?, words)?;
+    let number = text_of(alloc, &matches, "NUMBER")?;
+    let size = text_of(alloc, &matches, "SIZE")?;
+    Ok((number, size))
 }
 
 /// Reads the words of `list`: the folder.

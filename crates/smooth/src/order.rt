@@ -3,17 +3,19 @@ ghost use Rattle.std.specs.Prelude.{◌≡◌, ◌≤◌, ◌<◌, ◌^◌, map,
 ghost use Rattle.std.specs.Option.{option_map, option_and_then};
 ghost use Rattle.smooth.specs.Options.{play_options, serve_options};
 ghost use Rattle.smooth.specs.Words.{Listing, PlayTexts as Played, PushTexts as Sent, ServeTexts as Asked, asked, folder, list_of, number_or, start_by};
-ghost use Rattle.smooth.specs.Words.{name_by, numbers_by, pick_by, pick_of, play_by, play_of, push_by, push_of, read, serve_by, serve_of, streams_by};
+ghost use Rattle.smooth.specs.Words.{name_by, numbers_by, pick_by, pick_of, play_by, play_of, push_by, push_of, read, rehearse_by, rehearse_of, serve_by};
+ghost use Rattle.smooth.specs.Words.{serve_of, streams_by};
 ghost use Rattle.smooth.specs.Matched.{IsPlayRead, IsPushRead, IsReadOf};
 ghost use Rattle.smooth.specs.Orders.{numbers_of, wanted_of};
 
 use crate::line::read_line;
 use crate::matched::{
-    PlayTexts, PushTexts, ServeTexts, read_list, read_pick, read_play, read_push, read_serve,
+    PlayTexts, PushTexts, ServeTexts, read_list, read_pick, read_play, read_push, read_rehearse,
+    read_serve,
 };
 use crate::option::Name;
 use crate::place::{is_host, is_path};
-use crate::put::{list_put, pick_put, play_put, push_put, serve_put};
+use crate::put::{list_put, pick_put, play_put, push_put, rehearse_put, serve_put};
 use crate::words::number;
 use sm_client::{Names, Plan};
 use sm_fetch::Place;
@@ -33,6 +35,8 @@ pub enum Order {
     Play(PlayOrder),
     /// The list of what the store in a folder keeps.
     List { store: String },
+    /// To rehearse in the world of that number, with so many rounds of pushes.
+    Rehearse { number: u64, size: u64 },
 }
 
 /// What is served, and how.
@@ -90,6 +94,12 @@ const PLAY: [Name; 4] = [Name::From, Name::Count, Name::Tries, Name::Refresh];
 // The most streams of one play.
 const STREAMS: usize = 16;
 
+// The greatest number of a world.
+const LAST_WORLD: u64 = 2_147_483_647;
+
+// The most rounds of a rehearsal.
+const MOST_ROUNDS: u64 = 2_000;
+
 // The number that a text writes, or another where there is no text.
 fn number_or(text: &Option<String>, low: u64, high: u64, other: Option<u64>) -> Option<u64>
     requires high { high < 2 ^ 63 }
@@ -121,6 +131,15 @@ fn pick_order(track: &Option<String>, time: &Option<String>) -> Option<Order>
         track: track as u32,
         time,
     })
+}
+
+fn rehearse_order(number: &Option<String>, size: &Option<String>) -> Option<Order>
+    ensures { (x : List ℕ × List ℕ) → option_map string_bytes number.now ≡ Some x.0 → option_map string_bytes size.now ≡ Some x.1
+        → option_map wanted_of result ≡ rehearse_by x.0 x.1 }
+{
+    let number = number_or(number, 0, LAST_WORLD, None)?;
+    let size = number_or(size, 0, MOST_ROUNDS, None)?;
+    Some(Order::Rehearse { number, size })
 }
 
 fn serve_order(texts: ServeTexts) -> Option<Order>
@@ -276,6 +295,19 @@ fn pick_asked(alloc: Global, words: &[String]) -> Result<Option<Order>, NoMemory
     Ok(pick_order(&track, &time))
 }
 
+fn rehearse_asked(alloc: Global, words: &[String]) -> Result<Option<Order>, NoMemory>
+    ensures { IfOk result (λ order. option_map wanted_of order ≡ option_and_then rehearse_of (read [] (map string_bytes words.now))) }
+{
+    let Some(line) = read_line(alloc, &[], words)? else {
+        return Ok(None);
+    };
+    let Some(words) = rehearse_put(alloc, &line)? else {
+        return Ok(None);
+    };
+    let (number, size) = read_rehearse(alloc, &words)?;
+    Ok(rehearse_order(&number, &size))
+}
+
 fn serve_asked(alloc: Global, words: &[String]) -> Result<Option<Order>, NoMemory>
     ensures { IfOk result (λ order. option_map wanted_of order ≡ option_and_then serve_of (read serve_options (map string_bytes words.now))) }
 {
@@ -330,8 +362,9 @@ fn list_asked(alloc: Global, words: &[String]) -> Result<Option<Order>, NoMemory
     Ok(list_order(store))
 }
 
-/// What the words ask for: `pick TRACK TIME`, `serve STORE --port N [--ladder] [--turns N]`, `push HOST PORT PATH ID`, `list STORE` or
-/// `play HOST PORT PATH STREAM... [--from N] [--count N] [--tries N] [--refresh N]`. None where they are none of these.
+/// What the words ask for: `pick TRACK TIME`, `serve STORE --port N [--ladder] [--turns N]`, `push HOST PORT PATH ID`, `list STORE`,
+/// `play HOST PORT PATH STREAM... [--from N] [--count N] [--tries N] [--refresh N]` or `rehearse NUMBER SIZE`. None where they are
+/// none of these.
 #[tactic(auto, unfolding(crate::specs::Words::asked))]
 pub fn order_of(alloc: Global, words: &[String]) -> Result<Option<Order>, NoMemory>
     ensures { IfOk result (λ order. option_map wanted_of order ≡ asked (map string_bytes words.now)) }
@@ -354,6 +387,9 @@ pub fn order_of(alloc: Global, words: &[String]) -> Result<Option<Order>, NoMemo
     }
     if command == "play" {
         return play_asked(alloc, words);
+    }
+    if command == "rehearse" {
+        return rehearse_asked(alloc, words);
     }
     Ok(None)
 }

@@ -3,7 +3,8 @@ ghost use Rattle.std.specs.Prelude.{◌≡◌, ◌∷◌, ◌++◌, [], map, str
 ghost use Rattle.std.specs.Option.{option_map};
 ghost use Rattle.smooth.specs.Words.{ServeTexts, only_word, play_texts, push_texts, serve_texts, texts_by, two_words};
 ghost use Rattle.smooth.specs.Line.{read_of};
-ghost use Rattle.smooth.specs.Clapped.{from_words, ladder_words, list_words, number_words, pick_words, play_words, push_words, serve_words, turns_words};
+ghost use Rattle.smooth.specs.Clapped.{from_words, ladder_words, list_words, number_words, pick_words, play_words, push_words, rehearse_words, serve_words};
+ghost use Rattle.smooth.specs.Clapped.{turns_words};
 
 use crate::line::{Line, Twice};
 use crate::option::Name;
@@ -104,6 +105,21 @@ pub fn pick_put(alloc: Global, line: &Line) -> Result<Option<Vec<String>>, NoMem
     put(alloc, &mut words, "--")?;
     put(alloc, &mut words, track.as_str())?;
     put(alloc, &mut words, time.as_str())?;
+    Ok(Some(words))
+}
+
+/// The words of `rehearse`; none where there aren't two.
+pub fn rehearse_put(alloc: Global, line: &Line) -> Result<Option<Vec<String>>, NoMemory>
+    ensures { IfOk result (λ words. option_map (λ w. map string_bytes w.items) words ≡ option_map rehearse_words (two_words (read_of line.now).words)) }
+{
+    let [number, size] = line.words.as_slice() else {
+        return Ok(None);
+    };
+    let mut words = Vec::new(alloc);
+    put(alloc, &mut words, "rehearse")?;
+    put(alloc, &mut words, "--")?;
+    put(alloc, &mut words, number.as_str())?;
+    put(alloc, &mut words, size.as_str())?;
     Ok(Some(words))
 }
 

@@ -8,6 +8,7 @@ mod picks;
 mod plays;
 mod pushes;
 mod records;
+mod rehearsals;
 mod sites;
 mod stores;
 mod words;

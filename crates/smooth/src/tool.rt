@@ -8,6 +8,7 @@ use crate::origins::push;
 use crate::pick::pick;
 use crate::play::play;
 use crate::print::print;
+use crate::rehearse::rehearse;
 use crate::stores::{list, serve};
 use sm_ends::{InputFault, Sink, Source, Tracks};
 use sm_fetch::Dial;
@@ -60,6 +61,7 @@ fn answer_to<I: Source, S: Site, C: Dial, T: Tracks>(
         Ok(Some(Order::Push(order))) => push(alloc, input, dial, &order),
         Ok(Some(Order::Play(order))) => play(alloc, dial, tracks, policies, &order),
         Ok(Some(Order::List { store })) => list(alloc, site, &store),
+        Ok(Some(Order::Rehearse { number, size })) => rehearse(alloc, number, size, policies),
         Ok(None) => Answer::Words,
         Err(NoMemory) => Answer::Starved,
     }
@@ -75,7 +77,9 @@ fn answer_to<I: Source, S: Site, C: Dial, T: Tracks>(
 /// `list STORE` lists the fragments of the store in that folder.
 /// `play HOST PORT PATH STREAM... [--from N] [--count N] [--tries N] [--refresh N]` plays streams of the channel with that path at that
 /// origin, one after another, the first to track 0, and writes how many fragments it wrote, or why it ended before there were as many
-/// as were wanted. The policies act in turn. Every line, also that of a failure, goes to `output`.
+/// as were wanted. The policies act in turn.
+/// `rehearse NUMBER SIZE` runs the world of that number in memory, with so many rounds of pushes and three clients, each with one of
+/// the policies, and writes what came of it in numbers; it uses none of the ends. Every line, also that of a failure, goes to `output`.
 pub fn tool<I: Source, O: Sink, S: Site, C: Dial, T: Tracks>(
     alloc: Global,
     words: &[String],
