@@ -1,10 +1,7 @@
-# Needs the toolchain's command `rt` on the path; `check` and `bench` need Python 3 too.
+# Needs the toolchain's command `rt` on the path, bash and Python 3.9; `check` and `bench` use other programs too, each where it is installed.
 
 PROGRAM := crates/smooth/out/smooth
-BENCH := crates/fragment_bench/out/fragment_bench
-CONN := crates/conn_bench/out/conn_bench
-CATALOG_BENCH := crates/catalog_bench/out/catalog_bench
-ARCHIVE_BENCH := crates/archive_bench/out/archive_bench
+BENCH := crates/smooth_bench/out/smooth_bench
 PREFIX := /usr/local
 
 .PHONY: run test build install check bench clean
@@ -17,8 +14,10 @@ run: build
 test:
 	bash .ci/run
 
-# Proves and builds the program. `rt run` runs it as well, without words, which it refuses.
+# Proves what the program stands on, as many crates side by side as there are processors, tells each as it is done, and builds
+# the program. `rt run` runs it as well, without words, which it refuses.
 build:
+	scripts/prove smooth
 	rm -f $(PROGRAM)
 	cd crates/smooth && { rt run < /dev/null > /dev/null; test -x out/smooth; }
 
@@ -30,7 +29,8 @@ install: build
 	sed 's|@PREFIX@|$(PREFIX)|' examples/smooth.service > $(DESTDIR)$(PREFIX)/lib/systemd/system/smooth.service
 
 # Holds the program against a plain reference in Python, on the samples and on many inputs made of them, and tries it with ffmpeg,
-# curl and nginx, each where it is installed. `scripts/check_kill 100` is the long form of the last one.
+# curl, nginx and strace, each where it is installed; then kills, a loss of power, an hour of a push, many clients at once, slow readers, and
+# whether memory comes back. `scripts/check_kill 100` and `scripts/check_crash` are the long forms.
 check: build
 	bash scripts/check_pick $(PROGRAM)
 	SMOOTH=$(PROGRAM) scripts/check_play
@@ -39,17 +39,19 @@ check: build
 	SMOOTH=$(PROGRAM) scripts/check_return
 	SMOOTH=$(PROGRAM) scripts/check_proxy
 	SMOOTH=$(PROGRAM) scripts/check_kill 10
+	SMOOTH=$(PROGRAM) scripts/check_crash 100
+	SMOOTH=$(PROGRAM) scripts/check_hour
+	SMOOTH=$(PROGRAM) scripts/check_slow
+	SMOOTH=$(PROGRAM) scripts/check_memory
 
+# Figures of the readers, the store and the running origin: docs/PERFORMANCE.md says what they came to.
 bench: build
-	cd crates/fragment_bench && rt run -- copy 1 1 1 > /dev/null
+	cd crates/smooth_bench && rt run > /dev/null
 	bash scripts/bench_push $(PROGRAM)
 	bash scripts/bench_fragment $(BENCH)
-	cd crates/conn_bench && rt run -- copy 1 1 > /dev/null
-	bash scripts/bench_conn $(CONN)
-	cd crates/catalog_bench && rt run -- 1 0 1 1 0 > /dev/null
-	bash scripts/bench_catalog $(CATALOG_BENCH)
-	cd crates/archive_bench && rt run -- copy 1 1 > /dev/null
-	bash scripts/bench_archive $(ARCHIVE_BENCH)
+	bash scripts/bench_conn $(BENCH)
+	bash scripts/bench_catalog $(BENCH)
+	bash scripts/bench_archive $(BENCH)
 	SMOOTH=$(PROGRAM) scripts/bench_rehearse
 	SMOOTH=$(PROGRAM) scripts/bench_serve
 

@@ -7,8 +7,6 @@ pub mod law;
 mod path;
 mod put;
 mod read;
-#[cfg(test)]
-mod tests;
 mod time;
 
 pub use put::put_target;

@@ -61,10 +61,10 @@ index_some (Some i) log f is new = (i, refl, is)
 pub index_has : (a : Archive) (i : Index) → a.index ≡ Some i → HasChannel a i.catalog.channel
 index_has a i is = record { index = i; is = inl is; channel_is = refl }
 
-pending_keep : (index : Option Index) (a : Address) (m : Meta) (log : List Entry) (f : Fragment) → IndexIs index log → verdict_on log f ≡ New → a ≡ address_of f
-    → ((i : Index) → index ≡ Some i → IsMetaOf i.catalog.channel f m) → ((i : Index) → index ≡ Some i → HasSpace i 1 a.stream) → IsPending (pending.Keep a m) index log (Keep f)
-pending_keep None a m log f is new a_is m_is space = absurd (never_new f (subst (λ (l : List Entry). verdict_on l f ≡ New) is new))
-pending_keep (Some i) a m log f is new a_is m_is space = (a_is, m_is i refl, space i refl)
+pending_keep : (index : Option Index) (a : Address) (m : Meta) (check : ℕ) (log : List Entry) (f : Fragment) → IndexIs index log → verdict_on log f ≡ New → a ≡ address_of f
+    → ((i : Index) → index ≡ Some i → IsMetaOf i.catalog.channel f m) → ((i : Index) → index ≡ Some i → HasSpace i 1 a.stream) → IsPending (pending.Keep a m check) index log (Keep f)
+pending_keep None a m check log f is new a_is m_is space = absurd (never_new f (subst (λ (l : List Entry). verdict_on l f ≡ New) is new))
+pending_keep (Some i) a m check log f is new a_is m_is space = (a_is, m_is i refl, space i refl)
 
 module _ (a : Archive) (p : Pending) (body : List ℕ) (log : List Entry) (e : Entry) (old : Image → Type 0) (s : Stands a log None old) (can : CanAppend a p body log e) where
   pub can_be_taken : CanTake a.index p
@@ -161,12 +161,12 @@ module _ (a : Archive) (r : Ready) (f : Fragment) (log : List Entry) (old : Imag
       let channel : channel_of (log ++ Keep f ∷ []) ≡ Some i.0.catalog.channel = ap (λ (l : List Entry). channel_of (l ++ Keep f ∷ [])) i.2.log_is in
       subst (λ (c : Option (List Track)). IsBody c (Keep f) r.body) (sym channel) (p.ready.body i.0.catalog.channel (index_has a i.0 i.1))
 
-  pub can_append : CanAppend a (pending.Keep r.address r.meta) r.body log (Keep f)
+  pub can_append : CanAppend a (pending.Keep r.address r.meta r.check) r.body log (Keep f)
   can_append = record {
     fits = (valid, new);
     few = omega (arith, within.entries, s.keeps.few);
     spelled = spelled;
-    pends = pending_keep a.index r.address r.meta log f s.keeps.index new p.ready.address (λ i is. p.ready.meta i.catalog.channel (index_has a i is)) p.space.index;
+    pends = pending_keep a.index r.address r.meta r.check log f s.keeps.index new p.ready.address (λ i is. p.ready.meta i.catalog.channel (index_has a i is)) p.space.index;
     some = omega (arith, p.ready.len);
     short = omega (arith, p.ready.short);
     room = p.ready.room;

@@ -14,10 +14,11 @@ use Rattle.sm_model.specs.declared.entry.Entry.{Entry}
 use Rattle.sm_model.specs.declared.entry.Entry.TheVariants.{Declare, Keep}
 use Rattle.sm_model.specs.Entries.{address_of}
 use Rattle.sm_log.specs.Adds.{Add, place_of}
-use Rattle.sm_model.specs.LiveTracks.{is_same}
+use Rattle.sm_model.specs.Same.{is_same}
 use Rattle.sm_log.specs.Logs.{adds_from, adds_of, channel_of, IsSound}
 use Rattle.sm_model.specs.Fragments.{IsValid}
 use Rattle.sm_record.specs.Bodies.{IsBody}
+use Rattle.sm_record.specs.Reads.{Reads, Knows}
 use Rattle.sm_site.specs.Image.{Image}
 use Rattle.sm_archive.specs.Bodies as seg
 use Rattle.sm_archive.specs.declared.index.Index.{Index}
@@ -136,16 +137,25 @@ keep_is f g e = cc
 pub not_declare : (ts : List Track) (f : Fragment) → Declare ts ≡ Keep f → ⊥
 not_declare ts f e = cc
 
-pub kept_ok : (channel : Option (List Track)) (body : List ℕ) (a : Address) (entry : Entry) (r : Result Fragment RecordFault) → IsBody channel entry body → IfOk r (λ f. (entry ≡ Keep f) × (address_of f ≡ a) × IsValid f)
-    → IfOk r (λ f. IsBody channel (Keep f) body × (address_of f ≡ a) × IsValid f)
-kept_ok channel body a entry (Ok f) is h = (subst (λ (e : Entry). IsBody channel e body) h.0 is, h.1, h.2)
+-- what reading answers of a body, where it knows which entry it is
+pub known_by : (channel : Option (List Track)) (body : List ℕ) (r : Result Entry RecordFault) → ((x y : Entry) (b : List ℕ) → IsBody channel x b → IsBody channel y b → x ≡ y)
+    → Reads (λ x. IsBody channel x body) r → (entry : Entry) → IsBody channel entry body → Knows entry r
+known_by channel body (Ok e) one h entry is = one e entry body h is
+known_by channel body (Err faults.Damaged) one h entry is = h entry is
+known_by channel body (Err faults.NoMemory) one h entry is = tt
+
+-- the fragment that was found is the one whose body it is
+pub kept_ok : (channel : Option (List Track)) (body : List ℕ) (a : Address) (entry : Entry) (r : Result Fragment RecordFault) → ((e : Entry) → IsBody channel e body → entry ≡ e)
+    → IfOk r (λ f. (entry ≡ Keep f) × (address_of f ≡ a) × IsValid f)
+    → IfOk r (λ f. (address_of f ≡ a) × IsValid f × ((g : Fragment) → IsBody channel (Keep g) body → g ≡ f))
+kept_ok channel body a entry (Ok f) is h = (h.1, h.2, λ g own. keep_is g f (sym (is (Keep g) own) ∙ h.0))
 kept_ok channel body a entry (Err e) is h = tt
 
-pub kept_damaged : (channel : Option (List Track)) (body : List ℕ) (a : Address) (entry : Entry) (r : Result Fragment RecordFault) → IsBody channel entry body
-    → ((x y : Entry) (b : List ℕ) → IsBody channel x b → IsBody channel y b → x ≡ y) → OnErr r ((f : Fragment) → entry ≡ Keep f → address_of f ≡ a → IsValid f → ⊥)
+pub kept_damaged : (channel : Option (List Track)) (body : List ℕ) (a : Address) (entry : Entry) (r : Result Fragment RecordFault) → ((e : Entry) → IsBody channel e body → entry ≡ e)
+    → OnErr r ((f : Fragment) → entry ≡ Keep f → address_of f ≡ a → IsValid f → ⊥)
     → r ≡ Err faults.Damaged → (f : Fragment) → IsBody channel (Keep f) body → address_of f ≡ a → IsValid f → ⊥
-kept_damaged channel body a entry (Ok g) is one h e f own address valid = absurd cc
-kept_damaged channel body a entry (Err x) is one h e f own address valid = h f (one entry (Keep f) body is own) address valid
+kept_damaged channel body a entry (Ok g) is h e f own address valid = absurd cc
+kept_damaged channel body a entry (Err x) is h e f own address valid = h f (is (Keep f) own) address valid
 
 abbrev failing : RecordFault → Result Fragment RecordFault
 failing e = Err e
@@ -156,8 +166,7 @@ failed_as fault e = ap failing e
 pub found_is : (p q : ℕ) (f g : Fragment) → fetched.Found p f ≡ fetched.Found q g → (p ≡ q) × (f ≡ g)
 found_is p q f g e = (cc, cc)
 
-abbrev failing_entry : RecordFault → Result Entry RecordFault
-failing_entry e = Err e
-
-pub refailed : (fault : RecordFault) → failing fault ≡ failing faults.Damaged → failing_entry fault ≡ failing_entry faults.Damaged
-refailed fault e = let same : fault ≡ faults.Damaged = cc in ap failing_entry same
+-- where it is known which entry a body is, reading it isn't told as damage
+pub unknown : (entry : Entry) (fault : RecordFault) → failing fault ≡ failing faults.Damaged → Knows entry (Err fault) → ⊥
+unknown entry faults.Damaged e knows = knows
+unknown entry faults.NoMemory e knows = absurd cc

@@ -58,15 +58,15 @@ can_add i log f a m is a_is m_is fits space = record {
 
 pub can_take : (index : Option Index) (p : Pending) (log : List Entry) (e : Entry) → IndexIs index log → FitsBehind log e → IsPending p index log e → CanTake index p
 can_take index (pending.Declare own) log e is fits h = tt
-can_take None (pending.Keep a m) log e is fits h = h
-can_take (Some i) (pending.Keep a m) log (Declare tracks) is fits h = absurd h
-can_take (Some i) (pending.Keep a m) log (Keep f) is fits h = can_add i log f a m is h.0 h.1.duration fits h.2
+can_take None (pending.Keep a m check) log e is fits h = h
+can_take (Some i) (pending.Keep a m check) log (Declare tracks) is fits h = absurd h
+can_take (Some i) (pending.Keep a m check) log (Keep f) is fits h = can_add i log f a m is h.0 h.1.duration fits h.2
 
 pub index_taken : (index : Option Index) (p : Pending) (log : List Entry) (e : Entry) (place : ℕ) (new : Option Index) → IndexIs index log → IsPending p index log e → place ≡ length log → Taken index p place new
     → IndexIs new (log ++ e ∷ [])
 index_taken index (pending.Declare own) log e place new is h place_is taken =
     subst (λ (i : Option Index). IndexIs i (log ++ e ∷ [])) (sym taken) (subst (λ (l : List Entry). IsIndex own (l ++ e ∷ [])) (sym h.1) h.0)
-index_taken None (pending.Keep a m) log e place new is h place_is taken = absurd h
-index_taken (Some i) (pending.Keep a m) log (Declare tracks) place new is h place_is taken = absurd h
-index_taken (Some i) (pending.Keep a m) log (Keep f) place None is h place_is taken = absurd taken
-index_taken (Some i) (pending.Keep a m) log (Keep f) place (Some j) is h place_is taken = index_added i j log f a m place is h.0 h.1 place_is taken
+index_taken None (pending.Keep a m check) log e place new is h place_is taken = absurd h
+index_taken (Some i) (pending.Keep a m check) log (Declare tracks) place new is h place_is taken = absurd h
+index_taken (Some i) (pending.Keep a m check) log (Keep f) place None is h place_is taken = absurd taken
+index_taken (Some i) (pending.Keep a m check) log (Keep f) place (Some j) is h place_is taken = index_added i j log f a m place is h.0 h.1 place_is taken

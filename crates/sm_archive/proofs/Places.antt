@@ -4,7 +4,7 @@ use Rattle.std.specs.Cmp.Lexicographic.{same_text}
 use Rattle.std.proofs.lemmas.Bool.{eqb-true}
 use Rattle.sm_model.specs.declared.track.Track.{Track}
 use Rattle.sm_model.specs.declared.address.Address.{Address}
-use Rattle.sm_model.specs.LiveTracks.{is_same}
+use Rattle.sm_model.specs.Same.{is_same}
 use Rattle.sm_record.specs.Places.{IsPlaceOf}
 use Rattle.sm_log.specs.declared.verdict.Decision.{Decision}
 use Rattle.sm_log.specs.declared.verdict.Decision.TheVariants as decision

@@ -40,11 +40,11 @@ indexes_same (Some i) (Some j) log r is = index_same i j log r is
 
 keep_same : (p : Pending) (i j : Option Index) (log : List Entry) (e : Entry) → IndexReserved i j → IsPending p i log e → (q : Pending) → PendingReserved p q → IsPending q j log e
 keep_same (pending.Declare a) i j log e r is (pending.Declare b) same = (index_same a b (e ∷ []) same is.0, is.1)
-keep_same (pending.Declare a) i j log e r is (pending.Keep b m) same = absurd same
-keep_same (pending.Keep a m) None j log e r is q same = absurd is
-keep_same (pending.Keep a m) (Some i) None log e r is q same = absurd r
-keep_same (pending.Keep a m) (Some i) (Some j) log (Declare tracks) r is q same = absurd is
-keep_same (pending.Keep a m) (Some i) (Some j) log (Keep f) r is q same =
+keep_same (pending.Declare a) i j log e r is (pending.Keep b m check) same = absurd same
+keep_same (pending.Keep a m check) None j log e r is q same = absurd is
+keep_same (pending.Keep a m check) (Some i) None log e r is q same = absurd r
+keep_same (pending.Keep a m check) (Some i) (Some j) log (Declare tracks) r is q same = absurd is
+keep_same (pending.Keep a m check) (Some i) (Some j) log (Keep f) r is q same =
     subst (λ (p : Pending). IsPending p (Some j) log (Keep f)) (sym same)
     (is.0, subst (λ (c : List Track). IsMetaOf c f m) (sym r.channel) is.1, r.more 1 a.stream is.2)
 

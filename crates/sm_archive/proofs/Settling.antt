@@ -157,9 +157,9 @@ channel_same a v used x is channel h = record { index = h.index; is = elim h.is 
 channel_of_taken : (old : Option Index) (entry : Pending) (bytes : ℕ) (place : ℕ) (new : Option Index) (i : Index) → Taken old entry place new → new ≡ Some i
     → ((j : Index) × (old ≡ Some j) × (i.catalog.channel ≡ j.catalog.channel)) ⊎ (entry ≡ pending.Declare i)
 channel_of_taken old (pending.Declare own) bytes place new i taken is = inr (ap (λ (x : Index). pending.Declare x) (some_index own i (sym taken ∙ is)))
-channel_of_taken None (pending.Keep a m) bytes place new i taken is = absurd taken
-channel_of_taken (Some j) (pending.Keep a m) bytes place None i taken is = absurd taken
-channel_of_taken (Some j) (pending.Keep a m) bytes place (Some k) i taken is = inl (j, refl, ap (λ (x : Index). x.catalog.channel) (sym (some_index k i is)) ∙ taken.channel)
+channel_of_taken None (pending.Keep a m check) bytes place new i taken is = absurd taken
+channel_of_taken (Some j) (pending.Keep a m check) bytes place None i taken is = absurd taken
+channel_of_taken (Some j) (pending.Keep a m check) bytes place (Some k) i taken is = inl (j, refl, ap (λ (x : Index). x.catalog.channel) (sym (some_index k i is)) ∙ taken.channel)
 
 pub channel_taken : (a : Archive) (x : Doubt) (v : Segments) (used place : ℕ) (index : Option Index) (empty : Option Doubt) → a.doubt ≡ Some x → Taken a.index x.entry place index → empty ≡ None
     → (channel : List Track) → HasChannel (archive a v used index empty) channel → HasChannel a channel
@@ -190,9 +190,9 @@ space_same a v used x is n stream h = record {
 space_of_taken : (old : Option Index) (entry : Pending) (bytes place : ℕ) (new : Option Index) (i : Index) (n : ℕ) (stream : List ℕ) → Taken old entry place new → new ≡ Some i
     → ((j : Index) → old ≡ Some j → HasSpace j (n + 1) stream) → ((j : Index) → entry ≡ pending.Declare j → HasSpace j (n + 1) stream) → HasSpace i n stream
 space_of_taken old (pending.Declare own) bytes place new i n stream taken is has own_has = less_space i n stream (own_has i (ap (λ (x : Index). pending.Declare x) (some_index own i (sym taken ∙ is))))
-space_of_taken None (pending.Keep a m) bytes place new i n stream taken is has own_has = absurd taken
-space_of_taken (Some j) (pending.Keep a m) bytes place None i n stream taken is has own_has = absurd taken
-space_of_taken (Some j) (pending.Keep a m) bytes place (Some k) i n stream taken is has own_has = subst (λ (x : Index). HasSpace x n stream) (some_index k i is) (taken.less n stream (has j refl))
+space_of_taken None (pending.Keep a m check) bytes place new i n stream taken is has own_has = absurd taken
+space_of_taken (Some j) (pending.Keep a m check) bytes place None i n stream taken is has own_has = absurd taken
+space_of_taken (Some j) (pending.Keep a m check) bytes place (Some k) i n stream taken is has own_has = subst (λ (x : Index). HasSpace x n stream) (some_index k i is) (taken.less n stream (has j refl))
 
 pub space_taken : (a : Archive) (x : Doubt) (v : Segments) (used place : ℕ) (index : Option Index) (empty : Option Doubt) → a.doubt ≡ Some x → Taken a.index x.entry place index → empty ≡ None
     → (n : ℕ) (stream : List ℕ) → SpaceIn a (n + 1) stream → SpaceIn (archive a v used index empty) n stream

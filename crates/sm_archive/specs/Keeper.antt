@@ -42,8 +42,8 @@ ReadyIn (Some r) f i v = IsReadyIn r f i v
 -- ready by what is in doubt
 abbrev pub ReadyPending : Option Ready → Fragment → Pending → Segments → Type 0
 ReadyPending r f (pending.Declare i) v = ReadyIn r f i v
-ReadyPending None f (pending.Keep a m) v = Unit {0}
-ReadyPending (Some r) f (pending.Keep a m) v = ⊥
+ReadyPending None f (pending.Keep a m check) v = Unit {0}
+ReadyPending (Some r) f (pending.Keep a m check) v = ⊥
 
 pub record IsPrepared (n : ℕ) (a : Archive) (r : Ready) (f : Fragment) : Type 0 where
   pub ready : IsReady r f a

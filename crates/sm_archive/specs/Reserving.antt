@@ -17,8 +17,8 @@ IndexReserved (Some i) (Some j) = Reserved i j
 
 abbrev pub PendingReserved : Pending → Pending → Type 0
 PendingReserved (pending.Declare i) (pending.Declare j) = Reserved i j
-PendingReserved (pending.Declare i) (pending.Keep a m) = ⊥
-PendingReserved (pending.Keep a m) p = p ≡ pending.Keep a m
+PendingReserved (pending.Declare i) (pending.Keep a m check) = ⊥
+PendingReserved (pending.Keep a m check) p = p ≡ pending.Keep a m check
 
 abbrev pub DoubtReserved : Option Doubt → Option Doubt → Type 0
 DoubtReserved None None = Unit {0}

@@ -40,9 +40,9 @@ IndexIs (Some i) log = IsIndex i log
 -- what is kept of an entry in doubt
 abbrev pub IsPending : Pending → Option Index → List Entry → Entry → Type 0
 IsPending (pending.Declare i) index log e = IsIndex i (e ∷ []) × (log ≡ [])
-IsPending (pending.Keep a m) None log e = ⊥
-IsPending (pending.Keep a m) (Some i) log (Declare tracks) = ⊥
-IsPending (pending.Keep a m) (Some i) log (Keep f) = (a ≡ address_of f) × IsMetaOf i.catalog.channel f m × HasSpace i 1 a.stream
+IsPending (pending.Keep a m check) None log e = ⊥
+IsPending (pending.Keep a m check) (Some i) log (Declare tracks) = ⊥
+IsPending (pending.Keep a m check) (Some i) log (Keep f) = (a ≡ address_of f) × IsMetaOf i.catalog.channel f m × HasSpace i 1 a.stream
 
 pub record IsDoubt (d : Doubt) (index : Option Index) (v : Segments) (log : List Entry) (body : List ℕ) (e : Entry) : Type 0 where
   pub fits : FitsBehind log e

@@ -18,11 +18,11 @@ pub record CanAdd (i : Index) (a : Address) (m : Meta) : Type 0 where
 
 abbrev pub CanTake : Option Index → Pending → Type 0
 CanTake index (pending.Declare own) = Unit {0}
-CanTake None (pending.Keep a m) = ⊥
-CanTake (Some i) (pending.Keep a m) = CanAdd i a m
+CanTake None (pending.Keep a m check) = ⊥
+CanTake (Some i) (pending.Keep a m check) = CanAdd i a m
 
 abbrev pub Taken : Option Index → Pending → ℕ → Option Index → Type 0
 Taken old (pending.Declare own) place new = new ≡ Some own
-Taken None (pending.Keep a m) place new = ⊥
-Taken (Some i) (pending.Keep a m) place None = ⊥
-Taken (Some i) (pending.Keep a m) place (Some j) = Added i j a m place
+Taken None (pending.Keep a m check) place new = ⊥
+Taken (Some i) (pending.Keep a m check) place None = ⊥
+Taken (Some i) (pending.Keep a m check) place (Some j) = Added i j a m place

@@ -11,6 +11,7 @@ ghost use Rattle.sm_record.specs.declared.fault.RecordFault.TheVariants.{Damaged
 ghost use Rattle.sm_archive.specs.Stands.{IsIndex, IndexIs};
 ghost use Rattle.sm_archive.specs.Opening.{IsMisfit, IsWalked};
 
+use crate::check::check_of;
 use crate::index::Index;
 use sm_catalog::Judged;
 use sm_model::{Address, Entry, Fragment};
@@ -83,7 +84,7 @@ fn admit_fragment(
     front_of_a_fragment();
     match read_meta(body) {
         Some(meta) => {
-            index.add(&address, meta, place);
+            index.add(&address, meta, check_of(body), place);
             Ok(())
         }
         None => unreachable!(),

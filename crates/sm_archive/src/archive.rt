@@ -26,7 +26,8 @@ use sm_site::Disk;
 #[derive(Debug, Drop)]
 pub(crate) enum Pending {
     Declare(Index),
-    Keep(Address, Meta),
+    /// The fragment's address, track and span, and the check of its body.
+    Keep(Address, Meta, u64),
 }
 
 /// An entry that a crash may leave or not.
@@ -55,8 +56,8 @@ pub(crate) fn take_in(index: &mut Option<Index>, entry: Pending, place: u64)
 {
     match entry {
         Pending::Declare(own) => *index = Some(own),
-        Pending::Keep(address, meta) => match index {
-            Some(index) => index.add(&address, meta, place),
+        Pending::Keep(address, meta, check) => match index {
+            Some(index) => index.add(&address, meta, check, place),
             None => unreachable!(),
         },
     }

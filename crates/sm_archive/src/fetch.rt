@@ -12,6 +12,7 @@ ghost use Rattle.sm_site.specs.Meanings.{SameLink};
 ghost use Rattle.sm_site.specs.Clauses.{Recorded, Rose, Throughout};
 ghost use Rattle.sm_archive.specs.declared.fetch.Fetched.TheVariants.{Found, Absent, DiskFault, Damaged};
 ghost use Rattle.sm_record.specs.Bodies.{IsBody};
+ghost use Rattle.sm_record.specs.Reads.{Knows};
 ghost use Rattle.sm_record.specs.declared.fault.RecordFault.TheVariants as record_fault;
 ghost use Rattle.sm_archive.specs.Store.{IsStore};
 ghost use Rattle.sm_archive.specs.Stands.{Stands};
@@ -20,8 +21,8 @@ use crate::archive::Archive;
 use crate::bodies;
 use crate::index::Index;
 use sm_gatelog::ReadFault;
-use sm_model::{Address, Channel, Entry, Fragment};
-use sm_record::{RecordFault, a_body_has_one_entry, read_entry};
+use sm_model::{Address, Bytes, Entry, Fragment, Part};
+use sm_record::{RecordFault, a_body_has_one_entry, read_known, read_part};
 use sm_site::Disk;
 use std::alloc::Global;
 
@@ -64,19 +65,34 @@ fn fragment_of(entry: Entry, address: &Address) -> Result<Fragment, RecordFault>
     }
 }
 
-// The valid fragment of this address whose body these bytes are.
-fn kept_at(
-    alloc: Global,
-    body: &[u8],
-    channel: &Channel,
-    address: &Address,
-) -> Result<Fragment, RecordFault>
-    ensures kept { IfOk result (λ f. IsBody (Some channel.now) (Keep f) body.now × (address_of f ≡ address.now) × IsValid f) }
-    ensures damaged { result ≡ Err record_fault.Damaged → (f : Fragment) → IsBody (Some channel.now) (Keep f) body.now → address_of f ≡ address.now
-        → IsValid f → ⊥ }
+// The entry of a body that was read for a place. What has the check of the body that was taken in there isn't hashed with its digest again.
+fn entry_of(alloc: Global, index: &Index, place: u64, body: &Part) -> Result<Entry, RecordFault>
+    ensures { (entry : Entry) → IsBody (Some index.now.catalog.channel) entry body.now → Knows entry result }
 {
     a_body_has_one_entry();
-    match read_entry(alloc, body, Some(channel)) {
+    let channel = Some(index.catalog.channel());
+    if index.is_known(place, body.as_slice()) {
+        read_known(alloc, body, channel)
+    } else {
+        read_part(alloc, body, channel)
+    }
+}
+
+// The valid fragment of this address that a body is which was read for a place: the one whose body it is, if it is one.
+fn kept_at(
+    alloc: Global,
+    index: &Index,
+    place: u64,
+    body: Bytes,
+    address: &Address,
+) -> Result<Fragment, RecordFault>
+    ensures kept { IfOk result (λ f. (address_of f ≡ address.now) × IsValid f
+        × ((g : Fragment) → IsBody (Some index.now.catalog.channel) (Keep g) body → g ≡ f)) }
+    ensures damaged { result ≡ Err record_fault.Damaged → (f : Fragment) → IsBody (Some index.now.catalog.channel) (Keep f) body
+        → address_of f ≡ address.now → IsValid f → ⊥ }
+{
+    let body = body.into_part(alloc)?;
+    match entry_of(alloc, index, place, &body) {
         Ok(entry) => fragment_of(entry, address),
         Err(fault) => Err(fault),
     }
@@ -109,11 +125,10 @@ impl Archive {
         ensures no_fewer { (D.view disk.old).disk_faults ≤ (D.view disk.new).disk_faults }
         ensures link { SameLink (D.view disk.old) (D.view disk.new) }
     {
-        a_body_has_one_entry();
         match bodies::read(&self.log, alloc, disk, place) {
             Err(ReadFault::DiskFault) => Fetched::DiskFault,
             Err(ReadFault::NoMemory) => Fetched::NoMemory,
-            Ok(body) => match kept_at(alloc, body.as_slice(), index.catalog.channel(), address) {
+            Ok(body) => match kept_at(alloc, index, place, body, address) {
                 Ok(fragment) => Fetched::Found { place, fragment },
                 Err(fault) => match fault {
                     RecordFault::NoMemory => Fetched::NoMemory,

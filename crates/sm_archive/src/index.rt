@@ -5,16 +5,19 @@ ghost use Rattle.sm_log.specs.declared.verdict.Judged.TheVariants.{New};
 ghost use Rattle.sm_log.specs.Adds.{verdict, is_declared};
 ghost use Rattle.sm_archive.specs.Index.{HasSpace, Reserved, Added};
 
+use crate::check::check_of;
 use sm_catalog::{Catalog, Judged};
 use sm_model::{Address, Channel, NoMemory};
 use sm_record::Meta;
 use std::alloc::Global;
 
-/// The catalog, and the track and span of each fragment in order of place, the first one's place being 1.
+/// The catalog, and of each fragment in order of place, the first one's place being 1, its track and span and the check of its body.
 #[derive(Debug, Drop)]
 pub(crate) struct Index {
     pub(crate) catalog: Catalog,
     pub(crate) metas: Vec<Meta>,
+    /// No clause speaks of them: a body whose check is another one is read by its digest.
+    pub(crate) checks: Vec<u64>,
 }
 
 impl Index {
@@ -27,6 +30,7 @@ impl Index {
         Ok(Index {
             catalog,
             metas: Vec::new(alloc),
+            checks: Vec::new(alloc),
         })
     }
 
@@ -50,11 +54,12 @@ impl Index {
     {
         self.catalog.reserve(address)?;
         self.metas.reserve(2)?;
+        self.checks.reserve(2)?;
         Ok(())
     }
 
     /// Adds a fragment that is new, without memory.
-    pub(crate) fn add(&mut self, address: &Address, meta: Meta, place: u64)
+    pub(crate) fn add(&mut self, address: &Address, meta: Meta, check: u64, place: u64)
         requires space { HasSpace self.old 1 address.now.stream }
         requires verdict { verdict self.old.catalog.channel self.old.catalog.adds address.now meta.duration ≡ New }
         requires lasts { 1 ≤ meta.duration }
@@ -63,5 +68,14 @@ impl Index {
     {
         self.catalog.add(address, meta.duration, place);
         let _ = self.metas.push(meta);
+        let _ = self.checks.push(check);
+    }
+
+    /// Whether a body has the check of the one that was taken in for this place.
+    pub(crate) fn is_known(&self, place: u64, body: &[u8]) -> bool {
+        match self.checks.get((place as usize).saturating_sub(1)) {
+            Some(check) => *check == check_of(body),
+            None => false,
+        }
     }
 }

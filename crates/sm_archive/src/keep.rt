@@ -29,6 +29,7 @@ ghost use Rattle.sm_archive.specs.Bodies.{room_of};
 use crate::answers::{DiskFault, Keeping};
 use crate::archive::{Archive, Pending};
 use crate::bodies;
+use crate::check::check_of;
 use crate::index::Index;
 use crate::ready::Ready;
 use sm_catalog::Judged;
@@ -59,11 +60,13 @@ fn ready_in(
     index.reserve(&address)?;
     let body = put_keep(alloc, fragment, index.catalog.channel())?;
     bodies::reserve(log, body.len() as u32)?;
+    let check = check_of(body.as_slice());
     front_of_a_fragment();
     match read_meta(body.as_slice()) {
         Some(meta) => Ok(Some(Ready {
             address,
             meta,
+            check,
             body,
         })),
         None => unreachable!(),
@@ -86,7 +89,7 @@ fn ready_pending(
 {
     match entry {
         Pending::Declare(index) => ready_in(alloc, log, index, fragment),
-        Pending::Keep(_, _) => Ok(None),
+        Pending::Keep(_, _, _) => Ok(None),
     }
 }
 
@@ -178,7 +181,11 @@ impl Archive {
         ensures no_fewer { (D.view disk.old).disk_faults ≤ (D.view disk.new).disk_faults }
         ensures link { SameLink (D.view disk.old) (D.view disk.new) }
     {
-        match self.append(disk, Pending::Keep(ready.address, ready.meta), ready.body) {
+        match self.append(
+            disk,
+            Pending::Keep(ready.address, ready.meta, ready.check),
+            ready.body,
+        ) {
             Some(place) => Keeping::Kept { place },
             None => Keeping::DiskFault,
         }

@@ -5,6 +5,7 @@ mod admit;
 mod answers;
 mod archive;
 mod bodies;
+mod check;
 mod declare;
 mod fetch;
 mod index;
@@ -21,6 +22,3 @@ pub use fetch::Fetched;
 pub use law::{an_image_fits, bodies_have_one_log, fewer_images_stand};
 pub use limits::Limits;
 pub use opened::{OpenFault, open_store};
-
-#[cfg(test)]
-mod tests;

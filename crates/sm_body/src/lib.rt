@@ -8,8 +8,6 @@ pub mod law;
 mod next;
 mod place;
 mod plain;
-#[cfg(test)]
-mod tests;
 mod trailer;
 
 pub use framer::{Framer, Step};

@@ -15,6 +15,3 @@ pub use head::{BoxHead, Head};
 pub use numbers::{u32_at, u64_at};
 pub use put::{append_head, append_u32, append_u64, put_box};
 pub use whole::whole_at;
-
-#[cfg(test)]
-mod tests;

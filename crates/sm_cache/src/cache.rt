@@ -60,6 +60,13 @@ impl Cache {
         self.pairs.get(address)
     }
 
+    /// What is kept at an address, if it is in the cache; the order of use stays as it is. It takes no memory.
+    pub fn peek(&self, address: &Address) -> Option<&Kept>
+        ensures { option_copied result ≡ lookup (is_one_address address.now) self.now.entries }
+    {
+        self.pairs.peek(address)
+    }
+
     /// Puts a fragment in front of all others, in place of the one at its address or, where the cache is full, of the one
     /// that was used the longest time ago. Without memory the fragment is dropped and the cache stays as it is.
     pub fn put(&mut self, alloc: Global, place: u64, fragment: Fragment) -> Result<(), NoMemory>

@@ -4,6 +4,3 @@
 mod cache;
 
 pub use cache::{Cache, Kept};
-
-#[cfg(test)]
-mod tests;

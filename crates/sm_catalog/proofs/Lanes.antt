@@ -3,7 +3,7 @@ use Rattle.std.proofs.Common.{◌≡◌, ◌≢◌, ◌≤◌, ◌+◌, ℕ, Boo
 use Rattle.std.proofs.lemmas.Bool.{eqb-true, eqb-false, eq-eqb, ne_eqb, and_left, and_right}
 use Rattle.sm_model.specs.declared.track.Track.{Track}
 use Rattle.sm_model.specs.Channels.{IsChannel}
-use Rattle.sm_model.specs.LiveTracks.{is_same}
+use Rattle.sm_model.specs.Same.{is_same}
 use Rattle.sm_log.specs.Times.{entry_at, with_entry}
 use Rattle.sm_log.specs.Adds.{Add, is_at, tracks_of, place_of, times_of, is_kept, is_listed, listed}
 use Rattle.sm_timeline.specs.Lines.{more, count_at}

@@ -9,7 +9,7 @@ use Rattle.sm_model.specs.declared.address.Address.{Address}
 use Rattle.sm_model.specs.declared.track.Track.{Track}
 use Rattle.sm_log.specs.declared.verdict.Decision.{Decision}
 use Rattle.sm_log.specs.declared.verdict.Judged.TheVariants as judged
-use Rattle.sm_model.specs.LiveTracks.{is_same}
+use Rattle.sm_model.specs.Same.{is_same}
 use Rattle.sm_log.specs.Times.{entry_at, with_entry, decision}
 use Rattle.sm_log.specs.Adds.{Add, track_at, names_from, names_of, place_of, times_from, times_of, listed, judged_by, verdict}
 use Rattle.sm_timeline.specs.Lines.{Entries}

@@ -1,6 +1,6 @@
 -- One add more: times, places, and what is kept.
 use Rattle.std.proofs.Common.{◌≡◌, ℕ, Bool, true, false, ◌&&◌, cond, eqb, List, [], ◌∷◌, ◌++◌, Option, Some, None, refl, ◌∙◌}
-use Rattle.sm_model.specs.LiveTracks.{is_same}
+use Rattle.sm_model.specs.Same.{is_same}
 use Rattle.sm_log.specs.Times.{entry_at, with_entry, AreSorted}
 use Rattle.sm_log.specs.Adds.{Add, place_of}
 use Rattle.sm_log.proofs.Choice.{chosen}

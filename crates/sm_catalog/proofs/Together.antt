@@ -11,7 +11,7 @@ use Rattle.std.specs.List.{AllByRecursion, position, sum_by}
 use Rattle.sm_model.specs.declared.address.Address.{Address}
 use Rattle.sm_model.specs.declared.track.Track.{Track}
 use Rattle.sm_model.specs.Channels.{IsChannel}
-use Rattle.sm_model.specs.LiveTracks.{is_same}
+use Rattle.sm_model.specs.Same.{is_same}
 use Rattle.sm_log.specs.Times.{with_entry}
 use Rattle.sm_log.specs.Adds.{Add, tracks_of, names_of, times_of, is_kept, listed}
 use Rattle.sm_timeline.specs.Lines.{Entries, more, count_at}

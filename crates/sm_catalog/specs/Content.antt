@@ -1,7 +1,7 @@
 -- What contracts see of a catalog and of its parts.
 use Rattle.std.specs.Prelude.{◌≡◌, ◌≤◌, ◌<◌, ℕ, slice_index_or, List, [], ◌∷◌, length, if◌then◌else◌}
 use Rattle.std.specs.List.{AllByRecursion, AllZip}
-use Rattle.sm_model.specs.LiveTracks.{is_same}
+use Rattle.sm_model.specs.Same.{is_same}
 use Rattle.sm_log.specs.Times.{IsSpan}
 use Rattle.sm_model.specs.declared.track.Track.{Track}
 use Rattle.sm_log.specs.Adds.{Add, tracks_of}

@@ -1,6 +1,6 @@
 -- What the parts of a catalog keep.
 use Rattle.std.specs.Prelude.{◌==◌, ◌&&◌, ℕ, Bool, List, [], ◌∷◌, if◌then◌else◌}
-use Rattle.sm_model.specs.LiveTracks.{is_same}
+use Rattle.sm_model.specs.Same.{is_same}
 use Rattle.sm_log.specs.Times.{with_entry}
 use Rattle.sm_log.specs.Adds.{Add}
 

@@ -1,8 +1,8 @@
 //! Catalogs.
-ghost use Rattle.std.specs.Prelude.{◌≡◌, ◌≤◌, ◌+◌, ◌++◌, ◌∷◌, [], ℕ, false, true, IfOk, OnOk, OnErr, is_some, length, slice_get, List};
+ghost use Rattle.std.specs.Prelude.{◌≡◌, ◌≤◌, ◌+◌, ◌-◌, ◌^◌, ◌++◌, ◌∷◌, [], ℕ, false, true, IfOk, OnOk, OnErr, is_some, length, min, slice_get, List};
 ghost use Rattle.sm_log.specs.declared.verdict.Judged.TheVariants as judged;
 ghost use Rattle.sm_model.specs.Channels.{IsChannel};
-ghost use Rattle.sm_model.specs.LiveTracks.{is_same};
+ghost use Rattle.sm_model.specs.Same.{is_same};
 ghost use Rattle.std.specs.Option.{option_map};
 ghost use Rattle.sm_log.specs.Times.{entry_at, IsSpan};
 ghost use Rattle.sm_log.specs.Adds.{judged_by, verdict, is_declared, place_of, times_of, listed, ahead};
@@ -129,6 +129,13 @@ impl Catalog {
         ensures { option_map (add_in self.now.channel) result ≡ slice_get self.now.adds index }
     {
         self.adds.get(index as usize).copied()
+    }
+
+    /// How many fragments were added, of all streams. At 2^64 - 1 it may be more.
+    pub fn len(&self) -> u64
+        ensures { result ≡ min (length self.now.adds) (2 ^ 64 - 1) }
+    {
+        self.adds.len() as u64
     }
 
     /// How many times of that stream are listed: those at which every track of it is kept.

@@ -1,8 +1,8 @@
 //! The tracks of a header against those of a channel.
 ghost use Rattle.std.specs.Prelude.{◌≡◌, ◌==◌, ◌&&◌, is_none};
 ghost use Rattle.std.specs.List.{position};
-ghost use Rattle.sm_model.specs.LiveTracks.{is_same};
-ghost use Rattle.sm_model.specs.LiveFaults.{are_one_kind};
+ghost use Rattle.sm_model.specs.Same.{is_same};
+ghost use Rattle.sm_model.specs.Kinds.{are_one_kind};
 ghost use Rattle.sm_log.specs.Adds.{track_at};
 ghost use Rattle.sm_log.specs.Headers.{are_same_numbers, are_same_params, is_same_track, differs, checked_by, check};
 

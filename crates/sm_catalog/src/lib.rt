@@ -11,6 +11,3 @@ mod stream;
 pub use added::Added;
 pub use catalog::Catalog;
 pub use sm_log::{Checked, Judged};
-
-#[cfg(test)]
-mod tests;

@@ -2,7 +2,7 @@
 ghost use Rattle.std.specs.Prelude.{◌≡◌, ◌≤◌, ◌<◌, ℕ, [], true, All, map, length, IfOk, OnOk, OnErr, slice_index_or};
 ghost use Rattle.std.specs.List.{count_by};
 ghost use Rattle.sm_model.specs.Channels.{IsChannel};
-ghost use Rattle.sm_model.specs.LiveTracks.{is_same};
+ghost use Rattle.sm_model.specs.Same.{is_same};
 ghost use Rattle.sm_log.specs.Adds.{names_of, tracks_of};
 ghost use Rattle.sm_timeline.specs.Lines.{Entries};
 ghost use Rattle.sm_catalog.specs.Content.{IsFresh, AreCopies, HaveMoreRoom};

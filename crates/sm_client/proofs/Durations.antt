@@ -9,7 +9,7 @@ use Rattle.sm_model.specs.declared.entry.Entry.TheVariants.{Keep}
 use Rattle.sm_model.specs.declared.fragment.Fragment.{Fragment}
 use Rattle.sm_model.specs.declared.track.Track.{Track}
 use Rattle.sm_model.specs.Entries.{address_of}
-use Rattle.sm_model.specs.LiveTracks.{is_same}
+use Rattle.sm_model.specs.Same.{is_same}
 use Rattle.sm_log.specs.declared.verdict.Judged.TheVariants as judged
 use Rattle.sm_log.specs.Adds.{Add, is_listed, listed, times_of, times_from}
 use Rattle.sm_log.specs.Logs.{adds_from, adds_of, channel_of, listed_by, listed_in, times_in, verdict_by, verdict_on, IsSound}

@@ -30,7 +30,8 @@ use Rattle.sm_client.specs.Plays.{Part, IsPart, PlaysAll, PlaysFrom, all_exchang
 use Rattle.sm_client.specs.Served.{AnsweredBy, IsMoment, IsPlace, IsWhole, IsUnrefused, OneIsWhole, IsStream, IsPatient, Serves, EndsWell}
 use Rattle.sm_client.proofs.Went.{exchanges-append, spelled-no_fragment}
 use Rattle.sm_client.proofs.Pieces.{spelled-no_manifest}
-use Rattle.sm_client.proofs.Serving.{IsOurs, IsListedAt, again, Reads, level-at, listed-found, has-entry, has-either, entry-stays, entry-ahead, manifest-read, manifest-given, fragment-read, fragment-given}
+use Rattle.sm_client.specs.Origins.{IsListedStream, IsListedAt, IsTheOrigins, again}
+use Rattle.sm_client.proofs.Serving.{level-at, listed-found, has-entry, has-either, entry-stays, entry-ahead, manifest-read, manifest-given, fragment-read, fragment-given}
 
 -- ---- where a stream stands
 
@@ -38,7 +39,7 @@ use Rattle.sm_client.proofs.Serving.{IsOurs, IsListedAt, again, Reads, level-at,
 pub record Knows (channel : List Track) (name : List ℕ) (log : List Entry) (p : Standing) : Type 0 where
   pub listing : StreamListing
   pub last : p.listing ≡ Some listing
-  pub ours : IsOurs channel name listing
+  pub ours : IsListedStream channel name listing
   pub known : (k : ℕ) → has k p.known ≡ true → is_some (entry_at k (listed_in log name)) ≡ true
 
 abbrev pub StandsBy : List Track → List ℕ → List Entry → Stand → Type 0
@@ -63,7 +64,7 @@ module _ {P : Type 0} (m : Meaning P) {plan : Plan} {channel : List Track} {name
   found-knows : (log : List Entry) (s : Stand) (l : Listing) → l ≡ again channel log → StandsBy channel name log s → StandsBy channel name log (read_at plan s (listed name l.streams))
   found-knows log s l is k = subst (λ o. StandsBy channel name log (read_at plan s o)) (sym found) (by s k)
     where
-      f : (t : StreamListing) × (listed name (again channel log).streams ≡ Some t) × IsOurs channel name t × (t.times ≡ listed_in log name)
+      f : (t : StreamListing) × (listed name (again channel log).streams ≡ Some t) × IsListedStream channel name t × (t.times ≡ listed_in log name)
       f = listed-found channel (listed_in log) name c.stream.track
 
       found : listed name l.streams ≡ Some f.0
@@ -110,7 +111,7 @@ module _ {P : Type 0} (m : Meaning P) {plan : Plan} {channel : List Track} {name
   listed-at log s t x g level k h =
       let n = knows-at log s t x g level k h in
       let same : n.listing ≡ k.listing = same-some n.listing k.listing (sym n.last ∙ k.last) in
-      let own : IsOurs channel name k.listing = subst (IsOurs channel name) same n.ours in
+      let own : IsListedStream channel name k.listing = subst (IsListedStream channel name) same n.ours in
       record {
         place_is = c.place;
         tracks = c.tracks;
@@ -127,7 +128,7 @@ module _ {P : Type 0} (m : Meaning P) {plan : Plan} {channel : List Track} {name
       (subst (λ r. FromOrigin log r x.answer) k.request from) free k.spells whole
 
   pub piece-reads : (log : List Entry) (s : State) (t : Turn P) (x : Exchange) (raw : RawFragment) (level : ℕ) → (k : MadePiece m plan name t s x (got.Fragment raw) level) → IsMoment channel log
-      → FromOrigin log x.request x.answer → StandsBy channel name log s.stand → Reads log (address_at name k.listing k.at.expected level) raw
+      → FromOrigin log x.request x.answer → StandsBy channel name log s.stand → IsTheOrigins log (address_at name k.listing k.at.expected level) raw
   piece-reads log s t x raw level k is from h =
       fragment-read plan.place channel log k.listing.pattern (address_at name k.listing k.at.expected level) raw x.answer is (listed-at log s t x (got.Fragment raw) level k h)
       (subst (λ r. FromOrigin log r x.answer) k.request from) k.spells

@@ -1,6 +1,6 @@
 -- Fragments that stay kept.
 use Rattle.std.proofs.Common.{◌≡◌, ℕ, zero, suc, List, [], ◌∷◌, ◌++◌, length, drop, Option, ap, sym, ◌∙◌, subst, arith, append_assoc}
-use Rattle.std.proofs.lemmas.List.Elements.{Contains-append_left}
+use Rattle.sm_log.proofs.AllLogs.{kept_stays}
 use Rattle.sm_model.specs.declared.address.Address.{Address}
 use Rattle.sm_model.specs.declared.entry.Entry.{Entry}
 use Rattle.sm_model.specs.declared.entry.Entry.TheVariants.{Keep}
@@ -21,7 +21,7 @@ use Rattle.sm_client.specs.Calls.{IsAskedOf, AskedKept}
 use Rattle.sm_client.proofs.Pieces.{spelled-fragment}
 
 is_kept-grown : (plan : Plan) (log more : List Entry) (p : Piece) → IsKept plan log p → IsKept plan (log ++ more) p
-is_kept-grown plan log more p k = λ may a named. Contains-append_left log more (Keep (with_address a p.fragment)) (k may a named)
+is_kept-grown plan log more p k = λ may a named. let there = k may a named in (there.0, kept_stays a 0 log more (there.0, with_address a p.fragment) there.1)
 
 are_kept-grown : (plan : Plan) (log more : List Entry) (ps : List Piece) → AreKept plan log ps → AreKept plan (log ++ more) ps
 are_kept-grown plan log more [] k = tt
@@ -51,6 +51,12 @@ keeps-more {plan = plan} s t u ps qs k l = record {
 
 pub keeps-behind : {plan : Plan} {s t u : List Entry → Type 0} {ps : List Piece} → Grows s t → KeepsOn plan t u ps → KeepsOn plan s u ps
 keeps-behind {plan = plan} {s = s} {t = t} {u = u} {ps = ps} g k = keeps-more s t u [] ps (keeps-none plan {s = s} {t = t} g) k
+
+pub asked-behind : (plan : Plan) (name : List ℕ) (stream : StreamListing) (s t u : List Entry → Type 0) (r : Asked) → Grows s t → AskedKept plan name stream t u r
+    → AskedKept plan name stream s u r
+asked-behind plan name stream s t u (asked.Took raw level) g k = keeps-behind g k
+asked-behind plan name stream s t u (asked.Missed outcome) g k = tt
+asked-behind plan name stream s t u asked.NoMemory g k = tt
 
 -- ---- parts
 

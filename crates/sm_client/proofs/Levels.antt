@@ -4,8 +4,8 @@ use Rattle.std.proofs.lemmas.Bool.{leb-false, eqb-false}
 use Rattle.std.proofs.lemmas.List.{length-append}
 use Rattle.std.specs.List.{AllByRecursion}
 use Rattle.std.specs.Option.{option_to_list}
-use Rattle.sm_model.specs.LiveFaults.{least_from}
-use Rattle.sm_model.specs.LiveManifests.{bad_of}
+use Rattle.sm_model.specs.Places.{least_from}
+use Rattle.sm_tag.specs.Elements.{bad_of}
 use Rattle.sm_manin.specs.declared.listing.Level.{Level}
 use Rattle.sm_manin.specs.declared.listing.StreamListing.{StreamListing}
 use Rattle.sm_manin.specs.declared.listing.Listing.{Listing}

@@ -30,7 +30,10 @@ use Rattle.sm_client.proofs.Went.{exchanges-append, spelled-no_fragment}
 use Rattle.sm_client.proofs.Pieces.{spelled-fragment, spelled-no_manifest}
 use Rattle.sm_client.proofs.Rows.{by_bool}
 use Rattle.sm_client.proofs.Durations.{listed-duration}
-use Rattle.sm_client.proofs.Serving.{IsOurs, Reads, listed-found}
+use Rattle.sm_log.proofs.AllLogs.{kept_there}
+use Rattle.sm_log.proofs.ListedKept.{kept_address}
+use Rattle.sm_client.specs.Origins.{IsListedStream, IsTheOrigins}
+use Rattle.sm_client.proofs.Serving.{listed-found}
 use Rattle.sm_client.proofs.EndingWell.{Knows, StandsBy, stands-on, Setting, list-read, list-step, piece-step, piece-reads, part-well, told-same, answered-split, one-behind, all-behind}
 
 entry-has : (k d : ℕ) (ts : List (ℕ × ℕ)) → entry_at k ts ≡ Some d → has k (starts ts) ≡ true
@@ -108,13 +111,14 @@ module _ {P : Type 0} (m : Meaning P) {plan : Plan} {channel : List Track} {name
       → OnRun plan times (wrote_by name p p.listing level raw)
   wrote-on log times t p missed x raw level k is from knows lists r =
       let same : k.at ≡ p = same-standing k.at p (sym k.stands) in
-      let reads : Reads log (address_at name k.listing k.at.expected level) raw = piece-reads m c log (at (standing p) missed) t x raw level k is from knows in
+      let reads : IsTheOrigins log (address_at name k.listing k.at.expected level) raw = piece-reads m c log (at (standing p) missed) t x raw level k is from knows in
       let more : length p.written < plan.count = subst (λ (q : Standing). length q.written < plan.count) same k.more in
       let start : k.at.expected ≡ p.expected = ap (λ (q : Standing). q.expected) same in
       let time : raw.time ≡ p.expected = (spelled k) ∙ start in
       let lasts : (d : ℕ) → entry_at p.expected times ≡ Some d → raw.duration ≡ d =
       λ d e. ap (λ (q : RawFragment). q.duration) reads.is
-      ∙ listed-duration log channel (address_at name k.listing k.at.expected level) reads.fragment d is.sound is.channel_is reads.kept reads.address_is
+      ∙ listed-duration log channel (address_at name k.listing k.at.expected level) reads.fragment d is.sound is.channel_is
+      (kept_there (address_at name k.listing k.at.expected level) 0 log (reads.place, reads.fragment) reads.placed) (kept_address log (address_at name k.listing k.at.expected level) reads.place reads.fragment reads.placed)
       (ap (λ n. entry_at n (listed_in log name)) start ∙ lists p.expected d e) in
       subst (λ o. OnRun plan times (wrote_by name p o level raw)) (sym knows.last) (on-wrote name p knows.listing level raw r more time lasts)
     where
@@ -143,7 +147,7 @@ module _ {P : Type 0} (m : Meaning P) {plan : Plan} {channel : List Track} {name
   standing-run (piece x got.NoMemory level ∷ xs) log last times t p missed a b k l r = absurd a.1
 
   -- the first manifest was read
-  begun-run : (xs : List Item) (log last : List Entry) (t : Turn P) (o : Option StreamListing) (f : StreamListing) → o ≡ Some f → IsOurs channel name f → f.times ≡ listed_in log name
+  begun-run : (xs : List Item) (log last : List Entry) (t : Turn P) (o : Option StreamListing) (f : StreamListing) → o ≡ Some f → IsListedStream channel name f → f.times ≡ listed_in log name
       → Knows channel name log (record { listing = Some f; expected = first_start plan.from f.times; known = starts f.times; written = []; manifests = 1 })
       → ListsRun plan.count (first_start plan.from (times_of o)) (times_of o) → Asks m plan name t (at (begun plan o) []) xs → AnsweredBy channel log (exchanges xs) last
       → RunEnd plan (state_after plan name (at (begun plan o) []) xs)

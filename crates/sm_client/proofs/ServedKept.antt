@@ -29,7 +29,9 @@ use Rattle.sm_client.specs.Asks.{Made, MadePiece, Asks, exchange_of, exchanges, 
 use Rattle.sm_client.specs.Plays.{Part, PlaysAll, PlaysFrom, all_exchanges, written_of}
 use Rattle.sm_client.specs.Served.{AnsweredBy, IsMoment, IsPlace, IsStream, Serves, AreIn, PartsIn}
 use Rattle.sm_client.proofs.Went.{exchanges-append}
-use Rattle.sm_client.proofs.Serving.{Reads}
+use Rattle.sm_client.specs.Origins.{IsTheOrigins}
+use Rattle.sm_log.proofs.ListedKept.{kept_address}
+use Rattle.sm_log.proofs.AllLogs.{kept_there}
 use Rattle.sm_client.proofs.EndingWell.{StandsBy, stands-on, Setting, step, piece-reads, told-same, answered-split, answered-grows}
 
 in-more : (log more : List Entry) (ps : List Piece) → AreIn log ps → AreIn (log ++ more) ps
@@ -41,11 +43,11 @@ in-one log [] p a k = (k, tt)
 in-one log (q ∷ ps) p a k = (a.0, in-one log ps p a.1 k)
 
 -- what is read at an address is the fragment that is kept there
-read-kept : (log : List Entry) (a : Address) (raw : RawFragment) → Reads log a raw → Contains log (Keep (given a.stream a.bitrate raw))
+read-kept : (log : List Entry) (a : Address) (raw : RawFragment) → IsTheOrigins log a raw → Contains log (Keep (given a.stream a.bitrate raw))
 read-kept log a raw r =
     let same : r.fragment ≡ given a.stream a.bitrate raw =
-    ap (λ (b : Address). given b.stream b.bitrate (raw_again r.id r.fragment (ahead_in log a.stream a.time))) r.address_is ∙ ap (λ (q : RawFragment). given a.stream a.bitrate q) (sym r.is) in
-    subst (λ (f : Fragment). Contains log (Keep f)) same r.kept
+    ap (λ (b : Address). given b.stream b.bitrate (raw_again r.id r.fragment (ahead_in log a.stream a.time))) (kept_address log a r.place r.fragment r.placed) ∙ ap (λ (q : RawFragment). given a.stream a.bitrate q) (sym r.is) in
+    subst (λ (f : Fragment). Contains log (Keep f)) same (kept_there a 0 log (r.place, r.fragment) r.placed)
 
 module _ {P : Type 0} (m : Meaning P) {plan : Plan} {channel : List Track} {name : List ℕ} (c : Setting plan channel name) where
   -- a manifest writes nothing

@@ -16,14 +16,14 @@ use Rattle.sm_model.specs.Channels.{IsNarrowTrack}
 use Rattle.sm_model.specs.Entries.{address_of}
 use Rattle.sm_model.specs.Found.{is_kind}
 use Rattle.sm_model.specs.FragText.{moof, mdat, frag_text}
-use Rattle.sm_model.specs.LiveTracks.{is_same}
+use Rattle.sm_model.specs.Same.{is_same}
 use Rattle.sm_model.specs.Names.{is_name}
 use Rattle.sm_model.specs.Written.{IsWritten, raw_again}
 use Rattle.sm_model.proofs.WrittenFragment.{moof_whole, mdat_whole, moof_is, frag_read}
 use Rattle.sm_log.specs.Adds.{track_at, tracks_of, is_declared}
 use Rattle.sm_log.specs.Logs.{channel_of, kept_at, listed_in, ahead_in}
 use Rattle.sm_log.specs.Times.{entry_at}
-use Rattle.sm_log.proofs.AllLogs.{listed_sound, listed_in_stays}
+use Rattle.sm_log.proofs.AllLogs.{listed_sound, listed_in_stays, kept_there}
 use Rattle.sm_log.proofs.ListedKept.{listed_kept, channel_sound, ahead_listed, kept_valid, kept_address}
 use Rattle.sm_manin.specs.declared.listing.Level.{Level}
 use Rattle.sm_manin.specs.declared.listing.Listing.{Listing}
@@ -54,6 +54,7 @@ use Rattle.sm_fetch.proofs.Urls.{url_names}
 use Rattle.sm_client.specs.Starts.{has, starts}
 use Rattle.sm_client.specs.Stands.{listed, ladder_of, miss_of}
 use Rattle.sm_fetch.specs.Origins.{IsKeptText, IsUnwell, SaysManifest, SaysFragment, IsOfOrigin, MayBeAsked, FromOrigin}
+use Rattle.sm_client.specs.Origins.{IsQuality, IsListedStream, IsListedAt, IsTheOrigins, again}
 use Rattle.sm_client.specs.Served.{IsMoment, IsPlace, IsWhole, IsUnrefused, IsStream}
 use Rattle.sm_client.proofs.Rows.{by_bool, or_true}
 use Rattle.sm_client.proofs.Asked.{may-ask, short-manifest, short-fragment}
@@ -81,9 +82,6 @@ any-more p (y ∷ ys) x a e =
 
 -- ---- qualities
 
-abbrev IsQuality : List Track → List ℕ → Level → Type 0
-IsQuality channel name l = is_some (track_at name l.bitrate channel) ≡ true
-
 all-with : (P : Level → Type 0) (l : Level) (ls : List Level) → P l → AllByRecursion P ls → AllByRecursion P (with_level l ls)
 all-with P l [] p a = (p, tt)
 all-with P l (k ∷ ks) p a =
@@ -109,19 +107,14 @@ level-at channel name (l ∷ ls) (suc i) a h = level-at channel name ls i a.1 (o
 
 -- ---- streams
 
--- a stream of the channel, as its manifest lists it
-pub record IsOurs (channel : List Track) (name : List ℕ) (s : StreamListing) : Type 0 where
-  pub pattern : s.pattern ≡ url name
-  pub levels : AllByRecursion (IsQuality channel name) s.levels
-
-ours : (channel : List Track) (times : List ℕ → List (ℕ × ℕ)) (name : List ℕ) (t : Track) → t.name ≡ name → IsOurs channel name (stream_again channel (times t.name) t)
+ours : (channel : List Track) (times : List ℕ → List (ℕ × ℕ)) (name : List ℕ) (t : Track) → t.name ≡ name → IsListedStream channel name (stream_again channel (times t.name) t)
 ours channel times name t e = record {
   pattern = ap url e;
   levels = subst (λ n. AllByRecursion (IsQuality channel name) (levels_again [] 0 (tracks_of n channel))) (sym e) (all-again channel name [] 0 (tracks_of name channel) tt (tracks-named channel name));
 }
 
 abbrev Finds : List Track → (List ℕ → List (ℕ × ℕ)) → List ℕ → List StreamListing → Type 0
-Finds channel times name streams = (s : StreamListing) × (listed name streams ≡ Some s) × IsOurs channel name s × (s.times ≡ times name)
+Finds channel times name streams = (s : StreamListing) × (listed name streams ≡ Some s) × IsListedStream channel name s × (s.times ≡ times name)
 
 listed-again : (channel : List Track) (times : List ℕ → List (ℕ × ℕ)) (name : List ℕ) (earlier ts : List Track) → list_any (λ u. is_same u.name name) earlier ≡ false
     → list_any (λ t. is_same t.name name) ts ≡ true → Finds channel times name (streams_again channel times earlier ts)
@@ -207,9 +200,6 @@ says-fragment log a k named body status is well (inr e) = absurd (well e)
 
 -- ---- manifests
 
-abbrev pub again : List Track → List Entry → Listing
-again channel log = listing_again channel (listed_in log)
-
 manifest-again : (channel : List Track) (log : List Entry) → All IsNarrowTrack channel → IsMoment channel log → IsManifest (manifest channel (listed_in log)) (Ok (again channel log))
 manifest-again channel log tracks is =
     written_is_read channel (listed_in log) (channel_sound log channel is.sound is.channel_is) tracks (λ name. listed_sound log name is.sound) is.few
@@ -264,15 +254,6 @@ url-same : (name : List ℕ) → url name ≡ written_url name
 unfolding url
 url-same name = refl
 
--- an address of the channel, at a listed start, asked for by the Url of its manifest
-pub record IsListedAt (place : Place) (channel : List Track) (log : List Entry) (pattern : List ℕ) (a : Address) : Type 0 where
-  pub place_is : IsPlace place
-  pub tracks : All IsNarrowTrack channel
-  pub stream : IsStream channel a.stream
-  pub pattern_is : pattern ≡ url a.stream
-  pub declared : is_declared channel a ≡ true
-  pub listed : is_some (entry_at a.time (listed_in log a.stream)) ≡ true
-
 track-narrow : (name : List ℕ) (bitrate : ℕ) (channel : List Track) → AllByRecursion IsNarrowTrack channel → is_some (track_at name bitrate channel) ≡ true → (is_name name ≡ true) × (bitrate < 2 ^ 32)
 track-narrow name bitrate [] all e = absurd (cc)
 track-narrow name bitrate (t ∷ ts) all e = by (is_same t.name name) refl (eqb t.bitrate bitrate) refl e (λ h. track-narrow name bitrate ts all.1 h)
@@ -309,17 +290,9 @@ text-read seq id time f ahead w is = record {
   time_is = is;
 }
 
--- what the log keeps there, as it is read
-pub record Reads (log : List Entry) (a : Address) (raw : RawFragment) : Type 0 where
-  pub id : ℕ
-  pub fragment : Fragment
-  pub address_is : address_of fragment ≡ a
-  pub kept : Contains log (Keep fragment)
-  pub is : raw ≡ raw_again id fragment (ahead_in log a.stream a.time)
-
 fragment-whole : (place : Place) (channel : List Track) (log : List Entry) (pattern : List ℕ) (a : Address) (bytes body : List ℕ) (status at : ℕ) → IsMoment channel log → IsListedAt place channel log pattern a
     → FromOrigin log (fragment_request place pattern a) (answers.Bytes bytes) → IsWholeReply bytes status at body → status ≢ 500 → status ≢ 503
-    → (raw : RawFragment) × Reads log a raw × SpellsFragment a.time (answers.Bytes bytes) (got.Fragment raw)
+    → (raw : RawFragment) × IsTheOrigins log a raw × SpellsFragment a.time (answers.Bytes bytes) (got.Fragment raw)
 fragment-whole place channel log pattern a bytes body status at is l from w no500 no503 =
     let k = some_is (kept_at log a) (listed_kept log channel a is.channel_is l.declared l.listed) in
     let named = may-name place channel log pattern a k.0 is k.1 l in
@@ -331,9 +304,9 @@ fragment-whole place channel log pattern a bytes body status at is l from w no50
     let says = says-fragment log a k.0 (fragment_target place pattern a) body status k.1 (is-well status (fragment_target place pattern a) no500 no503 short) (own.fragment a names) in
     let text : IsKeptText log a body = says.1 in
     let ahead = ahead_in log a.stream a.time in
-    let time : text.fragment.time ≡ a.time = ap (λ (b : Address). b.time) text.address_is in (
+    let time : text.fragment.time ≡ a.time = ap (λ (b : Address). b.time) (kept_address log a text.seq text.fragment text.placed) in (
       raw_again text.id text.fragment ahead,
-      record { id = text.id; fragment = text.fragment; address_is = text.address_is; kept = text.kept; is = refl },
+      record { place = text.seq; id = text.id; fragment = text.fragment; placed = text.placed; id_is = text.id_is; is = refl },
       (
         at,
         body,
@@ -349,11 +322,11 @@ one-fragment r q (inr (inr e)) = absurd (cc)
 
 -- what is read as a fragment is what the log keeps there
 pub fragment-read : (place : Place) (channel : List Track) (log : List Entry) (pattern : List ℕ) (a : Address) (raw : RawFragment) (answer : Answer) → IsMoment channel log → IsListedAt place channel log pattern a
-    → FromOrigin log (fragment_request place pattern a) answer → SpellsFragment a.time answer (got.Fragment raw) → Reads log a raw
+    → FromOrigin log (fragment_request place pattern a) answer → SpellsFragment a.time answer (got.Fragment raw) → IsTheOrigins log a raw
 fragment-read place channel log pattern a raw (answers.Bytes bytes) is l from (at, body, w, read) =
     let f = fragment-whole place channel log pattern a bytes body 200 at is l from w not500 not503 in
     let same : raw ≡ f.0 = one-fragment raw f.0 (one_fragment_got a.time (answers.Bytes bytes) (got.Fragment raw) (got.Fragment f.0) (at, body, w, read) f.2) in
-    subst (Reads log a) (sym same) f.1
+    subst (IsTheOrigins log a) (sym same) f.1
 fragment-read place channel log pattern a raw answers.Lost is l from s = absurd (cc)
 fragment-read place channel log pattern a raw answers.NoMemory is l from s = absurd (cc)
 
@@ -370,5 +343,5 @@ fragment-given place channel log pattern a g answers.NoMemory is l from free s w
 -- ---- the stream in the manifest
 
 pub listed-found : (channel : List Track) (times : List ℕ → List (ℕ × ℕ)) (name : List ℕ) → list_any (λ t. is_same t.name name) channel ≡ true
-    → (s : StreamListing) × (listed name (listing_again channel times).streams ≡ Some s) × IsOurs channel name s × (s.times ≡ times name)
+    → (s : StreamListing) × (listed name (listing_again channel times).streams ≡ Some s) × IsListedStream channel name s × (s.times ≡ times name)
 listed-found channel times name some = listed-again channel times name [] channel refl some

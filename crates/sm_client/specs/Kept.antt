@@ -1,9 +1,9 @@
 -- What a play writes is kept by the origin, at the address that was asked.
-use Rattle.std.specs.Prelude.{◌≡◌, ℕ, List, ◌++◌, Contains}
+use Rattle.std.specs.Prelude.{◌≡◌, ℕ, List, ◌++◌, Some}
 use Rattle.std.specs.List.{AllByRecursion}
 use Rattle.sm_model.specs.declared.address.Address.{Address}
 use Rattle.sm_model.specs.declared.entry.Entry.{Entry}
-use Rattle.sm_model.specs.declared.entry.Entry.TheVariants.{Keep}
+use Rattle.sm_log.specs.Logs.{kept_at}
 use Rattle.sm_model.specs.declared.fragment.Fragment.{Fragment}
 use Rattle.sm_model.specs.declared.target.Target.TheVariants as target
 use Rattle.sm_model.specs.Entries.{address_of}
@@ -21,11 +21,11 @@ asked_by plan p = fragment_target plan.place p.url (address_of p.fragment)
 abbrev pub with_address : Address → Fragment → Fragment
 with_address a f = record { stream = a.stream; bitrate = a.bitrate; time = f.time; duration = f.duration; signed = f.signed; samples = f.samples }
 
--- the log keeps it at the address that was asked
+-- the log keeps it at the address that was asked, at some place
 abbrev pub IsKept : Plan → List Entry → Piece → Type 0
 IsKept plan log p =
     MayBeAsked plan.place.host plan.place.port (asked_by plan p) → (a : Address) → target_of (asked_by plan p) ≡ target.Fragment a
-    → Contains log (Keep (with_address a p.fragment))
+    → (at : ℕ) × (kept_at log a ≡ Some (at, with_address a p.fragment))
 
 abbrev pub AreKept : Plan → List Entry → List Piece → Type 0
 AreKept plan log ps = AllByRecursion (IsKept plan log) ps

@@ -7,4 +7,6 @@ pub mod Kept
 pub mod Plays
 pub mod Dials
 pub mod Served
+pub mod Origins
 pub mod Calls
+pub mod Pushing

@@ -33,6 +33,7 @@ fn play_all<C: Dial, T: Tracks>(
     ensures later { T.faults tracks.old ≤ T.faults tracks.new }
     ensures fault { result.end ≡ End.WriteFault → Rose (T.faults tracks.old) (T.faults tracks.new) }
     ensures goes_on { C.later dial.old dial.new }
+    ensures chosen { C.chosen dial.new ≡ C.chosen dial.old }
     ensures dial { Dialed (C.log dial.old) (C.log dial.new) (C.dial_faults dial.old) (C.dial_faults dial.new) (C.store dial.old) (C.store dial.new) (carried result.end) }
 {
     let mut played: u64 = 0;
@@ -75,6 +76,7 @@ pub fn play<C: Dial, T: Tracks>(
     ensures later { T.faults tracks.old ≤ T.faults tracks.new }
     ensures fault { result.end ≡ End.WriteFault → Rose (T.faults tracks.old) (T.faults tracks.new) }
     ensures goes_on { C.later dial.old dial.new }
+    ensures chosen { C.chosen dial.new ≡ C.chosen dial.old }
     ensures dial { Dialed (C.log dial.old) (C.log dial.new) (C.dial_faults dial.old) (C.dial_faults dial.new) (C.store dial.old) (C.store dial.new) (carried result.end) }
     ensures served { PlayedServed (record { pick = pick_after; retired = retired_after }) plan.now policies.items
         (C.log dial.old) (C.log dial.new) (T.held tracks.old) (T.held tracks.new) result }

@@ -1,11 +1,12 @@
 //! Manifests, asked for.
 ghost use Rattle.std.specs.Prelude.{◌≡◌, ◌≤◌, ℕ};
-ghost use Rattle.sm_client.specs.Stands.{Stand, listed, miss_of};
+ghost use Rattle.sm_client.specs.Stands.{Stand, listed};
 ghost use Rattle.sm_client.specs.Asks.{MayList};
 ghost use Rattle.sm_client.specs.Calls.{ListedOnce, ListedBy, IsListedOf};
 ghost use Rattle.sm_client.specs.Dials.{Dialed, carried_listed, carried_manifest};
 
-use crate::{Miss, Outcomes, Plan};
+use crate::rest::rest;
+use crate::{Miss, Outcomes, Plan, miss_of};
 use sm_fetch::{Dial, Got, get_manifest};
 use sm_manin::{Listing, StreamListing};
 use sm_model::Name;
@@ -41,19 +42,6 @@ fn stream_of(listing: Listing, name: &Name) -> Option<StreamListing>
         .find(|stream| stream.name == *name)
 }
 
-/// What came in place of what was asked.
-pub fn miss_of(got: &Got) -> Option<Miss>
-    ensures { result ≡ miss_of got.now }
-{
-    match got {
-        Got::Manifest(_) | Got::Fragment(_) | Got::NoMemory => None,
-        Got::Status(status) => Some(Miss::Status(*status)),
-        Got::Cut => Some(Miss::Cut),
-        Got::Unreadable { at } => Some(Miss::Unreadable { at: *at }),
-        Got::Lost => Some(Miss::Lost),
-    }
-}
-
 // What was got, of the stream of that name. A fragment is never got here.
 fn listed_of(got: Got, name: &Name) -> Listed
     ensures { IsListedOf got name.now result }
@@ -71,6 +59,7 @@ fn listed_of(got: Got, name: &Name) -> Listed
 fn list_once<C: Dial>(alloc: Global, dial: &mut C, plan: &Plan, name: &Name) -> Listed
     ensures listed { ListedOnce plan.now name.now (C.log dial.old) (C.log dial.new) result }
     ensures goes_on { C.later dial.old dial.new }
+    ensures chosen { C.chosen dial.new ≡ C.chosen dial.old }
     ensures dial { Dialed (C.log dial.old) (C.log dial.new) (C.dial_faults dial.old) (C.dial_faults dial.new) (C.store dial.old) (C.store dial.new)
         (carried_listed result) }
 {
@@ -78,16 +67,29 @@ fn list_once<C: Dial>(alloc: Global, dial: &mut C, plan: &Plan, name: &Name) -> 
     listed_of(got, name)
 }
 
-/// As many requests as there are tries, until a manifest is read.
+// One request, after a while where one was made already.
+fn list_again<C: Dial>(alloc: Global, dial: &mut C, plan: &Plan, name: &Name, again: bool) -> Listed
+    ensures listed { ListedOnce plan.now name.now (C.log dial.old) (C.log dial.new) result }
+    ensures goes_on { C.later dial.old dial.new }
+    ensures chosen { C.chosen dial.new ≡ C.chosen dial.old }
+    ensures dial { Dialed (C.log dial.old) (C.log dial.new) (C.dial_faults dial.old) (C.dial_faults dial.new) (C.store dial.old) (C.store dial.new)
+        (carried_listed result) }
+{
+    rest(dial, again);
+    list_once(alloc, dial, plan, name)
+}
+
+/// As many requests as there are tries, a while between them, until a manifest is read.
 pub fn list<C: Dial>(alloc: Global, dial: &mut C, plan: &Plan, name: &Name) -> Manifest
     ensures listed { (stand : Stand) → MayList plan.now stand → ListedBy plan.now name.now stand (C.log dial.old) (C.log dial.new) result }
     ensures goes_on { C.later dial.old dial.new }
+    ensures chosen { C.chosen dial.new ≡ C.chosen dial.old }
     ensures dial { Dialed (C.log dial.old) (C.log dial.new) (C.dial_faults dial.old) (C.dial_faults dial.new) (C.store dial.old) (C.store dial.new)
         (carried_manifest result) }
 {
     let mut outcomes = Outcomes::new(alloc);
-    for _ in 0..plan.tries {
-        match list_once(alloc, dial, plan, name) {
+    for done in 0..plan.tries {
+        match list_again(alloc, dial, plan, name, done > 0) {
             Listed::Found(found) => return Manifest::Read(found),
             Listed::Missed(miss) => {
                 let Ok(()) = outcomes.add(miss) else {

@@ -1,7 +1,9 @@
 //! What came in place of what was asked.
 ghost use Rattle.std.specs.Prelude.{◌≡◌, ◌++◌, [], ◌∷◌, length, OnOk, OnErr};
+ghost use Rattle.sm_client.specs.Stands.{miss_of};
 
 use crate::Miss;
+use sm_fetch::Got;
 use sm_model::NoMemory;
 use std::alloc::Global;
 use std::marker::Model;
@@ -50,7 +52,8 @@ impl Outcomes {
         self.items.len() as u64
     }
 
-    pub(crate) fn new(alloc: Global) -> Outcomes
+    /// None.
+    pub fn new(alloc: Global) -> Outcomes
         ensures { result ≡ [] }
     {
         Outcomes {
@@ -58,11 +61,25 @@ impl Outcomes {
         }
     }
 
-    pub(crate) fn add(&mut self, miss: Miss) -> Result<(), NoMemory>
+    /// Adds what came of one more try.
+    pub fn add(&mut self, miss: Miss) -> Result<(), NoMemory>
         ensures ok { OnOk result (self.new ≡ self.old ++ miss ∷ []) }
         ensures err { OnErr result (self.new ≡ self.old) }
     {
         self.items.push(miss)?;
         Ok(())
+    }
+}
+
+/// What came in place of a manifest or a fragment. None of them, and want of memory, is a miss.
+pub fn miss_of(got: &Got) -> Option<Miss>
+    ensures { result ≡ miss_of got.now }
+{
+    match got {
+        Got::Manifest(_) | Got::Fragment(_) | Got::NoMemory => None,
+        Got::Status(status) => Some(Miss::Status(*status)),
+        Got::Cut => Some(Miss::Cut),
+        Got::Unreadable { at } => Some(Miss::Unreadable { at: *at }),
+        Got::Lost => Some(Miss::Lost),
     }
 }

@@ -10,9 +10,9 @@ ghost use Rattle.sm_fetch.specs.Exchanges.{answer_len};
 ghost use Rattle.sm_client.specs.Calls.{PieceOnce, PiecesBy, MayPiece, IsAskedOf, TookValid, AskedKept, PiecesKept};
 ghost use Rattle.sm_client.specs.Dials.{Dialed, carried_asked, carried_pieces};
 
-use crate::list::miss_of;
 use crate::policies::Policies;
-use crate::{Miss, Outcomes, Plan};
+use crate::rest::rest;
+use crate::{Miss, Outcomes, Plan, miss_of};
 use sm_fetch::{Dial, Fetched, Got, fetch_fragment};
 use sm_manin::{Level, StreamListing};
 use sm_model::{Address, Name, NoMemory, RawFragment};
@@ -87,6 +87,7 @@ fn ask_once<C: Dial>(
         policies.old.acting policies.new.acting (C.log dial.old) (C.log dial.new) result }
     ensures rest { policies.new.rest.items ≡ policies.old.rest.items }
     ensures goes_on { C.later dial.old dial.new }
+    ensures chosen { C.chosen dial.new ≡ C.chosen dial.old }
     ensures dial { Dialed (C.log dial.old) (C.log dial.new) (C.dial_faults dial.old) (C.dial_faults dial.new) (C.store dial.old) (C.store dial.new)
         (carried_asked result) }
     ensures kept { AskedKept plan.now name.now stream.now (C.store dial.old) (C.store dial.new) result }
@@ -118,8 +119,34 @@ fn ask_once<C: Dial>(
     asked_of(got, level)
 }
 
-/// As many requests for that start as there are tries, until the fragment is read. Between them a policy that has retired
-/// makes room for the next one.
+// One request, after a while where one was made already.
+fn ask_again<C: Dial>(
+    alloc: Global,
+    dial: &mut C,
+    policies: &mut Policies,
+    plan: &Plan,
+    name: &Name,
+    stream: &StreamListing,
+    start: u64,
+    ahead: u64,
+    again: bool,
+) -> Asked
+    requires { 0 < length stream.now.levels }
+    ensures once { PieceOnce (record { pick = pick_after; retired = retired_after }) plan.now name.now stream.now start ahead
+        policies.old.acting policies.new.acting (C.log dial.old) (C.log dial.new) result }
+    ensures rest { policies.new.rest.items ≡ policies.old.rest.items }
+    ensures goes_on { C.later dial.old dial.new }
+    ensures chosen { C.chosen dial.new ≡ C.chosen dial.old }
+    ensures dial { Dialed (C.log dial.old) (C.log dial.new) (C.dial_faults dial.old) (C.dial_faults dial.new) (C.store dial.old) (C.store dial.new)
+        (carried_asked result) }
+    ensures kept { AskedKept plan.now name.now stream.now (C.store dial.old) (C.store dial.new) result }
+{
+    rest(dial, again);
+    ask_once(alloc, dial, policies, plan, name, stream, start, ahead)
+}
+
+/// As many requests for that start as there are tries, a while between them, until the fragment is read. Between them a policy that
+/// has retired makes room for the next one.
 pub fn ask<C: Dial>(
     alloc: Global,
     dial: &mut C,
@@ -137,13 +164,24 @@ pub fn ask<C: Dial>(
         (fresh policies.old.acting policies.old.rest.items) (fresh policies.new.acting policies.new.rest.items)
         (C.log dial.old) (C.log dial.new) result }
     ensures goes_on { C.later dial.old dial.new }
+    ensures chosen { C.chosen dial.new ≡ C.chosen dial.old }
     ensures dial { Dialed (C.log dial.old) (C.log dial.new) (C.dial_faults dial.old) (C.dial_faults dial.new) (C.store dial.old) (C.store dial.new)
         (carried_pieces result) }
     ensures kept { PiecesKept plan.now name.now stream.now (C.store dial.old) (C.store dial.new) result }
 {
     let mut outcomes = Outcomes::new(alloc);
-    for _ in 0..plan.tries {
-        match ask_once(alloc, dial, policies, plan, name, stream, start, ahead) {
+    for done in 0..plan.tries {
+        match ask_again(
+            alloc,
+            dial,
+            policies,
+            plan,
+            name,
+            stream,
+            start,
+            ahead,
+            done > 0,
+        ) {
             Asked::Took(raw, level) => {
                 policies.settle();
                 return Pieces::Took(raw, level);

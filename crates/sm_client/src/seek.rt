@@ -26,6 +26,7 @@ pub fn begin<C: Dial>(alloc: Global, dial: &mut C, plan: &Plan, name: &Name, num
     ensures began { Began plan.now name.now number (C.log dial.old) (C.log dial.new) result }
     ensures whole { result ≢ Begun.Ended End.WriteFault }
     ensures goes_on { C.later dial.old dial.new }
+    ensures chosen { C.chosen dial.new ≡ C.chosen dial.old }
     ensures dial { Dialed (C.log dial.old) (C.log dial.new) (C.dial_faults dial.old) (C.dial_faults dial.new) (C.store dial.old) (C.store dial.new)
         (carried_begun result) }
 {
@@ -83,6 +84,7 @@ fn relist<C: Dial>(
     ensures levels { IfNone result (HasLevels standing.new.listing) }
     ensures whole { result ≢ Some End.WriteFault }
     ensures goes_on { C.later dial.old dial.new }
+    ensures chosen { C.chosen dial.new ≡ C.chosen dial.old }
     ensures dial { Dialed (C.log dial.old) (C.log dial.new) (C.dial_faults dial.old) (C.dial_faults dial.new) (C.store dial.old) (C.store dial.new) (carried_if result) }
 {
     dial.pause();
@@ -111,6 +113,7 @@ pub fn seek<C: Dial>(
     ensures levels { IfNone result (HasLevels standing.new.listing) }
     ensures whole { result ≢ Some End.WriteFault }
     ensures goes_on { C.later dial.old dial.new }
+    ensures chosen { C.chosen dial.new ≡ C.chosen dial.old }
     ensures dial { Dialed (C.log dial.old) (C.log dial.new) (C.dial_faults dial.old) (C.dial_faults dial.new) (C.store dial.old) (C.store dial.new) (carried_if result) }
 {
     while !standing.is_known() {

@@ -78,6 +78,7 @@ fn add_piece<C: Dial, T: Tracks>(
     ensures written { IfNone result (standing.new.written ≡ standing.old.written + 1) }
     ensures upto { standing.new.written ≤ standing.old.written + 1 }
     ensures goes_on { C.later dial.old dial.new }
+    ensures chosen { C.chosen dial.new ≡ C.chosen dial.old }
     ensures dial { Dialed (C.log dial.old) (C.log dial.new) (C.dial_faults dial.old) (C.dial_faults dial.new) (C.store dial.old) (C.store dial.new) (carried_if result) }
 {
     let Some(stream) = &standing.listing else {
@@ -139,6 +140,7 @@ fn play_one<C: Dial, T: Tracks>(
     ensures written { IfNone result (standing.new.written ≡ standing.old.written + 1) }
     ensures upto { standing.new.written ≤ standing.old.written + 1 }
     ensures goes_on { C.later dial.old dial.new }
+    ensures chosen { C.chosen dial.new ≡ C.chosen dial.old }
     ensures dial { Dialed (C.log dial.old) (C.log dial.new) (C.dial_faults dial.old) (C.dial_faults dial.new) (C.store dial.old) (C.store dial.new) (carried_if result) }
 {
     if let Some(end) = seek(alloc, dial, plan, name, standing) {
@@ -166,6 +168,7 @@ pub fn play_stream<C: Dial, T: Tracks>(
     ensures fault { result.end ≡ End.WriteFault → Rose (T.faults tracks.old) (T.faults tracks.new) }
     ensures few { result.written ≤ plan.now.count }
     ensures goes_on { C.later dial.old dial.new }
+    ensures chosen { C.chosen dial.new ≡ C.chosen dial.old }
     ensures dial { Dialed (C.log dial.old) (C.log dial.new) (C.dial_faults dial.old) (C.dial_faults dial.new) (C.store dial.old) (C.store dial.new) (carried result.end) }
 {
     let mut standing = match begin(alloc, dial, plan, name, number) {

@@ -115,10 +115,9 @@ fn answer(alloc: Global, step: Step) -> Result<Option<Given>, Fail> {
         Step::Serves(time) => Some(served(alloc, time, &[])?),
         Step::Names(time) => Some(served(alloc, time, &[(time.saturating_add(WIDTH), WIDTH)])?),
         Step::Cuts(time) => match served(alloc, time, &[])? {
-            Given::Bytes(bytes) => {
-                let mut items = bytes.into_vec();
-                items.truncate(150);
-                Some(Given::Bytes(Bytes::from_vec(items)))
+            Given::Bytes(mut bytes) => {
+                bytes.truncate(150);
+                Some(Given::Bytes(bytes))
             }
             Given::Lost => None,
         },
@@ -263,7 +262,7 @@ fn plays_are_done(rt: HostRuntime) -> Result<(), Fail> {
 fn plays_are_patient(rt: HostRuntime) -> Result<(), Fail> {
     let alloc = rt.alloc();
     let refused = [Step::Refuses, FIRST, Step::Refuses, AT_0];
-    assert_eq!(rt; outcome(alloc, &refused, 1, 2)?.as_str(), "Done: 1 4 0");
+    assert_eq!(rt; outcome(alloc, &refused, 1, 2)?.as_str(), "Done: 1 4 2");
     assert_eq!(rt;
         outcome(alloc, &[FIRST, AT_0, OTHER, THREE, AT_20], 2, 3)?.as_str(),
         "Done: 2 5 2"
@@ -303,7 +302,7 @@ fn misses_are_carried(rt: HostRuntime) -> Result<(), Fail> {
     let cut = [FIRST, Step::Cuts(0), Step::Cuts(0)];
     assert_eq!(rt;
         outcome(alloc, &cut, 1, 2)?.as_str(),
-        "GaveUp 0 Cut Cut: 0 3 0"
+        "GaveUp 0 Cut Cut: 0 3 1"
     );
     assert_eq!(rt;
         outcome(alloc, &[FIRST, AT_20], 1, 1)?.as_str(),
@@ -311,7 +310,7 @@ fn misses_are_carried(rt: HostRuntime) -> Result<(), Fail> {
     );
     assert_eq!(rt;
         outcome(alloc, &[Step::Loses, Step::Loses], 1, 2)?.as_str(),
-        "NoManifest Lost Lost: 0 2 0"
+        "NoManifest Lost Lost: 0 2 1"
     );
     Ok(())
 }

@@ -4,8 +4,6 @@
 mod conn;
 pub mod law;
 mod part;
-#[cfg(test)]
-mod tests;
 
 pub use conn::{Conn, State};
 pub use part::{Part, Parts};

@@ -11,8 +11,6 @@ mod memory_source;
 mod memory_tracks;
 mod output;
 mod short;
-#[cfg(test)]
-mod tests;
 mod tracks;
 
 pub use calls::Calls;

@@ -1,8 +1,10 @@
 -- What a front of an origin's reply spells: nothing but what the reply says.
 use Rattle.std.proofs.Common.{◌≡◌, ◌<◌, ◌≤◌, ◌^◌, ℕ, zero, suc, ◌+◌, ◌⊎◌, Bool, List, [], ◌∷◌, ◌++◌, length, drop, refl, ap, ◌∙◌, sym, subst, arith, inl, inr, ⊎_elim, append_assoc, length-append, zero-add}
-use Rattle.std.specs.Prelude.{Option, Some, Ok, Err, Result, Contains}
+use Rattle.std.specs.Prelude.{Option, Some, Ok, Err, Result}
 use Rattle.std.proofs.lemmas.List.{append-nil, drop-append-le}
-use Rattle.std.proofs.lemmas.List.Elements.{Contains-append_left}
+use Rattle.sm_log.proofs.AllLogs.{kept_stays}
+use Rattle.sm_log.proofs.ListedKept.{kept_address}
+use Rattle.sm_log.specs.Logs.{kept_at}
 use Rattle.std.proofs.lemmas.Bool.Decides.{nat_tests}
 use Rattle.http.specs.StatusCode.{IsStatusCode}
 use Rattle.httparse.specs.Grammar.{ReadsResponse}
@@ -34,6 +36,11 @@ use Rattle.sm_head.specs.Replies.{reply_head, reply_text}
 use Rattle.sm_head.proofs.ReplyLaw.{written_is_read, body_begins}
 use Rattle.sm_moof.specs.Shown.{no_defaults}
 use Rattle.sm_moof.proofs.FrontLemmas.{same_box}
+use Rattle.sm_moof.proofs.SequenceLemmas.{written_again}
+use Rattle.sm_moof.specs.Sequence.{sequence_in}
+use Rattle.sm_fetch.specs.declared.placed.Placed.{Placed}
+use Rattle.sm_fetch.specs.declared.placed.Placed.TheVariants as placed
+use Rattle.sm_fetch.specs.Placing.{IsNumberedAt, SpellsPlaced, IsPlacedAt, GrowsPlaced}
 use Rattle.sm_fetch.specs.declared.dial.Answer.{Answer}
 use Rattle.sm_fetch.specs.declared.dial.Answer.TheVariants as answers
 use Rattle.sm_fetch.specs.declared.place.Place.{Place}
@@ -177,12 +184,12 @@ kept_again log a time body raw k f =
     (frag_read no_defaults k.seq k.id k.fragment ahead k.written) says
 
 pub kept_is_read : (log : List Entry) (a : Address) (time : ℕ) (body : List ℕ) (raw : RawFragment) → IsKeptText log a body → IsFragmentAt time body raw
-    → Contains log (Keep (given a.stream a.bitrate raw))
+    → (at : ℕ) × (kept_at log a ≡ Some (at, given a.stream a.bitrate raw))
 kept_is_read log a time body raw k f =
     let again = kept_again log a time body raw k f in
     let same : given (address_of k.fragment).stream (address_of k.fragment).bitrate (raw_again k.id k.fragment (ahead_in log a.stream a.time)) ≡ given a.stream a.bitrate raw =
-    ap (λ (b : Address). given b.stream b.bitrate (raw_again k.id k.fragment (ahead_in log a.stream a.time))) k.address_is ∙ ap (λ (r : RawFragment). given a.stream a.bitrate r) again in
-    subst (λ (g : Fragment). Contains log (Keep g)) same k.kept
+    ap (λ (b : Address). given b.stream b.bitrate (raw_again k.id k.fragment (ahead_in log a.stream a.time))) (kept_address log a k.seq k.fragment k.placed) ∙ ap (λ (r : RawFragment). given a.stream a.bitrate r) again in
+    (k.seq, subst (λ (g : Fragment). kept_at log a ≡ Some (k.seq, g)) same k.placed)
 
 -- ---- answers
 
@@ -210,7 +217,7 @@ front_is_kept log place url a bytes got.NoMemory from spells = tt
 -- what is kept stays kept
 kept_on : (place : Place) (url : List ℕ) (a : Address) (log since : List Entry) (g : Got) → IsKeptAt place url a log g → IsKeptAt place url a (log ++ since) g
 kept_on place url a log since (got.Manifest listing) is = tt
-kept_on place url a log since (got.Fragment raw) is = λ asked b named. Contains-append_left log since (Keep (given b.stream b.bitrate raw)) (is asked b named)
+kept_on place url a log since (got.Fragment raw) is = λ asked b named. let there = is asked b named in (there.0, kept_stays b 0 log since (there.0, given b.stream b.bitrate raw) there.1)
 kept_on place url a log since (got.Status status) is = tt
 kept_on place url a log since got.Cut is = tt
 kept_on place url a log since (got.Unreadable at) is = tt
@@ -225,6 +232,51 @@ answer_is_kept old now place url a bytes g from spells = λ log told.
       until ++ since,
       subst now one is,
       subst (λ (l : List Entry). IsKeptAt place url a l g) one (kept_on place url a (log ++ until) since g (front_is_kept (log ++ until) place url a bytes g origin spells)),
+    )
+
+-- the number that was read is that of the text
+pub placed_is_read : (log : List Entry) (a : Address) (time : ℕ) (body : List ℕ) (number : ℕ) (raw : RawFragment) → IsKeptText log a body → IsNumberedAt time body number raw
+    → kept_at log a ≡ Some (number, given a.stream a.bitrate raw)
+unfolding kept_is_read
+placed_is_read log a time body number raw k n =
+    let f = n.0 in
+    let ahead = ahead_in log a.stream a.time in
+    let boxes = same_box f.moof (moof k.seq k.id k.fragment ahead) f.mdat (mdat k.fragment.samples) f.moof_whole (moof_whole k.seq k.id k.fragment ahead k.written) (sym f.body_is ∙ k.text_is) in
+    let says : Some k.seq ≡ Some number = sym (written_again k.seq k.id k.fragment ahead k.seq_fits k.written) ∙ ap sequence_in (sym boxes.0) ∙ n.1 in
+    let there = kept_is_read log a time body raw k f in
+    subst (λ (m : ℕ). kept_at log a ≡ Some (m, given a.stream a.bitrate raw)) (one_some k.seq number says) there.1
+  where
+    one_some : (m n : ℕ) → (let some : ℕ → Option ℕ = λ x. Some x in some m ≡ some n) → m ≡ n
+    one_some m n e = cc
+
+front_is_placed : (log : List Entry) (place : Place) (url : List ℕ) (a : Address) (bytes : List ℕ) (p : Placed) → FromOrigin log (fragment_request place url a) (answers.Bytes bytes)
+    → SpellsPlaced a.time (answers.Bytes bytes) p → IsPlacedAt place url a log p
+front_is_placed log place url a bytes (placed.Fragment number raw) from (at, body, whole, is) = λ asked b named.
+    let (reply, more, r, text) = from place.host place.port (fragment_target place url a) asked refl in
+    let own = own_body r.status r.kind r.body r.close bytes more 200 at body r.code r.final r.short (sym r.text ∙ text) whole in
+    placed_is_read log b a.time body number raw (subst (IsKeptText log b) (sym own.1) (well log (fragment_target place url a) b r.status r.body (sym own.0) (r.fragment b named))) is
+front_is_placed log place url a bytes (placed.Status status) from spells = tt
+front_is_placed log place url a bytes placed.Cut from spells = tt
+front_is_placed log place url a bytes (placed.Unreadable at) from spells = tt
+front_is_placed log place url a bytes placed.Lost from spells = tt
+front_is_placed log place url a bytes placed.NoMemory from spells = tt
+
+placed_on : (place : Place) (url : List ℕ) (a : Address) (log since : List Entry) (p : Placed) → IsPlacedAt place url a log p → IsPlacedAt place url a (log ++ since) p
+placed_on place url a log since (placed.Fragment number raw) is = λ asked b named. kept_stays b 0 log since (number, given b.stream b.bitrate raw) (is asked b named)
+placed_on place url a log since (placed.Status status) is = tt
+placed_on place url a log since placed.Cut is = tt
+placed_on place url a log since (placed.Unreadable at) is = tt
+placed_on place url a log since placed.Lost is = tt
+placed_on place url a log since placed.NoMemory is = tt
+
+pub answer_is_placed : (old now : List Entry → Type 0) (place : Place) (url : List ℕ) (a : Address) (bytes : List ℕ) (p : Placed)
+    → AnswersFrom old now (fragment_request place url a) (answers.Bytes bytes) → SpellsPlaced a.time (answers.Bytes bytes) p → GrowsPlaced place url a old now p
+answer_is_placed old now place url a bytes p from spells = λ log told.
+    let (until, since, is, origin) = from log told in
+    let one = append_assoc log until since in (
+      until ++ since,
+      subst now one is,
+      subst (λ (l : List Entry). IsPlacedAt place url a l p) one (placed_on place url a (log ++ until) since p (front_is_placed (log ++ until) place url a bytes p origin spells)),
     )
 
 -- what is no fragment is kept anywhere

@@ -66,8 +66,12 @@ pair_at body size one kind rest = record { body_is = sym (take-append-drop size 
 
 -- ---- fragments
 
-pair_of : (time : ℕ) (body : List ℕ) (raw : RawFragment) (f : IsFragmentAt time body raw) → IsPair body f.moof f.mdat
+pub pair_of : (time : ℕ) (body : List ℕ) (raw : RawFragment) (f : IsFragmentAt time body raw) → IsPair body f.moof f.mdat
 pair_of time body raw f = record { body_is = f.body_is; moof_whole = f.moof_whole; moof_kind = f.moof_kind; mdat_whole = f.mdat_whole }
+
+-- a body has one `moof`
+pub same_moof : (body x xs y ys : List ℕ) → IsPair body x xs → IsPair body y ys → x ≡ y
+same_moof body x xs y ys p q = (same_box x y xs ys p.moof_whole q.moof_whole (sym p.body_is ∙ q.body_is)).0
 
 -- the two boxes of a body say one thing
 says : (time : ℕ) (body moof mdat : List ℕ) (raw : RawFragment) → IsPair body moof mdat → IsFragmentAt time body raw → frag no_defaults moof mdat ≡ Ok raw

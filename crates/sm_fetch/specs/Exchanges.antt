@@ -1,8 +1,21 @@
 -- Exchanges, and what a dial tells of them.
-use Rattle.std.specs.Prelude.{◌≤◌, ◌+◌, ◌-◌, ◌^◌, ℕ, List, [], ◌∷◌, ◌++◌, length, Option, Some, None, min}
+use Rattle.std.specs.Prelude.{◌≡◌, ◌≤◌, ◌+◌, ◌-◌, ◌^◌, ℕ, List, [], ◌∷◌, ◌++◌, length, Option, Some, None, IfSome, min}
 use Rattle.sm_fetch.specs.declared.dial.Answer.{Answer}
 use Rattle.sm_fetch.specs.declared.dial.Answer.TheVariants as answers
 use Rattle.sm_fetch.specs.declared.dial.Exchange.{Exchange}
+
+-- the host and the port that a dial is turned to
+pub record Peer : Type 0 where
+  pub host : List ℕ
+  pub port : ℕ
+
+-- it is turned to this host and port, where it tells that
+abbrev pub IsTurnedTo : Option Peer → List ℕ → ℕ → Type 0
+IsTurnedTo told host port = IfSome told (λ peer. peer ≡ record { host = host; port = port })
+
+-- a dial that doesn't tell what it is turned to
+abbrev pub untold_peer : Option Peer
+untold_peer = None
 
 -- the list with one more at its end, where it is told
 abbrev pub with_one : Option (List Exchange) → Exchange → Option (List Exchange)

@@ -1,8 +1,8 @@
 -- What one call makes of one exchange.
-use Rattle.std.specs.Prelude.{◌≡◌, ◌<◌, ℕ, List, ◌++◌, length, All, Option, Contains}
+use Rattle.std.specs.Prelude.{◌≡◌, ◌<◌, ℕ, List, ◌++◌, length, All, Option, Some}
 use Rattle.sm_model.specs.declared.address.Address.{Address}
 use Rattle.sm_model.specs.declared.entry.Entry.{Entry}
-use Rattle.sm_model.specs.declared.entry.Entry.TheVariants.{Keep}
+use Rattle.sm_log.specs.Logs.{kept_at}
 use Rattle.sm_model.specs.declared.target.Target.TheVariants as target
 use Rattle.sm_manin.specs.declared.listing.Listing.{Listing}
 use Rattle.sm_manin.specs.declared.listing.StreamListing.{StreamListing}
@@ -40,11 +40,11 @@ pub record PushedBody (place : Place) (id body : List ℕ) (old new : Option (Li
   pub within : IsWithin push_limit answer
   pub spells : SpellsPush answer p
 
--- a fragment that was read is kept in this log, at the address that the target which was asked for names
+-- a fragment that was read is kept in this log, at some place and at the address that the target which was asked for names
 abbrev pub IsKeptAt : Place → List ℕ → Address → List Entry → Got → Type 0
 IsKeptAt place url address log (got.Fragment raw) =
     MayBeAsked place.host place.port (fragment_target place url address) → (a : Address) → target_of (fragment_target place url address) ≡ target.Fragment a
-    → Contains log (Keep (given a.stream a.bitrate raw))
+    → (at : ℕ) × (kept_at log a ≡ Some (at, given a.stream a.bitrate raw))
 IsKeptAt place url address log (got.Manifest listing) = Unit {0}
 IsKeptAt place url address log (got.Status status) = Unit {0}
 IsKeptAt place url address log got.Cut = Unit {0}

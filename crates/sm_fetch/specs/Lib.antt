@@ -10,3 +10,4 @@ pub mod Spelt
 pub mod Fetched
 pub mod OneReading
 pub mod TwoBoxes
+pub mod Placing

@@ -1,16 +1,15 @@
 -- The store of an origin behind a dial, which only grows, and the replies that it may give.
-use Rattle.std.specs.Prelude.{◌≡◌, ◌<◌, ◌≤◌, ◌^◌, ◌⊎◌, ℕ, Bool, List, [], ◌∷◌, ◌++◌, length, Option, None, Some, Contains, IsUtf8}
+use Rattle.std.specs.Prelude.{◌≡◌, ◌<◌, ◌≤◌, ◌^◌, ◌⊎◌, ℕ, Bool, List, [], ◌∷◌, ◌++◌, length, Option, None, Some, IsUtf8}
 use Rattle.http.specs.StatusCode.{IsStatusCode}
 use Rattle.httparse.specs.Grammar.{AllPass, is_uri_byte, is_value_byte}
 use Rattle.sm_model.specs.declared.address.Address.{Address}
 use Rattle.sm_model.specs.declared.entry.Entry.{Entry}
-use Rattle.sm_model.specs.declared.entry.Entry.TheVariants.{Keep}
 use Rattle.sm_model.specs.declared.fragment.Fragment.{Fragment}
 use Rattle.sm_model.specs.declared.target.Target.TheVariants as target
 use Rattle.sm_model.specs.declared.track.Track.{Track}
-use Rattle.sm_model.specs.Entries.{address_of}
 use Rattle.sm_model.specs.FragText.{frag_text}
 use Rattle.sm_model.specs.Written.{IsWritten}
+use Rattle.sm_log.specs.Adds.{id_in}
 use Rattle.sm_log.specs.Logs.{channel_of, kept_at, listed_in, ahead_in}
 use Rattle.sm_manout.specs.ManifestText.{manifest}
 use Rattle.sm_addr.specs.Targets.{target_of}
@@ -24,15 +23,17 @@ use Rattle.sm_fetch.specs.Requests.{get_text}
 
 -- ---- what an origin replies
 
--- the canonical text of the fragment that the log keeps at this address, with the listed times behind it
+-- The canonical text of the fragment that the log keeps at this address, with the listed times behind it. Its sequence number is the
+-- fragment's place in the log, and its track_ID the place of the track in the channel, from 1.
 pub record IsKeptText (log : List Entry) (a : Address) (text : List ℕ) : Type 0 where
   pub seq : ℕ
   pub id : ℕ
   pub fragment : Fragment
   pub text_is : text ≡ frag_text seq id fragment (ahead_in log a.stream a.time)
   pub written : IsWritten id fragment (ahead_in log a.stream a.time)
-  pub address_is : address_of fragment ≡ a
-  pub kept : Contains log (Keep fragment)
+  pub placed : kept_at log a ≡ Some (seq, fragment)
+  pub seq_fits : seq < 2 ^ 32
+  pub id_is : (channel : List Track) → channel_of log ≡ Some channel → id ≡ id_in channel a
 
 -- It fails, or there were too many connections; or the head of the request was too long.
 abbrev pub IsUnwell : ℕ → List ℕ → Type 0

@@ -1,5 +1,5 @@
 //! What a dial is.
-ghost use Rattle.std.specs.Prelude.{◌≡◌, ◌≤◌, ℕ, List, Option, IfOk, IsErrOf};
+ghost use Rattle.std.specs.Prelude.{◌≡◌, ◌≤◌, ℕ, List, Option, IfOk, IsErrOf, OnOk};
 
 use sm_model::{Bytes, NoMemory};
 use std::alloc::Global;
@@ -61,7 +61,7 @@ impl From<NoMemory> for DialError {
 pub trait Dial {
     ghost use Rattle.sm_model.specs.declared.entry.Entry.{Entry};
     ghost use Rattle.sm_fetch.specs.declared.dial.Exchange.{Exchange};
-    ghost use Rattle.sm_fetch.specs.Exchanges.{logged, Rose, IsWithin};
+    ghost use Rattle.sm_fetch.specs.Exchanges.{Peer, logged, Rose, IsTurnedTo, IsWithin};
     ghost use Rattle.sm_fetch.specs.Origins.{Grows, AnswersFrom};
 
     /// The exchanges so far, where the dial tells them: all but those that wanted memory.
@@ -73,12 +73,16 @@ pub trait Dial {
     /// The logs that the origin behind it may have, where the dial tells any. They only grow.
     ghost store: { Self → List Entry → Type 0 };
 
+    /// The host and port that it was turned to last, where the dial tells them.
+    ghost chosen: { Self → Option Peer };
+
     /// That the second of two dials is a later one than the first: what a dial promises of whatever is done with it. Each call
     /// leaves a later dial than the one it was made on.
     ghost later: { Self → Self → Type 0 };
 
     /// Turns to the origin at this host and port, for the exchanges that follow. It makes none.
     fn select(&mut self, host: &str, port: u16) -> Result<(), DialError>
+        ensures chosen { OnOk result (IsTurnedTo (chosen self.new) host.now port) }
         ensures log { log self.new ≡ log self.old }
         ensures later { dial_faults self.old ≤ dial_faults self.new }
         ensures goes_on { later self.old self.new }
@@ -87,6 +91,7 @@ pub trait Dial {
 
     /// Sends a request, and takes the reply up to `limit` bytes: a longer one is cut there.
     fn exchange(&mut self, request: &[u8], limit: u64) -> Answer
+        ensures chosen { chosen self.new ≡ chosen self.old }
         ensures log { log self.new ≡ logged (log self.old) request.now limit result }
         ensures within { IsWithin limit result }
         ensures later { dial_faults self.old ≤ dial_faults self.new }
@@ -96,6 +101,7 @@ pub trait Dial {
 
     /// Waits a while, so that the origin may get something new. It makes no exchange.
     fn pause(&mut self)
+        ensures chosen { chosen self.new ≡ chosen self.old }
         ensures log { log self.new ≡ log self.old }
         ensures later { dial_faults self.old ≤ dial_faults self.new }
         ensures goes_on { later self.old self.new }

@@ -16,7 +16,7 @@ use std::alloc::Global;
 // How many bytes of a whole reply are taken.
 const MANIFEST_LIMIT: u64 = 67_108_864;
 
-const FRAGMENT_LIMIT: u64 = 70_254_592;
+pub(crate) const FRAGMENT_LIMIT: u64 = 70_254_592;
 
 // What the bytes of an answer are to who asked for a manifest.
 fn read_listing(alloc: Global, bytes: &[u8]) -> Got
@@ -66,6 +66,7 @@ pub fn get_manifest<C: Dial>(alloc: Global, dial: &mut C, place: &Place) -> Got
     ensures asked { FetchedManifest place.now (C.log dial.old) (C.log dial.new) result }
     ensures later { C.dial_faults dial.old ≤ C.dial_faults dial.new }
     ensures goes_on { C.later dial.old dial.new }
+    ensures chosen { C.chosen dial.new ≡ C.chosen dial.old }
     ensures lost { result ≡ Got.Lost → Rose (C.dial_faults dial.old) (C.dial_faults dial.new) }
     ensures grows { Grows (C.store dial.old) (C.store dial.new) }
     ensures answered { Answered (C.log dial.old) (C.log dial.new) (C.store dial.old) (C.store dial.new) }
@@ -94,6 +95,7 @@ pub fn fetch_fragment<C: Dial>(
     ensures asked { FetchedFragment place.now url.now address.now (C.log dial.old) (C.log dial.new) result.got result.bytes }
     ensures later { C.dial_faults dial.old ≤ C.dial_faults dial.new }
     ensures goes_on { C.later dial.old dial.new }
+    ensures chosen { C.chosen dial.new ≡ C.chosen dial.old }
     ensures lost { result.got ≡ Got.Lost → Rose (C.dial_faults dial.old) (C.dial_faults dial.new) }
     ensures grows { Grows (C.store dial.old) (C.store dial.new) }
     ensures answered { Answered (C.log dial.old) (C.log dial.new) (C.store dial.old) (C.store dial.new) }
@@ -132,6 +134,7 @@ pub fn get_fragment<C: Dial>(
     ensures asked { (bytes : ℕ) × FetchedFragment place.now url.now address.now (C.log dial.old) (C.log dial.new) result bytes }
     ensures later { C.dial_faults dial.old ≤ C.dial_faults dial.new }
     ensures goes_on { C.later dial.old dial.new }
+    ensures chosen { C.chosen dial.new ≡ C.chosen dial.old }
     ensures lost { result ≡ Got.Lost → Rose (C.dial_faults dial.old) (C.dial_faults dial.new) }
     ensures grows { Grows (C.store dial.old) (C.store dial.new) }
     ensures answered { Answered (C.log dial.old) (C.log dial.new) (C.store dial.old) (C.store dial.new) }

@@ -1,6 +1,6 @@
 //! A dial in memory.
 ghost use Rattle.std.specs.Prelude.{◌≡◌, ◌≢◌, ◌≤◌, ◌++◌, [], ◌∷◌, Some, None, Ok, OnOk, OnErr, IsErrOf, take};
-ghost use Rattle.sm_fetch.specs.Exchanges.{logged, Rose, IsWithin};
+ghost use Rattle.sm_fetch.specs.Exchanges.{logged, Rose, IsTurnedTo, IsWithin, untold_peer};
 ghost use Rattle.sm_fetch.specs.Memory.{DialState, one_more, cut_at, coming_at, rest_of, made_one, passed_one};
 ghost use Rattle.sm_fetch.specs.MemoryLaws.{no_fewer, no_fewer_then};
 ghost use Rattle.sm_fetch.specs.Origins.{Untold, Grows, AnswersFrom};
@@ -11,7 +11,8 @@ use std::alloc::Global;
 use std::marker::Model;
 
 /// Gives answers that lie in memory, one at each exchange and cut at its limit, and notes the exchanges. A lost one, and
-/// every exchange behind the last answer, is lost. It tells no store.
+/// every exchange behind the last answer, is lost. It tells no store, and not what it
+/// is turned to.
 #[derive(Drop)]
 pub struct MemoryDial {
     alloc: Global,
@@ -74,12 +75,11 @@ fn cut_at(limit: u64, given: Given) -> Answer
     ensures { result ≡ cut_at limit given }
 {
     match given {
-        Given::Bytes(bytes) => {
-            let mut items = bytes.into_vec();
-            if items.len() as u64 > limit {
-                items.truncate(limit as usize);
+        Given::Bytes(mut bytes) => {
+            if bytes.len() > limit {
+                bytes.truncate(limit as usize);
             }
-            Answer::Bytes(Bytes::from_vec(items))
+            Answer::Bytes(bytes)
         }
         Given::Lost => Answer::Lost,
     }
@@ -112,6 +112,8 @@ impl Dial for MemoryDial {
 
     ghost store = { λ d. Untold };
 
+    ghost chosen = { λ d. untold_peer };
+
     /// It was asked to pause no less often.
     ghost later = { λ d e. d.pauses ≤ e.pauses };
 
@@ -120,6 +122,7 @@ impl Dial for MemoryDial {
     ghost later_then = { λ d e f. no_fewer_then d.pauses e.pauses f.pauses };
 
     fn select(&mut self, _host: &str, _port: u16) -> Result<(), DialError>
+        ensures chosen { OnOk result (IsTurnedTo untold_peer _host.now _port) }
         ensures log { Some self.new.made ≡ Some self.old.made }
         ensures later { self.old.faults ≤ self.new.faults }
         ensures goes_on { self.old.pauses ≤ self.new.pauses }
@@ -133,6 +136,7 @@ impl Dial for MemoryDial {
     }
 
     fn exchange(&mut self, request: &[u8], limit: u64) -> Answer
+        ensures chosen { untold_peer ≡ untold_peer }
         ensures log { Some self.new.made ≡ logged (Some self.old.made) request.now limit result }
         ensures within { IsWithin limit result }
         ensures later { self.old.faults ≤ self.new.faults }
@@ -162,6 +166,7 @@ impl Dial for MemoryDial {
     }
 
     fn pause(&mut self)
+        ensures chosen { untold_peer ≡ untold_peer }
         ensures log { Some self.new.made ≡ Some self.old.made }
         ensures later { self.old.faults ≤ self.new.faults }
         ensures goes_on { self.old.pauses ≤ self.new.pauses }

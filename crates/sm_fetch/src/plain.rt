@@ -21,13 +21,19 @@ fn body_plainly<'a>(
     for end in 0..bytes.len() {
         let front = read_plainly(alloc, framing, &bytes[..end])?;
         match front.place {
-            Place::Ended => return Ok(Framed::Whole(Body::Joined(front.body.into_vec()))),
+            Place::Ended => {
+                let own = front.body.into_vec(alloc)?;
+                return Ok(Framed::Whole(Body::Joined(own)));
+            }
             _ => {}
         }
     }
     let all = read_plainly(alloc, framing, bytes)?;
     match all.place {
-        Place::Ended => Ok(Framed::Whole(Body::Joined(all.body.into_vec()))),
+        Place::Ended => {
+            let own = all.body.into_vec(alloc)?;
+            Ok(Framed::Whole(Body::Joined(own)))
+        }
         Place::Failed => Ok(Framed::Bad),
         _ => Ok(Framed::Cut),
     }

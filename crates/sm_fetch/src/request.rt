@@ -154,7 +154,7 @@ fn fragment_target(
     ensures { IfOk result (λ target. target.items ≡ fragment_target place.now url.now address.now) }
 {
     // Nothing stands behind the path of a target that names nothing.
-    let mut target = put_target(alloc, place.path.as_slice(), &Target::Unknown)?.into_vec();
+    let mut target = put_target(alloc, place.path.as_slice(), &Target::Unknown)?.into_vec(alloc)?;
     put_filled(alloc, &mut target, url, address)?;
     Ok(target)
 }

@@ -31,8 +31,8 @@ fn is_moof(bytes: &[u8]) -> bool
     kind == b"moof".as_slice()
 }
 
-// The `moof` and the box behind it, where the bytes are these two.
-fn two_boxes(body: &[u8]) -> Option<(&[u8], &[u8])>
+/// The `moof` and the box behind it, where the bytes are these two.
+pub(crate) fn two_boxes(body: &[u8]) -> Option<(&[u8], &[u8])>
     ensures { MatchOption result (HasNoPair body.now) (λ x. IsPair body.now x.0.now x.1.now) }
 {
     whole_stays();

@@ -2,6 +2,5 @@
 mod asked;
 mod gets;
 mod pushes;
-mod replies;
 mod texts;
 mod told;

@@ -40,6 +40,7 @@ module _ {D : Type 0} (view : D → View) (may_leave : D → Image → Type 0) (
       script = second.link.script ∙ first.link.script;
       link_faults = second.link.link_faults ∙ first.link.link_faults;
       send_faults = second.link.send_faults ∙ first.link.send_faults;
+      chosen = second.link.chosen ∙ first.link.chosen;
     };
   }
 
@@ -49,7 +50,7 @@ module _ {D : Type 0} (view : D → View) (may_leave : D → Image → Type 0) (
     crash = λ c now. now;
     moments = no_call view left_at d _ no_later;
     reads = omega arith;
-    link = record { transcript = refl; script = refl; link_faults = refl; send_faults = refl };
+    link = record { transcript = refl; script = refl; link_faults = refl; send_faults = refl; chosen = refl };
   }
 
 -- an old outcome is one

@@ -16,6 +16,3 @@ mod write;
 pub use answer::{Appended, LogFault, ReadFault, Settled};
 pub use log::GateLog;
 pub use slot::Slot;
-
-#[cfg(test)]
-mod tests;

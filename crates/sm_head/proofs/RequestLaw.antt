@@ -8,12 +8,13 @@ use Rattle.httparse.specs.Spans.{IsRequestAt, IsRequestWithin, span_bytes, name_
 use Rattle.httparse.specs.declared.spans.HeaderSpan.{HeaderSpan}
 use Rattle.httparse.specs.declared.spans.RequestSpans.{RequestSpans}
 use Rattle.sm_model.specs.declared.cause.Cause.TheVariants.{BadHead, HeadTooLarge}
-use Rattle.sm_head.specs.declared.asked.HeadFault.{HeadFault}
-use Rattle.sm_head.specs.declared.asked.HeadFault.TheVariants as fault
+use Rattle.sm_model.specs.declared.fault.ReadFault.{ReadFault}
+use Rattle.sm_model.specs.declared.fault.ReadFault.TheVariants as fault
 use Rattle.sm_head.specs.declared.request.ReqHead.{ReqHead}
 use Rattle.sm_head.specs.declared.request.ReqHead.TheVariants.{Whole, Partial}
 use Rattle.sm_head.specs.Heads.{IsHopeless}
-use Rattle.sm_head.specs.Judged.{judged_by, judged, Tells}
+use Rattle.sm_model.specs.Gives.{Gives}
+use Rattle.sm_head.specs.Judged.{judged_by, judged}
 use Rattle.sm_head.specs.Requests.{window, IsHeadAt, IsRefused, judged_spans, IsSpansAnswer, IsReqAnswer}
 use Rattle.sm_head.proofs.HeadLaw.{head_ends}
 
@@ -48,14 +49,14 @@ whole_head bytes end is headers spans within h at =
       judged_is = judged_at (take end bytes) headers spans h at;
     }
 
-pub told_fault : (buf : List ℕ) (headers : List HeaderSpan) (spans : RequestSpans) (f : HeadFault) → Tells (judged_spans buf headers spans) (Err f)
+pub told_fault : (buf : List ℕ) (headers : List HeaderSpan) (spans : RequestSpans) (f : ReadFault) → Gives (Err f) (judged_spans buf headers spans)
     → IsSpansAnswer buf headers spans (Err f)
 told_fault buf headers spans (fault.Refused cause) tells = tells
 told_fault buf headers spans fault.NoMemory tells = tells
 
 -- what the spans' head asks is what the bytes' head asks
 pub spans_answer : (bytes : List ℕ) (end : ℕ) (headers : List HeaderSpan) (spans : RequestSpans) → IsHeadAt bytes spans.len (judged_spans (take end bytes) headers spans)
-    → (r : Result ReqHead HeadFault) → IsSpansAnswer (take end bytes) headers spans r → IsReqAnswer bytes r
+    → (r : Result ReqHead ReadFault) → IsSpansAnswer (take end bytes) headers spans r → IsReqAnswer bytes r
 spans_answer bytes end headers spans at (Ok (Whole len method target framing close expects)) (same, is) =
     subst (λ (n : ℕ). IsHeadAt bytes n (Ok (record { method = method; target = target; framing = framing; close = close; expects = expects }))) (sym same) (subst (IsHeadAt bytes spans.len) is at)
 spans_answer bytes end headers spans at (Ok Partial) never = absurd never

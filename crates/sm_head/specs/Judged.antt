@@ -14,8 +14,6 @@ use Rattle.sm_addr.specs.Targets.{target_of}
 use Rattle.sm_head.specs.declared.asked.Verb.{Verb}
 use Rattle.sm_head.specs.declared.asked.Verb.TheVariants.{Get, Post}
 use Rattle.sm_head.specs.declared.asked.Asked.{Asked}
-use Rattle.sm_head.specs.declared.asked.HeadFault.{HeadFault}
-use Rattle.sm_head.specs.declared.asked.HeadFault.TheVariants as fault
 use Rattle.sm_head.specs.Fields.{values_in, has_value, is_several, is_there, is_other}
 use Rattle.sm_head.specs.Lengths.{is_length}
 
@@ -103,9 +101,3 @@ judged_by method target minor pairs =
 -- what a head asks
 abbrev pub judged : RequestHead → Result Asked Cause
 judged h = judged_by h.method h.target h.minor (map name_and_value h.fields)
-
--- the answer is this judgement, or that memory ran out
-abbrev pub Tells : Result Asked Cause → Result Asked HeadFault → Type 0
-Tells j (Ok asked) = j ≡ Ok asked
-Tells j (Err (fault.Refused cause)) = j ≡ Err cause
-Tells j (Err fault.NoMemory) = ⊤

@@ -7,8 +7,8 @@ use Rattle.httparse.specs.declared.spans.RequestSpans.{RequestSpans}
 use Rattle.sm_model.specs.declared.cause.Cause.{Cause}
 use Rattle.sm_model.specs.declared.cause.Cause.TheVariants.{BadHead, HeadTooLarge}
 use Rattle.sm_head.specs.declared.asked.Asked.{Asked}
-use Rattle.sm_head.specs.declared.asked.HeadFault.{HeadFault}
-use Rattle.sm_head.specs.declared.asked.HeadFault.TheVariants as fault
+use Rattle.sm_model.specs.declared.fault.ReadFault.{ReadFault}
+use Rattle.sm_model.specs.declared.fault.ReadFault.TheVariants as fault
 use Rattle.sm_head.specs.declared.request.ReqHead.{ReqHead}
 use Rattle.sm_head.specs.declared.request.ReqHead.TheVariants.{Whole, Partial}
 use Rattle.sm_head.specs.Heads.{IsHopeless}
@@ -45,7 +45,7 @@ IsRefused bytes cause =
     ((len : ℕ) × IsHeadAt bytes len (Err cause)) ⊎ (((cause ≡ BadHead) × IsHopeless (window bytes)) ⊎ ((cause ≡ HeadTooLarge) × IsTooLong bytes))
 
 -- the answer is that of the bytes
-abbrev pub IsReqAnswer : List ℕ → Result ReqHead HeadFault → Type 0
+abbrev pub IsReqAnswer : List ℕ → Result ReqHead ReadFault → Type 0
 IsReqAnswer bytes (Ok (Whole length method target framing close expects)) =
     IsHeadAt bytes length (Ok (record { method = method; target = target; framing = framing; close = close; expects = expects }))
 IsReqAnswer bytes (Ok Partial) = IsWaiting bytes
@@ -57,7 +57,7 @@ abbrev pub judged_spans : List ℕ → List HeaderSpan → RequestSpans → Resu
 judged_spans buf headers spans =
     judged_by (span_bytes buf spans.method) (span_bytes buf spans.path) spans.version (map (header_bytes buf) (take spans.headers headers))
 
-abbrev pub IsSpansAnswer : List ℕ → List HeaderSpan → RequestSpans → Result ReqHead HeadFault → Type 0
+abbrev pub IsSpansAnswer : List ℕ → List HeaderSpan → RequestSpans → Result ReqHead ReadFault → Type 0
 IsSpansAnswer buf headers spans (Ok (Whole length method target framing close expects)) =
     (length ≡ spans.len) × (judged_spans buf headers spans ≡ Ok (record { method = method; target = target; framing = framing; close = close; expects = expects }))
 IsSpansAnswer buf headers spans (Ok Partial) = ⊥

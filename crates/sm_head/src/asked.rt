@@ -3,52 +3,22 @@ ghost use Rattle.std.specs.Prelude.{◌≡◌, ℕ, List, length, All, map};
 ghost use Rattle.httparse.specs.Spans.{IsHeaderWithin, header_bytes};
 ghost use Rattle.sm_head.specs.Fields.{IsLookup};
 ghost use Rattle.sm_head.specs.Judged as spec;
-ghost use Rattle.sm_head.specs.Judged.{Tells, judged_by};
+ghost use Rattle.sm_head.specs.Judged.{judged_by};
+ghost use Rattle.sm_model.specs.Gives.{Gives};
 
 use crate::fields::{Lookup, has_value, is_other, is_several, is_there, look_up};
 use crate::length::read_length;
 use http::Method;
 use httparse::spans::HeaderSpan;
 use sm_addr::read_target;
-use sm_model::{Cause, Framing, NoMemory, Target};
-use std::alloc::{AllocError, Global};
-use thiserror::Error;
+use sm_model::{Cause, Framing, ReadFault, Target};
+use std::alloc::Global;
 
 /// The methods that are answered.
 #[derive(Clone, Copy, Debug, PartialEq, Eq)]
 pub enum Verb {
     Get,
     Post,
-}
-
-/// Why a request head isn't read.
-#[derive(Debug, Drop, Error)]
-pub enum HeadFault {
-    /// `BadHead`, `HeadTooLarge`, `Method`, `Encoded` or `LengthRequired`.
-    #[error("the head of the request is refused: {0}")]
-    Refused(Cause),
-    #[error("out of memory")]
-    NoMemory,
-}
-
-impl From<NoMemory> for HeadFault {
-    ghost use Rattle.sm_head.specs.declared.asked.HeadFault.TheVariants as fault;
-
-    ghost from_gives = { λ _ e. e ≡ fault.NoMemory };
-
-    fn from(_: NoMemory) -> HeadFault {
-        HeadFault::NoMemory
-    }
-}
-
-impl From<AllocError> for HeadFault {
-    ghost use Rattle.sm_head.specs.declared.asked.HeadFault.TheVariants as fault;
-
-    ghost from_gives = { λ _ e. e ≡ fault.NoMemory };
-
-    fn from(_: AllocError) -> HeadFault {
-        HeadFault::NoMemory
-    }
 }
 
 /// What a head asks.
@@ -225,20 +195,20 @@ pub fn judge(
     target: &[u8],
     minor: u8,
     fields: &[HeaderSpan],
-) -> Result<Asked, HeadFault>
+) -> Result<Asked, ReadFault>
     requires { All (IsHeaderWithin (length bytes.now)) fields.now }
-    ensures { Tells (judged_by method.now target.now minor (map (header_bytes bytes.now) fields.now)) result }
+    ensures { Gives result (judged_by method.now target.now minor (map (header_bytes bytes.now) fields.now)) }
 {
     if fields.len() > 64 {
-        return Err(HeadFault::Refused(Cause::HeadTooLarge));
+        return Err(ReadFault::Refused(Cause::HeadTooLarge));
     }
     let verb = verb_of(method);
     if is_bad(is_get(verb), bytes, fields) {
-        return Err(HeadFault::Refused(Cause::BadHead));
+        return Err(ReadFault::Refused(Cause::BadHead));
     }
     let target = read_target(alloc, target)?;
     match ask(verb, target, minor, bytes, fields) {
         Ok(asked) => Ok(asked),
-        Err(cause) => Err(HeadFault::Refused(cause)),
+        Err(cause) => Err(ReadFault::Refused(cause)),
     }
 }

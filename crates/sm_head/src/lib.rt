@@ -10,10 +10,9 @@ pub mod plain;
 mod reply;
 mod request;
 mod response;
-#[cfg(test)]
-mod tests;
 
-pub use asked::{HeadFault, Verb};
-pub use reply::{CONTINUE, Content, NO_MEMORY, begin_response, put_response};
+pub use asked::Verb;
+pub use reply::{CONTINUE, Content, NO_MEMORY, begin_front, begin_response, put_response};
 pub use request::{ReqHead, read_request};
 pub use response::{RespFault, RespHead, read_response};
+pub use sm_model::ReadFault as HeadFault;

@@ -124,8 +124,25 @@ fn put_head(
 
 /// The front of a reply whose body has so many bytes (RFC 9112, section 4): the status line with the status's phrase,
 /// `Content-Type`, `Content-Length`, and `Connection: close` where the connection closes behind it, each line ended by
-/// CR LF, and an empty line. A status, of three digits, without a phrase of its own gets an empty one. There is room for
-/// the body behind it.
+/// CR LF, and an empty line. A status, of three digits, without a phrase of its own gets an empty one. There is room for so many
+/// bytes of the body behind it, which may lie elsewhere in part.
+pub fn begin_front(
+    alloc: Global,
+    status: u16,
+    kind: Content,
+    count: usize,
+    room: usize,
+    close: bool,
+) -> Result<Vec<u8>, NoMemory>
+    requires { IsStatusCode status }
+    ensures { IfOk result (λ out. out.items ≡ reply_head status kind count close) }
+{
+    let mut out = Vec::with_capacity(alloc, room.saturating_add(HEAD_ROOM))?;
+    put_head(alloc, &mut out, status, kind, count as u64, close)?;
+    Ok(out)
+}
+
+/// What `begin_front` gives, with room for the whole body behind it.
 pub fn begin_response(
     alloc: Global,
     status: u16,
@@ -136,9 +153,7 @@ pub fn begin_response(
     requires { IsStatusCode status }
     ensures { IfOk result (λ out. out.items ≡ reply_head status kind count close) }
 {
-    let mut out = Vec::with_capacity(alloc, count.saturating_add(HEAD_ROOM))?;
-    put_head(alloc, &mut out, status, kind, count as u64, close)?;
-    Ok(out)
+    begin_front(alloc, status, kind, count, count, close)
 }
 
 /// A whole reply: what `begin_response` gives, and the body.

@@ -2,10 +2,10 @@
 ghost use Rattle.httparse.specs.Spans.{IsRequestWithin};
 ghost use Rattle.sm_head.specs.Requests.{IsSpansAnswer, IsReqAnswer};
 
-use crate::asked::{Asked, HeadFault, Verb, judge};
+use crate::asked::{Asked, Verb, judge};
 use crate::heads::{Shape, judge_lines};
 use httparse::spans::{EMPTY_HEADER_SPAN, HeaderSpan, RequestSpans};
-use sm_model::{Cause, Framing, Target};
+use sm_model::{Cause, Framing, ReadFault, Target};
 use std::alloc::Global;
 
 /// What the bytes of a connection begin with.
@@ -34,7 +34,7 @@ fn judge_spans(
     bytes: &[u8],
     headers: &[HeaderSpan],
     spans: RequestSpans,
-) -> Result<ReqHead, HeadFault>
+) -> Result<ReqHead, ReadFault>
     requires { IsRequestWithin bytes.now headers.now spans }
     ensures { IsSpansAnswer bytes.now headers.now spans result }
 {
@@ -79,7 +79,7 @@ fn judge_spans(
 /// than 0. `Method`: not GET and not POST, a GET of a push's target, or a POST of another. `Encoded`, of a POST: a
 /// `Content-Encoding` other than `identity`, or a `Transfer-Encoding` other than `chunked`. `LengthRequired`: a POST with
 /// neither `Content-Length` nor `Transfer-Encoding`.
-pub fn read_request(alloc: Global, bytes: &[u8]) -> Result<ReqHead, HeadFault>
+pub fn read_request(alloc: Global, bytes: &[u8]) -> Result<ReqHead, ReadFault>
     ensures { IsReqAnswer bytes.now result }
 {
     let end = bytes.len().min(8192);
@@ -90,7 +90,7 @@ pub fn read_request(alloc: Global, bytes: &[u8]) -> Result<ReqHead, HeadFault>
     match judge_lines(window, headers.as_mut_slice()) {
         Shape::Whole(spans) => judge_spans(alloc, window, headers.as_slice(), spans),
         Shape::Partial => Ok(ReqHead::Partial),
-        Shape::Bad => Err(HeadFault::Refused(Cause::BadHead)),
-        Shape::Full => Err(HeadFault::Refused(Cause::HeadTooLarge)),
+        Shape::Bad => Err(ReadFault::Refused(Cause::BadHead)),
+        Shape::Full => Err(ReadFault::Refused(Cause::HeadTooLarge)),
     }
 }

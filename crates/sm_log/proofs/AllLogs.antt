@@ -1,5 +1,6 @@
 -- What holds of logs.
-use Rattle.std.proofs.Common.{◌≡◌, ◌<◌, ◌+◌, ◌^◌, ℕ, suc, Bool, true, false, cond, eqb, filter, ◌≤◌, List, [], ◌∷◌, ◌++◌}
+use Rattle.std.proofs.Common.{◌≡◌, ◌<◌, ◌+◌, ◌^◌, ℕ, suc, Bool, true, false, cond, eqb, filter, ◌≤◌, List, [], ◌∷◌, ◌++◌, Contains, if◌then◌else◌}
+use Rattle.std.proofs.lemmas.List.Elements.{Contains-append_right}
 use Rattle.std.proofs.Common.{length, map, Option, Some, None, refl, sym, ap, subst, ◌∙◌, ◌⊎◌, inl, inr, AllPairs, append_assoc, append-nil, arith}
 use Rattle.std.proofs.lemmas.Bool.{eq-eqb, and_from}
 use Rattle.std.proofs.lemmas.List.{length-append, map-append}
@@ -11,7 +12,7 @@ use Rattle.sm_model.specs.declared.entry.Entry.TheVariants.{Declare, Keep}
 use Rattle.sm_model.specs.declared.fragment.Fragment.{Fragment}
 use Rattle.sm_model.specs.declared.track.Track.{Track}
 use Rattle.sm_model.specs.Fragments.{IsValid}
-use Rattle.sm_model.specs.LiveTracks.{is_same}
+use Rattle.sm_model.specs.Same.{is_same}
 use Rattle.sm_log.specs.declared.verdict.Judged.TheVariants as judged
 use Rattle.sm_log.specs.Times.{entry_at, AreTimes, do_overlap}
 use Rattle.sm_log.specs.Adds.{Add, place_of, times_of, is_listed, listed}
@@ -225,3 +226,16 @@ digest_grows log more = record {
   channel = channel_grows log more;
   adds = (map told (keeps_of more), ap (map told) (keeps_join log more) ∙ map-append told (keeps_of log) (keeps_of more));
 }
+
+-- what is kept at an address stands in the log
+behind : (e : Entry) (log : List Entry) (x : Entry) → Contains log x → Contains (e ∷ log) x
+behind e log x there = Contains-append_right (e ∷ []) log x there
+
+pub kept_there : (a : Address) (place : ℕ) (log : List Entry) (k : ℕ × Fragment) → kept_from a place log ≡ Some k → Contains log (Keep k.1)
+kept_there a place [] k is = absurd (cc)
+kept_there a place (Declare tracks ∷ log) k is = behind (Declare tracks) log (Keep k.1) (kept_there a (suc place) log k is)
+kept_there a place (Keep f ∷ log) k is = go (is_kept_at a f) (λ e. kept_there a (suc place) log k e) is
+  where
+    go : (b : Bool) → (kept_from a (suc place) log ≡ Some k → Contains log (Keep k.1)) → (if b then Some (place, f) else kept_from a (suc place) log) ≡ Some k → Contains (Keep f ∷ log) (Keep k.1)
+    go true rest e = let same : (let p : ℕ × Fragment = (place, f) in p) ≡ k = cc in (0, omega arith, ap (λ (p : ℕ × Fragment). Keep p.1) same)
+    go false rest e = behind (Keep f) log (Keep k.1) (rest e)

@@ -13,7 +13,7 @@ use Rattle.sm_model.specs.declared.track.Track.{Track}
 use Rattle.sm_model.specs.Channels.{IsChannel}
 use Rattle.sm_model.specs.Entries.{address_of}
 use Rattle.sm_model.specs.Fragments.{IsValid, IsWide}
-use Rattle.sm_model.specs.LiveTracks.{is_same}
+use Rattle.sm_model.specs.Same.{is_same}
 use Rattle.sm_log.specs.Times.{entry_at, with_entry, AreTimes, IsSpan}
 use Rattle.sm_log.specs.Adds.{Add, track_at, is_declared, tracks_of, place_of, times_from, times_of, is_kept, is_listed, listed, starting, two_from, behind}
 use Rattle.sm_log.specs.Logs.{channel_of, adds_from, adds_of, is_kept_at, kept_from, kept_at, times_in, listed_by, listed_in, ahead_in, IsSound}

@@ -5,7 +5,7 @@ use Rattle.sm_log.specs.declared.verdict.Decision.TheVariants as decision
 use Rattle.sm_log.specs.declared.verdict.Judged.TheVariants as judged
 use Rattle.sm_model.specs.declared.address.Address.{Address}
 use Rattle.sm_model.specs.declared.track.Track.{Track}
-use Rattle.sm_model.specs.LiveTracks.{is_same}
+use Rattle.sm_model.specs.Same.{is_same}
 use Rattle.sm_log.specs.Times.{entry_at, with_entry, decision, AreSorted}
 use Rattle.sm_log.specs.Adds.{Add, track_at, place_of, times_from, times_of, judged_by, verdict}
 use Rattle.sm_log.proofs.Choice.{chosen}

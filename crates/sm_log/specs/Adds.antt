@@ -1,13 +1,13 @@
 -- What was kept in a channel, in order, and what is said of it: verdicts, listed times, lookahead.
 use Rattle.std.specs.Prelude.{◌+◌, ◌==◌, ◌&&◌, ℕ, Bool, List, [], ◌∷◌, ◌++◌, filter, Option, Some, None, is_some, if◌then◌else◌}
-use Rattle.std.specs.List.{list_all, list_any}
+use Rattle.std.specs.List.{list_all, list_any, position}
 use Rattle.sm_model.specs.declared.address.Address.{Address}
 use Rattle.sm_model.specs.declared.track.Track.{Track}
 use Rattle.sm_log.specs.declared.verdict.Decision.{Decision}
 use Rattle.sm_log.specs.declared.verdict.Decision.TheVariants as decision
 use Rattle.sm_log.specs.declared.verdict.Judged.{Judged}
 use Rattle.sm_log.specs.declared.verdict.Judged.TheVariants as judged
-use Rattle.sm_model.specs.LiveTracks.{is_same}
+use Rattle.sm_model.specs.Same.{is_same}
 use Rattle.sm_log.specs.Times.{entry_at, with_entry, decision}
 
 -- a fragment that was kept: its address, its duration in ticks, and its place in the log
@@ -23,6 +23,14 @@ abbrev pub track_at : List ℕ → ℕ → List Track → Option Track
 track_at stream bitrate [] = None
 track_at stream bitrate (t ∷ ts) =
     if is_same t.name stream && t.bitrate == bitrate then Some t else track_at stream bitrate ts
+
+-- the track_ID of a stream and bitrate: the place of its track in the channel, from 1
+abbrev pub ids : Option ℕ → ℕ
+ids None = 0
+ids (Some place) = place + 1
+
+abbrev pub id_in : List Track → Address → ℕ
+id_in channel a = ids (position (λ t. is_same t.name a.stream && (t.bitrate == a.bitrate)) channel)
 
 abbrev pub is_declared : List Track → Address → Bool
 is_declared channel address = is_some (track_at address.stream address.bitrate channel)

@@ -3,8 +3,8 @@ use Rattle.std.specs.Prelude.{◌==◌, ◌&&◌, not, ℕ, Bool, true, false, L
 use Rattle.std.specs.List.{position}
 use Rattle.sm_model.specs.declared.track.Track.{Track}
 use Rattle.sm_model.specs.declared.track.Params.{Params}
-use Rattle.sm_model.specs.LiveTracks.{is_same}
-use Rattle.sm_model.specs.LiveFaults.{are_one_kind}
+use Rattle.sm_model.specs.Same.{is_same}
+use Rattle.sm_model.specs.Kinds.{are_one_kind}
 use Rattle.sm_log.specs.declared.verdict.Checked.{Checked}
 use Rattle.sm_log.specs.declared.verdict.Checked.TheVariants as checked
 use Rattle.sm_log.specs.Adds.{track_at}

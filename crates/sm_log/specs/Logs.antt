@@ -8,7 +8,7 @@ use Rattle.sm_model.specs.declared.track.Track.{Track}
 use Rattle.sm_model.specs.Channels.{IsChannel}
 use Rattle.sm_model.specs.Entries.{address_of}
 use Rattle.sm_model.specs.Fragments.{IsValid}
-use Rattle.sm_model.specs.LiveTracks.{is_same}
+use Rattle.sm_model.specs.Same.{is_same}
 use Rattle.sm_log.specs.declared.verdict.Judged.{Judged}
 use Rattle.sm_log.specs.declared.verdict.Judged.TheVariants as judged
 use Rattle.sm_log.specs.Times.{entry_at}

@@ -1,5 +1,5 @@
 //! Laws of logs. Each is the contract of a function that does nothing.
-ghost use Rattle.std.specs.Prelude.{◌≡◌, ◌++◌, ◌∷◌, ◌<◌, ◌≤◌, ◌^◌, ◌+◌, [], ℕ, true, false, List, Some, All, AllPairs, is_some, length, slice_get};
+ghost use Rattle.std.specs.Prelude.{◌≡◌, ◌++◌, ◌∷◌, ◌<◌, ◌≤◌, ◌^◌, ◌+◌, [], ℕ, true, false, List, Some, All, AllPairs, is_some, length, slice_get, Contains};
 ghost use Rattle.std.specs.Option.{option_map, IsSome};
 ghost use Rattle.sm_model.specs.declared.address.Address.{Address};
 ghost use Rattle.sm_model.specs.declared.entry.Entry.{Entry};
@@ -80,6 +80,13 @@ pub fn what_is_ahead_is_listed()
 pub fn what_is_kept_is_valid()
     ensures address { (log : List Entry) (address : Address) (place : ℕ) (f : Fragment) → kept_at log address ≡ Some (place, f) → address_of f ≡ address }
     ensures valid { (log : List Entry) (address : Address) (place : ℕ) (f : Fragment) → IsSound log → kept_at log address ≡ Some (place, f) → IsValid f }
+{}
+
+/// What is kept at an address stands in the log, and is kept there at the same place where the log goes on.
+pub fn what_is_kept_stays()
+    ensures there { (log : List Entry) (address : Address) (kept : ℕ × Fragment) → kept_at log address ≡ Some kept → Contains log (Keep kept.1) }
+    ensures stays { (log more : List Entry) (address : Address) (kept : ℕ × Fragment) → kept_at log address ≡ Some kept
+        → kept_at (log ++ more) address ≡ Some kept }
 {}
 
 /// A digest extends itself and what one that it extends extends, and a log's digest extends that of each front of it.

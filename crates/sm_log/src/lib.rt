@@ -8,6 +8,3 @@ mod times;
 mod verdict;
 
 pub use verdict::{Checked, Decision, Judged};
-
-#[cfg(test)]
-mod tests;

@@ -1,7 +1,7 @@
 //! Plain, slow programs that compute the definitions, each by walking the whole log.
 ghost use Rattle.std.specs.Prelude.{◌≡◌, ◌==◌, ◌&&◌, ℕ, IfOk, OnOk, Some, is_some, filter, nat_le, MatchOption, ◌+◌, ◌<◌, ◌↔◌, IsTrue};
 ghost use Rattle.std.specs.Option.{option_map};
-ghost use Rattle.sm_model.specs.LiveTracks.{is_same};
+ghost use Rattle.sm_model.specs.Same.{is_same};
 ghost use Rattle.sm_log.specs.declared.verdict.Judged.TheVariants as judged;
 ghost use Rattle.sm_log.specs.Times.{AreTimes, decision, with_entry};
 ghost use Rattle.sm_log.specs.Adds.{track_at, tracks_of, is_kept, is_listed, listed, judged_by, place_of, two_from, behind};

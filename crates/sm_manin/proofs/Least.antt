@@ -3,7 +3,7 @@ use Rattle.std.proofs.Common.{◌≡◌, ℕ, false, List, [], ◌∷◌, ◌++�
 use Rattle.std.proofs.lemmas.List.{take_more}
 use Rattle.sm_manin.specs.declared.raw.RawLevel.{RawLevel}
 use Rattle.sm_manin.specs.declared.raw.RawStream.{RawStream}
-use Rattle.sm_model.specs.LiveFaults.{least_from, sooner}
+use Rattle.sm_model.specs.Places.{least_from, sooner}
 use Rattle.sm_manin.specs.ManifestFaults.{at_if, is_level_at_fault, level_faults, stream_faults, streams_faults}
 
 pub least_from_append : (f : Option ℕ) (xs ys : List ℕ) → least_from f (xs ++ ys) ≡ least_from (least_from f xs) ys

@@ -5,9 +5,9 @@ use Rattle.std.proofs.lemmas.List.{length-append}
 use Rattle.std.proofs.lemmas.List.Elements.{All-from_recursion}
 use Rattle.std.specs.List.{AllByRecursion, list_any}
 use Rattle.std.specs.Option.{is_none, option_to_list}
-use Rattle.sm_model.specs.LiveFaults.{least_from}
+use Rattle.sm_model.specs.Places.{least_from}
 use Rattle.sm_model.specs.Names.{is_name}
-use Rattle.sm_model.specs.LiveTracks.{is_same}
+use Rattle.sm_model.specs.Same.{is_same}
 use Rattle.sm_manin.specs.Values.{narrow_or, kind_in_type}
 use Rattle.sm_manin.specs.declared.raw.RawLevel.{RawLevel}
 use Rattle.sm_manin.specs.declared.raw.RawStream.{RawStream}

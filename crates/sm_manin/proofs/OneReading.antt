@@ -1,10 +1,10 @@
 -- A text has one reading as a manifest.
 use Rattle.std.proofs.Common.{◌≡◌, ℕ, List, None, Result, refl, sym, ◌∙◌, ap}
 use Rattle.sm_model.specs.declared.tag.Tag.{Tag}
-use Rattle.sm_model.specs.LiveFaults.{least_from}
-use Rattle.sm_model.specs.LiveManifests.{bad_of}
-use Rattle.sm_model.specs.TagsRead.{tags_of}
-use Rattle.sm_model.proofs.TagTotals.{tags_total}
+use Rattle.sm_model.specs.Places.{least_from}
+use Rattle.sm_tag.specs.Elements.{bad_of}
+use Rattle.sm_tag.specs.TagsRead.{tags_of}
+use Rattle.sm_tag.proofs.TagTotals.{tags_total}
 use Rattle.sm_tag.proofs.Unique.{Runs-unique}
 use Rattle.sm_manin.specs.declared.listing.Listing.{Listing}
 use Rattle.sm_manin.specs.ManifestWalk.{none_met, walk}

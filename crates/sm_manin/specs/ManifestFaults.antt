@@ -6,7 +6,7 @@ use Rattle.sm_manin.specs.declared.raw.RawLevel.{RawLevel}
 use Rattle.sm_manin.specs.declared.raw.RawStream.{RawStream}
 use Rattle.sm_manin.specs.declared.raw.RawRoot.{RawRoot}
 use Rattle.sm_model.specs.Names.{is_name}
-use Rattle.sm_model.specs.LiveTracks.{is_same}
+use Rattle.sm_model.specs.Same.{is_same}
 use Rattle.sm_manin.specs.Values.{narrow_in, narrow_or, kind_in_type}
 use Rattle.sm_manin.specs.Patterns.{is_pattern}
 use Rattle.sm_manin.specs.ManifestWalk.{Walk}

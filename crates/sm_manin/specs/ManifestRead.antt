@@ -2,9 +2,9 @@
 use Rattle.std.specs.Prelude.{◌≡◌, ℕ, List, Option, Some, None, Result, Ok, Err}
 use Rattle.sm_model.specs.declared.tag.Tag.{Tag}
 use Rattle.sm_manin.specs.declared.listing.Listing.{Listing}
-use Rattle.sm_model.specs.Tags.{TagsOf}
-use Rattle.sm_model.specs.LiveFaults.{least_from}
-use Rattle.sm_model.specs.LiveManifests.{bad_of}
+use Rattle.sm_tag.specs.Tags.{TagsOf}
+use Rattle.sm_model.specs.Places.{least_from}
+use Rattle.sm_tag.specs.Elements.{bad_of}
 use Rattle.sm_manin.specs.ManifestWalk.{Walk, none_met, walk}
 use Rattle.sm_manin.specs.ManifestFaults.{faults_of}
 use Rattle.sm_manin.specs.Listings.{read_of}

@@ -7,8 +7,8 @@ use Rattle.sm_manin.specs.declared.raw.RawTime.{RawTime}
 use Rattle.sm_manin.specs.declared.raw.RawLevel.{RawLevel}
 use Rattle.sm_manin.specs.declared.raw.RawStream.{RawStream}
 use Rattle.sm_manin.specs.declared.raw.RawRoot.{RawRoot}
-use Rattle.sm_model.specs.LiveTracks.{is_same}
-use Rattle.sm_model.specs.LiveWalk.{attribute_of, enters}
+use Rattle.sm_model.specs.Same.{is_same}
+use Rattle.sm_tag.specs.Elements.{attribute_of, enters}
 
 -- What was met so far: the open elements from the outermost on, the outermost one, the place of one that isn't
 -- SmoothStreamingMedia, that of the first Protection, the streams that have ended and the one that hasn't.

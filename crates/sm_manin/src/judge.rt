@@ -1,10 +1,10 @@
 //! The faults of the elements.
 ghost use Rattle.std.specs.Prelude.{◌≡◌, ◌++◌, [], None, is_some, unwrap_or};
-ghost use Rattle.sm_model.specs.LiveFaults.{least_from};
+ghost use Rattle.sm_model.specs.Places.{least_from};
 ghost use Rattle.sm_manin.specs.ManifestFaults.{is_two, look_text, is_root_at_fault, root_faults, name_of, are_equal_bitrates, at_if, is_level_at_fault};
 ghost use Rattle.sm_manin.specs.ManifestFaults.{level_faults, is_misfit, is_stream_at_fault, lacks_levels, stream_faults, streams_faults, open_faults, faults_of};
 ghost use Rattle.sm_manin.specs.Values.{narrow_in};
-ghost use Rattle.sm_model.specs.LiveTracks.{is_same};
+ghost use Rattle.sm_model.specs.Same.{is_same};
 ghost use Rattle.std.specs.List.{list_any};
 
 use crate::note::{note, note_if, note_option};

@@ -1,7 +1,6 @@
 //! The manifest of a channel, read.
 #![tactic(auto)]
 
-mod fault;
 mod judge;
 pub mod law;
 mod listing;
@@ -13,9 +12,6 @@ mod times;
 mod values;
 mod walk;
 
-pub use fault::ManFault;
 pub use listing::{Level, Levels, Listing, StreamListing, Streams};
 pub use read::read_manifest;
-
-#[cfg(test)]
-mod tests;
+pub use sm_model::TextFault as ManFault;

@@ -1,6 +1,6 @@
 //! The least place.
 ghost use Rattle.std.specs.Prelude.{◌≡◌, option_to_list};
-ghost use Rattle.sm_model.specs.LiveFaults.{sooner, least_from};
+ghost use Rattle.sm_model.specs.Places.{sooner, least_from};
 ghost use Rattle.sm_manin.specs.ManifestFaults.{at_if};
 
 /// Keeps the least place.

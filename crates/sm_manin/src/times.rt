@@ -1,6 +1,6 @@
 //! The times that a stream's elements stand for.
 ghost use Rattle.std.specs.Prelude.{◌≡◌, ◌+◌, ◌*◌, ◌<◌, ◌≤◌, ◌^◌, ◌++◌, ℕ, false, Some, is_some, IfOk, OnOk};
-ghost use Rattle.sm_model.specs.LiveFaults.{least_from};
+ghost use Rattle.sm_model.specs.Places.{least_from};
 ghost use Rattle.sm_manin.specs.RunTimes.{start_in, until, duration_in, checked_count, count_in, fits, checked_time};
 ghost use Rattle.sm_manin.specs.RunTimes.{is_before, is_unsettled, unsettled_time, time_in, expand, times_in, fault_in, times_or_none};
 

@@ -1,6 +1,7 @@
 //! The walk over the tags of a manifest.
 ghost use Rattle.std.specs.Prelude.{◌≡◌, ◌-◌, ◌++◌, [], ◌∷◌, length, take, codes, IfOk, OnOk, Some, None, option_map, option_to_list};
-ghost use Rattle.sm_model.specs.LiveWalk.{attribute_of, first_place};
+ghost use Rattle.sm_tag.specs.Elements.{attribute_of};
+ghost use Rattle.sm_model.specs.Places.{first_place};
 ghost use Rattle.sm_manin.specs.ManifestWalk.{root_of, stream_of, level_of, time_of, is_in_root, is_in_stream, with_child};
 
 use crate::raw::{RawLevel, RawLevels, RawRoot, RawStream, RawTime, RawTimes};

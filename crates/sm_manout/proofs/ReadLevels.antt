@@ -10,8 +10,8 @@ use Rattle.sm_model.specs.declared.track.Params.{Params}
 use Rattle.sm_model.specs.declared.track.Track.{Track}
 use Rattle.sm_model.specs.Channels.{IsTrack, IsNarrowTrack, IsNarrowOption}
 use Rattle.sm_model.specs.Digits.{number_of}
-use Rattle.sm_model.specs.LiveTracks.{is_same}
-use Rattle.sm_model.specs.TagText.{attributes_then, closing, left_at}
+use Rattle.sm_model.specs.Same.{is_same}
+use Rattle.sm_tag.specs.TagText.{attributes_then, closing, left_at}
 use Rattle.sm_tag.proofs.WrittenTags.{Starts-again}
 use Rattle.sm_smil.proofs.WrittenValues.{decimal_again, fourcc_plain, private_plain}
 use Rattle.sm_catalog.proofs.Counting.{DifferInBitrate}

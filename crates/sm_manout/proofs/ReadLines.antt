@@ -5,13 +5,13 @@ use Rattle.std.specs.List.{list_all, list_any}
 use Rattle.sm_model.specs.declared.tag.Attribute.{Attribute}
 use Rattle.sm_model.specs.declared.tag.Tag.{Tag}
 use Rattle.sm_model.specs.declared.tag.Tag.TheVariants.{Start, Finish, Text}
-use Rattle.sm_model.specs.declared.markup.Markup.TheVariants as markup
-use Rattle.sm_model.specs.LiveTracks.{is_same}
-use Rattle.sm_model.specs.LiveManifests.{bad_of}
-use Rattle.sm_model.specs.TagMarkup.{Markups}
-use Rattle.sm_model.specs.TagParts.{has_name}
-use Rattle.sm_model.specs.Tags.{Left, Next, Runs, follows, closes}
-use Rattle.sm_model.specs.TagText.{is_plain, IsTagName, AreWritten, attributes_then, closing, left_at, IsOpen}
+use Rattle.sm_tag.specs.declared.grammar.Markup.TheVariants as markup
+use Rattle.sm_model.specs.Same.{is_same}
+use Rattle.sm_tag.specs.Elements.{bad_of}
+use Rattle.sm_tag.specs.TagMarkup.{Markups}
+use Rattle.sm_tag.specs.TagParts.{has_name}
+use Rattle.sm_tag.specs.Tags.{Left, Next, Runs, follows, closes}
+use Rattle.sm_tag.specs.TagText.{is_plain, IsTagName, AreWritten, attributes_then, closing, left_at, IsOpen}
 use Rattle.sm_manin.specs.ManifestWalk.{Walk, step, walk}
 use Rattle.sm_manout.specs.ManifestText.{attribute, option_attribute, text_attribute}
 use Rattle.sm_tag.proofs.WrittenTags.{append_nil}

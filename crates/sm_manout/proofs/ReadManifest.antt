@@ -6,20 +6,20 @@ use Rattle.std.proofs.lemmas.List.{append-nil, length-append, map-append}
 use Rattle.std.proofs.lemmas.List.Elements.{recursion_from_All}
 use Rattle.std.proofs.lemmas.Slice.Eq.{bytes_eq-Decides}
 use Rattle.sm_model.specs.declared.tag.Tag.TheVariants.{Start, End}
-use Rattle.sm_model.specs.declared.markup.Markup.{Markup}
-use Rattle.sm_model.specs.declared.markup.Markup.TheVariants as markup
-use Rattle.sm_model.specs.declared.markup.Lead.{Lead}
-use Rattle.sm_model.specs.declared.markup.Lead.TheVariants as lead
+use Rattle.sm_tag.specs.declared.grammar.Markup.{Markup}
+use Rattle.sm_tag.specs.declared.grammar.Markup.TheVariants as markup
+use Rattle.sm_tag.specs.declared.grammar.Lead.{Lead}
+use Rattle.sm_tag.specs.declared.grammar.Lead.TheVariants as lead
 use Rattle.sm_model.specs.declared.track.Track.{Track}
 use Rattle.sm_model.specs.Channels.{IsTrack, IsChannel, IsNarrowTrack}
 use Rattle.sm_model.specs.Digits.{number_of, is_number}
-use Rattle.sm_model.specs.LiveTracks.{is_same}
-use Rattle.sm_model.specs.LiveFaults.{least_from}
-use Rattle.sm_model.specs.LiveManifests.{bad_of}
-use Rattle.sm_model.specs.TagParts.{name_at}
-use Rattle.sm_model.specs.TagMarkup.{Markups, lead_at, finish_at, instruction_at, past_word}
-use Rattle.sm_model.specs.Tags.{Left, Founds, bare, marked, skipped, Next, ends, begin, without_zeros, without_mark}
-use Rattle.sm_model.specs.TagText.{left_at}
+use Rattle.sm_model.specs.Same.{is_same}
+use Rattle.sm_model.specs.Places.{least_from}
+use Rattle.sm_tag.specs.Elements.{bad_of}
+use Rattle.sm_tag.specs.TagParts.{name_at}
+use Rattle.sm_tag.specs.TagMarkup.{Markups, lead_at, finish_at, instruction_at, past_word}
+use Rattle.sm_tag.specs.Tags.{Left, Founds, bare, marked, skipped, Next, ends, begin, without_zeros, without_mark}
+use Rattle.sm_tag.specs.TagText.{left_at}
 use Rattle.sm_log.specs.Adds.{tracks_of}
 use Rattle.sm_log.specs.Times.{AreTimes}
 use Rattle.sm_log.proofs.Choice.{chosen}

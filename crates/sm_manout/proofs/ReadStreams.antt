@@ -5,15 +5,16 @@ use Rattle.std.specs.List.{AllByRecursion, list_any}
 use Rattle.std.proofs.lemmas.Bool.{lt-leb, ne_eqb}
 use Rattle.std.proofs.lemmas.List.{append-nil}
 use Rattle.sm_model.specs.declared.tag.Attribute.{Attribute}
-use Rattle.sm_model.specs.declared.markup.Markup.TheVariants as markup
+use Rattle.sm_tag.specs.declared.grammar.Markup.TheVariants as markup
 use Rattle.sm_model.specs.declared.track.Track.{Track}
 use Rattle.sm_model.specs.Digits.{number_of}
-use Rattle.sm_model.specs.LiveTracks.{is_same, kind_name}
-use Rattle.sm_model.specs.LiveWalk.{attribute_of}
+use Rattle.sm_model.specs.Same.{is_same}
+use Rattle.sm_model.specs.Kinds.{kind_name}
+use Rattle.sm_tag.specs.Elements.{attribute_of}
 use Rattle.sm_model.specs.Names.{is_name}
-use Rattle.sm_model.specs.TagMarkup.{finish_at}
-use Rattle.sm_model.specs.TagParts.{name_at}
-use Rattle.sm_model.specs.TagText.{attributes_then, closing, left_at}
+use Rattle.sm_tag.specs.TagMarkup.{finish_at}
+use Rattle.sm_tag.specs.TagParts.{name_at}
+use Rattle.sm_tag.specs.TagText.{attributes_then, closing, left_at}
 use Rattle.sm_log.specs.Adds.{tracks_of}
 use Rattle.sm_log.specs.Times.{AreTimes}
 use Rattle.sm_tag.proofs.WrittenTags.{Starts-again}

@@ -11,8 +11,8 @@ use Rattle.percent_encoding.specs.Percent.{percent_encode_byte}
 use Rattle.sm_model.specs.declared.track.Kind.{Kind}
 use Rattle.sm_model.specs.declared.track.Kind.TheVariants as kind
 use Rattle.sm_model.specs.Digits.{is_digit, decimal_from, is_wide_number, wide_number_of}
-use Rattle.sm_model.specs.LiveTracks.{kind_name}
-use Rattle.sm_model.specs.TagText as tag
+use Rattle.sm_model.specs.Kinds.{kind_name}
+use Rattle.sm_tag.specs.TagText as tag
 use Rattle.sm_manin.specs.Values.{kind_of}
 use Rattle.sm_manin.specs.Patterns.{is_target_byte, pattern_from, is_pattern}
 use Rattle.sm_manout.specs.ManifestText.{is_plain, escaped, url}

@@ -4,7 +4,7 @@ use Rattle.std.specs.Prelude.{decimal, codes}
 use Rattle.std.specs.List.{AllByRecursion}
 use Rattle.sm_model.specs.declared.address.Address.{Address}
 use Rattle.sm_model.specs.declared.track.Track.{Track}
-use Rattle.sm_model.specs.LiveTracks.{is_same}
+use Rattle.sm_model.specs.Same.{is_same}
 use Rattle.sm_manout.specs.ManifestText.{level_line, level_lines}
 use Rattle.sm_manout.proofs.ShownPieces.{has_no, decimal_none, both_none, all_join, Good}
 use Rattle.sm_manout.proofs.ShownLevels.{level_front, level_more}

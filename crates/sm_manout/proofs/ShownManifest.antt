@@ -10,7 +10,8 @@ use Rattle.sm_model.specs.declared.track.Kind.TheVariants as kind
 use Rattle.sm_model.specs.declared.track.Params.{Params}
 use Rattle.sm_model.specs.declared.track.Track.{Track}
 use Rattle.sm_model.specs.Channels.{IsTrack, IsChannel, IsNarrowOption, AreNarrow, is_fourcc}
-use Rattle.sm_model.specs.LiveTracks.{is_same, kind_name}
+use Rattle.sm_model.specs.Same.{is_same}
+use Rattle.sm_model.specs.Kinds.{kind_name}
 use Rattle.sm_model.specs.Names.{is_name}
 use Rattle.sm_log.specs.Adds.{is_declared, tracks_of}
 use Rattle.sm_log.specs.Times.{entry_at, IsSpan}

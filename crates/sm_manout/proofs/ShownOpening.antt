@@ -5,7 +5,7 @@ use Rattle.sm_model.specs.declared.address.Address.{Address}
 use Rattle.sm_model.specs.declared.track.Track.{Track}
 use Rattle.sm_model.specs.declared.track.Kind.{Kind}
 use Rattle.sm_model.specs.declared.track.Kind.TheVariants as kind
-use Rattle.sm_model.specs.LiveTracks.{kind_name}
+use Rattle.sm_model.specs.Kinds.{kind_name}
 use Rattle.sm_model.specs.Names.{is_name}
 use Rattle.sm_manout.specs.ManifestText.{level_line, attribute, number_attribute, stream_opening, url}
 use Rattle.sm_manout.specs.Shown.{Open, ended_by, quoted, after_line, line_starts}

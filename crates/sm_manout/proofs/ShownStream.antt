@@ -4,7 +4,8 @@ use Rattle.std.specs.Prelude.{codes}
 use Rattle.std.specs.List.{AllByRecursion, flat_map}
 use Rattle.sm_model.specs.declared.address.Address.{Address}
 use Rattle.sm_model.specs.declared.track.Track.{Track}
-use Rattle.sm_model.specs.LiveTracks.{kind_name, is_same}
+use Rattle.sm_model.specs.Kinds.{kind_name}
+use Rattle.sm_model.specs.Same.{is_same}
 use Rattle.sm_model.specs.Names.{is_name}
 use Rattle.sm_log.specs.Adds.{tracks_of}
 use Rattle.sm_manout.specs.ManifestText.{level_lines, run_lines, runs, stream_opening, stream_lines}

@@ -3,7 +3,7 @@ use Rattle.std.proofs.Common.{◌≡◌, ◌<◌, ◌+◌, ℕ, cond, List, [], 
 use Rattle.std.proofs.lemmas.List.{take_more, drop_more}
 use Rattle.std.specs.List.{list_any}
 use Rattle.sm_model.specs.declared.track.Track.{Track}
-use Rattle.sm_model.specs.LiveTracks.{is_same}
+use Rattle.sm_model.specs.Same.{is_same}
 use Rattle.sm_manout.specs.ManifestText.{stream_lines, streams_lines}
 
 pub streams_more : (channel : List Track) (times : List ℕ → List (ℕ × ℕ)) (ts : List Track) (o : List ℕ) (i : ℕ) (t : Track) → i < length ts → t ≡ get_or ts i t

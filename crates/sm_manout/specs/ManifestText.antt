@@ -7,7 +7,8 @@ use Rattle.hex.specs.Hex.{encode_upper}
 use Rattle.percent_encoding.specs.Percent.{percent_encode_byte}
 use Rattle.sm_model.specs.declared.track.Params.{Params}
 use Rattle.sm_model.specs.declared.track.Track.{Track}
-use Rattle.sm_model.specs.LiveTracks.{is_same, kind_name}
+use Rattle.sm_model.specs.Same.{is_same}
+use Rattle.sm_model.specs.Kinds.{kind_name}
 use Rattle.sm_log.specs.Adds.{tracks_of}
 use Rattle.sm_manin.specs.RunTimes.{expand}
 

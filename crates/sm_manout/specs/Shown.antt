@@ -5,7 +5,7 @@ use Rattle.sm_model.specs.declared.address.Address.{Address}
 use Rattle.sm_model.specs.declared.track.Track.{Track}
 use Rattle.sm_model.specs.Channels.{AreNarrow}
 use Rattle.sm_model.specs.Digits.{wide_number_of}
-use Rattle.sm_model.specs.LiveTracks.{is_same}
+use Rattle.sm_model.specs.Same.{is_same}
 use Rattle.sm_model.specs.Names.{is_name}
 use Rattle.sm_manin.specs.Values.{wide_in, narrow_in}
 

@@ -1,7 +1,8 @@
 //! Streams, and the whole manifest.
 ghost use Rattle.std.specs.Prelude.{◌≡◌, ◌+◌, ◌++◌, ◌<◌, ◌≤◌, [], length, IfOk, OnOk, if◌then◌else◌};
 ghost use Rattle.std.specs.List.{list_any};
-ghost use Rattle.sm_model.specs.LiveTracks.{is_same, kind_name};
+ghost use Rattle.sm_model.specs.Same.{is_same};
+ghost use Rattle.sm_model.specs.Kinds.{kind_name};
 ghost use Rattle.sm_log.specs.Adds.{tracks_of, listed};
 ghost use Rattle.sm_manout.specs.ManifestText.{number_attributes, level_line, level_lines, url, stream_opening, stream_lines, streams_lines, manifest_head, manifest};
 

@@ -14,6 +14,6 @@ pub mod TextLengths
 pub mod DigitLemmas
 pub mod TrackIdLemmas
 pub mod SoundLemmas
-pub mod TagLengths
-pub mod TagTotals
 pub mod ItemLemmas
+pub mod PartLemmas
+pub mod CutLemmas

@@ -35,6 +35,32 @@ pub record IsChannel (tracks : List Track) : Type 0 where
   pub each : All IsTrack tracks
   pub agree : AllPairs Agree tracks
 
+-- both have the same kind, stream, bitrate and timescale
+pub record IsOfOneQuality (a b : Track) : Type 0 where
+  pub kind : a.kind ≡ b.kind
+  pub name : a.name ≡ b.name
+  pub bitrate : a.bitrate ≡ b.bitrate
+  pub timescale : a.timescale ≡ b.timescale
+
+-- both have the same picture and the same tag of an audio format
+pub record IsOfOnePicture (a b : Params) : Type 0 where
+  pub width : a.width ≡ b.width
+  pub height : a.height ≡ b.height
+  pub tag : a.tag ≡ b.tag
+
+-- both have the same sound
+pub record IsOfOneSound (a b : Params) : Type 0 where
+  pub channels : a.channels ≡ b.channels
+  pub rate : a.rate ≡ b.rate
+  pub bits : a.bits ≡ b.bits
+  pub packet : a.packet ≡ b.packet
+
+-- both have the same codec, with its data and numbers
+pub record IsOfOneCodec (a b : Track) : Type 0 where
+  pub fourcc : a.fourcc ≡ b.fourcc
+  pub private : a.private ≡ b.private
+  pub numbers : a.numbers ≡ b.numbers
+
 -- a number of 32 bits, where there is one
 abbrev pub IsNarrowOption : Option ℕ → Type 0
 IsNarrowOption n = ForSome n (λ v. v < 2 ^ 32)

@@ -8,12 +8,12 @@ use Rattle.sm_model.specs.declared.run.Defaults.{Defaults}
 use Rattle.sm_model.specs.declared.run.Row.{Row}
 use Rattle.sm_model.specs.declared.run.Run.{Run}
 use Rattle.sm_model.specs.declared.run.RawFragment.{RawFragment}
-use Rattle.sm_model.specs.declared.sample.Sample.{Sample}
 use Rattle.sm_model.specs.Numbers.{number32_at}
 use Rattle.sm_model.specs.Boxes.{Box, boxes, box_of}
 use Rattle.sm_model.specs.FragText.{tfxd_type, tfrf_type}
 use Rattle.sm_model.specs.Found.{Found, found, is_kind, bodies, user_bodies}
 use Rattle.sm_model.specs.Fields.{version, has, tfhd_fits, defaults_of, trun_fits, rows, data_offset, tfxd_fits, tfxd_pair, tfrf_fits, pairs}
+unfoldable pub use Rattle.sm_model.specs.Cut.{cut, sizes}
 
 -- a condition, and the cause that it gives
 abbrev pub Line : Type 0
@@ -187,15 +187,6 @@ rest_behind size md run = rest_of (size + (box_of md).head) run.start (box_of md
 
 abbrev pub mdat_rest : List ℕ → List ℕ → Run → List ℕ
 mdat_rest m md run = rest_behind (length m) md run
-
--- how many bytes all samples have together
-abbrev pub sizes : List Row → ℕ
-sizes rs = sum_by (λ r. r.size) rs
-
--- the samples lie one after another
-unfoldable pub cut : List ℕ → List Row → List Sample
-cut rest [] = []
-cut rest (r ∷ rs) = record { duration = r.duration; flags = r.flags; offset = r.offset; bytes = take r.size rest } ∷ cut (drop r.size rest) rs
 
 abbrev pub is_no_mdat : List ℕ → Bool
 is_no_mdat md = not (is_kind (codes "mdat") (box_of md))

@@ -75,6 +75,17 @@ fn all_agree(tracks: &[Track]) -> bool
     true
 }
 
+fn are_same(a: &[Track], b: &[Track]) -> bool
+    ensures { IsTrue result ↔ (a.now ≡ b.now) }
+{
+    match (a, b) {
+        ([], []) => true,
+        ([first, rest @ ..], [other, others @ ..]) => first.is_same(other)
+            && are_same(rest, others),
+        ([], [_, ..]) | ([_, ..], []) => false,
+    }
+}
+
 impl Channel {
     /// Whether it is valid. It looks at each pair of tracks once where there are at most 64, else at none.
     pub fn is_valid(&self) -> bool
@@ -110,6 +121,13 @@ impl Channel {
         ensures { result ≡ length self.now }
     {
         self.items.len() as u64
+    }
+
+    /// Whether both have equal tracks in the same order.
+    pub fn is_same(&self, other: &Channel) -> bool
+        ensures { IsTrue result ↔ (self.now ≡ other.now) }
+    {
+        are_same(&self.items, &other.items)
     }
 
     /// Equal tracks.

@@ -46,10 +46,17 @@ impl Fragment {
             && 0 < self.duration
             && self.time < 1 << 63
             && self.duration < (1 << 63) - self.time
-            && bytes_of(self.samples.as_slice()) <= 67_108_864
+            && self.bytes() <= 67_108_864
     }
 
-    /// An equal fragment.
+    /// How many bytes its samples have together. It stands still at 2^64 - 1, which no valid fragment reaches.
+    pub fn bytes(&self) -> u64
+        ensures { result ≡ min (sample_bytes self.now.samples) (2 ^ 64 - 1) }
+    {
+        bytes_of(self.samples.as_slice())
+    }
+
+    /// An equal fragment. Bytes of samples that have several owners are not copied: they have one owner more.
     pub fn copy(&self, alloc: Global) -> Result<Fragment, NoMemory>
         ensures { IfOk result (λ copy. copy ≡ self.now) }
     {

@@ -1,6 +1,6 @@
 //! Equal bytes.
 ghost use Rattle.std.specs.Prelude.{◌≡◌};
-ghost use Rattle.sm_model.specs.LiveTracks.{is_same};
+ghost use Rattle.sm_model.specs.Same.{is_same};
 
 /// Whether both are the same bytes.
 pub fn is_same(a: &[u8], b: &[u8]) -> bool

@@ -1,7 +1,7 @@
 //! Tracks.
-ghost use Rattle.std.specs.Prelude.{◌≡◌, IfOk};
+ghost use Rattle.std.specs.Prelude.{◌≡◌, ◌↔◌, IsTrue, IfOk};
 ghost use Rattle.std.specs.List.{list_all};
-ghost use Rattle.sm_model.specs.Channels.{is_fourcc_byte, is_fourcc};
+ghost use Rattle.sm_model.specs.Channels.{is_fourcc_byte, is_fourcc, IsOfOneQuality, IsOfOneCodec, IsOfOnePicture, IsOfOneSound};
 
 use crate::{Bytes, Name, NoMemory};
 use std::alloc::Global;
@@ -32,6 +32,40 @@ pub struct Params {
     pub packet: Option<u32>,
 }
 
+fn is_same_number(a: Option<u32>, b: Option<u32>) -> bool
+    ensures { IsTrue result ↔ (a ≡ b) }
+{
+    a == b
+}
+
+// Whether both have the same picture and the same tag.
+fn are_of_one_picture(a: &Params, b: &Params) -> bool
+    ensures { IsTrue result ↔ IsOfOnePicture a.now b.now }
+{
+    is_same_number(a.width, b.width)
+        && is_same_number(a.height, b.height)
+        && is_same_number(a.tag, b.tag)
+}
+
+// Whether both have the same sound.
+fn are_of_one_sound(a: &Params, b: &Params) -> bool
+    ensures { IsTrue result ↔ IsOfOneSound a.now b.now }
+{
+    is_same_number(a.channels, b.channels)
+        && is_same_number(a.rate, b.rate)
+        && is_same_number(a.bits, b.bits)
+        && is_same_number(a.packet, b.packet)
+}
+
+impl Params {
+    /// Whether both are equal in every number.
+    pub fn is_same(&self, other: &Params) -> bool
+        ensures { IsTrue result ↔ (self.now ≡ other.now) }
+    {
+        are_of_one_picture(self, other) && are_of_one_sound(self, other)
+    }
+}
+
 /// One declared quality of a stream.
 #[derive(Debug, Drop)]
 pub struct Track {
@@ -49,7 +83,33 @@ pub struct Track {
     pub numbers: Params,
 }
 
+// Whether both have the same kind, stream, bitrate and timescale.
+fn are_of_one_quality(a: &Track, b: &Track) -> bool
+    ensures { IsTrue result ↔ IsOfOneQuality a.now b.now }
+{
+    a.kind == b.kind
+        && a.name.as_bytes() == b.name.as_bytes()
+        && a.bitrate == b.bitrate
+        && a.timescale == b.timescale
+}
+
+// Whether both have the same codec.
+fn are_of_one_codec(a: &Track, b: &Track) -> bool
+    ensures { IsTrue result ↔ IsOfOneCodec a.now b.now }
+{
+    a.fourcc.as_slice() == b.fourcc.as_slice()
+        && a.private.as_slice() == b.private.as_slice()
+        && a.numbers.is_same(&b.numbers)
+}
+
 impl Track {
+    /// Whether both are equal in every field.
+    pub fn is_same(&self, other: &Track) -> bool
+        ensures { IsTrue result ↔ (self.now ≡ other.now) }
+    {
+        are_of_one_quality(self, other) && are_of_one_codec(self, other)
+    }
+
     /// An equal track.
     pub fn copy(&self, alloc: Global) -> Result<Track, NoMemory>
         ensures { IfOk result (λ copy. copy ≡ self.now) }

@@ -1,6 +1,6 @@
 pub mod FrontLemmas
 pub mod JoinLemmas
 pub mod WholeLemmas
-pub mod CutLemmas
 pub mod TrackLemmas
 pub mod ShownLemmas
+pub mod SequenceLemmas

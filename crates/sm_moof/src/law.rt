@@ -1,10 +1,11 @@
 //! Laws of canonical texts.
-ghost use Rattle.std.specs.Prelude.{◌≡◌, ◌++◌, ℕ, List, Some, slice_get};
+ghost use Rattle.std.specs.Prelude.{◌≡◌, ◌++◌, ◌<◌, ◌^◌, ℕ, List, Some, slice_get};
 ghost use Rattle.sm_model.specs.declared.fragment.Fragment.{Fragment};
 ghost use Rattle.sm_model.specs.declared.sample.Sample.{Sample};
 ghost use Rattle.sm_model.specs.Canonical.{Canonical, IsCanonical, IsJoin, text_of};
-ghost use Rattle.sm_model.specs.FragText.{frag_text};
+ghost use Rattle.sm_model.specs.FragText.{frag_text, moof};
 ghost use Rattle.sm_model.specs.Written.{IsWritten};
+ghost use Rattle.sm_moof.specs.Sequence.{sequence_in};
 ghost use Rattle.sm_moof.specs.Shown.{NamesIn, ServesIn};
 
 use sm_model::law::written_fragment_is_read;
@@ -35,3 +36,9 @@ pub fn fragments_show_themselves()
 {
     written_fragment_is_read();
 }
+
+/// The sequence number that a canonical text was written with is found in it.
+pub fn written_sequence_is_read()
+    ensures { (seq id : ℕ) (f : Fragment) (ahead : List (ℕ × ℕ)) → seq < 2 ^ 32 → IsWritten id f ahead
+        → sequence_in (moof seq id f ahead) ≡ Some seq }
+{}

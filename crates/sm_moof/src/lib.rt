@@ -5,11 +5,17 @@ mod cut;
 mod law;
 mod put;
 mod read;
+mod sequence;
 mod track;
 mod whole;
 
-pub use law::{canonical_texts_are_no_prefixes, fragments_show_themselves, joins_are_cut_once};
-pub use put::{append_fragment, fragment_len, put_fragment};
-pub use read::{MoofFault, finish, read_fragment, read_moof};
+pub use law::{
+    canonical_texts_are_no_prefixes, fragments_show_themselves, joins_are_cut_once,
+    written_sequence_is_read,
+};
+pub use put::{append_fragment, append_fragment_head, fragment_len, put_fragment};
+pub use read::{finish, read_fragment, read_moof};
+pub use sequence::sequence_of;
+pub use sm_model::ReadFault as MoofFault;
 pub use track::track_of;
 pub use whole::{body_of, is_one_box};

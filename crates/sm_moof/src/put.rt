@@ -2,14 +2,15 @@
 #![tactic(auto, using(sm_box::proofs::FrontStays::stays_same, sm_box::proofs::FrontStays::stays_behind))]
 
 ghost use Rattle.std.specs.Prelude.{◌≡◌, ◌≤◌, ◌<◌, ◌^◌, ◌++◌, ℕ, length, OnOk, OnErr, IfOk};
+ghost use Rattle.std.specs.List.{flat_map};
 ghost use Rattle.sm_model.specs.Numbers.{number32};
 ghost use Rattle.sm_model.specs.Fragments.{sample_bytes, IsValid};
 ghost use Rattle.sm_box.specs.Appended.{StaysInFront};
-ghost use Rattle.sm_model.specs.FragText.{mfhd, moof, mdat, frag_text, moof_len};
+ghost use Rattle.sm_model.specs.FragText.{mfhd, moof, frag_text, moof_len};
 
 use sm_box::{append_head, append_u32};
 use sm_model::law::sizes_are_lengths;
-use sm_model::{Bytes, Fragment, NoMemory, Sample};
+use sm_model::{Bytes, Fragment, NoMemory, Sample, Samples};
 use sm_traf::{append_traf, traf_len};
 use std::alloc::Global;
 
@@ -62,17 +63,28 @@ fn total_len(samples: &[Sample]) -> u32
     total
 }
 
-fn append_mdat(out: &mut Vec<u8>, samples: &[Sample], total: u32) -> Result<(), NoMemory>
-    requires total { total ≡ sample_bytes samples.now }
-    requires short { sample_bytes samples.now ≤ 67108864 }
-    ensures ok { OnOk result (out.new.items ≡ out.old.items ++ mdat samples.now) }
+fn append_each(out: &mut Vec<u8>, samples: &[Sample]) -> Result<(), NoMemory>
+    ensures ok { OnOk result (out.new.items ≡ out.old.items ++ flat_map (λ s. s.bytes) samples.now) }
     ensures err { OnErr result (StaysInFront out.old.items out.new.items) }
 {
-    append_head(out, 8 + total, b"mdat")?;
     for sample in samples {
         out.extend_from_slice(sample.bytes.as_slice())?;
     }
     Ok(())
+}
+
+// The bytes of all samples, at once where they lie in one block.
+fn append_bytes(out: &mut Vec<u8>, samples: &Samples) -> Result<(), NoMemory>
+    ensures ok { OnOk result (out.new.items ≡ out.old.items ++ flat_map (λ s. s.bytes) samples.now) }
+    ensures err { OnErr result (StaysInFront out.old.items out.new.items) }
+{
+    match samples.joined() {
+        Some(bytes) => {
+            out.extend_from_slice(bytes)?;
+            Ok(())
+        }
+        None => append_each(out, samples.as_slice()),
+    }
 }
 
 /// How many bytes the canonical text of a fragment has.
@@ -84,6 +96,25 @@ pub fn fragment_len(fragment: &Fragment, ahead: &[(u64, u64)]) -> u32
     sizes_are_lengths();
     let samples = fragment.samples.as_slice();
     moof_len(samples, ahead) + 8 + total_len(samples)
+}
+
+/// Appends the front of the text that `put_fragment` gives: the `moof`, and the head of the `mdat`. With the bytes of all samples behind it,
+/// it is that text. Without memory for all of it a part may stand behind what was there.
+pub fn append_fragment_head(
+    out: &mut Vec<u8>,
+    seq: u32,
+    id: u32,
+    fragment: &Fragment,
+    ahead: &[(u64, u64)],
+) -> Result<(), NoMemory>
+    requires valid { IsValid fragment.now }
+    requires few { length ahead.now ≤ 255 }
+    ensures ok { OnOk result (out.new.items ++ flat_map (λ s. s.bytes) fragment.now.samples ≡ out.old.items ++ frag_text seq id fragment.now ahead.now) }
+    ensures stays { StaysInFront out.old.items out.new.items }
+{
+    let total = total_len(fragment.samples.as_slice());
+    append_moof(out, seq, id, fragment, ahead)?;
+    append_head(out, 8 + total, b"mdat")
 }
 
 /// Appends the text that `put_fragment` gives. Each sample is copied once. Without memory for all of it a part may stand
@@ -100,9 +131,8 @@ pub fn append_fragment(
     ensures ok { OnOk result (out.new.items ≡ out.old.items ++ frag_text seq id fragment.now ahead.now) }
     ensures err { OnErr result (StaysInFront out.old.items out.new.items) }
 {
-    let samples = fragment.samples.as_slice();
-    append_moof(out, seq, id, fragment, ahead)?;
-    append_mdat(out, samples, total_len(samples))
+    append_fragment_head(out, seq, id, fragment, ahead)?;
+    append_bytes(out, &fragment.samples)
 }
 
 /// The canonical text of a fragment: a `moof` and an `mdat` with this sequence number and track_ID, every field of each
@@ -123,6 +153,3 @@ pub fn put_fragment(
     append_fragment(&mut out, seq, id, fragment, ahead)?;
     Ok(Bytes::from_vec(out))
 }
-
-#[cfg(test)]
-mod tests;

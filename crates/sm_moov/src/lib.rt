@@ -9,11 +9,9 @@ mod heads;
 pub mod law;
 pub mod plain;
 mod read;
-#[cfg(test)]
-mod tests;
 mod trak;
 mod trexes;
 
 pub use bare::put_bare_moov;
-pub use read::{MoovFault, read_moov};
-pub use sm_model::{Heads, TrackHead};
+pub use read::read_moov;
+pub use sm_model::{Heads, ReadFault as MoovFault, TrackHead};

@@ -2,33 +2,13 @@
 ghost use Rattle.std.specs.Prelude.{◌≡◌, IfOk, map};
 ghost use Rattle.sm_model.specs.Moov.{moov, repeats, settled};
 ghost use Rattle.sm_moov.specs.Gives.{Gives};
-ghost use Rattle.sm_moov.specs.declared.read.MoovFault.TheVariants.{NoMemory as NoRoom};
 
 use crate::defaults::with_defaults;
 use crate::heads::read_heads;
 use crate::trexes::{Trex, read_trexes};
-use sm_model::{Cause, Heads, NoMemory, TrackHead};
+use sm_model::{Cause, Heads, NoMemory, ReadFault, TrackHead};
 use std::alloc::Global;
 use std::collections::BTreeSet;
-use thiserror::Error;
-
-/// Why a `moov` was not read.
-#[derive(Debug, Drop, PartialEq, Eq, Error)]
-pub enum MoovFault {
-    /// The `moov` is malformed: the cause is `BadMoov`.
-    #[error("{0}")]
-    Refused(Cause),
-    #[error("out of memory")]
-    NoMemory,
-}
-
-impl From<NoMemory> for MoovFault {
-    ghost from_gives = { λ _ e. e ≡ NoRoom };
-
-    fn from(_: NoMemory) -> MoovFault {
-        MoovFault::NoMemory
-    }
-}
 
 // Whether two tracks have one track_ID.
 fn repeats(alloc: Global, heads: &[TrackHead]) -> Result<bool, NoMemory>
@@ -43,11 +23,11 @@ fn repeats(alloc: Global, heads: &[TrackHead]) -> Result<bool, NoMemory>
 }
 
 #[tactic(auto, unfolding(sm_model::specs::Moov::settled))]
-fn settle(alloc: Global, trexes: &[Trex], heads: &[TrackHead]) -> Result<Heads, MoovFault>
+fn settle(alloc: Global, trexes: &[Trex], heads: &[TrackHead]) -> Result<Heads, ReadFault>
     ensures { Gives result (settled trexes.now heads.now) }
 {
     if repeats(alloc, heads)? {
-        return Err(MoovFault::Refused(Cause::BadMoov));
+        return Err(ReadFault::Refused(Cause::BadMoov));
     }
     Ok(Heads::from_vec(with_defaults(alloc, trexes, heads)?))
 }
@@ -59,14 +39,14 @@ fn settle(alloc: Global, trexes: &[Trex], heads: &[TrackHead]) -> Result<Heads, 
 /// is read of it or of another version than 0 and 1; where an `stsd` has no whole first entry; where a timescale is 0;
 /// where a `trex` is too short; and where two tracks have one track_ID. It takes memory in proportion to the body, and
 /// time in proportion to that and the logarithm of the number of tracks.
-pub fn read_moov(alloc: Global, body: &[u8]) -> Result<Heads, MoovFault>
+pub fn read_moov(alloc: Global, body: &[u8]) -> Result<Heads, ReadFault>
     ensures { Gives result (moov body.now) }
 {
     let Some(trexes) = read_trexes(alloc, body)? else {
-        return Err(MoovFault::Refused(Cause::BadMoov));
+        return Err(ReadFault::Refused(Cause::BadMoov));
     };
     let Some(heads) = read_heads(alloc, body)? else {
-        return Err(MoovFault::Refused(Cause::BadMoov));
+        return Err(ReadFault::Refused(Cause::BadMoov));
     };
     settle(alloc, &trexes, &heads)
 }

@@ -19,16 +19,16 @@ use Rattle.sm_archive.specs.Store.{IsStore}
 use Rattle.sm_archive.specs.Stands.{Stands}
 use Rattle.sm_cache.specs.declared.cache.Kept.{Kept}
 use Rattle.sm_origin.specs.declared.origin.Origin.{Origin}
-use Rattle.sm_origin.specs.declared.reply.Reply.{Reply}
-use Rattle.sm_origin.specs.Replies.{reply_of}
+use Rattle.sm_reply.specs.declared.reply.Reply.{Reply}
+use Rattle.sm_reply.specs.Replies.{reply_of}
 use Rattle.sm_origin.specs.Giving.{Made}
 use Rattle.sm_origin.specs.Machine.{Machine, SameLog, answered, Step, row, wants, entry_of}
 use Rattle.sm_origin.specs.Stores.{IsPartOf, Fits, FitsInside}
 use Rattle.sm_origin.specs.Acting.{IsHeld, AreHeld, StandsFor, ActGives}
 use Rattle.sm_origin.specs.Caching.{with_kept}
 use Rattle.sm_origin.proofs.Steps.{Stepped, fragment_step, kept_log}
-use Rattle.sm_origin.specs.Replies.{silent}
-use Rattle.sm_origin.specs.declared.reply.Counted.TheVariants as counted
+use Rattle.sm_reply.specs.Replies.{silent}
+use Rattle.sm_reply.specs.declared.reply.Counted.TheVariants as counted
 use Rattle.sm_archive.specs.declared.answers.Keeping.TheVariants as keeping
 use Rattle.sm_archive.specs.Keeping.{KeepStep}
 use Rattle.sm_log.specs.Logs.{IsSound}

@@ -12,8 +12,8 @@ use Rattle.sm_log.specs.Logs.{channel_of, adds_of, kept_at}
 use Rattle.lru.specs.LruCache.{LruCache}
 use Rattle.sm_cache.specs.declared.cache.Kept.{Kept}
 use Rattle.sm_head.specs.declared.reply.Content.TheVariants.{Mp4}
-use Rattle.sm_origin.specs.declared.reply.Reply.{Reply}
-use Rattle.sm_origin.specs.Replies.{ok, no_memory, reply_of, fragment_of, fragment_reply, kept_reply}
+use Rattle.sm_reply.specs.declared.reply.Reply.{Reply}
+use Rattle.sm_reply.specs.Replies.{ok, no_memory, reply_of, fragment_of, fragment_reply, kept_reply}
 use Rattle.sm_origin.specs.Giving.{Made, missing}
 use Rattle.sm_origin.specs.Caching.{Remembers, held_at, with_kept}
 use Rattle.sm_origin.proofs.Acts.{Places}

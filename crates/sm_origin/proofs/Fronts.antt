@@ -9,7 +9,7 @@ use Rattle.sm_model.specs.declared.no_memory.NoMemory.{NoMemory}
 use Rattle.sm_model.specs.declared.act.Act.TheVariants.{Fragment as Ask}
 use Rattle.sm_cache.specs.declared.cache.Kept.{Kept}
 use Rattle.sm_cache.specs.Pairs.{is_one_address}
-use Rattle.sm_origin.specs.declared.reply.Reply.{Reply}
+use Rattle.sm_reply.specs.declared.reply.Reply.{Reply}
 use Rattle.sm_origin.specs.Giving.{Made}
 use Rattle.sm_origin.specs.Acting.{IsHeld, AreHeld}
 use Rattle.sm_origin.specs.Caching.{Remembers, held_at, with_front}

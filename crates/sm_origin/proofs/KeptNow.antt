@@ -12,7 +12,7 @@ use Rattle.sm_model.specs.declared.fragment.Fragment.{Fragment}
 use Rattle.sm_model.specs.declared.track.Track.{Track}
 use Rattle.sm_model.specs.Causes.{cause_status}
 use Rattle.sm_model.specs.Entries.{address_of}
-use Rattle.sm_model.specs.LiveTracks.{is_same}
+use Rattle.sm_model.specs.Same.{is_same}
 use Rattle.sm_log.specs.declared.verdict.Decision.{Decision}
 use Rattle.sm_log.specs.declared.verdict.Decision.TheVariants as decisions
 use Rattle.sm_log.specs.declared.verdict.Judged.{Judged as Verdict}
@@ -20,9 +20,9 @@ use Rattle.sm_log.specs.declared.verdict.Judged.TheVariants as verdicts
 use Rattle.sm_log.specs.Adds.{Add, place_of, known_or_new, judged_by, is_declared, times_of}
 use Rattle.sm_log.specs.Times.{decision}
 use Rattle.sm_log.specs.Logs.{is_kept_at, kept_from, kept_at, adds_of, channel_of, verdict_by, verdict_on}
-use Rattle.sm_origin.specs.declared.reply.Reply.{Reply}
-use Rattle.sm_origin.specs.declared.reply.Counted.{Counted}
-use Rattle.sm_origin.specs.Replies.{unplaced}
+use Rattle.sm_reply.specs.declared.reply.Reply.{Reply}
+use Rattle.sm_reply.specs.declared.reply.Counted.{Counted}
+use Rattle.sm_reply.specs.Replies.{unplaced}
 use Rattle.sm_origin.specs.Machine.{Machine, There, by_verdict, judged}
 use Rattle.sm_origin.specs.Machine.{Writes, refused, there, full, kept, unwritten, Row, answered, unread, unsettled, wrote, Step, row, wants, untold}
 use Rattle.sm_origin.proofs.Telling.{refusal_status}

@@ -8,3 +8,4 @@ pub mod Telling
 pub mod KeptNow
 pub mod Real
 pub mod Showing
+pub mod Recalled

@@ -17,7 +17,7 @@ use Rattle.sm_model.specs.Causes.{cause_status, cause_line}
 use Rattle.sm_model.specs.Channels.{IsChannel}
 use Rattle.sm_model.specs.Fragments.{IsValid, IsWide}
 use Rattle.sm_model.specs.FragText.{frag_text}
-use Rattle.sm_model.specs.LiveTracks.{is_same}
+use Rattle.sm_model.specs.Same.{is_same}
 use Rattle.sm_model.specs.Written.{IsWritten}
 use Rattle.sm_log.specs.Times.{entry_at}
 use Rattle.sm_log.specs.Logs.{channel_of, kept_at, listed_in, ahead_in, IsSound}
@@ -27,8 +27,9 @@ use Rattle.sm_head.specs.Replies.{reply_text}
 use Rattle.sm_head.specs.Shown.{shows_status, body_of}
 use Rattle.sm_moof.specs.Shown.{NamesIn, ServesIn}
 use Rattle.sm_manout.specs.Shown.{ListsIn, IsWritable}
-use Rattle.sm_origin.specs.declared.reply.Reply.{Reply}
-use Rattle.sm_origin.specs.Replies.{closes, unplaced, ok, manifest_of, ids, id_in, fragment_of, manifest_reply, kept_reply, fragment_reply, reply_of}
+use Rattle.sm_reply.specs.declared.reply.Reply.{Reply}
+use Rattle.sm_reply.specs.Replies.{closes, unplaced, ok, manifest_of, fragment_of, manifest_reply, kept_reply, fragment_reply, reply_of}
+use Rattle.sm_log.specs.Adds.{ids, id_in}
 use Rattle.sm_origin.specs.Machine.{Machine, answered, unread, unsettled, wrote, Step, row, wants, untold}
 use Rattle.sm_origin.specs.Shown.{IsReal, Claim, KeptAs, Holds, Asked, Shows, lists, names, serves, acknowledges}
 use Rattle.sm_origin.proofs.Real.{channel_writable, kept_samples}

@@ -26,10 +26,10 @@ use Rattle.sm_archive.specs.Stands.{Stands}
 use Rattle.sm_archive.specs.Steps.{Settles, Clears}
 use Rattle.sm_archive.specs.Keeping.{KeepStep, refusal_of}
 use Rattle.sm_archive.specs.Declaring.{DeclareStep, refusal_in}
-use Rattle.sm_origin.specs.declared.reply.Reply.{Reply}
-use Rattle.sm_origin.specs.declared.reply.Counted.{Counted}
-use Rattle.sm_origin.specs.declared.reply.Counted.TheVariants as counted
-use Rattle.sm_origin.specs.Replies.{closes, unplaced, silent, no_memory}
+use Rattle.sm_reply.specs.declared.reply.Reply.{Reply}
+use Rattle.sm_reply.specs.declared.reply.Counted.{Counted}
+use Rattle.sm_reply.specs.declared.reply.Counted.TheVariants as counted
+use Rattle.sm_reply.specs.Replies.{closes, unplaced, silent, no_memory}
 use Rattle.sm_origin.specs.Answers.{IsTold, ToldHeader, ToldFragment, reply_to_header}
 use Rattle.sm_origin.specs.Machine.{Machine, SameLog, Fresh, There, Not, by_verdict, by_check, by_channel, judged, MeetsLimit, IsWithin, IsWithinNow}
 use Rattle.sm_origin.specs.Machine.{refused, there, full, kept, unwritten, Clear, Row, unsettled, wrote, Step, row, wants, untold, entry_of}

@@ -23,9 +23,9 @@ use Rattle.sm_head.specs.declared.reply.Content.TheVariants.{Plain, Xml, Mp4}
 use Rattle.sm_head.specs.Replies.{reply_text}
 use Rattle.sm_head.specs.Shown.{shows_status}
 use Rattle.sm_archive.specs.Declaring.{refusal_in}
-use Rattle.sm_origin.specs.declared.reply.Reply.{Reply}
-use Rattle.sm_origin.specs.declared.reply.Counted.{Counted}
-use Rattle.sm_origin.specs.Replies.{closes, told, unplaced, ok, silent, no_memory, manifest_of, fragment_of, counts_line, manifest_reply, kept_reply, fragment_reply, reply_of}
+use Rattle.sm_reply.specs.declared.reply.Reply.{Reply}
+use Rattle.sm_reply.specs.declared.reply.Counted.{Counted}
+use Rattle.sm_reply.specs.Replies.{closes, told, unplaced, ok, silent, no_memory, manifest_of, fragment_of, counts_line, manifest_reply, kept_reply, fragment_reply, reply_of}
 use Rattle.sm_origin.specs.Machine.{Machine, entry_of, Not, by_verdict, by_check, by_channel, judged}
 use Rattle.sm_origin.specs.Machine.{Writes, refused, there, full, kept, unwritten, Row, answered, unread, unsettled, wrote, Step, row, wants, untold}
 

@@ -16,7 +16,7 @@ use Rattle.sm_site.specs.Meanings.{View, DiskCall}
 use Rattle.sm_site.specs.Clauses.{Both, Rose, last_moment}
 use Rattle.sm_archive.specs.Stands.{Stands}
 use Rattle.sm_origin.specs.declared.origin.Origin.{Origin}
-use Rattle.sm_origin.specs.declared.reply.Reply.{Reply}
+use Rattle.sm_reply.specs.declared.reply.Reply.{Reply}
 use Rattle.sm_origin.specs.Machine.{Machine, SameLog, Step, entry_of}
 use Rattle.sm_origin.specs.Stores.{Fits, FitsInside}
 

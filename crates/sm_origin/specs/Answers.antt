@@ -1,14 +1,19 @@
 -- What an archive answers, as replies.
-use Rattle.std.specs.Prelude.{◌≡◌, ◌⊎◌}
+use Rattle.std.specs.Prelude.{◌≡◌, ◌⊎◌, List}
 use Rattle.sm_archive.specs.declared.answers.Declared.{Declared}
 use Rattle.sm_archive.specs.declared.answers.Declared.TheVariants as declared
 use Rattle.sm_archive.specs.declared.answers.Keeping.{Keeping}
 use Rattle.sm_archive.specs.declared.answers.Keeping.TheVariants as keeping
+use Rattle.sm_archive.specs.declared.fetch.Fetched.{Fetched}
+use Rattle.sm_archive.specs.declared.fetch.Fetched.TheVariants as fetched
+use Rattle.sm_model.specs.declared.address.Address.{Address}
+use Rattle.sm_model.specs.declared.entry.Entry.{Entry}
+use Rattle.sm_model.specs.declared.act.Act.TheVariants.{Fragment as Ask}
 use Rattle.sm_model.specs.declared.cause.Cause.{Cause}
 use Rattle.sm_model.specs.declared.cause.Cause.TheVariants as cause
-use Rattle.sm_origin.specs.declared.reply.Reply.{Reply}
-use Rattle.sm_origin.specs.declared.reply.Counted.TheVariants.{Kept, Known, Neither}
-use Rattle.sm_origin.specs.Replies.{unplaced, silent, no_memory}
+use Rattle.sm_reply.specs.declared.reply.Reply.{Reply}
+use Rattle.sm_reply.specs.declared.reply.Counted.TheVariants.{Kept, Known, Neither}
+use Rattle.sm_reply.specs.Replies.{unplaced, silent, no_memory, reply_of}
 
 abbrev pub reply_to_header : Declared → Reply
 reply_to_header declared.Fixed = silent Neither
@@ -25,6 +30,14 @@ reply_to_fragment (keeping.Refused why) = unplaced why
 reply_to_fragment keeping.Full = unplaced cause.Full
 reply_to_fragment keeping.DiskFault = unplaced cause.DiskFault
 reply_to_fragment keeping.NoMemory = no_memory
+
+-- what a connection would be told where this was read back: what the log answers, or why it could not be read
+abbrev pub reply_to_fetched : List Entry → Address → Fetched → Reply
+reply_to_fetched log a (fetched.Found place f) = reply_of log (Ask a)
+reply_to_fetched log a fetched.Absent = reply_of log (Ask a)
+reply_to_fetched log a fetched.DiskFault = unplaced cause.DiskFault
+reply_to_fetched log a fetched.Damaged = unplaced cause.Damaged
+reply_to_fetched log a fetched.NoMemory = no_memory
 
 -- a refusal is told, or memory is wanted for its text
 abbrev pub IsTold : Cause → Reply → Type 0

@@ -9,8 +9,8 @@ use Rattle.sm_model.specs.declared.act.Act.TheVariants.{Fragment as Ask, Frag}
 use Rattle.sm_model.specs.Entries.{address_of}
 use Rattle.sm_cache.specs.declared.cache.Kept.{Kept}
 use Rattle.sm_cache.specs.Pairs.{is_one_address}
-use Rattle.sm_origin.specs.declared.reply.Reply.{Reply}
-use Rattle.sm_origin.specs.declared.reply.Counted.TheVariants as counted
+use Rattle.sm_reply.specs.declared.reply.Reply.{Reply}
+use Rattle.sm_reply.specs.declared.reply.Counted.TheVariants as counted
 
 -- what is held at an address
 abbrev pub held_at : Address → LruCache Address Kept → Option Kept

@@ -10,8 +10,8 @@ use Rattle.sm_log.specs.Logs.{channel_of}
 use Rattle.sm_head.specs.declared.reply.Content.TheVariants.{Mp4}
 use Rattle.sm_archive.specs.declared.archive.Archive.{Archive}
 use Rattle.sm_archive.specs.Stands.{Keeps}
-use Rattle.sm_origin.specs.declared.reply.Reply.{Reply}
-use Rattle.sm_origin.specs.Replies.{unplaced, ok, no_memory, fragment_of}
+use Rattle.sm_reply.specs.declared.reply.Reply.{Reply}
+use Rattle.sm_reply.specs.Replies.{unplaced, ok, no_memory, fragment_of}
 
 -- the archive's log has what is told of it
 abbrev pub OfLog : Archive → (List Entry → Type 0) → Type 0

@@ -1,4 +1,3 @@
-pub mod Replies
 pub mod Answers
 pub mod Machine
 pub mod Stores

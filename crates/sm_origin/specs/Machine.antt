@@ -16,10 +16,10 @@ use Rattle.sm_log.specs.Logs.{kept_at, verdict_on, channel_of}
 use Rattle.sm_archive.specs.declared.archive.Archive.{Archive}
 use Rattle.sm_archive.specs.Keeping as keeping
 use Rattle.sm_archive.specs.Declaring as declaring
-use Rattle.sm_origin.specs.declared.reply.Reply.{Reply}
-use Rattle.sm_origin.specs.declared.reply.Counted.{Counted}
-use Rattle.sm_origin.specs.declared.reply.Counted.TheVariants.{Kept, Known, Neither}
-use Rattle.sm_origin.specs.Replies.{unplaced, silent, no_memory, reply_of}
+use Rattle.sm_reply.specs.declared.reply.Reply.{Reply}
+use Rattle.sm_reply.specs.declared.reply.Counted.{Counted}
+use Rattle.sm_reply.specs.declared.reply.Counted.TheVariants.{Kept, Known, Neither}
+use Rattle.sm_reply.specs.Replies.{unplaced, silent, no_memory, reply_of}
 
 -- A log, and an entry that may or may not be on the disk. The archive is there for its limits and for what its records use.
 pub record Machine : Type 0 where

@@ -8,13 +8,13 @@ ghost use Rattle.sm_origin.specs.Machine.{Machine};
 ghost use Rattle.sm_origin.specs.Acting.{StandsFor, IsValidAct, ActGives};
 ghost use Rattle.sm_origin.specs.Caching.{Remembers, held_at};
 
+use crate::counts::tell_counts;
 use crate::listing::list;
 use crate::origin::Origin;
-use crate::refusal::{tell, tell_at, tell_counts};
-use crate::reply::Reply;
 use crate::told::or_starved;
 use sm_archive::an_image_fits;
 use sm_model::{Act, Cause};
+use sm_reply::{Reply, tell, tell_at};
 use sm_site::Site;
 use std::alloc::Global;
 

@@ -12,12 +12,11 @@ ghost use Rattle.sm_origin.specs.Giving.{OfLog, Gives, missing};
 
 use crate::kept::give;
 use crate::origin::Origin;
-use crate::refusal::tell;
-use crate::reply::{Reply, starved};
 use crate::told::{or_starved, refuse};
 use sm_archive::{Archive, Fetched, an_image_fits};
 use sm_log::law::kept_is_added;
 use sm_model::{Address, Cause, Fragment, NoMemory};
+use sm_reply::{Reply, starved, tell};
 use sm_site::Disk;
 use std::alloc::Global;
 

@@ -3,18 +3,15 @@
 
 mod act;
 mod asking;
+mod counts;
 mod kept;
 pub mod law;
 mod listing;
 mod origin;
-mod refusal;
-mod reply;
+mod recalling;
 pub mod shown;
 mod told;
 mod writing;
 
 pub use origin::Origin;
-pub use reply::{Counted, Reply};
-
-#[cfg(test)]
-mod tests;
+pub use sm_reply::{Counted, Reply};

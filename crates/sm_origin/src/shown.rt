@@ -14,7 +14,7 @@ ghost use Rattle.sm_site.specs.Clauses.{Rose};
 ghost use Rattle.sm_site.specs.Image.{Image};
 ghost use Rattle.sm_archive.specs.Store.{IsStore};
 ghost use Rattle.sm_head.specs.Shown.{shows_status};
-ghost use Rattle.sm_origin.specs.declared.reply.Reply.{Reply};
+ghost use Rattle.sm_reply.specs.declared.reply.Reply.{Reply};
 ghost use Rattle.sm_origin.specs.Machine.{Machine, Step, entry_of};
 ghost use Rattle.sm_origin.specs.Shown.{IsReal, Claim, Holds, Asked, Shows};
 

@@ -4,10 +4,9 @@ ghost use Rattle.sm_model.specs.declared.cause.Cause.{Cause};
 ghost use Rattle.sm_origin.specs.Answers.{IsTold, ToldHeader, ToldFragment};
 ghost use Rattle.sm_origin.specs.Giving.{Made};
 
-use crate::refusal::tell;
-use crate::reply::{Counted, Reply, silent, starved};
 use sm_archive::{Declared, Keeping};
 use sm_model::{Cause, NoMemory};
+use sm_reply::{Counted, Reply, silent, starved, tell};
 use std::alloc::Global;
 
 // What was made, or the reply that tells want of memory.

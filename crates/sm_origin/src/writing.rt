@@ -13,11 +13,11 @@ ghost use Rattle.sm_origin.specs.Acting.{StandsFor, ActGives};
 ghost use Rattle.sm_origin.specs.Caching.{Remembers, with_kept};
 
 use crate::origin::Origin;
-use crate::reply::{Counted, Reply, silent};
 use crate::told::{tell_declared, tell_kept};
 use sm_archive::{Declared, Keeping, an_image_fits};
 use sm_log::law::{kept_is_added, listed_times_stay};
 use sm_model::{Channel, Fragment, NoMemory};
+use sm_reply::{Counted, Reply, silent};
 use sm_site::{Disk, Site};
 use std::alloc::Global;
 

@@ -5,8 +5,6 @@ mod fixed;
 mod ladder;
 mod policy;
 mod steps;
-#[cfg(test)]
-mod tests;
 
 pub use fixed::Fixed;
 pub use ladder::Ladder;

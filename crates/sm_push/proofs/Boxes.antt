@@ -5,13 +5,13 @@ use Rattle.std.specs.Option.{option_to_list}
 use Rattle.std.specs.List.{AllByRecursion}
 use Rattle.std.proofs.lemmas.Bool.{cases_lt, cond_both, lt-ltb, ltb-true, leb-true, and_parts}
 use Rattle.std.proofs.lemmas.List.{append_assoc, take-append-drop, length-take}
-use Rattle.sm_model.specs.declared.push.PushState.{PushState}
-use Rattle.sm_model.specs.declared.push.BoxDecision.{BoxDecision}
-use Rattle.sm_model.specs.declared.push.BoxDecision.TheVariants.{Wait, Refuse, Pass, Take}
+use Rattle.sm_push.specs.declared.state.PushState.{PushState}
+use Rattle.sm_push.specs.declared.state.BoxDecision.{BoxDecision}
+use Rattle.sm_push.specs.declared.state.BoxDecision.TheVariants.{Wait, Refuse, Pass, Take}
 use Rattle.sm_model.specs.Boxes.{IsOneBox, starts_whole, box_of}
-use Rattle.sm_model.specs.PushHeads.{decision, by_kind, user_sort, kind_sort, is as is_kind}
-use Rattle.sm_model.specs.PushBoxes.{Step, taken, passed}
-use Rattle.sm_model.specs.Body.{Outcome, ended, led_by, stepped, at_box, walk}
+use Rattle.sm_push.specs.PushHeads.{decision, by_kind, user_sort, kind_sort, is as is_kind}
+use Rattle.sm_push.specs.PushBoxes.{Step, taken, passed}
+use Rattle.sm_push.specs.Body.{Outcome, ended, led_by, stepped, at_box, walk}
 use Rattle.sm_model.proofs.BoxLemmas.{is_whole, size_of}
 use Rattle.sm_box.specs.Heads.{head_of}
 use Rattle.sm_box.specs.declared.head.Head.{Head}

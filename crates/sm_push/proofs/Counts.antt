@@ -2,13 +2,13 @@
 use Rattle.std.proofs.Common.{ℕ, zero, suc, ◌+◌, ◌-◌, ◌≤◌, ltb, List, [], ◌∷◌, ◌++◌, length, take, Option, Some, None, Ok, Err, arith}
 use Rattle.std.proofs.lemmas.Bool.{cond_both}
 use Rattle.std.specs.Option.{option_to_list}
-use Rattle.sm_model.specs.declared.push.PushState.{PushState}
-use Rattle.sm_model.specs.declared.push.BoxDecision.{BoxDecision}
-use Rattle.sm_model.specs.declared.push.BoxDecision.TheVariants.{Wait, Refuse, Pass, Take}
+use Rattle.sm_push.specs.declared.state.PushState.{PushState}
+use Rattle.sm_push.specs.declared.state.BoxDecision.{BoxDecision}
+use Rattle.sm_push.specs.declared.state.BoxDecision.TheVariants.{Wait, Refuse, Pass, Take}
 use Rattle.sm_model.specs.Items.{Given}
-use Rattle.sm_model.specs.PushHeads.{decision}
-use Rattle.sm_model.specs.PushBoxes.{Step, taken, passed}
-use Rattle.sm_model.specs.Body.{Outcome, stepped, at_box, walk}
+use Rattle.sm_push.specs.PushHeads.{decision}
+use Rattle.sm_push.specs.PushBoxes.{Step, taken, passed}
+use Rattle.sm_push.specs.Body.{Outcome, stepped, at_box, walk}
 
 -- a box gives one item at most
 stepped_few : (s : PushState) (step : Step) (size most : ℕ) (go : PushState → ℕ → Outcome) → ((next : PushState) (k : ℕ) → length (go next k).items ≤ most) → length (stepped s step size go).items ≤ most + 1

@@ -1,10 +1,10 @@
 -- A decision is one on the head that stands in front.
 use Rattle.std.proofs.Common.{◌≡◌, ℕ, ltb, eqb, List, length, refl, inl, inr}
 use Rattle.std.proofs.lemmas.Bool.{cases_Bool}
-use Rattle.sm_model.specs.declared.push.PushState.{PushState}
+use Rattle.sm_push.specs.declared.state.PushState.{PushState}
 use Rattle.sm_model.specs.Numbers.{number32_at}
 use Rattle.sm_model.specs.Boxes.{head_len, box_len}
-use Rattle.sm_model.specs.PushHeads.{decision}
+use Rattle.sm_push.specs.PushHeads.{decision}
 use Rattle.sm_box.specs.Heads.{head_of}
 use Rattle.sm_push.specs.Heads.{by_head}
 

@@ -9,7 +9,7 @@ use Rattle.sm_model.specs.declared.heads.TrackHead.{TrackHead}
 use Rattle.sm_model.specs.declared.smil.SmilTrack.{SmilTrack}
 use Rattle.sm_model.specs.declared.track.Track.{Track}
 use Rattle.sm_model.specs.declared.header.HeaderTrack.{HeaderTrack}
-use Rattle.sm_model.specs.Header.{head_for, heads_for, track_with, id_for, is_named, tracks_of, keys_of, timed, key_of, is_off, has_two_timescales}
+use Rattle.sm_push.specs.Header.{head_for, heads_for, track_with, id_for, is_named, tracks_of, keys_of, timed, key_of, is_off, has_two_timescales}
 
 as_many_by : (heads : List TrackHead) (t : SmilTrack) (ts : List SmilTrack) (hs : List TrackHead) (h : Option TrackHead) (rest : Option (List TrackHead))
     → ((more : List TrackHead) → rest ≡ Some more → length more ≡ length ts)

@@ -14,10 +14,10 @@ use Rattle.sm_model.specs.declared.smil.SmilTrack.{SmilTrack}
 use Rattle.sm_model.specs.declared.track.Track.{Track}
 use Rattle.sm_model.specs.declared.header.Header.{Header}
 use Rattle.sm_model.specs.Channels.{IsTrack, Agree, IsChannel, IsUntimed, Differ, IsSmil}
-use Rattle.sm_model.specs.LiveTracks.{is_same}
-use Rattle.sm_model.specs.LiveRead.{live_manifest}
+use Rattle.sm_model.specs.Same.{is_same}
+use Rattle.sm_smil.specs.LiveRead.{live_manifest}
 use Rattle.sm_model.specs.Moov.{moov}
-use Rattle.sm_model.specs.Header.{head_for, heads_for, timed, tracks_of, keys_of, is_off, has_two_timescales, names_protected, header_with, header_by, header_of}
+use Rattle.sm_push.specs.Header.{head_for, heads_for, timed, tracks_of, keys_of, is_off, has_two_timescales, names_protected, header_with, header_by, header_of}
 use Rattle.sm_push.proofs.HeaderLemmas.{as_many}
 
 -- a track's head has ticks

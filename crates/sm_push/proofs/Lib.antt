@@ -16,3 +16,4 @@ pub mod RuleHeads
 pub mod RuleSteps
 pub mod RuleBodies
 pub mod Joined
+mod HeaderApart

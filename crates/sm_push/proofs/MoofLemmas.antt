@@ -3,13 +3,13 @@ use Rattle.std.proofs.Common.{◌≡◌, ℕ, List, Option, Some, None, Result, 
 use Rattle.sm_model.specs.declared.cause.Cause.{Cause}
 use Rattle.sm_model.specs.declared.cause.Cause.TheVariants.{UnknownTrack}
 use Rattle.sm_model.specs.declared.header.HeaderTrack.{HeaderTrack}
-use Rattle.sm_model.specs.declared.push.PushState.{PushState}
+use Rattle.sm_push.specs.declared.state.PushState.{PushState}
 use Rattle.sm_model.specs.declared.run.Defaults.{Defaults}
 use Rattle.sm_model.specs.declared.run.Run.{Run}
 use Rattle.sm_model.specs.Frag.{moof_run}
 use Rattle.sm_model.specs.Moov.{no_defaults}
 use Rattle.sm_model.specs.TrackId.{track_id}
-use Rattle.sm_model.specs.PushBoxes.{Step, refuse, track_in, awaited, pending, moof_taken}
+use Rattle.sm_push.specs.PushBoxes.{Step, refuse, track_in, awaited, pending, moof_taken}
 use Rattle.sm_push.specs.Steps.{for_id, track_for, defaults_in}
 
 -- no cause depends on the defaults, and the track_ID that is found first is that of the run

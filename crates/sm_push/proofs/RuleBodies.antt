@@ -8,21 +8,21 @@ use Rattle.std.proofs.lemmas.List.{append_assoc, append-nil}
 use Rattle.sm_model.specs.declared.cause.Cause.{Cause}
 use Rattle.sm_model.specs.declared.cause.Cause.TheVariants.{OpenEnded, BadBox}
 use Rattle.sm_model.specs.declared.cause.Refusal.{Refusal}
-use Rattle.sm_model.specs.declared.push.PushState.{PushState}
-use Rattle.sm_model.specs.declared.push.PendingMoof.{PendingMoof}
-use Rattle.sm_model.specs.declared.push.HeaderStage.{HeaderStage}
-use Rattle.sm_model.specs.declared.push.HeaderStage.TheVariants.{Gathering, Complete}
-use Rattle.sm_model.specs.declared.push.TopBox.{TopBox}
-use Rattle.sm_model.specs.declared.push.TopBox.TheVariants.{Moof, Mdat, Moov, Manifest, Other}
-use Rattle.sm_model.specs.declared.push.BoxDecision.{BoxDecision}
-use Rattle.sm_model.specs.declared.push.BoxDecision.TheVariants.{Wait, Refuse, Pass, Take}
+use Rattle.sm_push.specs.declared.state.PushState.{PushState}
+use Rattle.sm_push.specs.declared.state.PendingMoof.{PendingMoof}
+use Rattle.sm_push.specs.declared.state.HeaderStage.{HeaderStage}
+use Rattle.sm_push.specs.declared.state.HeaderStage.TheVariants.{Gathering, Complete}
+use Rattle.sm_push.specs.declared.state.TopBox.{TopBox}
+use Rattle.sm_push.specs.declared.state.TopBox.TheVariants.{Moof, Mdat, Moov, Manifest, Other}
+use Rattle.sm_push.specs.declared.state.BoxDecision.{BoxDecision}
+use Rattle.sm_push.specs.declared.state.BoxDecision.TheVariants.{Wait, Refuse, Pass, Take}
 use Rattle.sm_model.specs.Numbers.{number32_at}
 use Rattle.sm_model.specs.Boxes.{IsOneBox, head_len, box_len, box_of, starts_whole}
 use Rattle.sm_model.specs.Frag.{first_cause}
 use Rattle.sm_model.specs.Items.{Given}
-use Rattle.sm_model.specs.PushHeads.{decision, ruling, is}
-use Rattle.sm_model.specs.PushBoxes.{Step, passed, taken, mdat_taken}
-use Rattle.sm_model.specs.Body.{Outcome, ended, refused, led_by, header_in, push_start, body}
+use Rattle.sm_push.specs.PushHeads.{decision, ruling, is}
+use Rattle.sm_push.specs.PushBoxes.{Step, passed, taken, mdat_taken}
+use Rattle.sm_push.specs.Body.{Outcome, ended, refused, led_by, header_in, push_start, body}
 use Rattle.sm_model.proofs.BoxLemmas.{lengths}
 use Rattle.sm_push.specs.Boxes.{bytes_of, box_gives, step_gives, rest_gives, rest_inside, boxes_give}
 use Rattle.sm_push.specs.Rules.{has_user, sort_of, has_head, place_behind, place_of_last, last_moof, track_of, fragment_gives, is_read, head_lines}
@@ -158,10 +158,10 @@ led_twice xs ys o =
     let made : List Given → Outcome = λ items. record { items = items; refusal = o.refusal; inside = o.inside; header = o.header } in
     ap made (sym (append_assoc xs ys o.items))
 
-record Went (headerless : Bool) (before : List (List ℕ)) (s : PushState) (todo : List (List ℕ)) : Type 0 where
-  next : PushState
-  knows : Knows headerless (before ++ todo) next
-  gives : (boxes : List (List ℕ)) (rest : List ℕ) → boxes_give s (todo ++ boxes) rest ≡ led_by (boxes_give s todo []).items (boxes_give next boxes rest)
+pub record Went (headerless : Bool) (before : List (List ℕ)) (s : PushState) (todo : List (List ℕ)) : Type 0 where
+  pub next : PushState
+  pub knows : Knows headerless (before ++ todo) next
+  pub gives : (boxes : List (List ℕ)) (rest : List ℕ) → boxes_give s (todo ++ boxes) rest ≡ led_by (boxes_give s todo []).items (boxes_give next boxes rest)
 
 pub at_end : (s : PushState) → boxes_give s [] [] ≡ ended s (is_some s.moof)
 at_end s = let wait = decision-nil s in rw wait refl
@@ -207,7 +207,7 @@ body_is reads headerless boxes each =
     ap (body headerless) (sym (append-nil (bytes_of boxes))) ∙ boxes_walk reads (push_start headerless) boxes [] each none_whole
 
 -- the boxes before were gone through
-start : Fragments → ReadsWhole → (headerless : Bool) (before : List (List ℕ)) → AllByRecursion IsOneBox before → (body headerless (bytes_of before)).refusal ≡ None → Went headerless [] (push_start headerless) before
+pub start : Fragments → ReadsWhole → (headerless : Bool) (before : List (List ℕ)) → AllByRecursion IsOneBox before → (body headerless (bytes_of before)).refusal ≡ None → Went headerless [] (push_start headerless) before
 start laws reads headerless before each none =
     went laws headerless [] before (push_start headerless) (nothing_known headerless) each (ap (λ (o : Outcome). o.refusal) (sym (body_is reads headerless before each)) ∙ none)
 

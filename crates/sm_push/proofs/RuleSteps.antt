@@ -11,21 +11,21 @@ use Rattle.sm_model.specs.declared.run.Run.{Run}
 use Rattle.sm_model.specs.declared.run.RawFragment.{RawFragment}
 use Rattle.sm_model.specs.declared.header.Header.{Header}
 use Rattle.sm_model.specs.declared.header.HeaderTrack.{HeaderTrack}
-use Rattle.sm_model.specs.declared.push.PushState.{PushState}
-use Rattle.sm_model.specs.declared.push.PendingMoof.{PendingMoof}
-use Rattle.sm_model.specs.declared.push.HeaderStage.{HeaderStage}
-use Rattle.sm_model.specs.declared.push.HeaderStage.TheVariants.{Gathering, Complete}
-use Rattle.sm_model.specs.declared.push.TopBox.{TopBox}
-use Rattle.sm_model.specs.declared.push.TopBox.TheVariants.{Moof, Mdat, Moov, Manifest, Other}
+use Rattle.sm_push.specs.declared.state.PushState.{PushState}
+use Rattle.sm_push.specs.declared.state.PendingMoof.{PendingMoof}
+use Rattle.sm_push.specs.declared.state.HeaderStage.{HeaderStage}
+use Rattle.sm_push.specs.declared.state.HeaderStage.TheVariants.{Gathering, Complete}
+use Rattle.sm_push.specs.declared.state.TopBox.{TopBox}
+use Rattle.sm_push.specs.declared.state.TopBox.TheVariants.{Moof, Mdat, Moov, Manifest, Other}
 use Rattle.sm_model.specs.Boxes.{box_of}
 use Rattle.sm_model.specs.Frag.{moof_run, frag, last, finish}
 use Rattle.sm_model.specs.Steps.{and_then}
 use Rattle.sm_model.specs.TrackId.{track_id}
 use Rattle.sm_model.specs.Moov.{no_defaults}
-use Rattle.sm_model.specs.Header.{header_of, track_with}
+use Rattle.sm_push.specs.Header.{header_of, track_with}
 use Rattle.sm_model.specs.Items.{Given}
-use Rattle.sm_model.specs.PushBoxes.{Step, past, passed, taken, manifest_text, moof_taken, pending, awaited, awaiting, track_in, mdat_taken, fragment_taken, moov_taken, manifest_taken, header_taken}
-use Rattle.sm_model.specs.Body.{push_start}
+use Rattle.sm_push.specs.PushBoxes.{Step, past, passed, taken, manifest_text, moof_taken, pending, awaited, awaiting, track_in, mdat_taken, fragment_taken, moov_taken, manifest_taken, header_taken}
+use Rattle.sm_push.specs.Body.{push_start}
 use Rattle.sm_push.specs.Boxes.{bytes_of}
 use Rattle.sm_push.specs.Rules.{sort_of, is_moof, is_moov, is_manifest, place_behind, place_of_last, last_moof, first_manifest, first_moov, header_said}
 use Rattle.sm_push.specs.Rules.{track_named, track_of, is_read, refused_at, moof_gives, header_gives, fragment_of, fragment_gives, top_gives}

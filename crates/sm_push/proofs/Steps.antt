@@ -7,26 +7,26 @@ use Rattle.std.proofs.lemmas.Bool.{cond_both, lt-ltb}
 use Rattle.sm_model.specs.declared.cause.Cause.{Cause}
 use Rattle.sm_model.specs.declared.cause.Cause.TheVariants.{CutOff}
 use Rattle.sm_model.specs.declared.cause.Refusal.{Refusal}
-use Rattle.sm_model.specs.declared.push.PushState.{PushState}
-use Rattle.sm_model.specs.declared.push.TopBox.{TopBox}
-use Rattle.sm_model.specs.declared.push.TopBox.TheVariants as sorts
-use Rattle.sm_model.specs.declared.push.HeaderStage.{HeaderStage}
-use Rattle.sm_model.specs.declared.push.HeaderStage.TheVariants.{Gathering, Complete}
-use Rattle.sm_model.specs.declared.push.PendingMoof.{PendingMoof}
+use Rattle.sm_push.specs.declared.state.PushState.{PushState}
+use Rattle.sm_push.specs.declared.state.TopBox.{TopBox}
+use Rattle.sm_push.specs.declared.state.TopBox.TheVariants as sorts
+use Rattle.sm_push.specs.declared.state.HeaderStage.{HeaderStage}
+use Rattle.sm_push.specs.declared.state.HeaderStage.TheVariants.{Gathering, Complete}
+use Rattle.sm_push.specs.declared.state.PendingMoof.{PendingMoof}
 use Rattle.sm_model.specs.declared.header.Header.{Header}
 use Rattle.sm_model.specs.declared.header.HeaderTrack.{HeaderTrack}
 use Rattle.sm_model.specs.declared.run.Run.{Run}
 use Rattle.sm_model.specs.declared.run.RawFragment.{RawFragment}
-use Rattle.sm_model.specs.declared.push.BoxDecision.{BoxDecision}
-use Rattle.sm_model.specs.declared.push.BoxDecision.TheVariants.{Wait, Refuse, Pass, Take}
+use Rattle.sm_push.specs.declared.state.BoxDecision.{BoxDecision}
+use Rattle.sm_push.specs.declared.state.BoxDecision.TheVariants.{Wait, Refuse, Pass, Take}
 use Rattle.sm_model.specs.Items.{Given}
-use Rattle.sm_model.specs.PushHeads.{decision}
+use Rattle.sm_push.specs.PushHeads.{decision}
 use Rattle.sm_model.specs.Boxes.{box_of}
 use Rattle.sm_model.specs.Frag.{moof_run, finish}
 use Rattle.sm_model.specs.Moov.{no_defaults}
-use Rattle.sm_model.specs.Header.{header_of}
-use Rattle.sm_model.specs.PushBoxes.{Step, taken, passed, manifest_text, track_in, awaited, pending, moof_taken, fragment_taken, mdat_taken, header_taken, moov_taken, manifest_taken}
-use Rattle.sm_model.specs.Body.{Outcome, ended, refused, led_by, stepped, at_box, header_in, walk, push_start, body, body_end}
+use Rattle.sm_push.specs.Header.{header_of}
+use Rattle.sm_push.specs.PushBoxes.{Step, taken, passed, manifest_text, track_in, awaited, pending, moof_taken, fragment_taken, mdat_taken, header_taken, moov_taken, manifest_taken}
+use Rattle.sm_push.specs.Body.{Outcome, ended, refused, led_by, stepped, at_box, header_in, walk, push_start, body, body_end}
 use Rattle.sm_push.specs.declared.fault.StepFault.{StepFault}
 use Rattle.sm_push.specs.declared.fault.StepFault.TheVariants as faults
 use Rattle.sm_push.specs.declared.fault.PushFault.TheVariants as pushes

@@ -7,17 +7,17 @@ use Rattle.std.proofs.lemmas.Bool.{cond_both, ltb-false}
 use Rattle.std.proofs.lemmas.List.{length-take}
 use Rattle.sm_model.specs.declared.cause.Cause.{Cause}
 use Rattle.sm_model.specs.declared.header.Header.{Header}
-use Rattle.sm_model.specs.declared.push.PushState.{PushState}
-use Rattle.sm_model.specs.declared.push.PendingMoof.{PendingMoof}
-use Rattle.sm_model.specs.declared.push.HeaderStage.{HeaderStage}
-use Rattle.sm_model.specs.declared.push.HeaderStage.TheVariants.{Gathering, Complete}
-use Rattle.sm_model.specs.declared.push.TopBox.{TopBox}
-use Rattle.sm_model.specs.declared.push.TopBox.TheVariants as sorts
-use Rattle.sm_model.specs.declared.push.BoxDecision.{BoxDecision}
-use Rattle.sm_model.specs.declared.push.BoxDecision.TheVariants.{Wait, Refuse, Pass, Take}
+use Rattle.sm_push.specs.declared.state.PushState.{PushState}
+use Rattle.sm_push.specs.declared.state.PendingMoof.{PendingMoof}
+use Rattle.sm_push.specs.declared.state.HeaderStage.{HeaderStage}
+use Rattle.sm_push.specs.declared.state.HeaderStage.TheVariants.{Gathering, Complete}
+use Rattle.sm_push.specs.declared.state.TopBox.{TopBox}
+use Rattle.sm_push.specs.declared.state.TopBox.TheVariants as sorts
+use Rattle.sm_push.specs.declared.state.BoxDecision.{BoxDecision}
+use Rattle.sm_push.specs.declared.state.BoxDecision.TheVariants.{Wait, Refuse, Pass, Take}
 use Rattle.sm_model.specs.Items.{Given}
-use Rattle.sm_model.specs.PushHeads.{decision, by_kind, ruling, behind_moof, user_sort, kind_sort, is as is_kind}
-use Rattle.sm_model.specs.Body.{Outcome, stepped, at_box, walk, push_start, body}
+use Rattle.sm_push.specs.PushHeads.{decision, by_kind, ruling, behind_moof, user_sort, kind_sort, is as is_kind}
+use Rattle.sm_push.specs.Body.{Outcome, stepped, at_box, walk, push_start, body}
 use Rattle.sm_box.specs.Heads.{head_of}
 use Rattle.sm_box.specs.declared.head.Head.{Head}
 use Rattle.sm_box.specs.declared.head.Head.TheVariants as heads
@@ -37,8 +37,8 @@ use Rattle.sm_model.specs.Sound.{IsSoundRun, IsSoundFragment}
 use Rattle.sm_model.specs.Frag.{moof_run, finish}
 use Rattle.sm_model.specs.Moov.{no_defaults}
 use Rattle.sm_model.specs.Channels.{IsChannel}
-use Rattle.sm_model.specs.Header.{header_of}
-use Rattle.sm_model.specs.PushBoxes.{Step, passed, named, manifest_text, track_in, awaited, pending, moof_taken, fragment_taken, mdat_taken, header_taken, moov_taken, manifest_taken, taken}
+use Rattle.sm_push.specs.Header.{header_of}
+use Rattle.sm_push.specs.PushBoxes.{Step, passed, named, manifest_text, track_in, awaited, pending, moof_taken, fragment_taken, mdat_taken, header_taken, moov_taken, manifest_taken, taken}
 
 -- a fragment that is sound, out of an mdat within the limit
 sound_valid : (md : List ℕ) (raw : RawFragment) (track : HeaderTrack) → IsSoundFragment md raw → length (box_of md).body ≤ 67108864 → IsValid (named track raw)

@@ -1,6 +1,6 @@
 -- Walking over bytes in pieces.
 use Rattle.std.proofs.Common.{◌≡◌, ℕ, zero, suc, ◌-◌, ◌≤◌, Bool, true, false, ltb, List, [], ◌∷◌, ◌++◌, length, take, refl, sym, ap, ◌∙◌, arith, inl, inr}
-use Rattle.sm_model.specs.declared.push.PushState.{PushState}
+use Rattle.sm_push.specs.declared.state.PushState.{PushState}
 use Rattle.std.specs.Prelude.{Ok, Err}
 use Rattle.std.specs.Option.{option_to_list}
 use Rattle.std.proofs.lemmas.Bool.{cases_Bool, ltb-false, le-ltb}
@@ -8,13 +8,13 @@ use Rattle.std.proofs.lemmas.List.{take-append-le, take_at, length-append, appen
 use Rattle.sm_model.specs.declared.cause.Cause.{Cause}
 use Rattle.sm_model.specs.declared.cause.Refusal.{Refusal}
 use Rattle.sm_model.specs.Items.{Given}
-use Rattle.sm_model.specs.declared.push.TopBox.{TopBox}
-use Rattle.sm_model.specs.declared.push.BoxDecision.{BoxDecision}
-use Rattle.sm_model.specs.declared.push.BoxDecision.TheVariants.{Wait, Refuse, Pass, Take}
-use Rattle.sm_model.specs.PushHeads.{decision}
-use Rattle.sm_model.specs.PushBoxes.{Step, taken, passed}
+use Rattle.sm_push.specs.declared.state.TopBox.{TopBox}
+use Rattle.sm_push.specs.declared.state.BoxDecision.{BoxDecision}
+use Rattle.sm_push.specs.declared.state.BoxDecision.TheVariants.{Wait, Refuse, Pass, Take}
+use Rattle.sm_push.specs.PushHeads.{decision}
+use Rattle.sm_push.specs.PushBoxes.{Step, taken, passed}
 use Rattle.sm_model.specs.declared.header.HeaderTrack.{HeaderTrack}
-use Rattle.sm_model.specs.Body.{Outcome, ended, refused, header_in, led_by, stepped, at_box, walk, IsFrontOf}
+use Rattle.sm_push.specs.Body.{Outcome, ended, refused, header_in, led_by, stepped, at_box, walk, IsFrontOf}
 use Rattle.sm_push.proofs.Stable.{IsMade, stable, decision-nil}
 
 pub walk-over : (s : PushState) (k : ℕ) (xs ys : List ℕ) → length xs ≤ k → walk s k (xs ++ ys) ≡ walk s (k - length xs) ys

@@ -7,11 +7,11 @@ use Rattle.std.proofs.lemmas.Slice.Eq.{bytes_eq-Decides}
 use Rattle.sm_model.specs.declared.heads.TrackHead.{TrackHead}
 use Rattle.sm_model.specs.declared.track.Track.{Track}
 use Rattle.sm_model.specs.Channels.{Agree, IsChannel}
-use Rattle.sm_model.specs.LiveTracks.{is_same}
-use Rattle.sm_model.specs.LiveRead.{live_manifest}
+use Rattle.sm_model.specs.Same.{is_same}
+use Rattle.sm_smil.specs.LiveRead.{live_manifest}
 use Rattle.sm_model.specs.Moov.{moov}
 use Rattle.sm_model.specs.MoovText.{numbered, head, heads}
-use Rattle.sm_model.specs.Header.{head_for, heads_for, tracks_of, keys_of, is_off, has_two_timescales, names_protected, header_with, header_of}
+use Rattle.sm_push.specs.Header.{head_for, heads_for, tracks_of, keys_of, is_off, has_two_timescales, names_protected, header_with, header_of}
 use Rattle.sm_smil.specs.Untimed.{untimed_tracks}
 use Rattle.sm_push.specs.Written.{written_keys}
 

@@ -2,17 +2,11 @@
 use Rattle.std.specs.Prelude.{◌≡◌, ℕ, Result, Ok, Err}
 use Rattle.sm_model.specs.declared.cause.Cause.{Cause}
 use Rattle.sm_model.specs.declared.cause.Cause.TheVariants.{BadLiveManifest}
-use Rattle.sm_push.specs.declared.header.HeaderFault.{HeaderFault}
-use Rattle.sm_push.specs.declared.header.HeaderFault.TheVariants.{Refused, NoMemory}
-
--- the value that the definition gives, or its cause, and nothing else but want of memory
-abbrev pub Gives : {A : Type 0} → Result A HeaderFault → Result A Cause → Type 0
-Gives (Ok value) defined = defined ≡ Ok value
-Gives (Err (Refused cause)) defined = defined ≡ Err cause
-Gives (Err NoMemory) defined = Unit {0}
+use Rattle.sm_model.specs.declared.fault.ReadFault.{ReadFault}
+use Rattle.sm_model.specs.declared.fault.ReadFault.TheVariants.{Refused, NoMemory}
 
 -- what a live manifest says, or its fault as the cause of the place inside it
-abbrev pub Reads : {A : Type 0} → Result A HeaderFault → Result A ℕ → Type 0
+abbrev pub Reads : {A : Type 0} → Result A ReadFault → Result A ℕ → Type 0
 Reads (Ok value) defined = defined ≡ Ok value
 Reads (Err (Refused cause)) defined = (inside : ℕ) × (cause ≡ BadLiveManifest inside) × (defined ≡ Err inside)
 Reads (Err NoMemory) defined = Unit {0}

@@ -2,13 +2,13 @@
 use Rattle.std.specs.Prelude.{◌≡◌, ℕ, Bool, true, false, List, [], ◌∷◌, ◌++◌, is_some, Ok, Err}
 use Rattle.std.specs.Option.{option_to_list}
 use Rattle.std.specs.List.{flat_map, AllByRecursion}
-use Rattle.sm_model.specs.declared.push.PushState.{PushState}
-use Rattle.sm_model.specs.declared.push.BoxDecision.{BoxDecision}
-use Rattle.sm_model.specs.declared.push.BoxDecision.TheVariants.{Wait, Refuse, Pass, Take}
+use Rattle.sm_push.specs.declared.state.PushState.{PushState}
+use Rattle.sm_push.specs.declared.state.BoxDecision.{BoxDecision}
+use Rattle.sm_push.specs.declared.state.BoxDecision.TheVariants.{Wait, Refuse, Pass, Take}
 use Rattle.sm_model.specs.Boxes.{IsOneBox, starts_whole}
-use Rattle.sm_model.specs.PushHeads.{decision}
-use Rattle.sm_model.specs.PushBoxes.{Step, taken, passed}
-use Rattle.sm_model.specs.Body.{Outcome, ended, refused, led_by, header_in}
+use Rattle.sm_push.specs.PushHeads.{decision}
+use Rattle.sm_push.specs.PushBoxes.{Step, taken, passed}
+use Rattle.sm_push.specs.Body.{Outcome, ended, refused, led_by, header_in}
 
 abbrev pub bytes_of : List (List ℕ) → List ℕ
 bytes_of boxes = flat_map (λ box. box) boxes

@@ -3,10 +3,10 @@ use Rattle.std.specs.Prelude.{ℕ, ◌≤◌, ◌<◌, List}
 use Rattle.sm_box.specs.declared.head.Head.{Head}
 use Rattle.sm_box.specs.declared.head.Head.TheVariants as heads
 use Rattle.sm_model.specs.declared.cause.Cause.TheVariants as causes
-use Rattle.sm_model.specs.declared.push.PushState.{PushState}
-use Rattle.sm_model.specs.declared.push.BoxDecision.{BoxDecision}
-use Rattle.sm_model.specs.declared.push.BoxDecision.TheVariants.{Wait, Refuse, Pass, Take}
-use Rattle.sm_model.specs.PushHeads.{by_kind}
+use Rattle.sm_push.specs.declared.state.PushState.{PushState}
+use Rattle.sm_push.specs.declared.state.BoxDecision.{BoxDecision}
+use Rattle.sm_push.specs.declared.state.BoxDecision.TheVariants.{Wait, Refuse, Pass, Take}
+use Rattle.sm_push.specs.PushHeads.{by_kind}
 
 abbrev pub by_head : PushState → List ℕ → Head → BoxDecision
 by_head s b heads.Short = Wait

@@ -1,12 +1,12 @@
 -- How many bytes of its push body a push holds, and how many it lacks.
 use Rattle.std.specs.Prelude.{ℕ, ◌+◌, ◌-◌, List, length, nat_lt, Option, Some, None, if◌then◌else◌}
-use Rattle.sm_model.specs.declared.push.HeaderStage.{HeaderStage}
-use Rattle.sm_model.specs.declared.push.HeaderStage.TheVariants.{Gathering, Complete}
-use Rattle.sm_model.specs.declared.push.TopBox.{TopBox}
-use Rattle.sm_model.specs.declared.push.TopBox.TheVariants.{Moof, Mdat, Moov, Manifest, Other}
-use Rattle.sm_model.specs.declared.push.BoxDecision.{BoxDecision}
-use Rattle.sm_model.specs.declared.push.BoxDecision.TheVariants.{Take}
-use Rattle.sm_model.specs.PushHeads.{decision}
+use Rattle.sm_push.specs.declared.state.HeaderStage.{HeaderStage}
+use Rattle.sm_push.specs.declared.state.HeaderStage.TheVariants.{Gathering, Complete}
+use Rattle.sm_push.specs.declared.state.TopBox.{TopBox}
+use Rattle.sm_push.specs.declared.state.TopBox.TheVariants.{Moof, Mdat, Moov, Manifest, Other}
+use Rattle.sm_push.specs.declared.state.BoxDecision.{BoxDecision}
+use Rattle.sm_push.specs.declared.state.BoxDecision.TheVariants.{Take}
+use Rattle.sm_push.specs.PushHeads.{decision}
 use Rattle.sm_push.specs.declared.kept.Kept.{Kept}
 
 -- the greatest box of a sort that is read; an mdat has at most 67,108,864 bytes behind a head of 16

@@ -1,3 +1,7 @@
+pub mod Header
+pub mod PushHeads
+pub mod PushBoxes
+pub mod Body
 pub mod Heads
 pub mod Answers
 pub mod Held

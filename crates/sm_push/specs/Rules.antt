@@ -11,19 +11,19 @@ use Rattle.sm_model.specs.declared.run.Run.{Run}
 use Rattle.sm_model.specs.declared.run.RawFragment.{RawFragment}
 use Rattle.sm_model.specs.declared.header.Header.{Header}
 use Rattle.sm_model.specs.declared.header.HeaderTrack.{HeaderTrack}
-use Rattle.sm_model.specs.declared.push.TopBox.{TopBox}
-use Rattle.sm_model.specs.declared.push.TopBox.TheVariants.{Moof, Mdat, Moov, Manifest}
+use Rattle.sm_push.specs.declared.state.TopBox.{TopBox}
+use Rattle.sm_push.specs.declared.state.TopBox.TheVariants.{Moof, Mdat, Moov, Manifest}
 use Rattle.sm_model.specs.Numbers.{number32_at}
 use Rattle.sm_model.specs.Boxes.{box_of, head_len, box_len}
 use Rattle.sm_model.specs.Frag.{Line, first_cause, moof_run, frag}
 use Rattle.sm_model.specs.TrackId.{track_id}
 use Rattle.sm_model.specs.Moov.{no_defaults}
-use Rattle.sm_model.specs.Header.{header_of, track_with}
+use Rattle.sm_push.specs.Header.{header_of, track_with}
 use Rattle.sm_model.specs.Items.{Given}
 use Rattle.sm_model.specs.Items as items
-use Rattle.sm_model.specs.PushHeads.{is, kind_sort, user_sort}
-use Rattle.sm_model.specs.PushBoxes.{manifest_text, named}
-use Rattle.sm_model.specs.Body.{Outcome}
+use Rattle.sm_push.specs.PushHeads.{is, kind_sort, user_sort}
+use Rattle.sm_push.specs.PushBoxes.{manifest_text, named}
+use Rattle.sm_push.specs.Body.{Outcome}
 use Rattle.sm_push.specs.Boxes.{bytes_of}
 
 -- ---- sorts of boxes

@@ -1,11 +1,11 @@
 -- What a push keeps, and which bytes it stands for.
 use Rattle.std.specs.Prelude.{◌≡◌, ℕ, ◌-◌, ◌<◌, ◌≤◌, ◌^◌, min, Bool, true, false, ◌⊎◌, List, [], ◌++◌, length, drop, Option, Some, None, Result, Ok, Err, if◌then◌else◌}
 use Rattle.std.specs.Option.{option_to_list}
-use Rattle.sm_model.specs.declared.push.HeaderStage.{HeaderStage}
-use Rattle.sm_model.specs.declared.push.HeaderStage.TheVariants.{Gathering, Complete}
+use Rattle.sm_push.specs.declared.state.HeaderStage.{HeaderStage}
+use Rattle.sm_push.specs.declared.state.HeaderStage.TheVariants.{Gathering, Complete}
 use Rattle.sm_model.specs.Items.{Given}
-use Rattle.sm_model.specs.PushHeads.{decision}
-use Rattle.sm_model.specs.Body.{Outcome, refused, led_by, header_in, walk, body, body_end}
+use Rattle.sm_push.specs.PushHeads.{decision}
+use Rattle.sm_push.specs.Body.{Outcome, refused, led_by, header_in, walk, body, body_end}
 use Rattle.sm_push.specs.declared.fault.StepFault.{StepFault}
 use Rattle.sm_push.specs.declared.fault.StepFault.TheVariants as faults
 use Rattle.sm_push.specs.declared.fault.PushFault.{PushFault}

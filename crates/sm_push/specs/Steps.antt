@@ -1,10 +1,10 @@
 -- What a step keeps and answers.
 use Rattle.std.specs.Prelude.{◌≡◌, ◌≤◌, ℕ, List, length, Option, Some, None, Result, Ok, Err}
-use Rattle.sm_model.specs.declared.push.HeaderStage.{HeaderStage}
-use Rattle.sm_model.specs.declared.push.HeaderStage.TheVariants.{Gathering, Complete}
-use Rattle.sm_model.specs.declared.push.PendingMoof.{PendingMoof}
-use Rattle.sm_model.specs.declared.push.PushState.{PushState}
-use Rattle.sm_model.specs.declared.push.TopBox.TheVariants.{Moof, Moov, Manifest}
+use Rattle.sm_push.specs.declared.state.HeaderStage.{HeaderStage}
+use Rattle.sm_push.specs.declared.state.HeaderStage.TheVariants.{Gathering, Complete}
+use Rattle.sm_push.specs.declared.state.PendingMoof.{PendingMoof}
+use Rattle.sm_push.specs.declared.state.PushState.{PushState}
+use Rattle.sm_push.specs.declared.state.TopBox.TheVariants.{Moof, Moov, Manifest}
 use Rattle.sm_model.specs.Boxes.{IsOneBox}
 use Rattle.sm_model.specs.Sound.{IsSoundRun}
 use Rattle.sm_model.specs.Items.{Given, given_of}
@@ -12,7 +12,7 @@ use Rattle.sm_model.specs.declared.run.Defaults.{Defaults}
 use Rattle.sm_model.specs.declared.header.HeaderTrack.{HeaderTrack}
 use Rattle.sm_model.specs.Moov.{no_defaults}
 use Rattle.sm_model.specs.TrackId.{track_id}
-use Rattle.sm_model.specs.PushBoxes.{Step, track_in}
+use Rattle.sm_push.specs.PushBoxes.{Step, track_in}
 use Rattle.sm_push.specs.Held.{most_of}
 use Rattle.sm_push.specs.declared.step.NewItem.{NewItem}
 use Rattle.sm_push.specs.declared.fault.StepFault.{StepFault}

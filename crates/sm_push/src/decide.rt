@@ -1,11 +1,11 @@
 //! What is done with a box, as its head says.
 ghost use Rattle.std.specs.Prelude.{◌≡◌, ◌≤◌, ◌+◌, length, take, drop};
-ghost use Rattle.sm_model.specs.PushHeads.{decision, by_kind, ruling, kind_sort, user_sort, within};
+ghost use Rattle.sm_push.specs.PushHeads.{decision, by_kind, ruling, kind_sort, user_sort, within};
 
 use crate::same::is_same;
+use crate::state::{BoxDecision, HeaderStage, PushState, TopBox};
 use sm_box::{BoxHead, Head};
 use sm_model::Cause;
-use sm_model::push::{BoxDecision, HeaderStage, PushState, TopBox};
 
 // In bytes, of the whole box.
 const MOOF_LIMIT: u64 = 2_097_152;

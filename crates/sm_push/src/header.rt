@@ -1,35 +1,20 @@
 //! The header of a push, out of a live manifest and a `moov`.
 ghost use Rattle.std.specs.Prelude.{◌≡◌, ◌≤◌, length, IfOk};
-ghost use Rattle.sm_model.specs.Header.{head_for, heads_for, tracks_of, keys_of, is_off, has_two_timescales, names_protected, header_with, header_by, header_of};
-ghost use Rattle.sm_model.specs.LiveRead.{live_manifest};
+ghost use Rattle.sm_push.specs.Header.{head_for, heads_for, tracks_of, keys_of, is_off, has_two_timescales, names_protected, header_with, header_by, header_of};
+ghost use Rattle.sm_smil.specs.LiveRead.{live_manifest};
 ghost use Rattle.sm_model.specs.Moov.{moov};
 ghost use Rattle.std.specs.List.{list_any};
-ghost use Rattle.sm_push.specs.Answers.{Gives, Reads};
-ghost use Rattle.sm_push.specs.declared.header.HeaderFault.TheVariants.{NoMemory as NoRoom};
+ghost use Rattle.sm_model.specs.Gives.{Gives};
+ghost use Rattle.sm_push.specs.Answers.{Reads};
 
 use crate::same::is_same;
 use sm_model::{
-    Cause, Channel, Header, HeaderTrack, HeaderTracks, Heads, NoMemory, Smil, SmilTrack, Track,
-    TrackHead,
+    Cause, Channel, Header, HeaderTrack, HeaderTracks, Heads, NoMemory, ReadFault, Smil, SmilTrack,
+    TextFault, Track, TrackHead,
 };
-use sm_moov::{MoovFault, read_moov};
-use sm_smil::{SmilFault, live_manifest_has_one_answer, read_live_manifest};
+use sm_moov::read_moov;
+use sm_smil::{live_manifest_has_one_answer, read_live_manifest};
 use std::alloc::Global;
-
-/// Why a header was not read.
-#[derive(Debug, Drop, PartialEq, Eq)]
-pub enum HeaderFault {
-    Refused(Cause),
-    NoMemory,
-}
-
-impl From<NoMemory> for HeaderFault {
-    ghost from_gives = { λ _ e. e ≡ NoRoom };
-
-    fn from(_: NoMemory) -> HeaderFault {
-        HeaderFault::NoMemory
-    }
-}
 
 // The head of the track with this track_ID.
 #[tactic(auto, using(crate::proofs::HeaderLemmas::head_here, crate::proofs::HeaderLemmas::head_on, crate::proofs::HeaderLemmas::head_end))]
@@ -79,7 +64,7 @@ fn tracks_of(alloc: Global, tracks: &[SmilTrack], heads: &[TrackHead]) -> Result
 }
 
 fn key_of(alloc: Global, track: &SmilTrack, head: &TrackHead) -> Result<HeaderTrack, NoMemory>
-    ensures { IfOk result (λ k. k ≡ Rattle.sm_model.specs.Header.key_of track.now head.now) }
+    ensures { IfOk result (λ k. k ≡ Rattle.sm_push.specs.Header.key_of track.now head.now) }
 {
     Ok(HeaderTrack {
         id: track.id,
@@ -137,21 +122,21 @@ fn is_protected(heads: &[TrackHead]) -> bool
     heads.iter().any(|head| head.protected)
 }
 
-#[tactic(auto, unfolding(sm_model::specs::Header::header_with))]
+#[tactic(auto, unfolding(crate::specs::Header::header_with))]
 fn header_with(
     alloc: Global,
     tracks: &[SmilTrack],
     heads: &[TrackHead],
-) -> Result<Header, HeaderFault>
+) -> Result<Header, ReadFault>
     requires { length heads.now ≡ length tracks.now }
     ensures { Gives result (header_with tracks.now heads.now) }
 {
     let channel = tracks_of(alloc, tracks, heads)?;
     if has_two_timescales(channel.as_slice()) {
-        return Err(HeaderFault::Refused(Cause::BadMoov));
+        return Err(ReadFault::Refused(Cause::BadMoov));
     }
     if is_protected(heads) {
-        return Err(HeaderFault::Refused(Cause::Protected));
+        return Err(ReadFault::Refused(Cause::Protected));
     }
     Ok(Header {
         channel,
@@ -160,31 +145,31 @@ fn header_with(
 }
 
 // The tracks of a live manifest.
-fn read_tracks(alloc: Global, text: &[u8]) -> Result<Smil, HeaderFault>
+fn read_tracks(alloc: Global, text: &[u8]) -> Result<Smil, ReadFault>
     ensures { Reads result (live_manifest text.now) }
 {
     live_manifest_has_one_answer();
     match read_live_manifest(alloc, text) {
         Ok(smil) => Ok(smil),
-        Err(SmilFault::Bad { at }) => {
-            Err(HeaderFault::Refused(Cause::BadLiveManifest { inside: at }))
+        Err(TextFault::Bad { at }) => {
+            Err(ReadFault::Refused(Cause::BadLiveManifest { inside: at }))
         }
-        Err(SmilFault::NoMemory) => Err(HeaderFault::NoMemory),
+        Err(TextFault::NoMemory) => Err(ReadFault::NoMemory),
     }
 }
 
 /// The header of the text of a live manifest and the body of a `moov`, or the first cause why it is refused.
-#[tactic(auto, using(crate::proofs::HeaderLemmas::as_many), unfolding(sm_model::specs::Header::header_of))]
-pub(crate) fn read_header(alloc: Global, text: &[u8], moov: &[u8]) -> Result<Header, HeaderFault>
+#[tactic(auto, using(crate::proofs::HeaderLemmas::as_many), unfolding(crate::specs::Header::header_of))]
+pub(crate) fn read_header(alloc: Global, text: &[u8], moov: &[u8]) -> Result<Header, ReadFault>
     ensures { Gives result (header_of text.now moov.now) }
 {
     let smil = read_tracks(alloc, text)?;
     match read_moov(alloc, moov) {
         Ok(heads) => match heads_for(alloc, heads.as_slice(), smil.as_slice())? {
             Some(found) => header_with(alloc, smil.as_slice(), found.as_slice()),
-            None => Err(HeaderFault::Refused(Cause::BadMoov)),
+            None => Err(ReadFault::Refused(Cause::BadMoov)),
         },
-        Err(MoovFault::Refused(_)) => Err(HeaderFault::Refused(Cause::BadMoov)),
-        Err(MoovFault::NoMemory) => Err(HeaderFault::NoMemory),
+        Err(ReadFault::Refused(_)) => Err(ReadFault::Refused(Cause::BadMoov)),
+        Err(ReadFault::NoMemory) => Err(ReadFault::NoMemory),
     }
 }

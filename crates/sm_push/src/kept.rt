@@ -1,7 +1,7 @@
 //! What a push keeps of its bytes, and its steps.
 ghost use Rattle.std.specs.Prelude.{◌≡◌, List, ℕ, [], ◌<◌, ◌≤◌, ◌+◌, ◌++◌, ◌⊎◌, min, length, IfOk, OnOk, OnErr, Err};
 ghost use Rattle.std.specs.Option.{option_to_list};
-ghost use Rattle.sm_model.specs.PushHeads.{decision};
+ghost use Rattle.sm_push.specs.PushHeads.{decision};
 ghost use Rattle.sm_push.specs.Heads.{FitsIn};
 ghost use Rattle.sm_push.specs.Steps.{given_in, HoldsBoxes};
 ghost use Rattle.sm_push.specs.Standing.{IsPartial, Advances, Settles, PieceGives, StaysInside, Grows, rest_of, kept_header};
@@ -10,9 +10,9 @@ ghost use Rattle.sm_push.specs.Held.{kept_bytes, lacking, missing_of};
 use crate::decide::decide;
 use crate::fault::{StepFault, refuse};
 use crate::held::Held;
+use crate::state::{BoxDecision, HeaderStage, PushState};
 use crate::step::{NewItem, pass, take};
 use sm_model::Items;
-use sm_model::push::{BoxDecision, HeaderStage, PushState};
 use std::alloc::Global;
 
 /// No head of a box is shorter, in bytes.

@@ -1,9 +1,9 @@
 //! Laws of push bodies. Each is the contract of a function that does nothing.
-ghost use Rattle.std.specs.Prelude.{◌≡◌, ◌≤◌, ◌++◌, Bool, List, [], ℕ, length, map, true, None, All, Ok};
-ghost use Rattle.sm_model.specs.Body.{body, body_end, IsFrontOf};
+ghost use Rattle.std.specs.Prelude.{◌≡◌, ◌≤◌, ◌++◌, Bool, List, [], ℕ, length, map, true, false, None, All, Ok};
+ghost use Rattle.sm_push.specs.Body.{body, body_end, IsFrontOf};
 ghost use Rattle.sm_model.specs.Canonical.{Canonical, IsJoin};
-ghost use Rattle.sm_push.specs.Joins.{given_by};
-ghost use Rattle.sm_model.specs.Body;
+ghost use Rattle.sm_push.specs.Joins.{given_by, FollowsHeader, HaveIds};
+ghost use Rattle.sm_push.specs.Body;
 ghost use Rattle.sm_model.specs.Boxes.{Box, IsBoxes, box_of};
 ghost use Rattle.std.specs.List.{AllByRecursion};
 ghost use Rattle.sm_push.specs.Boxes.{Splits, boxes_give};
@@ -11,13 +11,14 @@ ghost use Rattle.sm_push.specs.Validity.{IsValidItem};
 ghost use Rattle.sm_push.specs.Written.{written_keys};
 ghost use Rattle.sm_model.specs.declared.track.Track.{Track};
 ghost use Rattle.sm_model.specs.Channels.{IsChannel, IsNarrowTrack};
-ghost use Rattle.sm_model.specs.Header.{header_of};
-ghost use Rattle.sm_model.specs.LiveText.{live_text};
+ghost use Rattle.sm_push.specs.Header.{header_of};
+ghost use Rattle.sm_smil.specs.LiveText.{live_text};
 ghost use Rattle.sm_model.specs.MoovText.{bare_moov};
 
 use sm_box::law::{whole_is_read, written_box_is_read};
 use sm_model::law::{
-    boxes_are, frag_is_in_two_steps, read_is_sound, sizes_are_lengths, written_fragment_is_read,
+    boxes_are, causes_are_without_defaults, frag_is_in_two_steps, read_is_sound, sizes_are_lengths,
+    track_id_is_of_run, written_fragment_is_read,
 };
 use sm_moov::law::{timescales_are_positive, written_moov_is_read};
 use sm_smil::{
@@ -60,6 +61,31 @@ pub fn joined_texts_are_a_body()
     sizes_are_lengths();
     written_fragment_is_read();
     frag_is_in_two_steps();
+}
+
+/// Canonical texts behind what may end there and has a header give the fragments of their tracks, in their order, each with its
+/// track_ID, and nothing else; the header stays, and the body may end behind them.
+pub fn joined_texts_follow_a_header()
+    ensures items { (head b : List ℕ) (cs : List Canonical) → FollowsHeader head b cs
+        → (body false b).items ≡ (body false head).items ++ map given_by cs }
+    ensures header { (head b : List ℕ) (cs : List Canonical) → FollowsHeader head b cs → (body false b).header ≡ (body false head).header }
+    ensures end { (head b : List ℕ) (cs : List Canonical) → FollowsHeader head b cs → body_end false b ≡ None }
+{
+    whole_is_read();
+    written_box_is_read();
+    sizes_are_lengths();
+    written_fragment_is_read();
+    frag_is_in_two_steps();
+    causes_are_without_defaults();
+    track_id_is_of_run();
+}
+
+/// No two tracks of a header share a track_ID.
+pub fn tracks_of_a_header_differ()
+    ensures { (headerless : Bool) (b : List ℕ) → HaveIds (body headerless b).header }
+{
+    live_manifest_has_one_answer();
+    live_manifests_are_valid();
 }
 
 /// Bytes give no more items than there are bytes, so that their places fit wherever the number of bytes does.

@@ -2,7 +2,7 @@
 //! nothing.
 ghost use Rattle.std.specs.Prelude.{◌≡◌, ◌<◌, ◌++◌, Bool, List, ℕ, None, false, true, length, is_some};
 ghost use Rattle.std.specs.List.{AllByRecursion};
-ghost use Rattle.sm_model.specs.Body.{body};
+ghost use Rattle.sm_push.specs.Body.{body};
 ghost use Rattle.sm_model.specs.Boxes.{IsOneBox, starts_whole};
 ghost use Rattle.sm_push.specs.Boxes.{bytes_of};
 ghost use Rattle.sm_push.specs.Rules.{box_means, cut_means, header_said, last_moof, tracks_said, Adds, Stops};

@@ -1,15 +1,15 @@
 //! A push session.
 ghost use Rattle.std.specs.Prelude.{◌≡◌, ◌<◌, ◌≤◌, ◌+◌, ◌++◌, ◌↔◌, length, Bool, true, false, List, ℕ, [], IsTrue, IsErrOf, OnOk, OnErr};
-ghost use Rattle.sm_model.specs.Body.{body};
-ghost use Rattle.sm_model.specs.Body;
-ghost use Rattle.sm_model.specs.Header.{id_for};
+ghost use Rattle.sm_push.specs.Body.{body};
+ghost use Rattle.sm_push.specs.Body;
+ghost use Rattle.sm_push.specs.Header.{id_for};
 ghost use Rattle.sm_push.specs.Standing.{Stands, Answers, Ends, held_bytes, missing_bytes, push_header};
 
 use crate::fault::{PushFault, StepFault};
 use crate::held::Held;
 use crate::kept::Kept;
+use crate::state::{HeaderStage, PushState};
 use crate::track::id_for;
-use sm_model::push::{HeaderStage, PushState};
 use sm_model::{Cause, Items, Name, Refusal};
 use std::alloc::Global;
 use std::marker::Model;

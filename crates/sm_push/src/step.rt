@@ -3,21 +3,21 @@ ghost use Rattle.std.specs.Prelude.{◌≡◌, ◌≤◌, length, drop, OnOk, On
 ghost use Rattle.sm_model.specs.Boxes.{IsOneBox, box_of};
 ghost use Rattle.sm_model.specs.Frag.{moof_run};
 ghost use Rattle.sm_model.specs.Moov.{no_defaults};
-ghost use Rattle.sm_model.specs.Header.{header_of};
+ghost use Rattle.sm_push.specs.Header.{header_of};
 ghost use Rattle.sm_model.specs.Items.{given_of};
 ghost use Rattle.sm_model.specs.Items as items;
-ghost use Rattle.sm_model.specs.Body.{header_in};
-ghost use Rattle.sm_model.specs.PushBoxes.{taken, passed, awaiting, past, manifest_text, named, moof_taken, pending, track_in, mdat_taken, moov_taken, manifest_taken, header_taken};
+ghost use Rattle.sm_push.specs.Body.{header_in};
+ghost use Rattle.sm_push.specs.PushBoxes.{taken, passed, awaiting, past, manifest_text, named, moof_taken, pending, track_in, mdat_taken, moov_taken, manifest_taken, header_taken};
 ghost use Rattle.sm_push.specs.Steps.{Takes, HoldsBoxes, IsPending, track_for, defaults_in};
 ghost use Rattle.sm_push.specs.Held.{most_of};
 
 use crate::fault::{StepFault, refuse};
-use crate::header::{HeaderFault, read_header};
+use crate::header::read_header;
+use crate::state::{HeaderStage, PendingMoof, PushState, TopBox};
 use crate::track::{NO_DEFAULTS, defaults_of, track_in};
 use sm_model::law::{causes_are_without_defaults, read_is_sound, track_id_is_of_run};
-use sm_model::push::{HeaderStage, PendingMoof, PushState, TopBox};
-use sm_model::{Bytes, Cause, Defaults, Fragment, HeaderTrack, Item, RawFragment, Run};
-use sm_moof::{MoofFault, body_of, finish, read_moof, track_of};
+use sm_model::{Bytes, Cause, Defaults, Fragment, HeaderTrack, Item, RawFragment, ReadFault, Run};
+use sm_moof::{body_of, finish, read_moof, track_of};
 use std::alloc::Global;
 use std::mem;
 
@@ -97,8 +97,8 @@ fn take_moof(
             }
             None => Err(refuse(state.at, Cause::UnknownTrack)),
         },
-        Err(MoofFault::Refused(cause)) => Err(refuse(state.at, cause)),
-        Err(MoofFault::NoMemory) => Err(StepFault::NoMemory),
+        Err(ReadFault::Refused(cause)) => Err(refuse(state.at, cause)),
+        Err(ReadFault::NoMemory) => Err(StepFault::NoMemory),
     }
 }
 
@@ -122,15 +122,15 @@ fn named(track: HeaderTrack, raw: RawFragment) -> NewItem
 fn take_mdat(
     alloc: Global,
     state: &mut PushState,
-    whole: &[u8],
+    whole: Bytes,
 ) -> Result<Option<NewItem>, StepFault>
-    requires whole { IsOneBox whole.now }
+    requires whole { IsOneBox whole }
     requires boxes { HoldsBoxes state.old }
-    ensures takes { Takes state.new result (mdat_taken state.old.moof state.old whole.now) }
+    ensures takes { Takes state.new result (mdat_taken state.old.moof state.old whole) }
     ensures boxes { OnOk result (HoldsBoxes state.new) }
     ensures header { OnErr result (header_in state.new.stage ≡ header_in state.old.stage) }
 {
-    let size = whole.len() as u64;
+    let size = whole.len();
     match mem::replace(&mut state.moof, None) {
         None => {
             pass(state, size);
@@ -143,13 +143,13 @@ fn take_mdat(
                 at,
                 track,
             },
-        ) => match finish(alloc, lead, whole, run) {
+        ) => match finish(alloc, lead, whole.into_part(alloc)?, run) {
             Ok(raw) => {
                 pass(state, size);
                 Ok(Some(named(track, raw)))
             }
-            Err(MoofFault::Refused(cause)) => Err(refuse(at, cause)),
-            Err(MoofFault::NoMemory) => Err(StepFault::NoMemory),
+            Err(ReadFault::Refused(cause)) => Err(refuse(at, cause)),
+            Err(ReadFault::NoMemory) => Err(StepFault::NoMemory),
         },
     }
 }
@@ -178,8 +178,8 @@ fn complete(
                 id: 0,
             }))
         }
-        Err(HeaderFault::Refused(cause)) => Err(refuse(state.at, cause)),
-        Err(HeaderFault::NoMemory) => Err(StepFault::NoMemory),
+        Err(ReadFault::Refused(cause)) => Err(refuse(state.at, cause)),
+        Err(ReadFault::NoMemory) => Err(StepFault::NoMemory),
     }
 }
 
@@ -259,7 +259,7 @@ fn take_manifest(
 }
 
 /// Takes one whole box.
-#[tactic(auto, unfolding(sm_model::specs::PushBoxes::taken))]
+#[tactic(auto, unfolding(crate::specs::PushBoxes::taken))]
 pub(crate) fn take(
     alloc: Global,
     state: &mut PushState,
@@ -275,7 +275,7 @@ pub(crate) fn take(
 {
     match sort {
         TopBox::Moof => take_moof(alloc, state, whole.as_slice()),
-        TopBox::Mdat => take_mdat(alloc, state, whole.as_slice()),
+        TopBox::Mdat => take_mdat(alloc, state, whole),
         TopBox::Moov => take_moov(alloc, state, whole),
         TopBox::Manifest => take_manifest(alloc, state, whole),
         TopBox::Other => {

@@ -1,11 +1,11 @@
 //! The track of a fragment.
 ghost use Rattle.std.specs.Prelude.{◌≡◌, IfOk};
-ghost use Rattle.sm_model.specs.Header.{track_with, id_for, is_named};
-ghost use Rattle.sm_model.specs.PushBoxes.{track_in};
+ghost use Rattle.sm_push.specs.Header.{track_with, id_for, is_named};
+ghost use Rattle.sm_push.specs.PushBoxes.{track_in};
 ghost use Rattle.sm_push.specs.Steps.{defaults_in};
 
 use crate::same::is_same;
-use sm_model::push::HeaderStage;
+use crate::state::HeaderStage;
 use sm_model::{Defaults, HeaderTrack, Name, NoMemory};
 use std::alloc::Global;
 

@@ -4,3 +4,4 @@ pub mod AtRest
 pub mod Telling
 pub mod Late
 pub mod Waiting
+pub mod Numbers

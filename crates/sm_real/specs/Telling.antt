@@ -1,9 +1,9 @@
--- What an end on a machine tells: its counts, and nothing of what the system holds.
-use Rattle.std.specs.Prelude.{ℕ, None}
-use Rattle.sm_site.specs.Meanings.{View}
+-- What an end on a machine tells: its counts and what it is selected with, and nothing of what the system holds.
+use Rattle.std.specs.Prelude.{ℕ, Option, None}
+use Rattle.sm_site.specs.Meanings.{Chosen, View}
 
-abbrev pub counts_alone : ℕ → ℕ → ℕ → ℕ → View
-counts_alone reads disk_faults link_faults send_faults = record {
+abbrev pub counts_alone : ℕ → ℕ → ℕ → ℕ → Option Chosen → View
+counts_alone reads disk_faults link_faults send_faults chosen = record {
   moment = 0;
   contents = None;
   calls = None;
@@ -13,4 +13,5 @@ counts_alone reads disk_faults link_faults send_faults = record {
   script = None;
   link_faults = link_faults;
   send_faults = send_faults;
+  chosen = chosen;
 }

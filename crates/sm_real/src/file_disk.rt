@@ -1,5 +1,5 @@
 // The disk in a folder.
-ghost use Rattle.std.specs.Prelude.{◌≡◌, ◌≤◌, refl, IsErrOf, is_ok, is_some};
+ghost use Rattle.std.specs.Prelude.{◌≡◌, ◌≤◌, false, refl, IsErrOf, None, is_ok, is_some};
 ghost use Rattle.sm_site.specs.Clauses.{Rose};
 ghost use Rattle.sm_real.specs.Telling.{counts_alone};
 
@@ -33,16 +33,16 @@ impl<R: Files<File = File> + Drop> FileDisk<R> {
         }
     }
 
-    /// Takes a folder in place of the one before. It is made where it isn't there; one that another disk has is refused.
+    /// Takes a folder in place of the one before. One that isn't there is made, where it may be; one that another disk has is refused.
     /// After a refusal there is none.
-    pub fn choose(&mut self, store: &str) -> Result<(), OpenFault>
+    pub fn choose(&mut self, store: &str, may_make: bool) -> Result<(), OpenFault>
         ensures chosen { is_some self.new.folder ≡ is_ok result }
         ensures failed { IsErrOf result OpenFault.Failed → Rose self.old.faults self.new.faults }
         ensures faults { self.old.faults ≤ self.new.faults }
         ensures reads { self.new.reads ≡ self.old.reads }
     {
         self.folder = None;
-        match Folder::open(&self.rt, self.alloc, store) {
+        match Folder::open(&self.rt, store, may_make) {
             Ok(folder) => {
                 self.folder = Some(folder);
                 Ok(())
@@ -57,6 +57,15 @@ impl<R: Files<File = File> + Drop> FileDisk<R> {
         }
     }
 
+    /// Gives the folder up.
+    pub fn leave(&mut self)
+        ensures folder { is_some self.new.folder ≡ false }
+        ensures faults { self.new.faults ≡ self.old.faults }
+        ensures reads { self.new.reads ≡ self.old.reads }
+    {
+        self.folder = None;
+    }
+
     // A call failed, so the count rises.
     fn fail(&mut self) -> Failed
         ensures rose { Rose self.old.faults self.new.faults }
@@ -69,7 +78,7 @@ impl<R: Files<File = File> + Drop> FileDisk<R> {
 }
 
 impl<R: Files<File = File> + Drop> Disk for FileDisk<R> {
-    ghost view = { λ d. counts_alone d.reads d.faults 0 0 };
+    ghost view = { λ d. counts_alone d.reads d.faults 0 0 None };
 
     ghost may_leave = { λ d c. ⊥ };
 

@@ -8,7 +8,7 @@ use std::io::{self, Write};
 use std::rt::Files;
 
 /// The tracks of a play in files of the current folder: track k is appended to `track-k.frag`, which is made where it isn't there.
-/// They tell nothing of what the files hold.
+/// What was added of bytes that didn't all fit is cut off again. They tell nothing of what the files hold.
 #[derive(Drop)]
 pub struct FileTracks<R: Files<File = File> + Drop> {
     rt: R,
@@ -53,10 +53,14 @@ impl<R: Files<File = File> + Drop> FileTracks<R> {
     fn add(&mut self, number: u32, bytes: &[u8]) -> io::Result<()>
         ensures faults { self.new.faults ≡ self.old.faults }
     {
-        let mut track = self.open(number)?;
-        track.handle.write_all(bytes)?;
+        let track = self.open(number)?;
+        let length = track.handle.metadata()?.len();
+        let added = (&track.handle).write_all(bytes);
+        if added.is_err() {
+            track.handle.set_len(length)?;
+        }
         self.last = Some(track);
-        Ok(())
+        added
     }
 }
 

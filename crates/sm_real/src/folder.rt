@@ -29,8 +29,8 @@ struct Writing {
 /// failed nothing is written or synced any more, since the system may have dropped what it could not bring to rest.
 #[derive(Drop)]
 pub struct Folder {
-    path: String,
-    // It holds the lock for as long as it is open.
+    // It holds the lock for as long as it is open, and the files are named through it: wherever the folder is moved meanwhile, they stay
+    // in it.
     handle: File,
     writing: Option<Writing>,
     // No name came since the folder was last synced.
@@ -39,9 +39,11 @@ pub struct Folder {
 }
 
 impl Folder {
-    /// Opens a folder, which is made where it isn't there, and locks it. It fails where another one has it open.
-    pub fn open(files: &impl Files<File = File>, alloc: Global, path: &str) -> io::Result<Folder> {
-        make(files, path)?;
+    /// Opens a folder, which is made where it isn't there and may be, and locks it. It fails where another one has it open.
+    pub fn open(files: &impl Files<File = File>, path: &str, may_make: bool) -> io::Result<Folder> {
+        if may_make {
+            make(files, path)?;
+        }
         let handle = File::open(files, path)?;
         if !handle.metadata()?.is_dir() {
             return Err(ErrorKind::NotADirectory.into());
@@ -49,7 +51,6 @@ impl Folder {
         handle.try_lock()?;
         handle.sync_all()?;
         Ok(Folder {
-            path: String::from_str(alloc, path)?,
             handle,
             writing: None,
             named: true,
@@ -58,7 +59,7 @@ impl Folder {
     }
 
     fn name(&self, alloc: Global, file: u32) -> Result<String, AllocError> {
-        format!(in alloc; "{}/{:08}.seg", self.path.as_str(), file)
+        format!(in alloc; "/proc/self/fd/{}/{:08}.seg", self.handle.as_raw_fd(), file)
     }
 
     /// How many bytes a file has; none where it isn't there.
@@ -112,7 +113,7 @@ impl Folder {
         }
     }
 
-    /// Writes these bytes from a place on.
+    /// Writes these bytes from a place on. It fails where the file is shorter, as one is that was cut from outside.
     pub fn write_at(
         &mut self,
         files: &impl Files<File = File>,
@@ -129,7 +130,7 @@ impl Folder {
         }
         let mut writing = self.turn_to(files, alloc, file)?;
         writing.synced = false;
-        let written = writing.handle.write_all_at(bytes, at);
+        let written = put(&writing.handle, at, bytes);
         self.writing = Some(writing);
         written
     }
@@ -249,18 +250,34 @@ impl Folder {
     }
 }
 
-// Makes a folder where it isn't there, and brings its own name to rest.
+// Makes a folder where it isn't there, and brings its own name to rest. The folder above one that is there may be closed to us.
 fn make(files: &impl Files<File = File>, path: &str) -> io::Result<()> {
-    match fs::create_dir(files, path) {
-        Ok(()) => {}
-        Err(e) if e.kind() == ErrorKind::AlreadyExists => {}
+    let there = match fs::create_dir(files, path) {
+        Ok(()) => false,
+        Err(e) if e.kind() == ErrorKind::AlreadyExists => true,
         Err(e) => return Err(e),
+    };
+    match sync_above(files, path) {
+        Err(e) if there && e.kind() == ErrorKind::PermissionDenied => Ok(()),
+        synced => synced,
     }
+}
+
+// Brings the name of a folder to rest.
+fn sync_above(files: &impl Files<File = File>, path: &str) -> io::Result<()> {
     match Path::new(path).parent() {
         Some(parent) if parent.as_str().is_empty() => File::open(files, ".")?.sync_all(),
         Some(parent) => File::open(files, parent)?.sync_all(),
         None => Ok(()),
     }
+}
+
+// Writes these bytes from a place of a file on, which isn't past its end.
+fn put(handle: &File, at: u64, bytes: &[u8]) -> io::Result<()> {
+    if handle.metadata()?.len() < at {
+        return Err(ErrorKind::UnexpectedEof.into());
+    }
+    handle.write_all_at(bytes, at)
 }
 
 // Drops the system's copy of a file that was synced, so that what is read of it from now on is what the disk has. A sync

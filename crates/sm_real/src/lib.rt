@@ -3,6 +3,7 @@
 //! with bytes; each raises its count where a call fails.
 #![tactic(auto)]
 
+mod budget;
 mod fault;
 mod file_disk;
 mod file_tracks;
@@ -17,6 +18,7 @@ mod tcp_dial;
 mod tcp_link;
 #[cfg(test)]
 mod tests;
+mod trickle;
 
 pub use fault::OpenFault;
 pub use file_disk::FileDisk;

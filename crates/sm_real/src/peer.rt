@@ -1,18 +1,20 @@
 // One connection: what it has to read, and what it has not yet taken.
-ghost use Rattle.std.specs.Prelude.{◌≡◌, ◌≢◌, ◌↔◌, true, false, ◌≤◌, ◌+◌, ◌++◌, [], length, IfOk, OnOk};
+ghost use Rattle.std.specs.Prelude.{◌≡◌, ◌≢◌, ◌↔◌, ◌⊎◌, true, false, ◌≤◌, ◌<◌, ◌+◌, ◌++◌, [], length, IfOk, OnOk};
 ghost use Rattle.sm_real.specs.Found.{FitsIn};
 ghost use Rattle.sm_real.specs.Late.{IsLate};
 ghost use Rattle.sm_real.specs.Sends.{Sends};
 
 use crate::Patience;
+use crate::budget::Budget;
 use crate::outgoing::Outgoing;
+use crate::trickle::Trickle;
 use mio::event::Event as Readiness;
 use mio::net::TcpStream;
 use sm_site::Failed;
 use std::alloc::{AllocError, Global};
-use std::io::{ErrorKind, Read, Write};
+use std::io::{ErrorKind, IoSlice, Read, Write};
 use std::net::Shutdown;
-use std::time::Instant;
+use std::time::{Duration, Instant};
 
 /// Behind bytes that wait others are kept up to this many in all. Where nothing waits a send of any length is kept.
 const QUEUE: usize = 33_554_432;
@@ -60,6 +62,10 @@ pub struct Peer {
     queue: Outgoing,
     // How many bytes the system has taken.
     taken: u64,
+    // How many bytes are read at once.
+    budget: Budget,
+    // The head that it is sending.
+    head: Trickle,
     // Since when nothing was read from it, and the system has taken nothing for it.
     since: Instant,
 }
@@ -75,6 +81,8 @@ impl Peer {
             writable: true,
             queue: Outgoing::new(alloc),
             taken: 0,
+            budget: Budget::new(),
+            head: Trickle::new(),
             since: now,
         }
     }
@@ -114,6 +122,13 @@ impl Peer {
         now.saturating_duration_since(self.since).as_millis() >= u128::from(limit)
     }
 
+    // Whether it has sent nothing for too long, or the head of a request for too long.
+    fn is_tiring(&self, now: Instant, patience: &Patience) -> bool
+        ensures silent { IsLate patience.now.silent now self.now → result ≡ true }
+    {
+        self.is_late(now, patience.silent) || self.head.is_late(now, patience.head)
+    }
+
     /// Whether there is something to do for this peer. There is where its time is up.
     pub fn is_due(&self, now: Instant, patience: &Patience) -> bool
         ensures stuck { self.now.queue ≢ [] → IsLate patience.now.stuck now self.now → result ≡ true }
@@ -123,15 +138,32 @@ impl Peer {
             return self.writable || self.is_late(now, patience.stuck);
         }
         match self.phase {
-            Phase::Open => self.readable || self.is_late(now, patience.silent),
+            Phase::Open => self.readable || self.is_tiring(now, patience),
             Phase::Lingering => self.readable || self.is_late(now, patience.linger),
             Phase::Lost | Phase::Closing | Phase::Ended | Phase::Broken => true,
         }
     }
 
+    /// A turn of the loop on a piece of this peer took so many milliseconds.
+    pub fn weigh(&mut self, took: u128) {
+        self.budget.weigh(took);
+    }
+
+    /// So much of the time doesn't count, since nobody could be served.
+    pub fn forgive(&mut self, gap: Duration)
+        ensures queue { self.new.queue ≡ self.old.queue }
+        ensures number { self.new.number ≡ self.old.number }
+    {
+        if let Some(later) = self.since.checked_add(gap) {
+            self.since = later;
+        }
+        self.head.forgive(gap);
+    }
+
     /// Nothing more goes in or out, and the loop is to be told, unless it closed this peer.
     pub fn lose(&mut self, alloc: Global)
         ensures nothing { self.new.queue ≡ [] }
+        ensures number { self.new.number ≡ self.old.number }
     {
         self.phase = match self.phase {
             Phase::Open | Phase::Lost => Phase::Lost,
@@ -143,15 +175,17 @@ impl Peer {
     // At most one write of what waits.
     fn flush(&mut self, alloc: Global, now: Instant) -> Result<(), Failed>
         ensures goes_out { OnOk result (Sends [] self.old self.new) }
+        ensures moved { OnOk result ((self.new.since ≡ self.old.since) ⊎ (self.old.taken < self.new.taken)) }
     {
-        let (count, room) = offer(&self.stream, self.queue.as_slice())?;
+        let (count, room) = offer(&self.stream, self.queue.as_slice(), &[])?;
         let taken = self.taken.checked_add(count as u64).ok_or(Failed)?;
         self.taken = taken;
         self.writable = room;
         self.queue.pass(alloc, count);
-        if count > 0 {
-            self.since = now;
+        if count == 0 {
+            return Ok(());
         }
+        self.since = now;
         Ok(())
     }
 
@@ -159,6 +193,7 @@ impl Peer {
     fn receive(&mut self, buffer: &mut [u8]) -> Found
         ensures fits { FitsIn (length buffer.new) result }
         ensures queue { self.new.queue ≡ self.old.queue }
+        ensures taken { self.new.taken ≡ self.old.taken }
     {
         let room = buffer.len();
         match (&self.stream).read(buffer) {
@@ -180,8 +215,8 @@ impl Peer {
         }
     }
 
-    /// One step of this peer: at most one write and one read. It is given up where it has taken nothing of what waits for too
-    /// long, or where nothing waits and it has sent nothing for too long.
+    /// One step of this peer: at most one write and one read. It is given up where it has taken nothing of what waits for too long, and
+    /// the system takes nothing now either; or where nothing waits, and it has sent nothing for too long, or the head of a request.
     pub fn visit(
         &mut self,
         alloc: Global,
@@ -190,7 +225,7 @@ impl Peer {
         patience: &Patience,
     ) -> Found
         ensures fits { FitsIn (length buffer.new) result }
-        ensures stuck { self.old.writable ≡ false → IsLate patience.now.stuck now self.old → self.new.queue ≡ [] }
+        ensures stuck { IsLate patience.now.stuck now self.old → (self.new.queue ≡ []) ⊎ (self.old.taken < self.new.taken) }
         ensures silent { self.old.queue ≡ [] → self.old.phase ≡ Phase.Open → self.old.readable ≡ false
             → IsLate patience.now.silent now self.old → result ≡ Found.Left }
     {
@@ -198,6 +233,17 @@ impl Peer {
             self.go_on(alloc, buffer, now, patience)
         } else {
             self.step(buffer, now, patience)
+        }
+    }
+
+    // Writes, and gives the peer up where that fails, or where nothing has gone for too long.
+    fn write(&mut self, alloc: Global, now: Instant, limit: u64)
+        ensures stuck { IsLate limit now self.old → (self.new.queue ≡ []) ⊎ (self.old.taken < self.new.taken) }
+    {
+        // The system reports room only once much of it is free, and takes bytes as soon as there is any: so the last word is a write's.
+        let failed = self.flush(alloc, now).is_err();
+        if failed || self.is_queued() && self.is_late(now, limit) {
+            self.lose(alloc);
         }
     }
 
@@ -210,11 +256,10 @@ impl Peer {
         patience: &Patience,
     ) -> Found
         ensures fits { FitsIn (length buffer.new) result }
-        ensures stuck { self.old.writable ≡ false → IsLate patience.now.stuck now self.old → self.new.queue ≡ [] }
+        ensures stuck { IsLate patience.now.stuck now self.old → (self.new.queue ≡ []) ⊎ (self.old.taken < self.new.taken) }
     {
-        let failed = self.writable && self.flush(alloc, now).is_err();
-        if failed || self.is_queued() && self.is_late(now, patience.stuck) {
-            self.lose(alloc);
+        if self.writable || self.is_late(now, patience.stuck) {
+            self.write(alloc, now, patience.stuck);
         }
         if self.is_queued() {
             return Found::Nothing;
@@ -226,10 +271,11 @@ impl Peer {
     fn step(&mut self, buffer: &mut [u8], now: Instant, patience: &Patience) -> Found
         ensures fits { FitsIn (length buffer.new) result }
         ensures queue { self.new.queue ≡ self.old.queue }
+        ensures taken { self.new.taken ≡ self.old.taken }
         ensures silent { self.old.phase ≡ Phase.Open → self.old.readable ≡ false → IsLate patience.now.silent now self.old → result ≡ Found.Left }
     {
         match self.phase {
-            Phase::Open => self.listen(buffer, now, patience.silent),
+            Phase::Open => self.listen(buffer, now, patience),
             Phase::Lost => {
                 self.phase = Phase::Broken;
                 Found::Left
@@ -243,20 +289,25 @@ impl Peer {
         }
     }
 
-    fn listen(&mut self, buffer: &mut [u8], now: Instant, limit: u64) -> Found
+    fn listen(&mut self, buffer: &mut [u8], now: Instant, patience: &Patience) -> Found
         ensures fits { FitsIn (length buffer.new) result }
-        ensures silent { self.old.readable ≡ false → IsLate limit now self.old → result ≡ Found.Left }
+        ensures silent { self.old.readable ≡ false → IsLate patience.now.silent now self.old → result ≡ Found.Left }
         ensures queue { self.new.queue ≡ self.old.queue }
+        ensures taken { self.new.taken ≡ self.old.taken }
     {
+        let most = self.budget.bytes().min(buffer.len());
         let found = if self.readable {
-            self.receive(buffer)
-        } else if self.is_late(now, limit) {
+            self.receive(&mut buffer[..most])
+        } else if self.is_tiring(now, patience) {
             Found::Left
         } else {
             Found::Nothing
         };
         match found {
-            Found::Bytes(_) => self.since = now,
+            Found::Bytes(count) => {
+                self.since = now;
+                self.head.note(&buffer[..count], now);
+            }
             Found::Left => self.phase = Phase::Ended,
             Found::Nothing | Found::Gone => {}
         }
@@ -265,6 +316,7 @@ impl Peer {
 
     fn shut(&mut self, now: Instant)
         ensures queue { self.new.queue ≡ self.old.queue }
+        ensures taken { self.new.taken ≡ self.old.taken }
     {
         self.since = now;
         self.phase = match self.stream.shutdown(Shutdown::Write) {
@@ -277,6 +329,7 @@ impl Peer {
     fn drain(&mut self, buffer: &mut [u8], now: Instant, limit: u64) -> Found
         ensures fits { FitsIn (length buffer.new) result }
         ensures queue { self.new.queue ≡ self.old.queue }
+        ensures taken { self.new.taken ≡ self.old.taken }
     {
         if self.is_late(now, limit) {
             return Found::Gone;
@@ -287,17 +340,24 @@ impl Peer {
         }
     }
 
-    /// Sends what the peer takes at once, and keeps the rest for it.
-    pub fn send(&mut self, alloc: Global, bytes: &[u8], now: Instant) -> Result<(), Failed>
-        ensures goes_out { OnOk result (Sends bytes.now self.old self.new) }
+    /// Sends what the peer takes of both parts at once, and keeps the rest for it.
+    pub fn send(
+        &mut self,
+        alloc: Global,
+        head: &[u8],
+        tail: &[u8],
+        now: Instant,
+    ) -> Result<(), Failed>
+        ensures goes_out { OnOk result (Sends (head.now ++ tail.now) self.old self.new) }
     {
         if self.phase != Phase::Open {
             return Err(Failed);
         }
+        self.head.reply(head);
         let sent = if self.is_queued() {
-            self.append(bytes)
+            self.append(head, tail)
         } else {
-            self.begin(bytes, now)
+            self.begin(head, tail, now)
         };
         if sent.is_err() {
             self.lose(alloc);
@@ -305,33 +365,42 @@ impl Peer {
         sent
     }
 
-    fn begin(&mut self, bytes: &[u8], now: Instant) -> Result<(), Failed>
+    #[tactic(auto, using(crate::proofs::Parts::left_in_head, crate::proofs::Parts::left_in_tail))]
+    fn begin(&mut self, head: &[u8], tail: &[u8], now: Instant) -> Result<(), Failed>
         requires nothing_waits { self.old.queue ≡ [] }
-        ensures goes_out { OnOk result (Sends bytes.now self.old self.new) }
+        ensures goes_out { OnOk result (Sends (head.now ++ tail.now) self.old self.new) }
     {
-        let (count, room) = offer(&self.stream, bytes)?;
+        let (count, room) = offer(&self.stream, head, tail)?;
         let taken = self.taken.checked_add(count as u64).ok_or(Failed)?;
         self.taken = taken;
         self.writable = room;
         self.since = now;
-        self.keep(&bytes[count..])
+        if count < head.len() {
+            self.keep(&head[count..], tail)
+        } else {
+            self.keep(&[], &tail[count - head.len()..])
+        }
     }
 
-    fn append(&mut self, bytes: &[u8]) -> Result<(), Failed>
-        ensures waits { OnOk result (self.new.queue ≡ self.old.queue ++ bytes.now) }
+    fn append(&mut self, head: &[u8], tail: &[u8]) -> Result<(), Failed>
+        ensures waits { OnOk result (self.new.queue ≡ self.old.queue ++ (head.now ++ tail.now)) }
         ensures taken { self.new.taken ≡ self.old.taken }
     {
-        if bytes.len() > QUEUE || self.queue.len() > QUEUE - bytes.len() {
+        let waiting = self.queue.len();
+        if head.len() > QUEUE
+            || tail.len() > QUEUE - head.len()
+            || waiting > QUEUE - head.len() - tail.len()
+        {
             return Err(Failed);
         }
-        self.keep(bytes)
+        self.keep(head, tail)
     }
 
-    fn keep(&mut self, bytes: &[u8]) -> Result<(), Failed>
-        ensures waits { OnOk result (self.new.queue ≡ self.old.queue ++ bytes.now) }
+    fn keep(&mut self, head: &[u8], tail: &[u8]) -> Result<(), Failed>
+        ensures waits { OnOk result (self.new.queue ≡ self.old.queue ++ (head.now ++ tail.now)) }
         ensures taken { self.new.taken ≡ self.old.taken }
     {
-        match self.queue.push(bytes) {
+        match self.queue.push_both(head, tail) {
             Ok(()) => Ok(()),
             Err(AllocError) => Err(Failed),
         }
@@ -347,12 +416,12 @@ impl Peer {
     }
 }
 
-// How many of these the system takes at once, and whether there may be room for more.
-fn offer(mut stream: &TcpStream, bytes: &[u8]) -> Result<(usize, bool), Failed>
-    ensures count { IfOk result (λ r. r.0 ≤ length bytes.now) }
+// How many of both parts the system takes at once, and whether there may be room for more.
+fn offer(stream: &TcpStream, head: &[u8], tail: &[u8]) -> Result<(usize, bool), Failed>
+    ensures count { IfOk result (λ r. r.0 ≤ length (head.now ++ tail.now)) }
 {
-    match stream.write(bytes) {
-        Ok(n) => Ok((n, n == bytes.len())),
+    match stream.write_vectored(&[IoSlice::new(head), IoSlice::new(tail)]) {
+        Ok(n) => Ok((n, n == head.len().saturating_add(tail.len()))),
         Err(e) => match e.kind() {
             ErrorKind::WouldBlock => Ok((0, false)),
             ErrorKind::Interrupted => Ok((0, true)),

@@ -1,10 +1,14 @@
 // The connections of a link, in the order of their numbers.
-ghost use Rattle.std.specs.Prelude.{◌≡◌, ◌≤◌, ◌<◌, length, true, false, vec_len, IfSome, IfNone, slice_index_or};
+ghost use Rattle.std.specs.Prelude.{◌≡◌, ◌⊎◌, ◌≤◌, ◌<◌, ◌++◌, length, true, false, vec_len, IfSome, IfNone, OnOk, slice_index_or};
+ghost use Rattle.sm_real.specs.Numbers.{GivesUp, IsAt, SentTo, Touches};
 ghost use Rattle.sm_real.specs.Waiting.{waits, wait_in_all};
 ghost use Rattle.sm_real.specs.declared.peer.Peer.{Peer};
 
 use crate::peer::Peer;
+use mio::event::Event as Readiness;
+use sm_site::Failed;
 use std::alloc::{AllocError, Global};
+use std::time::{Duration, Instant};
 
 /// The most at once.
 const MOST: usize = 256;
@@ -38,11 +42,67 @@ impl Peers {
         self.list.get_mut(place)
     }
 
-    /// The one with a number.
-    pub fn find(&mut self, number: u64) -> Option<&mut Peer> {
-        match self.list.binary_search_by_key(&number, |peer| peer.number) {
-            Ok(place) => self.list.get_mut(place),
-            Err(_) => None,
+    // The place of the one with a number.
+    fn place(&self, number: u64) -> Option<usize>
+        ensures { IfSome result (λ place. IsAt number place self.now.list.items) }
+    {
+        for (place, peer) in self.list.iter().enumerate() {
+            if peer.number == number {
+                return Some(place);
+            }
+        }
+        None
+    }
+
+    /// Takes note of what the system reports of the one with a number.
+    pub fn note(&mut self, number: u64, readiness: &Readiness)
+        ensures { (self.new.list.items ≡ self.old.list.items) ⊎ Touches number self.old.list.items self.new.list.items }
+    {
+        if let Some(place) = self.place(number) {
+            self.list[place].note(readiness);
+        }
+    }
+
+    /// A turn of the loop on a piece of the one with a number took so many milliseconds.
+    pub fn weigh(&mut self, number: u64, took: u128)
+        ensures { (self.new.list.items ≡ self.old.list.items) ⊎ Touches number self.old.list.items self.new.list.items }
+    {
+        if let Some(place) = self.place(number) {
+            self.list[place].weigh(took);
+        }
+    }
+
+    /// Sends both parts to the one with a number.
+    pub fn send(
+        &mut self,
+        alloc: Global,
+        number: u64,
+        head: &[u8],
+        tail: &[u8],
+        now: Instant,
+    ) -> Result<(), Failed>
+        ensures sent { OnOk result (SentTo number (head.now ++ tail.now) self.old.list.items self.new.list.items) }
+        ensures no_other { (self.new.list.items ≡ self.old.list.items) ⊎ Touches number self.old.list.items self.new.list.items }
+    {
+        match self.place(number) {
+            Some(place) => self.list[place].send(alloc, head, tail, now),
+            None => Err(Failed),
+        }
+    }
+
+    /// The loop is done with the one with a number.
+    pub fn close(&mut self, number: u64)
+        ensures { (self.new.list.items ≡ self.old.list.items) ⊎ Touches number self.old.list.items self.new.list.items }
+    {
+        if let Some(place) = self.place(number) {
+            self.list[place].close();
+        }
+    }
+
+    /// So much of the time doesn't count for any.
+    pub fn forgive(&mut self, gap: Duration) {
+        for peer in &mut self.list {
+            peer.forgive(gap);
         }
     }
 
@@ -62,6 +122,7 @@ impl Peers {
     /// Gives up those for which most waits, until no more than so many bytes wait for all together.
     pub fn relieve(&mut self, alloc: Global, most: usize)
         ensures bounded { wait_in_all self.new.list.items ≤ most }
+        ensures gives_up { GivesUp self.old.list.items self.new.list.items }
     {
         'relieving: while self.exceed(most) {
             self.give_up(alloc);
@@ -87,6 +148,7 @@ impl Peers {
     // Gives up the one for which most waits.
     fn give_up(&mut self, alloc: Global)
         ensures fewer { 0 < wait_in_all self.old.list.items → wait_in_all self.new.list.items < wait_in_all self.old.list.items }
+        ensures gives_up { GivesUp self.old.list.items self.new.list.items }
     {
         if let Some(place) = self.greatest() {
             self.list[place].lose(alloc);

@@ -1,20 +1,23 @@
 // The site of a machine: the disk in a folder and the link over sockets.
-ghost use Rattle.std.specs.Prelude.{◌≡◌, refl};
+ghost use Rattle.std.specs.Prelude.{◌≡◌, ◌≤◌, refl, IsErrOf};
+ghost use Rattle.sm_site.specs.Clauses.{Rose};
 ghost use Rattle.sm_real.specs.Telling.{counts_alone};
 
 use crate::{FileDisk, OpenFault, TcpLink};
-use sm_site::{Disk, Event, Failed, Link, LinkError, Site, SiteError};
+use sm_site::{Disk, Event, Failed, Link, LinkError, Selection, Site, SiteError};
 use std::alloc::Global;
 use std::fs::File;
 use std::net::Net;
 use std::rt::Files;
 use std::time::Clock;
 
-/// A disk in a folder and a link over sockets. It tells no contents and no transcript.
+/// A disk in a folder and a link over sockets. It tells no contents and no transcript. After a refusal of `select` it has neither a
+/// folder nor a port.
 #[derive(Drop)]
 pub struct RealSite<R: Files<File = File> + Net + Clock + Drop> {
     disk: FileDisk<R>,
     link: TcpLink<R>,
+    selection: Option<Selection>,
 }
 
 impl<R: Files<File = File> + Net + Clock + Copy + Drop> RealSite<R> {
@@ -23,12 +26,41 @@ impl<R: Files<File = File> + Net + Clock + Copy + Drop> RealSite<R> {
         RealSite {
             disk: FileDisk::new(rt, alloc),
             link: TcpLink::new(rt, alloc),
+            selection: None,
+        }
+    }
+}
+
+impl<R: Files<File = File> + Net + Clock + Drop> RealSite<R> {
+    // Takes the folder, and listens.
+    fn open(&mut self, selection: &Selection) -> Result<(), SiteError>
+        ensures disk { IsErrOf result SiteError.Disk → Rose self.old.disk.faults self.new.disk.faults }
+        ensures link { IsErrOf result SiteError.Link → Rose self.old.link.faults self.new.link.faults }
+        ensures disk_faults { self.old.disk.faults ≤ self.new.disk.faults }
+        ensures link_faults { self.old.link.faults ≤ self.new.link.faults }
+        ensures reads { self.new.disk.reads ≡ self.old.disk.reads }
+        ensures send_faults { self.new.link.send_faults ≡ self.old.link.send_faults }
+        ensures numbers { self.new.link.next_number ≡ self.old.link.next_number }
+    {
+        match self.disk.choose(selection.store.as_str(), selection.make) {
+            Ok(()) => {}
+            Err(OpenFault::Failed) => return Err(SiteError::Disk),
+            Err(OpenFault::NoMemory) => return Err(SiteError::NoMemory),
+        }
+        let listening = match &selection.bind {
+            Some(address) => self.link.listen_on(address.as_str(), selection.port),
+            None => self.link.listen(selection.port),
+        };
+        match listening {
+            Ok(()) => Ok(()),
+            Err(OpenFault::Failed) => Err(SiteError::Link),
+            Err(OpenFault::NoMemory) => Err(SiteError::NoMemory),
         }
     }
 }
 
 impl<R: Files<File = File> + Net + Clock + Drop> Disk for RealSite<R> {
-    ghost view = { λ s. counts_alone s.disk.reads s.disk.faults s.link.faults s.link.send_faults };
+    ghost view = { λ s. counts_alone s.disk.reads s.disk.faults s.link.faults s.link.send_faults s.selection };
 
     ghost may_leave = { λ s c. ⊥ };
 
@@ -64,7 +96,7 @@ impl<R: Files<File = File> + Net + Clock + Drop> Disk for RealSite<R> {
 }
 
 impl<R: Files<File = File> + Net + Clock + Drop> Link for RealSite<R> {
-    ghost view = { λ s. counts_alone s.disk.reads s.disk.faults s.link.faults s.link.send_faults };
+    ghost view = { λ s. counts_alone s.disk.reads s.disk.faults s.link.faults s.link.send_faults s.selection };
 
     ghost may_leave = { λ s c. ⊥ };
 
@@ -82,6 +114,10 @@ impl<R: Files<File = File> + Net + Clock + Drop> Link for RealSite<R> {
         self.link.send(conn, bytes)
     }
 
+    fn send_both(&mut self, conn: u64, head: &[u8], tail: &[u8]) -> Result<(), Failed> {
+        self.link.send_both(conn, head, tail)
+    }
+
     fn close(&mut self, conn: u64) {
         self.link.close(conn);
     }
@@ -94,16 +130,17 @@ impl<R: Files<File = File> + Net + Clock + Drop> Site for RealSite<R> {
 
     ghost one_past = { λ s t c. (λ left. left, λ left. left) };
 
-    fn select(&mut self, store: &str, port: u16) -> Result<(), SiteError> {
-        match self.disk.choose(store) {
-            Ok(()) => {}
-            Err(OpenFault::Failed) => return Err(SiteError::Disk),
-            Err(OpenFault::NoMemory) => return Err(SiteError::NoMemory),
-        }
-        match self.link.listen(port) {
-            Ok(()) => Ok(()),
-            Err(OpenFault::Failed) => Err(SiteError::Link),
-            Err(OpenFault::NoMemory) => Err(SiteError::NoMemory),
+    fn select(&mut self, selection: Selection) -> Result<(), SiteError> {
+        match self.open(&selection) {
+            Ok(()) => {
+                self.selection = Some(selection);
+                Ok(())
+            }
+            Err(fault) => {
+                self.disk.leave();
+                self.selection = None;
+                Err(fault)
+            }
         }
     }
 }

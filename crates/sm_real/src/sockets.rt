@@ -1,9 +1,11 @@
 // Sockets, asked in turn.
-ghost use Rattle.std.specs.Prelude.{◌≡◌, ◌≤◌, ◌<◌, length, IfOk};
+ghost use Rattle.std.specs.Prelude.{◌≡◌, ◌⊎◌, ◌≤◌, ◌<◌, ◌++◌, length, OnOk};
 ghost use Rattle.sm_real.specs.Found.{IsPiece};
+ghost use Rattle.sm_real.specs.Numbers.{SentAmong, Touches};
 ghost use Rattle.sm_real.specs.Waiting.{wait_in_all};
 
 use crate::Patience;
+use crate::outgoing::copy;
 use crate::peer::{Found, Peer};
 use crate::peers::Peers;
 use mio::net::TcpListener;
@@ -20,11 +22,19 @@ const PIECE: usize = 65_536;
 /// The most reports of one wait.
 const REPORTS: usize = 256;
 
-/// The rest after a round without an event.
-const REST: u64 = 1;
+/// The rest after a round in which nothing was done for any peer, in milliseconds: the system wakes it for everything but limits of
+/// time.
+const REST: u64 = 100;
 
-/// What is taken at the start and given back with the first round.
-const SPARE: usize = 33_000_000;
+/// The rest after a round that gave no event, but did something for a peer, in milliseconds.
+const SHORT_REST: u64 = 1;
+
+/// Where two rounds lie farther apart than this, in milliseconds, the time between them doesn't count for the peers.
+const GAP: u64 = 1_000;
+
+/// What is taken at the start and given back with the first round, in bytes: above the length of most replies, and below that of a
+/// large part of a push, which is to go back to the system.
+const SPARE: usize = 4_000_000;
 
 const LISTENER: Token = Token(0);
 
@@ -36,6 +46,13 @@ pub enum Asked {
     Piece(u64, Piece),
     Left(u64),
     NoMemory,
+}
+
+// Whose piece was given last, and when.
+#[derive(Clone, Copy)]
+struct Given {
+    number: u64,
+    at: Instant,
 }
 
 /// A listener and its peers.
@@ -54,10 +71,15 @@ pub struct Sockets {
     turn: usize,
     // This round has given an event.
     busy: bool,
+    // This round has done something for a peer.
+    moved: bool,
+    // The piece that the loop has in hand.
+    given: Option<Given>,
     now: Instant,
     buffer: Box<[u8; PIECE]>,
-    // The C library asks the system anew for each large piece of memory, and gives each back at once, until one as large as this
-    // has come back; then it keeps them. Without that a long reply spends most of its time in page faults.
+    // GNU's C library asks the system anew for each large piece of memory, and gives each back at once, until one as large as this
+    // has come back; then it keeps those that are no larger. Without that a reply spends most of its time in page faults. Other
+    // libraries pass over it.
     spare: Vec<u8>,
     // Bytes of the buffer that are still to be given, and whose they are.
     held: usize,
@@ -85,6 +107,8 @@ impl Sockets {
             patience,
             turn: 0,
             busy: false,
+            moved: false,
+            given: None,
             now,
             buffer: Box::new(alloc, [0; PIECE])?,
             spare: Vec::with_capacity(alloc, SPARE)?,
@@ -98,8 +122,35 @@ impl Sockets {
         self.listener.local_addr()
     }
 
-    /// Goes on in rounds up to the next event. Where no round has one, or the system fails, this comes to nothing.
+    /// Goes on up to the next event. Where no round has one, or the system fails, this comes to nothing.
     pub fn next(&mut self, rt: &impl Clock, number: u64) -> Asked
+        ensures piece { IsPiece result }
+    {
+        self.weigh(rt);
+        let asked = self.seek(rt, number);
+        if let Asked::Piece(holder, _) = &asked
+            && let Ok(at) = Instant::now(rt)
+        {
+            self.given = Some(Given {
+                number: *holder,
+                at,
+            });
+        }
+        asked
+    }
+
+    // The loop is done with the piece that was given last.
+    fn weigh(&mut self, rt: &impl Clock) {
+        if let Some(given) = self.given.take()
+            && let Ok(now) = Instant::now(rt)
+        {
+            let took = now.saturating_duration_since(given.at).as_millis();
+            self.peers.weigh(given.number, took);
+        }
+    }
+
+    // Goes on in rounds up to the next event.
+    fn seek(&mut self, rt: &impl Clock, number: u64) -> Asked
         ensures piece { IsPiece result }
     {
         for _ in 0..u32::MAX {
@@ -116,26 +167,45 @@ impl Sockets {
 
     // Begins a round: what the system reports is noted, after a rest where the last round gave no event.
     fn gather(&mut self, rt: &impl Clock) -> io::Result<()> {
-        let rest = if self.busy { 0 } else { REST };
+        let rest = self.rest();
         self.busy = false;
+        self.moved = false;
         self.turn = 0;
         if self.spare.capacity() > 0 {
             self.spare = Vec::new(self.alloc);
         }
         self.poll
             .poll(&mut self.events, Some(Duration::from_millis(rest)))?;
-        self.now = Instant::now(rt)?;
+        self.turn_to(Instant::now(rt)?);
         for readiness in &self.events {
             let token = readiness.token();
             if token == LISTENER {
                 self.waiting = true;
                 continue;
             }
-            if let Some(peer) = self.peers.find(token.0 as u64) {
-                peer.note(readiness);
-            }
+            self.peers.note(token.0 as u64, readiness);
         }
         Ok(())
+    }
+
+    // How long the system is waited for, in milliseconds.
+    fn rest(&self) -> u64 {
+        if self.busy {
+            0
+        } else if self.moved {
+            SHORT_REST
+        } else {
+            REST
+        }
+    }
+
+    // A round begins now. Where the loop or the machine stood still, no peer could be served: that time doesn't count.
+    fn turn_to(&mut self, now: Instant) {
+        let gap = now.saturating_duration_since(self.now);
+        if gap.as_millis() > u128::from(GAP) {
+            self.peers.forgive(gap);
+        }
+        self.now = now;
     }
 
     // Asks those that this round has not asked, up to the first event. A connection that is taken gets this number.
@@ -154,6 +224,7 @@ impl Sockets {
             if !peer.is_due(self.now, &self.patience) {
                 continue;
             }
+            self.moved = true;
             let holder = peer.number;
             let buffer = self.buffer.as_mut_slice();
             match peer.visit(self.alloc, buffer, self.now, &self.patience) {
@@ -229,31 +300,20 @@ impl Sockets {
         Asked::Opened
     }
 
-    /// Sends to one, and gives up those for which most waits where too much does for all together.
-    pub fn send(&mut self, number: u64, bytes: &[u8]) -> Result<(), Failed>
+    /// Sends both parts to one, and gives up those for which most waits where too much does for all together.
+    pub fn send(&mut self, number: u64, head: &[u8], tail: &[u8]) -> Result<(), Failed>
         ensures bounded { wait_in_all self.new.peers.list.items ≤ self.new.patience.waiting }
+        ensures sent { OnOk result (SentAmong number (head.now ++ tail.now) self.old.peers.list.items self.new.peers.list.items) }
     {
-        let (alloc, now) = (self.alloc, self.now);
-        let sent = match self.peers.find(number) {
-            Some(peer) => peer.send(alloc, bytes, now),
-            None => Err(Failed),
-        };
-        self.peers.relieve(alloc, self.patience.waiting);
+        let sent = self.peers.send(self.alloc, number, head, tail, self.now);
+        self.peers.relieve(self.alloc, self.patience.waiting);
         sent
     }
 
-    pub fn close(&mut self, number: u64) {
-        if let Some(peer) = self.peers.find(number) {
-            peer.close();
-        }
+    /// The loop is done with one.
+    pub fn close(&mut self, number: u64)
+        ensures { (self.new.peers.list.items ≡ self.old.peers.list.items) ⊎ Touches number self.old.peers.list.items self.new.peers.list.items }
+    {
+        self.peers.close(number);
     }
-}
-
-// `to_vec` clones one by one; this is one move of memory.
-fn copy(alloc: Global, bytes: &[u8]) -> Result<Vec<u8>, AllocError>
-    ensures { IfOk result (λ copied. copied.items ≡ bytes.now) }
-{
-    let mut copied = Vec::with_capacity(alloc, bytes.len())?;
-    copied.extend_from_slice(bytes)?;
-    Ok(copied)
 }

@@ -1,5 +1,5 @@
 // The dial over sockets.
-ghost use Rattle.std.specs.Prelude.{◌≤◌, ◌<◌, length, vec_len, None, IfOk};
+ghost use Rattle.std.specs.Prelude.{◌≡◌, ◌≤◌, ◌<◌, length, vec_len, None, Some, IfOk, OnOk};
 ghost use Rattle.sm_fetch.specs.Exchanges.{Rose};
 ghost use Rattle.sm_fetch.specs.Origins.{Untold};
 
@@ -8,9 +8,10 @@ use sm_fetch::{Answer, Dial, DialError, Reply, read_reply};
 use sm_model::{Bytes, NoMemory};
 use std::alloc::{AllocError, Global};
 use std::io::{self, ErrorKind, Read, Write};
+use std::marker::Model;
 use std::net::{Net, SocketAddr, TcpStream, ToSocketAddrs};
 use std::thread;
-use std::time::{Clock, Duration};
+use std::time::{Clock, Duration, Instant};
 
 /// The most bytes of one read.
 const PIECE: usize = 65_536;
@@ -18,19 +19,45 @@ const PIECE: usize = 65_536;
 /// How long a connection may take to come about, and a peer to take nothing, in seconds.
 const STUCK: u64 = 30;
 
+/// How long an address is waited for that isn't the last one, in seconds.
+const SOON: u64 = 3;
+
 /// How many seconds a peer may send nothing.
 const SILENT: u32 = 30;
+
+/// How many seconds a reply may take, and how many bytes give it one second more.
+const WHOLE: u64 = 120;
+
+const MORE: u64 = 65_536;
+
+// The host and the port of the addresses.
+#[derive(Drop)]
+struct Target {
+    host: String,
+    port: u16,
+}
+
+impl Model for Target {
+    ghost use Rattle.std.specs.Prelude.{string_bytes};
+    ghost use Rattle.sm_fetch.specs.Exchanges.{Peer};
+
+    ghost Value = { Peer };
+
+    ghost view = { λ p. record { host = string_bytes p.host; port = p.port } };
+}
 
 /// A dial that makes a connection of its own for each exchange. It tells no exchanges. Until a host is chosen each exchange is lost.
 ///
 /// An exchange ends where the peer closes, at its limit, or where nothing more comes for a second and the reply is whole. It is lost
-/// where no address of the host takes a connection within 30 seconds, and where the connection fails, or the peer takes or sends
-/// nothing for 30 seconds, before the reply is whole.
+/// where no address of the host takes a connection, each but the last within 3 seconds and that one within 30; where the connection
+/// fails, or the peer takes or sends nothing for 30 seconds, before the reply is whole; and where the reply isn't whole two minutes
+/// after the request, and a second more for each 65,536 bytes of it. The address that took a connection comes first from then on.
 #[derive(Drop)]
 pub struct TcpDial<R: Net<Stream = TcpStream> + Clock + Drop> {
     rt: R,
     alloc: Global,
     addresses: Vec<SocketAddr>,
+    turned_to: Option<Target>,
     faults: u64,
 }
 
@@ -41,6 +68,7 @@ impl<R: Net<Stream = TcpStream> + Clock + Drop> TcpDial<R> {
             rt,
             alloc,
             addresses: Vec::new(alloc),
+            turned_to: None,
             faults: 0,
         }
     }
@@ -48,21 +76,50 @@ impl<R: Net<Stream = TcpStream> + Clock + Drop> TcpDial<R> {
     fn fail(&mut self)
         ensures rose { Rose self.old.faults self.new.faults }
         ensures later { self.old.faults ≤ self.new.faults }
+        ensures turned_to { self.new.turned_to ≡ self.old.turned_to }
     {
         self.faults = self.faults.saturating_add(1);
     }
 
-    // The first address that takes a connection.
-    fn connect(&self) -> io::Result<TcpStream> {
+    // Finds the addresses of a host.
+    fn turn_to(&mut self, host: &str, port: u16) -> Result<(), OpenFault>
+        ensures turned_to { OnOk result (self.new.turned_to ≡ Some (record { host = host.now; port = port })) }
+        ensures faults { self.new.faults ≡ self.old.faults }
+    {
+        let own = String::from_str(self.alloc, host)?;
+        match resolve(&self.rt, self.alloc, host, port) {
+            Ok(addresses) => {
+                self.addresses = addresses;
+                self.turned_to = Some(Target { host: own, port });
+                Ok(())
+            }
+            Err(e) => Err(OpenFault::of(&e)),
+        }
+    }
+
+    // A connection to the first address that takes one, which comes first from then on.
+    fn connect(&mut self) -> io::Result<TcpStream>
+        ensures faults { self.new.faults ≡ self.old.faults }
+        ensures turned_to { self.new.turned_to ≡ self.old.turned_to }
+    {
+        let (place, stream) = self.reach()?;
+        if place < self.addresses.len() {
+            self.addresses.swap(0, place);
+        }
+        stream.set_nodelay(true)?;
+        stream.set_read_timeout(Some(Duration::from_secs(1)))?;
+        stream.set_write_timeout(Some(Duration::from_secs(STUCK)))?;
+        Ok(stream)
+    }
+
+    // The place of the first address that takes a connection, and that.
+    fn reach(&self) -> io::Result<(usize, TcpStream)> {
         let mut last = ErrorKind::NotConnected.into();
-        for address in &self.addresses {
-            match TcpStream::connect_timeout(&self.rt, address, Duration::from_secs(STUCK)) {
-                Ok(stream) => {
-                    stream.set_nodelay(true)?;
-                    stream.set_read_timeout(Some(Duration::from_secs(1)))?;
-                    stream.set_write_timeout(Some(Duration::from_secs(STUCK)))?;
-                    return Ok(stream);
-                }
+        for (place, address) in self.addresses.iter().enumerate() {
+            let behind = self.addresses.len().saturating_sub(place);
+            let limit = Duration::from_secs(if behind > 1 { SOON } else { STUCK });
+            match TcpStream::connect_timeout(&self.rt, address, limit) {
+                Ok(stream) => return Ok((place, stream)),
                 Err(e) => last = e,
             }
         }
@@ -70,8 +127,10 @@ impl<R: Net<Stream = TcpStream> + Clock + Drop> TcpDial<R> {
     }
 
     // One exchange. A peer that refuses a request may close before it has taken all of it: what it answered counts, if it is whole.
-    fn ask(&self, request: &[u8], limit: u64) -> Result<Bytes, OpenFault>
+    fn ask(&mut self, request: &[u8], limit: u64) -> Result<Bytes, OpenFault>
         ensures within { IfOk result (λ bytes. length bytes ≤ limit) }
+        ensures faults { self.new.faults ≡ self.old.faults }
+        ensures turned_to { self.new.turned_to ≡ self.old.turned_to }
     {
         let stream = match self.connect() {
             Ok(stream) => stream,
@@ -86,17 +145,21 @@ impl<R: Net<Stream = TcpStream> + Clock + Drop> TcpDial<R> {
         }
     }
 
-    // What comes up to the end, the limit or a failure, and whether it was one of the first two.
+    // What comes up to the end, the limit, a failure or the end of the time, and whether it was one of the first two.
     fn take(&self, stream: &TcpStream, limit: u64) -> Result<(Vec<u8>, bool), OpenFault>
         ensures within { IfOk result (λ r. vec_len r.0 ≤ limit) }
     {
         let mut buffer = Box::new(self.alloc, [0u8; PIECE]).map_err(AllocError::from)?;
         let mut taken = Vec::new(self.alloc);
         let mut silent = 0u32;
+        let begun = Instant::now(&self.rt).map_err(|e| OpenFault::of(&e))?;
         'reading: for _ in 0..u64::MAX {
             let room = limit - taken.len() as u64;
             if room == 0 {
                 return Ok((taken, true));
+            }
+            if self.is_over(begun, taken.len() as u64) {
+                break;
             }
             match receive(stream, buffer.as_mut_slice(), room) {
                 Ok(0) => return Ok((taken, true)),
@@ -117,6 +180,14 @@ impl<R: Net<Stream = TcpStream> + Clock + Drop> TcpDial<R> {
             }
         }
         Ok((taken, false))
+    }
+
+    // Whether a reply of which so many bytes came has taken too long.
+    fn is_over(&self, begun: Instant, came: u64) -> bool {
+        match begun.elapsed(&self.rt) {
+            Ok(time) => time.as_secs() >= WHOLE + came / MORE,
+            Err(_) => true,
+        }
     }
 
     // Whether these bytes need no more to be a reply, or to be none.
@@ -157,6 +228,8 @@ impl<R: Net<Stream = TcpStream> + Clock + Drop> Dial for TcpDial<R> {
 
     ghost store = { λ _. Untold };
 
+    ghost chosen = { λ d. d.turned_to };
+
     ghost later = { λ _ _. Unit {0} };
 
     ghost later_same = { λ _. tt };
@@ -165,18 +238,14 @@ impl<R: Net<Stream = TcpStream> + Clock + Drop> Dial for TcpDial<R> {
 
     fn select(&mut self, host: &str, port: u16) -> Result<(), DialError> {
         self.addresses.clear();
-        match resolve(&self.rt, self.alloc, host, port) {
-            Ok(addresses) => {
-                self.addresses = addresses;
-                Ok(())
+        self.turned_to = None;
+        match self.turn_to(host, port) {
+            Ok(()) => Ok(()),
+            Err(OpenFault::NoMemory) => Err(DialError::NoMemory),
+            Err(OpenFault::Failed) => {
+                self.fail();
+                Err(DialError::Failed)
             }
-            Err(e) => match OpenFault::of(&e) {
-                OpenFault::NoMemory => Err(DialError::NoMemory),
-                OpenFault::Failed => {
-                    self.fail();
-                    Err(DialError::Failed)
-                }
-            },
         }
     }
 

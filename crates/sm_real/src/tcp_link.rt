@@ -1,5 +1,5 @@
 // The link over sockets.
-ghost use Rattle.std.specs.Prelude.{◌≡◌, ◌≢◌, ◌≤◌, IsErrOf, is_ok, is_some, false};
+ghost use Rattle.std.specs.Prelude.{◌≡◌, ◌≢◌, ◌≤◌, IsErrOf, None, is_ok, is_some, false};
 ghost use Rattle.sm_site.specs.Clauses.{Rose};
 ghost use Rattle.sm_real.specs.Telling.{counts_alone};
 
@@ -8,7 +8,7 @@ use crate::{OpenFault, Patience};
 use sm_site::{Event, Failed, Link, LinkError};
 use std::alloc::Global;
 use std::io::{self, ErrorKind};
-use std::net::{Ipv4Addr, Ipv6Addr, Net, SocketAddr};
+use std::net::{IpAddr, Ipv4Addr, Ipv6Addr, Net, SocketAddr};
 use std::time::Clock;
 
 /// A link over sockets, which are asked in turn. It tells nothing of what goes over them. Until it listens each call fails.
@@ -74,7 +74,40 @@ impl<R: Net + Clock + Drop> TcpLink<R> {
             self.sockets = None;
             return Ok(());
         }
-        match self.listen_everywhere(port) {
+        let listening = self.listen_everywhere(port);
+        self.counted(listening)
+    }
+
+    /// Listens at this port of one address, a literal of IPv4 or IPv6 without brackets; another text is refused. Port 0 listens nowhere.
+    pub fn listen_on(&mut self, address: &str, port: u16) -> Result<(), OpenFault>
+        ensures listens { port ≢ 0 → is_some self.new.sockets ≡ is_ok result }
+        ensures nowhere { port ≡ 0 → is_some self.new.sockets ≡ false }
+        ensures failed { IsErrOf result OpenFault.Failed → Rose self.old.faults self.new.faults }
+        ensures faults { self.old.faults ≤ self.new.faults }
+        ensures send_faults { self.new.send_faults ≡ self.old.send_faults }
+        ensures numbers { self.new.next_number ≡ self.old.next_number }
+    {
+        self.sockets = None;
+        if port == 0 {
+            return Ok(());
+        }
+        let listening = match IpAddr::parse_ascii(address.as_bytes()) {
+            Ok(address) => self.listen_at(SocketAddr::new(address, port)),
+            Err(_) => Err(ErrorKind::InvalidInput.into()),
+        };
+        self.counted(listening)
+    }
+
+    // What listening came to; a failure of the system is counted.
+    fn counted(&mut self, listening: io::Result<()>) -> Result<(), OpenFault>
+        ensures done { is_ok result ≡ is_ok listening }
+        ensures failed { IsErrOf result OpenFault.Failed → Rose self.old.faults self.new.faults }
+        ensures faults { self.old.faults ≤ self.new.faults }
+        ensures send_faults { self.new.send_faults ≡ self.old.send_faults }
+        ensures numbers { self.new.next_number ≡ self.old.next_number }
+        ensures sockets { self.new.sockets ≡ self.old.sockets }
+    {
+        match listening {
             Ok(()) => Ok(()),
             Err(e) => {
                 let fault = OpenFault::of(&e);
@@ -109,7 +142,7 @@ impl<R: Net + Clock + Drop> TcpLink<R> {
 }
 
 impl<R: Net + Clock + Drop> Link for TcpLink<R> {
-    ghost view = { λ l. counts_alone 0 0 l.faults l.send_faults };
+    ghost view = { λ l. counts_alone 0 0 l.faults l.send_faults None };
 
     ghost may_leave = { λ l c. ⊥ };
 
@@ -140,8 +173,12 @@ impl<R: Net + Clock + Drop> Link for TcpLink<R> {
     }
 
     fn send(&mut self, conn: u64, bytes: &[u8]) -> Result<(), Failed> {
+        self.send_both(conn, bytes, &[])
+    }
+
+    fn send_both(&mut self, conn: u64, head: &[u8], tail: &[u8]) -> Result<(), Failed> {
         if let Some(sockets) = &mut self.sockets
-            && sockets.send(conn, bytes).is_ok()
+            && sockets.send(conn, head, tail).is_ok()
         {
             return Ok(());
         }

@@ -2,7 +2,7 @@
 use super::*;
 use sm_ends::Tracks;
 use sm_fetch::{Answer, Dial, DialError};
-use sm_site::{Disk, Event, Failed, Link, Site, SiteError};
+use sm_site::{Disk, Event, Failed, Link, Selection, Site, SiteError};
 use std::alloc::{AllocError, Global};
 use std::io::{Read, Write};
 use std::net::{Ipv4Addr, Shutdown, SocketAddr, TcpListener, TcpStream};
@@ -16,6 +16,17 @@ fn store(rt: &HostRuntime, name: &str) -> Result<String, Fail> {
     Ok(format!(in rt.alloc(); "/tmp/sm_real_{name}_{own}")?)
 }
 
+// That folder and that port.
+fn at_port(alloc: Global, store: &str, port: u16) -> Result<Selection, Fail> {
+    Ok(Selection {
+        store: String::from_str(alloc, store)?,
+        make: true,
+        port,
+        bind: None,
+        journal: None,
+    })
+}
+
 fn any_port() -> SocketAddr {
     SocketAddr::from((Ipv4Addr::LOCALHOST, 0))
 }
@@ -25,6 +36,7 @@ fn short() -> Patience {
     Patience {
         stuck: 200,
         silent: 200,
+        head: 200,
         linger: 200,
         waiting: 33_554_432,
     }
@@ -54,7 +66,7 @@ fn files_have_what_was_written(rt: HostRuntime) -> Result<(), Fail> {
     let store = store(&rt, "files")?;
     let mut disk = FileDisk::new(&rt, rt.alloc());
     assert_eq!(rt; disk.size(7), Err(Failed));
-    disk.choose(&store)?;
+    disk.choose(&store, true)?;
     assert_eq!(rt; disk.size(7), Ok(0));
     assert_eq!(rt; disk.sync(7), Ok(()));
     assert_eq!(rt; disk.write_at(7, 0, b"0123"), Ok(()));
@@ -82,13 +94,16 @@ fn files_have_what_was_written(rt: HostRuntime) -> Result<(), Fail> {
 fn a_store_is_had_by_one(rt: HostRuntime) -> Result<(), Fail> {
     let store = store(&rt, "one")?;
     let mut first = RealSite::new(&rt, rt.alloc());
-    assert_eq!(rt; first.select(&store, 0), Ok(()));
+    assert_eq!(rt; first.select(at_port(rt.alloc(), &store, 0)?), Ok(()));
     let mut second = RealSite::new(&rt, rt.alloc());
-    assert_eq!(rt; second.select(&store, 0), Err(SiteError::Disk));
+    assert_eq!(rt;
+        second.select(at_port(rt.alloc(), &store, 0)?),
+        Err(SiteError::Disk)
+    );
     assert_eq!(rt; second.write_at(0, 0, b"x"), Err(Failed));
     assert_eq!(rt; first.write_at(0, 0, b"x"), Ok(()));
     drop(first);
-    assert_eq!(rt; second.select(&store, 0), Ok(()));
+    assert_eq!(rt; second.select(at_port(rt.alloc(), &store, 0)?), Ok(()));
     assert_eq!(rt; second.size(0), Ok(1));
     fs::remove_dir_all(&rt, &store)?;
     Ok(())
@@ -100,12 +115,26 @@ fn a_site_is_reached_at_its_port(rt: HostRuntime) -> Result<(), Fail> {
     let free = TcpListener::bind(&rt, any_port())?;
     let port = free.local_addr()?.port();
     let mut site = RealSite::new(&rt, rt.alloc());
-    assert_eq!(rt; site.select(&store, port), Err(SiteError::Link));
+    assert_eq!(rt;
+        site.select(at_port(rt.alloc(), &store, port)?),
+        Err(SiteError::Link)
+    );
     drop(free);
-    assert_eq!(rt; site.select(&store, port), Ok(()));
+    assert_eq!(rt; site.select(at_port(rt.alloc(), &store, port)?), Ok(()));
     let _peer = TcpStream::connect(&rt, SocketAddr::from((Ipv4Addr::LOCALHOST, port)))?;
     assert!(rt; opens(&mut site, 1));
+    let mut nowhere = at_port(rt.alloc(), &store, port)?;
+    nowhere.bind = Some(String::from_str(rt.alloc(), "no address")?);
+    assert_eq!(rt; site.select(nowhere), Err(SiteError::Link));
+    let mut alone = at_port(rt.alloc(), &store, port)?;
+    alone.bind = Some(String::from_str(rt.alloc(), "127.0.0.1")?);
+    assert_eq!(rt; site.select(alone), Ok(()));
+    let _other = TcpStream::connect(&rt, SocketAddr::from((Ipv4Addr::LOCALHOST, port)))?;
+    assert!(rt; opens(&mut site, 2));
     fs::remove_dir_all(&rt, &store)?;
+    let mut gone = at_port(rt.alloc(), &store, 0)?;
+    gone.make = false;
+    assert_eq!(rt; site.select(gone), Err(SiteError::Disk));
     Ok(())
 }
 
@@ -127,6 +156,32 @@ fn a_peer_asks_and_is_answered(rt: HostRuntime) -> Result<(), Fail> {
     assert_eq!(rt; link.send(1, b"late"), Err(Failed));
     let _again = TcpStream::connect(&rt, link.local_addr()?)?;
     assert!(rt; opens(&mut link, 2));
+    Ok(())
+}
+
+#[test]
+fn two_peers_have_their_own_texts(rt: HostRuntime) -> Result<(), Fail> {
+    let mut link = TcpLink::new(&rt, rt.alloc());
+    link.listen_at(any_port())?;
+    let mut first = TcpStream::connect(&rt, link.local_addr()?)?;
+    assert!(rt; opens(&mut link, 1));
+    let mut second = TcpStream::connect(&rt, link.local_addr()?)?;
+    assert!(rt; opens(&mut link, 2));
+    first.write_all(b"one")?;
+    assert!(rt; brings(&mut link, 1, b"one"));
+    second.write_all(b"two")?;
+    assert!(rt; brings(&mut link, 2, b"two"));
+    assert_eq!(rt; link.send_both(2, b"to the ", b"second"), Ok(()));
+    assert_eq!(rt; link.send_both(1, b"to the first", b""), Ok(()));
+    let mut taken = [0u8; 13];
+    second.read_exact(&mut taken)?;
+    assert_eq!(rt; taken.as_slice(), b"to the second".as_slice());
+    let mut other = [0u8; 12];
+    first.read_exact(&mut other)?;
+    assert_eq!(rt; other.as_slice(), b"to the first".as_slice());
+    link.close(1);
+    assert_eq!(rt; link.send(1, b"more"), Err(Failed));
+    assert_eq!(rt; link.send(2, b"more"), Ok(()));
     Ok(())
 }
 

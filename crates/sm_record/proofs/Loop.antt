@@ -1,6 +1,10 @@
 -- Reading tracks or samples one after the other, as a loop does.
-use Rattle.std.proofs.Common.{◌≡◌, ℕ, suc, ◌-◌, ◌+◌, ◌≤◌, ◌<◌, List, [], ◌∷◌, ◌++◌, Option, Some, None, refl, sym, ap, ◌∙◌, append_assoc, arith}
-use Rattle.std.proofs.lemmas.List.{append-nil}
+use Rattle.std.proofs.Common.{Bool, true, false, if◌then◌else◌, take, drop, length, subst, zero, ◌≡◌, ℕ, suc, ◌-◌, ◌+◌, ◌≤◌, ◌<◌, List, [], ◌∷◌, ◌++◌, Option, Some, None, refl, sym, ap, ◌∙◌, append_assoc, arith}
+use Rattle.std.specs.Prelude.{nat_lt}
+use Rattle.std.specs.List.{flat_map}
+use Rattle.std.proofs.lemmas.List.{append-nil, take-append-drop, nil_from_length}
+use Rattle.std.proofs.lemmas.List.Concat.{flat_map-cons}
+use Rattle.sm_record.proofs.Steps.{bind_some, some_is}
 use Rattle.sm_model.specs.declared.track.Track.{Track}
 use Rattle.sm_model.specs.declared.sample.Sample.{Sample}
 use Rattle.sm_record.specs.declared.fault.RecordFault.{RecordFault}
@@ -84,3 +88,35 @@ samples_done front count i table bytes total le so_far =
     let k : count - i ≡ 0 = omega arith in
     let one : with_front front (samples_at (count - i) table bytes) ≡ Some (front, bytes) = rw k (ap (λ (ns : List Sample). Some (ns, bytes)) (append-nil front)) in
     sym so_far ∙ one
+
+none_is_not_some : {A : Type 0} (x : A) → None ≡ Some x → ⊥
+none_is_not_some x e = cc
+
+by_test : (t : Bool) (n : ℕ) (bytes : List ℕ) (x : List ℕ × List ℕ) → (if t then None else Some (take n bytes, drop n bytes)) ≡ Some x → bytes ≡ x.0 ++ x.1
+by_test true n bytes x e = absurd (none_is_not_some x e)
+by_test false n bytes x e = subst (λ (y : List ℕ × List ℕ). bytes ≡ y.0 ++ y.1) (some_is (take n bytes, drop n bytes) x e) (sym (take-append-drop n bytes))
+
+taken_join : (n : ℕ) (bytes : List ℕ) (x : List ℕ × List ℕ) → taken n bytes ≡ Some x → bytes ≡ x.0 ++ x.1
+taken_join n bytes x e = by_test (nat_lt (length bytes) n) n bytes x e
+
+-- the bytes of all samples, joined, and the rest are the bytes
+pub samples_join : (n : ℕ) (table bytes : List ℕ) (x : List Sample × List ℕ) → samples_at n table bytes ≡ Some x → bytes ≡ flat_map (λ (s : Sample). s.bytes) x.0 ++ x.1
+unfolding samples_at
+samples_join zero table bytes x e =
+    subst (λ (y : List Sample × List ℕ). bytes ≡ flat_map (λ (s : Sample). s.bytes) y.0 ++ y.1) (some_is ([], bytes) x e) refl
+samples_join (suc n) table bytes x e =
+    let a = bind_some (row_at table) (λ row. taken row.0.size bytes >>= λ own. samples_at n row.1 own.1 >>= λ others. Some (sample_of row.0 own.0 ∷ others.0, others.1)) x e in
+    let b = bind_some (taken a.0.0.size bytes) (λ own. samples_at n a.0.1 own.1 >>= λ others. Some (sample_of a.0.0 own.0 ∷ others.0, others.1)) x a.2 in
+    let d = bind_some (samples_at n a.0.1 b.0.1) (λ others. Some (sample_of a.0.0 b.0.0 ∷ others.0, others.1)) x b.2 in
+    let more = samples_join n a.0.1 b.0.1 d.0 d.1 in
+    let own : bytes ≡ b.0.0 ++ b.0.1 = taken_join a.0.0.size bytes b.0 b.1 in
+    let s = sample_of a.0.0 b.0.0 in
+    let all : bytes ≡ flat_map (λ (y : Sample). y.bytes) (s ∷ d.0.0) ++ d.0.1 =
+    own ∙ ap (λ (r : List ℕ). b.0.0 ++ r) more ∙ sym (append_assoc b.0.0 (flat_map (λ (y : Sample). y.bytes) d.0.0) d.0.1)
+    ∙ ap (λ (r : List ℕ). r ++ d.0.1) (sym (flat_map-cons (λ (y : Sample). y.bytes) s d.0.0)) in
+    subst (λ (y : List Sample × List ℕ). bytes ≡ flat_map (λ (z : Sample). z.bytes) y.0 ++ y.1) (some_is (s ∷ d.0.0, d.0.1) x d.2) all
+
+-- with nothing behind them they are all of it
+pub samples_all : (n : ℕ) (table bytes whole : List ℕ) (samples : List Sample) (rest : List ℕ) → samples_at n table bytes ≡ Some (samples, rest) → length rest ≡ 0 → whole ≡ bytes → whole ≡ flat_map (λ (s : Sample). s.bytes) samples
+samples_all n table bytes whole samples rest e none is =
+    is ∙ samples_join n table bytes (samples, rest) e ∙ ap (λ (r : List ℕ). flat_map (λ (s : Sample). s.bytes) samples ++ r) (nil_from_length rest none) ∙ append-nil (flat_map (λ (s : Sample). s.bytes) samples)

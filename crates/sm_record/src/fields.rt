@@ -5,9 +5,18 @@ ghost use Rattle.sm_record.specs.Reading.{Gives, byte_at, number_at, taken, shor
 
 use crate::RecordFault;
 use sm_model::{
-    Bytes, Channel, Fragment, Kind, Name, NameFault, NoMemory, Params, Sample, Samples, Track,
+    Bytes, Channel, Fragment, Kind, Name, NameFault, NoMemory, Params, Part, Sample, Samples, Track,
 };
 use std::alloc::Global;
+
+/// The first byte, which leaves the part.
+pub(crate) fn byte_in(rest: &mut Part) -> Result<u8, RecordFault>
+    ensures { Gives (λ byte. (byte, rest.new)) result (byte_at rest.old) }
+{
+    let (byte, _) = byte_at(rest.as_slice())?;
+    rest.skip(1);
+    Ok(byte)
+}
 
 /// The first byte, and the bytes behind it.
 pub(crate) fn byte_at(bytes: &[u8]) -> Result<(u8, &[u8]), RecordFault>
@@ -233,50 +242,61 @@ fn row_at(bytes: &[u8]) -> Result<(Row, &[u8]), RecordFault>
     Ok((row, rest))
 }
 
-fn sample_of(alloc: Global, row: Row, bytes: &[u8]) -> Result<Sample, NoMemory>
-    ensures { IfOk result (λ sample. sample ≡ sample_of row bytes.now) }
+// So many of the first bytes of a part, which leave it. No byte is copied.
+fn part_at(rest: &mut Part, n: usize) -> Result<Part, RecordFault>
+    ensures { Gives (λ own. (own, rest.new)) result (taken n rest.old) }
 {
-    Ok(Sample {
+    if rest.len() < n as u64 {
+        return Err(RecordFault::Damaged);
+    }
+    Ok(rest.split_front(n)?)
+}
+
+fn sample_in(row: Row, own: Part) -> Sample
+    ensures { result ≡ sample_of row own }
+{
+    Sample {
         duration: row.duration,
         flags: row.flags,
         offset: row.offset,
-        bytes: Bytes::from_slice(alloc, bytes)?,
-    })
+        bytes: Bytes::from_part(own),
+    }
 }
 
-// So many samples, from their rows and their bytes, and the bytes behind them.
-fn samples_at<'a>(
+// So many samples, from their rows and their bytes, and the bytes behind them. No byte is copied: each sample owns the block.
+fn samples_in(
     alloc: Global,
     count: u32,
     table: &[u8],
-    bytes: &'a [u8],
-) -> Result<(Vec<Sample>, &'a [u8]), RecordFault>
-    ensures { Gives (λ x. (x.0.items, x.1.now)) result (samples_at count table.now bytes.now) }
+    bytes: Part,
+) -> Result<(Vec<Sample>, Part), RecordFault>
+    ensures { Gives (λ x. (x.0.items, x.1)) result (samples_at count table.now bytes) }
 {
     let mut samples = Vec::with_capacity(alloc, table.len() / 16)?;
     let mut rows = table;
     let mut rest = bytes;
     for _ in 0..count {
         let (row, behind) = row_at(rows)?;
-        let (own, after) = taken(rest, row.size as usize)?;
-        let sample = sample_of(alloc, row, own)?;
-        samples.push(sample)?;
+        let own = part_at(&mut rest, row.size as usize)?;
+        samples.push(sample_in(row, own))?;
         rows = behind;
-        rest = after;
     }
     Ok((samples, rest))
 }
 
+// The samples of a part that has their rows and then their bytes, and nothing else. No byte is copied.
 #[tactic(auto, unfolding(crate::specs::Reading::all_samples_at))]
-fn all_samples_at(alloc: Global, count: u32, bytes: &[u8]) -> Result<Samples, RecordFault>
-    ensures { Gives (λ samples. samples) result (all_samples_at count bytes.now) }
+fn all_samples_in(alloc: Global, count: u32, bytes: Part) -> Result<Samples, RecordFault>
+    ensures { Gives (λ samples. samples) result (all_samples_at count bytes) }
 {
-    let (table, rest) = taken(bytes, 16 * count as usize)?;
-    let (samples, rest) = samples_at(alloc, count, table, rest)?;
-    if !rest.is_empty() {
+    let mut rest = bytes.again()?;
+    let table = part_at(&mut rest, 16 * count as usize)?;
+    let whole = rest.again()?;
+    let (samples, rest) = samples_in(alloc, count, table.as_slice(), rest)?;
+    if rest.len() != 0 {
         return Err(RecordFault::Damaged);
     }
-    Ok(Samples::from_vec(samples))
+    Ok(Samples::of_block(samples, whole))
 }
 
 // What stands before the samples.
@@ -308,20 +328,30 @@ fn front_at(bytes: &[u8]) -> Result<(Front, &[u8]), RecordFault>
     Ok((front, rest))
 }
 
-/// The fragment of this channel whose fields these bytes are, and nothing else.
+// What stands before the samples, which leaves the part: 25 bytes.
+fn front_in(rest: &mut Part) -> Result<Front, RecordFault>
+    ensures { Gives (λ front. (front, rest.new)) result (front_at rest.old) }
+{
+    let (front, _) = front_at(rest.as_slice())?;
+    rest.skip(25);
+    Ok(front)
+}
+
+/// The fragment of this channel whose fields these bytes are, and nothing else. No byte of a sample is copied.
 #[tactic(auto, unfolding(crate::specs::Reading::keep_at))]
 pub(crate) fn keep_at(
     alloc: Global,
     channel: &[Track],
-    bytes: &[u8],
+    bytes: Part,
 ) -> Result<Fragment, RecordFault>
-    ensures { Gives (λ fragment. fragment) result (keep_at channel.now bytes.now) }
+    ensures { Gives (λ fragment. fragment) result (keep_at channel.now bytes) }
 {
-    let (front, rest) = front_at(bytes)?;
+    let mut rest = bytes;
+    let front = front_in(&mut rest)?;
     match channel.get(front.place as usize) {
         None => Err(RecordFault::Damaged),
         Some(track) => {
-            let samples = all_samples_at(alloc, front.count, rest)?;
+            let samples = all_samples_in(alloc, front.count, rest)?;
             Ok(Fragment {
                 stream: track.name.copy(alloc)?,
                 bitrate: track.bitrate,

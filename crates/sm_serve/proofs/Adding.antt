@@ -1,10 +1,10 @@
 -- A step only adds to the log.
-use Rattle.std.proofs.Common.{◌≡◌, ◌⊎◌, inl, inr, List, [], ◌∷◌, ◌++◌, sym, ◌∙◌, ap, append_assoc}
+use Rattle.std.proofs.Common.{◌≡◌, ◌⊎◌, inl, inr, List, [], ◌∷◌, ◌++◌, None, Some, sym, ◌∙◌, ap, append_assoc}
 use Rattle.std.proofs.lemmas.List.{append-nil}
 use Rattle.sm_model.specs.declared.act.Act.{Act}
 use Rattle.sm_model.specs.declared.entry.Entry.{Entry}
-use Rattle.sm_origin.specs.declared.reply.Reply.{Reply}
-use Rattle.sm_origin.specs.Machine.{Machine, Writes, refused, there, full, kept, unwritten, Clear, Row, answered, unread, unsettled, wrote, Step, row, wants, untold}
+use Rattle.sm_reply.specs.declared.reply.Reply.{Reply}
+use Rattle.sm_origin.specs.Machine.{Machine, Writes, refused, there, full, kept, unwritten, Clear, Row, answered, unread, unsettled, wrote, Step, row, wants, untold, entry_of}
 
 abbrev pub Extends : Machine → Machine → Type 0
 Extends m n = (more : List Entry) × (n.log ≡ m.log ++ more)
@@ -41,3 +41,16 @@ module _ (failed : Type 0) where
   step_adds m n act r (row by) = row_adds m n act r by
   step_adds m n act r (wants is reply) = same m n is.log
   step_adds m n act r (untold meant by closes reply) = row_adds m n act meant by
+
+  -- ---- an act that adds no entry leaves it
+
+  row_leaves : (m n : Machine) (act : Act) (r : Reply) → entry_of act ≡ None → Row failed m act n r → n.log ≡ m.log
+  row_leaves m n act r adds (answered none is reply) = is.log
+  row_leaves m n act r adds (unread a place f asks kept_ is fault reply) = is.log
+  row_leaves m n act r adds (unsettled e d entry doubt is fault reply) = is.log
+  row_leaves m n act r adds (wrote e mid entry clear by) = absurd (let bad : None ≡ Some e = sym adds ∙ entry in cc)
+
+  pub step_leaves : (m n : Machine) (act : Act) (r : Reply) → entry_of act ≡ None → Step failed m act n r → n.log ≡ m.log
+  step_leaves m n act r adds (row by) = row_leaves m n act r adds by
+  step_leaves m n act r adds (wants is reply) = is.log
+  step_leaves m n act r adds (untold meant by closes reply) = row_leaves m n act meant adds by

@@ -8,7 +8,7 @@ use Rattle.sm_site.specs.Meanings.Deal.{Began, Came, Left, Over, Sent, Shut}
 use Rattle.sm_origin.specs.Machine.{Machine}
 use Rattle.sm_origin.specs.Shown.{Claim}
 use Rattle.sm_serve.specs.Connections.{received}
-use Rattle.sm_serve.specs.Run.{Phase, idle, at, start, sent_of, Point, Stepped, Moves, opened, crowded, came, unread, passed, left, over, continues, acts_on, wants, done, sent, failed, unsent, shut, declared, Run, begins, goes_on}
+use Rattle.sm_serve.specs.Run.{Phase, idle, at, start, sent_of, Point, Stepped, Moves, opened, crowded, came, unread, passed, left, over, continues, acts_on, wants, done, sent, failed, unsent, shut, declared, recalled, Run, begins, goes_on}
 use Rattle.sm_serve.specs.Shown.{replies}
 use Rattle.sm_serve.proofs.Answering.{HeldIn, TextsHold, HeldBy, Core, IsAway, Stood, WireLaws}
 use Rattle.sm_serve.proofs.Adding.{Extends}
@@ -122,6 +122,9 @@ module _ (longer : (log more : List Entry) (claim : Claim) → HeldIn log claim 
             | inr other ↦ entry_elsewhere m (Shut k) _ e none is refl quiet (subst (λ (f : Phase). IsAway n f) (sym phase) other) tt
           ]
       move_stood (declared header x phase conn step e one is) =
+          elsewhere (inr (x, one, step.before_is, (step.machine refl).step, ap (λ (r : Point). r.machine) is)) (subst (λ (l : List Item). IsQuiet n items l) (sym e) (quiet_none n items)) (away_idle n p.phase phase)
+          (subst (λ (r : Point). IsAway n r.phase) (sym is) tt)
+      move_stood (recalled a x phase conn step e one is) =
           elsewhere (inr (x, one, step.before_is, (step.machine refl).step, ap (λ (r : Point). r.machine) is)) (subst (λ (l : List Item). IsQuiet n items l) (sym e) (quiet_none n items)) (away_idle n p.phase phase)
           (subst (λ (r : Point). IsAway n r.phase) (sym is) tt)
 

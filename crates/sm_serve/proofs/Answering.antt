@@ -16,7 +16,7 @@ use Rattle.sm_wire.specs.declared.item.WireItem.TheVariants.{Continue, Get, Head
 use Rattle.sm_wire.specs.Wire.{IsWire}
 use Rattle.sm_origin.specs.Machine.{Machine, Step, entry_of}
 use Rattle.sm_origin.specs.Shown.{IsReal, Claim, Acknowledged, Request, Asked, Pushed, Shows, Holds}
-use Rattle.sm_origin.specs.declared.reply.Reply.{Reply}
+use Rattle.sm_reply.specs.declared.reply.Reply.{Reply}
 use Rattle.sm_serve.specs.Connections.{received, live, is_among}
 use Rattle.sm_serve.specs.Run.{Phase, idle, acting, sending, shutting, Point, Stepped, act_of_target, sent_of}
 use Rattle.sm_serve.specs.Moments.{machine_at}

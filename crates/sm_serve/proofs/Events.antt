@@ -10,16 +10,20 @@ use Rattle.sm_site.specs.Meanings.{View, Deal, Item, DiskCall, IsLive, open_afte
 use Rattle.sm_site.specs.Meanings.Deal.{Began, Came, Left, Over, Sent, Shut}
 use Rattle.sm_site.specs.Clauses.{Both, NoMore, Adds}
 use Rattle.sm_site.specs.Scripts.{Takes}
-use Rattle.sm_model.specs.declared.act.Act.TheVariants.{Header}
+use Rattle.sm_model.specs.declared.act.Act.{Act}
+use Rattle.sm_model.specs.declared.act.Act.TheVariants.{Header, Fragment as Ask}
+use Rattle.sm_model.specs.declared.address.Address.{Address}
 use Rattle.sm_model.specs.declared.track.Track.{Track}
 use Rattle.sm_archive.specs.declared.answers.Declared.{Declared}
-use Rattle.sm_origin.specs.Answers.{reply_to_header}
+use Rattle.sm_archive.specs.declared.fetch.Fetched.{Fetched}
+use Rattle.sm_reply.specs.declared.reply.Reply.{Reply}
+use Rattle.sm_origin.specs.Answers.{reply_to_header, reply_to_fetched}
 use Rattle.sm_site.specs.Event.{deal_of, IsBelow, IsNext}
 use Rattle.sm_site.specs.declared.event.Event.{Event}
 use Rattle.sm_site.specs.declared.event.Event.TheVariants.{Opened, Piece, Closed, Ended}
 use Rattle.sm_site.proofs.Views.{seen_here, same_here, elapses_here}
 use Rattle.sm_origin.specs.Stores.{Fits}
-use Rattle.sm_origin.specs.Machine.{Machine}
+use Rattle.sm_origin.specs.Machine.{Machine, entry_of}
 use Rattle.sm_serve.specs.declared.live.Live.{Live}
 use Rattle.sm_serve.specs.declared.state.State.{State}
 use Rattle.sm_serve.specs.declared.outcome.Served.{Served as Outcome}
@@ -28,16 +32,18 @@ use Rattle.std.proofs.lemmas.List.{append-nil}
 use Rattle.sm_origin.specs.declared.origin.Origin.{Origin}
 use Rattle.sm_serve.specs.Standing.{StandsOn}
 use Rattle.sm_serve.proofs.Lasting.{on_itself, on_stepped, on_then}
+use Rattle.sm_serve.proofs.Adding.{step_leaves}
 use Rattle.sm_model.specs.declared.entry.Entry.{Entry}
 use Rattle.sm_archive.specs.Store.{IsStore}
 use Rattle.sm_origin.specs.Shown.{Claim, Holds}
 use Rattle.sm_serve.specs.Shown.{Shown}
 use Rattle.sm_serve.specs.Surviving.{Survives}
 use Rattle.sm_serve.specs.Moments.{FitsAt}
-use Rattle.sm_serve.specs.Run.{Stepped, Run, Point, idle, declared, at, start, begins}
+use Rattle.sm_serve.specs.Run.{Stepped, Moves, Run, Point, idle, declared, recalled, at, start, begins}
 use Rattle.sm_serve.specs.Standing.{History, is_told, Keeps, Pending, calls_of}
-use Rattle.sm_serve.specs.Serving.{numbers_of, AreResting, Serves, Known, Turns, TurnsBy, AreTaken, Served, EndsAs, MayHandle, IsNew, Begins, DeclaresIn}
-use Rattle.sm_serve.proofs.Transcripts.{told_adds, open_push, stays_live, events_are}
+use Rattle.sm_serve.specs.Serving.{numbers_of, AreResting, Serves, Known, Turns, TurnsBy, AreTaken, Served, EndsAs, MayHandle, IsNew, Since, Begins, DeclaresIn, RecallsIn}
+use Rattle.sm_site.proofs.Transcripts.{open_push, stays_live}
+use Rattle.sm_serve.proofs.Transcripts.{told_adds, events_are}
 use Rattle.sm_serve.proofs.Going.{Acted, stepped, run_as, link_move}
 use Rattle.sm_serve.proofs.Sending.{LinkCall, calls_here, contents_here, told_here}
 use Rattle.sm_serve.proofs.Lives.{among_push, among_less, among_itself, rest_all}
@@ -370,29 +376,68 @@ module _ {D : Type 0} (view : D → View) (leave : D → Image → Type 0) (left
         },
       )
 
--- a ladder is one step
+-- ---- one step without a connection
+
+module _ {D : Type 0} (view : D → View) (leave : D → Image → Type 0) (left_at : D → ℕ → Image → Type 0) (h : History) (act : Act) (reply : Reply) (old new : State) (d e : D)
+    (serves : Serves view leave left_at h old d) (lives : new.lives ≡ old.lives) (a : Acted view leave left_at h e None act reply new.origin) where
+  abbrev behind_one : Point
+  behind_one = record { machine = a.x.after; counts = h.point.counts; phase = idle; ended = a.x.ends; failed = h.point.failed }
+
+  abbrev with_one : History
+  with_one = stepped view leave left_at h a.x behind_one
+
+  module _ (move : Moves (is_told (view e)) h.items h.point [] (a.x ∷ []) behind_one) where
+    serves_on : Serves view leave left_at with_one new e
+    serves_on = record {
+      keeps = a.keeps behind_one move refl refl refl;
+      rest = record {
+        stands = a.stands;
+        phase_is = refl;
+        numbers = ap (λ (ls : _). numbers_of ls.items) lives ∙ serves.rest.numbers;
+        resting = subst (λ (ls : List Live). AreResting with_one ls) (sym (ap (λ (ls : _). ls.items) lives)) (rest_all h with_one (λ l rest. record { rests = rest.rests; counts = rest.counts }) old.lives.items serves.rest.resting);
+      };
+    }
+
+    since_on : Since h with_one
+    since_on = record { first = refl; begin = refl; base = refl; on = on_stepped (is_told (view e)) h a.x behind_one move }
+
+-- a ladder
 pub declares : {D : Type 0} (view : D → View) (leave : D → Image → Type 0) (left_at : D → ℕ → Image → Type 0) (h : History) (channel : List Track) (result : Declared) (old new : State) (d e : D)
     → Serves view leave left_at h old d → new.lives ≡ old.lives → Acted view leave left_at h e None (Header channel) (reply_to_header result) new.origin
     → DeclaresIn view leave left_at h channel result new e
 declares view leave left_at h channel result old new d e serves lives a =
     let q : Point = record { machine = a.x.after; counts = h.point.counts; phase = idle; ended = a.x.ends; failed = h.point.failed } in
-    let k = stepped view leave left_at h a.x q in
+    let move : Moves (is_told (view e)) h.items h.point [] (a.x ∷ []) q = declared channel a.x serves.rest.phase_is a.conn_is a.is_step refl refl refl in
     record {
-      later = k;
-      serves = record {
-        keeps = a.keeps q (declared channel a.x serves.rest.phase_is a.conn_is a.is_step refl refl refl) refl refl refl;
-        rest = record {
-          stands = a.stands;
-          phase_is = refl;
-          numbers = ap (λ (ls : _). numbers_of ls.items) lives ∙ serves.rest.numbers;
-          resting = subst (λ (ls : List Live). AreResting k ls) (sym (ap (λ (ls : _). ls.items) lives)) (rest_all h k (λ l rest. record { rests = rest.rests; counts = rest.counts }) old.lives.items serves.rest.resting);
-        };
-      };
-      since = record { first = refl; begin = refl; base = refl; on = on_stepped (is_told (view e)) h a.x q (declared channel a.x serves.rest.phase_is a.conn_is a.is_step refl refl refl) };
+      later = stepped view leave left_at h a.x q;
+      serves = serves_on view leave left_at h (Header channel) (reply_to_header result) old new d e serves lives a move;
+      since = since_on view leave left_at h (Header channel) (reply_to_header result) old new d e serves lives a move;
       same = refl;
       step = a.x;
       steps = refl;
       conn = a.conn_is;
       act = a.is_step.act_is;
       reply = a.reply_is;
+    }
+
+-- a read-back
+pub recalls : {D : Type 0} (view : D → View) (leave : D → Image → Type 0) (left_at : D → ℕ → Image → Type 0) (h : History) (address : Address) (result : Fetched) (state : State) (d e : D)
+    → Serves view leave left_at h state d → Acted view leave left_at h e None (Ask address) (reply_to_fetched h.point.machine.log address result) state.origin
+    → RecallsIn view leave left_at h address result state e
+recalls view leave left_at h address result state d e serves a =
+    let q : Point = record { machine = a.x.after; counts = h.point.counts; phase = idle; ended = a.x.ends; failed = h.point.failed } in
+    let reply = reply_to_fetched h.point.machine.log address result in
+    let move : Moves (is_told (view e)) h.items h.point [] (a.x ∷ []) q = recalled address a.x serves.rest.phase_is a.conn_is a.is_step refl refl refl in
+    record {
+      later = stepped view leave left_at h a.x q;
+      serves = serves_on view leave left_at h (Ask address) reply state state d e serves refl a move;
+      since = since_on view leave left_at h (Ask address) reply state state d e serves refl a move;
+      same = refl;
+      step = a.x;
+      steps = refl;
+      conn = a.conn_is;
+      act = a.is_step.act_is;
+      reply = a.reply_is;
+      log = λ has.
+          step_leaves _ a.x.before a.x.after a.x.act a.x.reply (ap entry_of a.is_step.act_is) (a.is_step.machine has).step ∙ ap (λ (m : Machine). m.log) a.is_step.before_is;
     }

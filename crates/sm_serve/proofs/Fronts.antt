@@ -10,7 +10,7 @@ use Rattle.sm_wire.specs.Wire.{IsWire}
 use Rattle.sm_origin.specs.Machine.{Machine, Step}
 use Rattle.sm_origin.specs.Shown.{Claim}
 use Rattle.sm_serve.specs.Connections.{received}
-use Rattle.sm_serve.specs.Run.{Point, Stepped, Moves, opened, crowded, came, unread, passed, left, over, continues, acts_on, wants, done, sent, failed, unsent, shut, declared, Run, begins, goes_on}
+use Rattle.sm_serve.specs.Run.{Point, Stepped, Moves, opened, crowded, came, unread, passed, left, over, continues, acts_on, wants, done, sent, failed, unsent, shut, declared, recalled, Run, begins, goes_on}
 use Rattle.sm_serve.specs.Moments.{machine_at}
 use Rattle.sm_serve.specs.Shown.{requests_from, replies, until, Shown}
 use Rattle.sm_serve.proofs.Answering.{HeldIn, AllBy, HeldBy, Core, WireLaws}
@@ -39,6 +39,7 @@ entries_of items p es xs q (failed m n k bytes close more phase after e none is)
 entries_of items p es xs q (unsent n bytes close more phase e none is) = inl e
 entries_of items p es xs q (shut m n phase e none is) = inr (_, e)
 entries_of items p es xs q (declared header x phase conn step e one is) = inl e
+entries_of items p es xs q (recalled a x phase conn step e one is) = inl e
 
 -- up to a moment there are all the entries, or as many as before the last one
 pub until_push : (t : ℕ) (items : List Item) (item : Item) → ((until t (items ++ item ∷ []) ≡ items ++ item ∷ []) × AllBy t (items ++ item ∷ [])) ⊎ (until t (items ++ item ∷ []) ≡ until t items)

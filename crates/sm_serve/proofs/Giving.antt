@@ -10,7 +10,7 @@ use Rattle.sm_model.specs.Items as given
 use Rattle.sm_model.specs.declared.header.HeaderTrack.{HeaderTrack}
 use Rattle.std.specs.List.{AllByRecursion}
 use Rattle.sm_serve.specs.Pushes.{AreValid}
-use Rattle.sm_model.specs.Body.{body, body_end, led_by, refused}
+use Rattle.sm_push.specs.Body.{body, body_end, led_by, refused}
 use Rattle.sm_push.specs.declared.fault.PushFault.TheVariants as pushes
 use Rattle.sm_push.specs.Standing.{Standing, push_header}
 use Rattle.sm_model.specs.declared.target.Target.{Target}

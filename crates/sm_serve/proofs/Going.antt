@@ -8,7 +8,7 @@ use Rattle.sm_site.specs.Meanings.{View, Item, DiskCall, SameLink}
 use Rattle.sm_site.specs.Clauses.{Both, Elapses, SameOutcomes}
 use Rattle.sm_model.specs.declared.act.Act.{Act}
 use Rattle.sm_model.specs.declared.entry.Entry.{Entry}
-use Rattle.sm_origin.specs.declared.reply.Reply.{Reply}
+use Rattle.sm_reply.specs.declared.reply.Reply.{Reply}
 use Rattle.sm_origin.specs.Machine.{Machine, SameLog, entry_of}
 use Rattle.sm_origin.specs.declared.origin.Origin.{Origin}
 use Rattle.sm_archive.specs.Store.{IsStore}

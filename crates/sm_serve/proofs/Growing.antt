@@ -6,7 +6,7 @@ use Rattle.std.proofs.lemmas.Bool.Decides.{nat_tests}
 use Rattle.sm_site.specs.Meanings.{Item}
 use Rattle.sm_site.specs.Clauses.{Rose}
 use Rattle.sm_origin.specs.Machine.{Machine, Step}
-use Rattle.sm_serve.specs.Run.{Point, Stepped, Moves, opened, crowded, came, unread, passed, left, over, continues, acts_on, wants, done, sent, failed, unsent, shut, declared, Run, begins, goes_on}
+use Rattle.sm_serve.specs.Run.{Point, Stepped, Moves, opened, crowded, came, unread, passed, left, over, continues, acts_on, wants, done, sent, failed, unsent, shut, declared, recalled, Run, begins, goes_on}
 use Rattle.sm_serve.specs.Moments.{machine_at}
 use Rattle.sm_serve.proofs.Going.{machine_push}
 use Rattle.sm_serve.proofs.Adding.{Extends, and_then, step_adds}
@@ -38,6 +38,7 @@ kind_of items p es xs q (failed m n k bytes close more phase after e none is) = 
 kind_of items p es xs q (unsent n bytes close more phase e none is) = inl (none, ap (λ (r : Point). r.machine) is)
 kind_of items p es xs q (shut m n phase e none is) = inl (none, ap (λ (r : Point). r.machine) is)
 kind_of items p es xs q (declared act x phase conn step e one is) = inr (x, one, step.before_is, (step.machine refl).step, ap (λ (r : Point). r.machine) is)
+kind_of items p es xs q (recalled a x phase conn step e one is) = inr (x, one, step.before_is, (step.machine refl).step, ap (λ (r : Point). r.machine) is)
 
 pub reached_by : (m n : Machine) (e t : ℕ) → e ≤ t → (if nat_le e t then m else n) ≡ m
 reached_by m n e t le = grind (arith, nat_tests)

@@ -2,7 +2,7 @@
 use Rattle.std.proofs.Common.{Bool, false, List, [], ◌∷◌, ◌++◌, refl, sym, ◌∙◌, ap, subst, append_assoc}
 use Rattle.std.proofs.lemmas.List.{append-nil}
 use Rattle.sm_site.specs.Meanings.{Item}
-use Rattle.sm_serve.specs.Run.{Point, Stepped, Moves, opened, crowded, came, unread, passed, left, over, continues, acts_on, wants, done, sent, failed, unsent, shut, declared, LeadsTo, rests, moves_on}
+use Rattle.sm_serve.specs.Run.{Point, Stepped, Moves, opened, crowded, came, unread, passed, left, over, continues, acts_on, wants, done, sent, failed, unsent, shut, declared, recalled, LeadsTo, rests, moves_on}
 use Rattle.sm_serve.specs.Standing.{History, GoesOn, moved}
 
 -- ---- what leads to what
@@ -27,6 +27,8 @@ untold told items p es xs q (unsent n bytes close more phase e none is) = unsent
 untold told items p es xs q (shut m n phase e none is) = shut m n phase e none is
 untold told items p es xs q (declared header x phase conn step e one is) =
     declared header x phase conn (record { act_is = step.act_is; before_is = step.before_is; machine = λ has. absurd (cc) }) e one is
+untold told items p es xs q (recalled a x phase conn step e one is) =
+    recalled a x phase conn (record { act_is = step.act_is; before_is = step.before_is; machine = λ has. absurd (cc) }) e one is
 
 leads_here : (items : List Item) (steps : List Stepped) (p : Point) → LeadsTo items steps p items steps p
 leads_here items steps p = rests items steps p refl refl refl

@@ -12,6 +12,7 @@ pub mod Taking
 pub mod Events
 pub mod Adding
 pub mod Growing
+pub mod Later
 pub mod Answering
 pub mod Requests
 pub mod Fronts

@@ -6,7 +6,7 @@ use Rattle.sm_site.specs.Image.{Image}
 use Rattle.sm_site.specs.Meanings.{View}
 use Rattle.sm_site.specs.Meanings.Deal.{Came}
 use Rattle.sm_model.specs.declared.cause.Refusal.{Refusal}
-use Rattle.sm_model.specs.Body.{body}
+use Rattle.sm_push.specs.Body.{body}
 use Rattle.sm_push.specs.Standing.{Standing}
 use Rattle.sm_conn.specs.Parts.{PartItem}
 use Rattle.sm_wire.specs.declared.item.WireItem.{WireItem}

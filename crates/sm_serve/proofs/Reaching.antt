@@ -3,7 +3,7 @@ use Rattle.std.proofs.Common.{◌≡◌, ℕ, Bool, true, false, ◌||◌, if◌
 use Rattle.sm_site.specs.Image.{Image}
 use Rattle.sm_site.specs.Meanings.{View}
 use Rattle.sm_model.specs.declared.act.Act.{Act}
-use Rattle.sm_origin.specs.declared.reply.Reply.{Reply}
+use Rattle.sm_reply.specs.declared.reply.Reply.{Reply}
 use Rattle.sm_origin.specs.Machine.{Machine}
 use Rattle.sm_wire.specs.declared.item.WireItem.{WireItem}
 use Rattle.sm_wire.specs.declared.item.WireItem.TheVariants.{Continue}

@@ -18,7 +18,7 @@ use Rattle.sm_head.specs.declared.reply.Content.TheVariants.{Plain}
 use Rattle.sm_head.specs.declared.reply.TheConstants.{CONTINUE, NO_MEMORY}
 use Rattle.sm_head.specs.Replies.{reply_text}
 use Rattle.sm_head.specs.Shown.{shows_status}
-use Rattle.sm_origin.specs.declared.reply.Reply.{Reply}
+use Rattle.sm_reply.specs.declared.reply.Reply.{Reply}
 use Rattle.sm_origin.specs.Machine.{Machine, Step, entry_of}
 use Rattle.sm_origin.specs.Shown.{IsReal, Claim, lists, names, serves, acknowledges, Holds, Asked, Shows}
 use Rattle.sm_serve.specs.declared.texts.TheConstants.{TOO_MANY}

@@ -3,7 +3,7 @@ use Rattle.std.proofs.Common.{ℕ, Bool, false, List, [], ◌∷◌, ◌++◌, R
 use Rattle.std.specs.List.{AllByRecursion}
 use Rattle.std.proofs.lemmas.List.{append-nil}
 use Rattle.sm_model.specs.Items.{Given}
-use Rattle.sm_model.specs.Body.{Outcome, body}
+use Rattle.sm_push.specs.Body.{Outcome, body}
 use Rattle.sm_push.specs.declared.fault.PushFault.{PushFault}
 use Rattle.sm_push.specs.declared.fault.PushFault.TheVariants as pushes
 use Rattle.sm_push.specs.Standing.{Standing, Answers}

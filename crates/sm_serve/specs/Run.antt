@@ -2,6 +2,7 @@
 use Rattle.std.specs.Prelude.{◌≡◌, ℕ, ◌+◌, ◌<◌, ◌≤◌, ◌-◌, ◌^◌, min, Bool, true, false, ◌||◌, ◌==◌, List, [], ◌∷◌, ◌++◌, length, take, Option, Some, None, if◌then◌else◌, IsTrue}
 use Rattle.sm_model.specs.declared.act.Act.{Act}
 use Rattle.sm_model.specs.declared.act.Act.TheVariants as acts
+use Rattle.sm_model.specs.declared.address.Address.{Address}
 use Rattle.sm_model.specs.declared.track.Track.{Track}
 use Rattle.sm_model.specs.declared.target.Target.{Target}
 use Rattle.sm_model.specs.declared.target.Target.TheVariants as targets
@@ -12,9 +13,9 @@ use Rattle.sm_head.specs.declared.reply.TheConstants.{CONTINUE, NO_MEMORY}
 use Rattle.sm_wire.specs.declared.item.WireItem.{WireItem}
 use Rattle.sm_wire.specs.declared.item.WireItem.TheVariants.{Continue, Get, Header, Frag, End, Refuse}
 use Rattle.sm_wire.specs.Wire.{IsWire}
-use Rattle.sm_origin.specs.declared.reply.Counted.{Counted}
-use Rattle.sm_origin.specs.declared.reply.Counted.TheVariants as counted
-use Rattle.sm_origin.specs.declared.reply.Reply.{Reply}
+use Rattle.sm_reply.specs.declared.reply.Counted.{Counted}
+use Rattle.sm_reply.specs.declared.reply.Counted.TheVariants as counted
+use Rattle.sm_reply.specs.declared.reply.Reply.{Reply}
 use Rattle.sm_origin.specs.Machine.{Machine, SameLog, Step}
 use Rattle.sm_serve.specs.declared.texts.TheConstants.{TOO_MANY}
 use Rattle.sm_serve.specs.Connections.{received, live, is_among}
@@ -200,6 +201,9 @@ pub data Moves (told : Bool) (items : List Item) (p : Point) (es : List Item) (x
   shut : (m n : ℕ) → p.phase ≡ shutting n → es ≡ at m (Shut n) → xs ≡ [] → q ≡ in_phase p idle → Moves told items p es xs q
   -- a ladder is one step, without a connection
   declared : (header : List Track) (x : Stepped) → p.phase ≡ idle → x.conn ≡ None → IsStep told p (acts.Header header) x → es ≡ [] → xs ≡ x ∷ []
+      → q ≡ record { machine = x.after; counts = p.counts; phase = idle; ended = x.ends; failed = p.failed } → Moves told items p es xs q
+  -- a fragment is read back for players, by one step, without a connection; its reply is not sent
+  recalled : (a : Address) (x : Stepped) → p.phase ≡ idle → x.conn ≡ None → IsStep told p (acts.Fragment a) x → es ≡ [] → xs ≡ x ∷ []
       → q ≡ record { machine = x.after; counts = p.counts; phase = idle; ended = x.ends; failed = p.failed } → Moves told items p es xs q
 
 -- where a run begins

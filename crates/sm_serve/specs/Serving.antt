@@ -1,5 +1,5 @@
 -- The loop between two events.
-use Rattle.std.specs.Prelude.{◌≡◌, ◌⊎◌, ◌+◌, ◌<◌, ◌≤◌, ◌-◌, ◌^◌, ℕ, true, false, List, [], ◌∷◌, ◌++◌, length, map, Option, Some, None, IsSome, IfSome}
+use Rattle.std.specs.Prelude.{◌≡◌, ◌⊎◌, ◌+◌, ◌<◌, ◌≤◌, ◌-◌, ◌^◌, ℕ, true, false, List, [], ◌∷◌, ◌++◌, length, map, Option, Some, None, IsSome, IfSome, IsTrue}
 use Rattle.sm_site.specs.Image.{Image}
 use Rattle.sm_site.specs.Meanings.{View, Deal, Item, DiskCall, IsLive}
 use Rattle.sm_site.specs.Meanings.Deal.{Over}
@@ -7,10 +7,12 @@ use Rattle.sm_site.specs.Clauses.{Both}
 use Rattle.sm_site.specs.Scripts.{Takes}
 use Rattle.sm_site.specs.declared.event.Event.{Event}
 use Rattle.sm_site.specs.declared.event.Event.TheVariants.{Opened, Piece, Closed, Ended}
-use Rattle.sm_model.specs.declared.act.Act.TheVariants.{Header}
+use Rattle.sm_model.specs.declared.act.Act.TheVariants.{Header, Fragment as Ask}
+use Rattle.sm_model.specs.declared.address.Address.{Address}
 use Rattle.sm_model.specs.declared.track.Track.{Track}
 use Rattle.sm_archive.specs.declared.answers.Declared.{Declared}
-use Rattle.sm_origin.specs.Answers.{reply_to_header}
+use Rattle.sm_archive.specs.declared.fetch.Fetched.{Fetched}
+use Rattle.sm_origin.specs.Answers.{reply_to_header, reply_to_fetched}
 use Rattle.sm_serve.specs.declared.live.Live.{Live}
 use Rattle.sm_serve.specs.declared.state.State.{State}
 use Rattle.sm_origin.specs.Machine.{Machine}
@@ -96,9 +98,15 @@ IsOver told = IfSome told (λ items. (before : List Item) × (m : ℕ) × (items
 -- Done is answered after as many events as were asked, or where one more came, which said that nothing more comes.
 abbrev pub EndsAs : ℕ → Outcome → Option (List Item) → ℕ → ℕ → Type 0
 EndsAs turns (served.Done taken behind short) told before now =
-    (((taken ≡ turns) × (now ≡ taken + before)) ⊎ ((taken < turns) × (now ≡ taken + 1 + before) × IsOver told)) × (behind ≡ 0) × (short ≡ 0)
+    ((taken ≡ turns) × (now ≡ taken + before)) ⊎ ((taken < turns) × (now ≡ taken + 1 + before) × IsOver told)
 EndsAs turns served.LinkFault told before now = Unit {0}
 EndsAs turns served.NoMemory told before now = Unit {0}
+
+-- no turn is counted as one behind which less was shown than is kept
+abbrev pub CountsNone : Outcome → Type 0
+CountsNone (served.Done taken behind short) = (behind ≡ 0) × (short ≡ 0)
+CountsNone served.LinkFault = Unit {0}
+CountsNone served.NoMemory = Unit {0}
 
 -- The loop served: from wherever a run had come it goes on, over the entries since; and at every moment since its start, each image that a
 -- crash may leave is the store of the last step that ended by then, or of that with the doubt, or of one of these with the entry that
@@ -144,6 +152,21 @@ pub record DeclaresIn {D : Type 0} (view : D → View) (leave : D → Image → 
   pub conn : step.conn ≡ None
   pub act : step.act ≡ Header channel
   pub reply : step.reply ≡ reply_to_header result
+
+-- A read-back is one step more, without a connection and without an entry. It leaves the log, where the disk tells its contents.
+pub record RecallsIn {D : Type 0} (view : D → View) (leave : D → Image → Type 0) (left_at : D → ℕ → Image → Type 0) (h : History) (a : Address)
+    (result : Fetched)
+    (state : State) (d : D) : Type 0 where
+  pub later : History
+  pub serves : Serves view leave left_at later state d
+  pub since : Since h later
+  pub same : later.items ≡ h.items
+  pub step : Stepped
+  pub steps : later.steps ≡ h.steps ++ step ∷ []
+  pub conn : step.conn ≡ None
+  pub act : step.act ≡ Ask a
+  pub reply : step.reply ≡ reply_to_fetched h.point.machine.log a result
+  pub log : IsTrue (is_told (view d)) → later.point.machine.log ≡ h.point.machine.log
 
 -- these events are the next ones of a script, one after the other
 abbrev pub AreTaken : List Deal → List Deal → List Deal → Type 0

@@ -4,7 +4,7 @@ use Rattle.sm_site.specs.Image.{Image}
 use Rattle.sm_site.specs.Meanings.{View, Item, Deal, DiskCall}
 use Rattle.sm_wire.specs.declared.item.WireItem.{WireItem}
 use Rattle.sm_origin.specs.declared.origin.Origin.{Origin}
-use Rattle.sm_origin.specs.declared.reply.Counted.{Counted}
+use Rattle.sm_reply.specs.declared.reply.Counted.{Counted}
 use Rattle.sm_origin.specs.Machine.{Machine}
 use Rattle.sm_origin.specs.Stores.{Fits}
 use Rattle.sm_origin.specs.Acting.{StandsFor}

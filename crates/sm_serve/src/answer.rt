@@ -9,7 +9,7 @@ ghost use Rattle.sm_origin.specs.Acting.{IsValidAct};
 ghost use Rattle.sm_serve.specs.Run.{idle, acting, act_of, closes, phase_after, sent_of};
 ghost use Rattle.sm_serve.specs.Standing.{History, StandsOn, Keeps, Reaches, counts_with};
 
-use crate::tell::tell;
+use crate::tell::{tell, tell_both};
 use sm_head::NO_MEMORY;
 use sm_model::Act;
 use sm_origin::law::fewer_images_stand;
@@ -30,6 +30,7 @@ fn send_reply<S: Site>(site: &mut S, number: u64, reply: &Reply, close: bool) ->
     ensures told { is_some (S.Disk.view site.new).transcript ≡ is_some (S.Disk.view site.old).transcript }
     ensures link_faults { (S.Disk.view site.new).link_faults ≡ (S.Disk.view site.old).link_faults }
     ensures script { (S.Disk.view site.new).script ≡ (S.Disk.view site.old).script }
+    ensures chosen { (S.Disk.view site.new).chosen ≡ (S.Disk.view site.old).chosen }
 {
     if reply.status == 0 {
         return end_item(site, number, close);
@@ -37,7 +38,8 @@ fn send_reply<S: Site>(site: &mut S, number: u64, reply: &Reply, close: bool) ->
     if reply.status == 500 {
         return tell(site, number, NO_MEMORY, close);
     }
-    tell(site, number, reply.bytes.as_slice(), close)
+    let (head, tail) = reply.bytes.parts();
+    tell_both(site, number, head, tail, close)
 }
 
 /// Ends an item that has no reply.
@@ -53,6 +55,7 @@ fn end_item<S: Site>(site: &mut S, number: u64, close: bool) -> bool
     ensures told { is_some (S.Disk.view site.new).transcript ≡ is_some (S.Disk.view site.old).transcript }
     ensures link_faults { (S.Disk.view site.new).link_faults ≡ (S.Disk.view site.old).link_faults }
     ensures script { (S.Disk.view site.new).script ≡ (S.Disk.view site.old).script }
+    ensures chosen { (S.Disk.view site.new).chosen ≡ (S.Disk.view site.old).chosen }
 {
     fewer_images_stand::<S>();
     if close {
@@ -85,6 +88,7 @@ pub(crate) fn answer<S: Site>(
     ensures told { is_some (S.Disk.view site.new).transcript ≡ is_some (S.Disk.view site.old).transcript }
     ensures link_faults { (S.Disk.view site.new).link_faults ≡ (S.Disk.view site.old).link_faults }
     ensures script { (S.Disk.view site.new).script ≡ (S.Disk.view site.old).script }
+    ensures chosen { (S.Disk.view site.new).chosen ≡ (S.Disk.view site.old).chosen }
 {
     fewer_images_stand::<S>();
     let reply = origin.act(alloc, site, act);

@@ -4,7 +4,7 @@ ghost use Rattle.sm_site.specs.Meanings.{IsLive};
 ghost use Rattle.sm_site.specs.Clauses.{SameOutcomes};
 ghost use Rattle.sm_wire.specs.declared.item.WireItem.{WireItem};
 ghost use Rattle.sm_origin.specs.declared.origin.Origin.{Origin};
-ghost use Rattle.sm_origin.specs.declared.reply.Counted.{Counted};
+ghost use Rattle.sm_reply.specs.declared.reply.Counted.{Counted};
 ghost use Rattle.sm_origin.specs.Machine.{Machine};
 ghost use Rattle.sm_origin.specs.Acting.{IsValidAct};
 ghost use Rattle.sm_serve.specs.Run.{Counts, idle, acting, act_of, closes, counts_after, counts_by};
@@ -48,6 +48,7 @@ pub(crate) fn act_on<S: Site>(
     ensures told { is_some (S.Disk.view site.new).transcript ≡ is_some (S.Disk.view site.old).transcript }
     ensures link_faults { (S.Disk.view site.new).link_faults ≡ (S.Disk.view site.old).link_faults }
     ensures script { (S.Disk.view site.new).script ≡ (S.Disk.view site.old).script }
+    ensures chosen { (S.Disk.view site.new).chosen ≡ (S.Disk.view site.old).chosen }
 {
     match answer(alloc, site, origin, live.number, act, close) {
         Some(counted) => {
@@ -72,6 +73,7 @@ pub(crate) fn starve<S: Site>(site: &mut S, number: u64) -> bool
     ensures told { is_some (S.Disk.view site.new).transcript ≡ is_some (S.Disk.view site.old).transcript }
     ensures link_faults { (S.Disk.view site.new).link_faults ≡ (S.Disk.view site.old).link_faults }
     ensures script { (S.Disk.view site.new).script ≡ (S.Disk.view site.old).script }
+    ensures chosen { (S.Disk.view site.new).chosen ≡ (S.Disk.view site.old).chosen }
 {
     tell(site, number, NO_MEMORY, true)
 }
@@ -98,6 +100,7 @@ fn take_item<S: Site>(
     ensures told { is_some (S.Disk.view site.new).transcript ≡ is_some (S.Disk.view site.old).transcript }
     ensures link_faults { (S.Disk.view site.new).link_faults ≡ (S.Disk.view site.old).link_faults }
     ensures script { (S.Disk.view site.new).script ≡ (S.Disk.view site.old).script }
+    ensures chosen { (S.Disk.view site.new).chosen ≡ (S.Disk.view site.old).chosen }
 {
     let act = act_for_item(item);
     act_on(alloc, site, origin, live, &act, false)
@@ -137,6 +140,7 @@ pub(crate) fn take_items<S: Site>(
     ensures told { is_some (S.Disk.view site.new).transcript ≡ is_some (S.Disk.view site.old).transcript }
     ensures link_faults { (S.Disk.view site.new).link_faults ≡ (S.Disk.view site.old).link_faults }
     ensures script { (S.Disk.view site.new).script ≡ (S.Disk.view site.old).script }
+    ensures chosen { (S.Disk.view site.new).chosen ≡ (S.Disk.view site.old).chosen }
 {
     for item in items {
         if !take_item(alloc, site, origin, live, item) {

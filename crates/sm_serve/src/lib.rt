@@ -22,6 +22,3 @@ pub use push::OpenPush;
 pub use serving::{serve, turn};
 pub use state::State;
 pub use texts::TOO_MANY;
-
-#[cfg(test)]
-mod tests;

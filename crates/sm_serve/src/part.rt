@@ -57,6 +57,7 @@ fn take_inside<S: Site>(
     ensures told { is_some (S.Disk.view site.new).transcript ≡ is_some (S.Disk.view site.old).transcript }
     ensures link_faults { (S.Disk.view site.new).link_faults ≡ (S.Disk.view site.old).link_faults }
     ensures script { (S.Disk.view site.new).script ≡ (S.Disk.view site.old).script }
+    ensures chosen { (S.Disk.view site.new).chosen ≡ (S.Disk.view site.old).chosen }
 {
     match part {
         Part::Body(bytes) => {
@@ -101,6 +102,7 @@ fn take_outside<S: Site>(
     ensures told { is_some (S.Disk.view site.new).transcript ≡ is_some (S.Disk.view site.old).transcript }
     ensures link_faults { (S.Disk.view site.new).link_faults ≡ (S.Disk.view site.old).link_faults }
     ensures script { (S.Disk.view site.new).script ≡ (S.Disk.view site.old).script }
+    ensures chosen { (S.Disk.view site.new).chosen ≡ (S.Disk.view site.old).chosen }
 {
     match part {
         Part::Get { target, close } => {
@@ -151,6 +153,7 @@ pub(crate) fn take_part<S: Site>(
     ensures told { is_some (S.Disk.view site.new).transcript ≡ is_some (S.Disk.view site.old).transcript }
     ensures link_faults { (S.Disk.view site.new).link_faults ≡ (S.Disk.view site.old).link_faults }
     ensures script { (S.Disk.view site.new).script ≡ (S.Disk.view site.old).script }
+    ensures chosen { (S.Disk.view site.new).chosen ≡ (S.Disk.view site.old).chosen }
 {
     if live.push.is_some() {
         return take_inside(alloc, site, origin, live, part);

@@ -46,6 +46,7 @@ fn take_parts<S: Site>(
     ensures told { is_some (S.Disk.view site.new).transcript ≡ is_some (S.Disk.view site.old).transcript }
     ensures link_faults { (S.Disk.view site.new).link_faults ≡ (S.Disk.view site.old).link_faults }
     ensures script { (S.Disk.view site.new).script ≡ (S.Disk.view site.old).script }
+    ensures chosen { (S.Disk.view site.new).chosen ≡ (S.Disk.view site.old).chosen }
 {
     for part in parts {
         if !take_part(alloc, site, origin, live, part) {
@@ -75,6 +76,7 @@ pub(crate) fn take_piece<S: Site>(
     ensures told { is_some (S.Disk.view site.new).transcript ≡ is_some (S.Disk.view site.old).transcript }
     ensures link_faults { (S.Disk.view site.new).link_faults ≡ (S.Disk.view site.old).link_faults }
     ensures script { (S.Disk.view site.new).script ≡ (S.Disk.view site.old).script }
+    ensures chosen { (S.Disk.view site.new).chosen ≡ (S.Disk.view site.old).chosen }
 {
     wire_of_front();
     match live.conn.feed(piece) {

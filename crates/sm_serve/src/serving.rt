@@ -9,7 +9,7 @@ ghost use Rattle.sm_serve.specs.declared.live.Live.{Live};
 ghost use Rattle.sm_serve.specs.Connections.{is_among, live};
 ghost use Rattle.sm_serve.specs.Standing.{History, StandsOn, Pending};
 ghost use Rattle.sm_serve.specs.Resting.{IsNewborn};
-ghost use Rattle.sm_serve.specs.Serving.{IsAtRest, Turns, TurnsBy, Serves, Known, numbers_of, Forgets, MayHandle, IsNew};
+ghost use Rattle.sm_serve.specs.Serving.{IsAtRest, Turns, TurnsBy, Serves, Known, CountsNone, numbers_of, Forgets, MayHandle, IsNew};
 ghost use Rattle.sm_serve.specs.Serving.{Served as HasServed, taken_by};
 
 use crate::item::starve;
@@ -46,6 +46,7 @@ fn take<S: Site>(site: &mut S, state: &mut State, number: u64, piece: &[u8])
     ensures told { is_some (S.Disk.view site.new).transcript ≡ is_some (S.Disk.view site.old).transcript }
     ensures link_faults { (S.Disk.view site.new).link_faults ≡ (S.Disk.view site.old).link_faults }
     ensures script { (S.Disk.view site.new).script ≡ (S.Disk.view site.old).script }
+    ensures chosen { (S.Disk.view site.new).chosen ≡ (S.Disk.view site.old).chosen }
 {
     match find(&state.lives, number) {
         Some(i) => {
@@ -75,6 +76,7 @@ fn open<S: Site>(site: &mut S, state: &mut State, number: u64)
     ensures told { is_some (S.Disk.view site.new).transcript ≡ is_some (S.Disk.view site.old).transcript }
     ensures link_faults { (S.Disk.view site.new).link_faults ≡ (S.Disk.view site.old).link_faults }
     ensures script { (S.Disk.view site.new).script ≡ (S.Disk.view site.old).script }
+    ensures chosen { (S.Disk.view site.new).chosen ≡ (S.Disk.view site.old).chosen }
 {
     if state.lives.len() >= 64 {
         tell(site, number, TOO_MANY, true);
@@ -122,6 +124,7 @@ fn handle<S: Site>(site: &mut S, state: &mut State, event: Event) -> Turn
     ensures told { is_some (S.Disk.view site.new).transcript ≡ is_some (S.Disk.view site.old).transcript }
     ensures link_faults { (S.Disk.view site.new).link_faults ≡ (S.Disk.view site.old).link_faults }
     ensures script { (S.Disk.view site.new).script ≡ (S.Disk.view site.old).script }
+    ensures chosen { (S.Disk.view site.new).chosen ≡ (S.Disk.view site.old).chosen }
     ensures ended { result ≡ Turn.Ended ↔ event ≡ Event.Ended }
     ensures still { event ≡ Event.Ended → site.new ≡ site.old }
     ensures no_fault { result ≢ Turn.LinkFault }
@@ -159,6 +162,7 @@ pub fn turn<S: Site>(site: &mut S, state: &mut State) -> Turn
     ensures ended { result ≡ Turn.Ended → Adds Over (S.Link.view site.old) (S.Link.view site.new) }
     ensures link_faults { (S.Disk.view site.old).link_faults ≤ (S.Disk.view site.new).link_faults }
     ensures link_fault { result ≡ Turn.LinkFault → Rose (S.Disk.view site.old).link_faults (S.Disk.view site.new).link_faults }
+    ensures chosen { (S.Disk.view site.new).chosen ≡ (S.Disk.view site.old).chosen }
     ensures none_taken { (result ≡ Turn.LinkFault) ⊎ (result ≡ Turn.NoMemory) → (S.Disk.view site.new).transcript ≡ (S.Disk.view site.old).transcript }
 {
     fewer_images_stand::<S>();
@@ -178,8 +182,10 @@ pub fn serve<S: Site>(site: &mut S, state: &mut State, turns: u64) -> Served
     ensures goes_on { (h : History) → Serves S.Disk.view S.Disk.may_leave S.Disk.left_at h state.old site.old → (n : ℕ)
         × TurnsBy S.Disk.view S.Disk.may_leave S.Disk.left_at h n (S.Disk.view site.old).script state.new site.new }
     ensures stands { (m : Machine) × StandsOn S.Disk.view S.Disk.may_leave m state.new.origin site.new }
+    ensures counts { CountsNone result }
     ensures told { is_some (S.Disk.view site.new).transcript ≡ is_some (S.Disk.view site.old).transcript }
     ensures link_faults { (S.Disk.view site.old).link_faults ≤ (S.Disk.view site.new).link_faults }
+    ensures chosen { (S.Disk.view site.new).chosen ≡ (S.Disk.view site.old).chosen }
     ensures link_fault { result ≡ Served.LinkFault → Rose (S.Disk.view site.old).link_faults (S.Disk.view site.new).link_faults }
 {
     crashes_hold_what_was_shown();

@@ -1,20 +1,27 @@
 //! What the loop keeps.
-ghost use Rattle.std.specs.Prelude.{◌≡◌, ◌<◌, ◌≤◌, ◌^◌, ℕ, List, None, IfOk, IfSome, IsSome, IsErrOf, is_some};
+ghost use Rattle.std.specs.Prelude.{◌≡◌, ◌↔◌, ◌<◌, ◌≤◌, ◌^◌, ℕ, List, None, IfOk, IfSome, IsSome, IsErrOf, is_some};
 ghost use Rattle.sm_model.specs.Channels.{IsChannel};
 ghost use Rattle.sm_model.specs.declared.entry.Entry.{Entry};
+ghost use Rattle.sm_model.specs.declared.fragment.Fragment.{Fragment};
+ghost use Rattle.sm_model.specs.Entries.{address_of};
+ghost use Rattle.sm_model.specs.Fragments.{IsValid};
+ghost use Rattle.sm_log.specs.Adds.{place_of};
+ghost use Rattle.sm_log.specs.Logs.{adds_of};
 ghost use Rattle.sm_site.specs.Clauses.{Rose, NoMore, Throughout};
 ghost use Rattle.sm_site.specs.Meanings.{SameLink};
 ghost use Rattle.sm_archive.specs.declared.opened.OpenFault.TheVariants as open_fault;
 ghost use Rattle.sm_archive.specs.declared.answers.Declared.TheVariants as answer;
+ghost use Rattle.sm_archive.specs.declared.fetch.Fetched.TheVariants.{Found, Absent, DiskFault, Damaged};
 ghost use Rattle.sm_archive.specs.Store.{IsStore};
 ghost use Rattle.sm_archive.specs.Opening.{NotAStore};
 ghost use Rattle.sm_origin.specs.Machine.{Machine};
+ghost use Rattle.sm_origin.specs.Acting.{IsHeld};
 ghost use Rattle.sm_origin.specs.Opening.{HasOneStore};
 ghost use Rattle.sm_serve.specs.Standing.{History, StandsOn};
 
 use crate::Live;
-use sm_archive::{Archive, Declared, Limits, OpenFault};
-use sm_model::Channel;
+use sm_archive::{Archive, Declared, Fetched, Limits, OpenFault};
+use sm_model::{Address, Channel};
 use sm_origin::Origin;
 use sm_origin::law::an_image_fits;
 use sm_site::Site;
@@ -29,7 +36,7 @@ pub struct State {
 }
 
 impl State {
-    ghost use Rattle.sm_serve.specs.Serving.{Begins, Serves, Known, DeclaresIn};
+    ghost use Rattle.sm_serve.specs.Serving.{Begins, Serves, Known, DeclaresIn, RecallsIn};
 
     /// Opens the store of a site under these limits, with no connection. A file that is fresh is made; nothing else is written.
     pub fn start<S: Site>(alloc: Global, site: &mut S, limits: Limits) -> Result<State, OpenFault>
@@ -79,6 +86,30 @@ impl State {
     {
         an_image_fits::<S>();
         self.origin.declare(self.alloc, site, channel)
+    }
+
+    /// Reads back the fragment of an address, from what was used last or from the disk, for one who is no connection.
+    pub fn recall<S: Site>(&self, site: &mut S, address: &Address) -> Fetched
+        requires stands { (m : Machine) × StandsOn S.Disk.view S.Disk.may_leave m self.now.origin site.old }
+        // Wherever a run had come, it goes on by one step, whose reply is what a connection would be told.
+        ensures runs { (h : History) → Serves S.Disk.view S.Disk.may_leave S.Disk.left_at h self.now site.old
+            → RecallsIn S.Disk.view S.Disk.may_leave S.Disk.left_at h address.now result self.now site.new }
+        ensures stands { (m : Machine) × StandsOn S.Disk.view S.Disk.may_leave m self.now.origin site.new }
+        // What is found is what the log has at its place; where the disk tells its contents it is the log's own.
+        ensures found { (place : ℕ) (f : Fragment) → result ≡ Found place f → (m : Machine)
+            → StandsOn S.Disk.view S.Disk.may_leave m self.now.origin site.old
+            → IsHeld (IsSome (S.Disk.view site.old).contents) m.log (address.now, record { place = place; fragment = f }) }
+        ensures valid { (place : ℕ) (f : Fragment) → result ≡ Found place f → IsValid f × (address_of f ≡ address.now) }
+        ensures absent { (m : Machine) → StandsOn S.Disk.view S.Disk.may_leave m self.now.origin site.old
+            → (result ≡ Absent) ↔ (place_of address.now (adds_of m.log) ≡ None) }
+        ensures damaged { result ≡ Damaged → IsSome (S.Disk.view site.old).contents → ⊥ }
+        ensures fault { result ≡ DiskFault → Rose (S.Disk.view site.old).disk_faults (S.Disk.view site.new).disk_faults }
+        ensures told { is_some (S.Disk.view site.new).contents ≡ is_some (S.Disk.view site.old).contents }
+        ensures no_fewer { (S.Disk.view site.old).disk_faults ≤ (S.Disk.view site.new).disk_faults }
+        ensures link { SameLink (S.Disk.view site.old) (S.Disk.view site.new) }
+    {
+        an_image_fits::<S>();
+        self.origin.recall(self.alloc, site, address)
     }
 
     /// The archive of the store.

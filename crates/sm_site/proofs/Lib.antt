@@ -3,6 +3,7 @@ pub mod Views
 pub mod Moments
 pub mod Recording
 pub mod Lives
+pub mod Transcripts
 mod Connections
 mod Crashes
 mod Filled

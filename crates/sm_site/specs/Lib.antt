@@ -9,5 +9,6 @@ pub mod Faults
 pub mod Past
 pub mod PastLaws
 pub mod Sites
+pub mod Texts
 pub mod Memory
 pub mod Sending

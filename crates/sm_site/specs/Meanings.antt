@@ -31,8 +31,17 @@ pub record Item : Type 0 where
   pub moment : ℕ
   pub deal : Deal
 
+-- what a site is selected with: the folder, whether it is made where it isn't there, the port (0 asks for no link), the address to listen
+-- at, and the file of the journal
+pub record Chosen : Type 0 where
+  pub store : List ℕ
+  pub make : Bool
+  pub port : ℕ
+  pub bind : Option (List ℕ)
+  pub journal : Option (List ℕ)
+
 -- The clock; the contents of the disk, its record of calls and its counts; the transcript of the link, the events that are
--- still to come, and its counts.
+-- still to come, and its counts; what the site is selected with, if it is.
 pub record View : Type 0 where
   pub moment : ℕ
   pub contents : Option Image
@@ -43,6 +52,7 @@ pub record View : Type 0 where
   pub script : Option (List Deal)
   pub link_faults : ℕ
   pub send_faults : ℕ
+  pub chosen : Option Chosen
 
 -- what a call of a disk leaves as it was
 pub record SameLink (old new : View) : Type 0 where
@@ -50,6 +60,7 @@ pub record SameLink (old new : View) : Type 0 where
   pub script : new.script ≡ old.script
   pub link_faults : new.link_faults ≡ old.link_faults
   pub send_faults : new.send_faults ≡ old.send_faults
+  pub chosen : new.chosen ≡ old.chosen
 
 -- what a call of a link leaves as it was
 pub record SameDisk (old new : View) : Type 0 where
@@ -57,6 +68,7 @@ pub record SameDisk (old new : View) : Type 0 where
   pub calls : new.calls ≡ old.calls
   pub reads : new.reads ≡ old.reads
   pub disk_faults : new.disk_faults ≡ old.disk_faults
+  pub chosen : new.chosen ≡ old.chosen
 
 -- whether a connection is open after an entry
 abbrev pub open_after : Bool → ℕ → Deal → Bool

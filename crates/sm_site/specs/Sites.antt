@@ -12,6 +12,7 @@ pub record SameBut (old new : View) : Type 0 where
   pub transcript : new.transcript ≡ old.transcript
   pub link_faults : new.link_faults ≡ old.link_faults
   pub send_faults : new.send_faults ≡ old.send_faults
+  pub chosen : new.chosen ≡ old.chosen
 
 -- contents, transcript and script are told
 pub record Tells (view : View) : Type 0 where

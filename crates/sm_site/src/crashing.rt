@@ -50,7 +50,8 @@ pub trait Crashing: Site {
         ensures starved { is_starved self.new ≡ is_starved self.old };
 
     /// Crashes in place, without memory. What it keeps is one of the images that a crash may leave, chosen by the number; then
-    /// nothing is pending, nothing stops, the script is empty, and the transcript begins anew, the old one being put to the others.
+    /// nothing is pending, nothing stops, the script is empty, and the transcript begins anew, the old one being put to the others. It
+    /// is selected with what it was selected with.
     fn crash_here(&mut self, choice: u8)
         ensures image { IfSome (Self.Disk.view self.new).contents (Self.Disk.may_leave self.old) }
         ensures told { is_some (Self.Disk.view self.new).contents ≡ is_some (Self.Disk.view self.old).contents }
@@ -60,6 +61,7 @@ pub trait Crashing: Site {
         ensures openings { IfSome (Self.Disk.view self.old).transcript (λ items. Kept items (openings self.old) (openings self.new)) }
         ensures numbers { Self.Link.numbers self.new ≡ Self.Link.numbers self.old }
         ensures counts { SameCounts (Self.Disk.view self.old) (Self.Disk.view self.new) }
+        ensures chosen { (Self.Disk.view self.new).chosen ≡ (Self.Disk.view self.old).chosen }
         ensures starved { is_starved self.new ≡ is_starved self.old };
 
     /// Whether memory has run out. While it hasn't, each fault of the site so far was of a number that was listed, or came behind

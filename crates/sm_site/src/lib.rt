@@ -7,6 +7,7 @@ mod crashing;
 mod disk;
 mod event;
 mod files;
+pub mod law;
 mod link;
 mod live;
 mod memory;
@@ -19,10 +20,9 @@ mod numbers;
 mod pending;
 mod piece;
 mod script;
+mod selection;
 mod site;
 mod step;
-#[cfg(test)]
-mod tests;
 
 pub use crashing::Crashing;
 pub use disk::{Disk, Failed};
@@ -32,5 +32,6 @@ pub use memory::MemorySite;
 pub use numbers::Numbers;
 pub use piece::Piece;
 pub use script::Script;
+pub use selection::Selection;
 pub use site::Site;
 pub use step::{FileBytes, Pending, Step};

@@ -13,7 +13,7 @@ ghost use Rattle.sm_site.specs.Memory.{coming, faults_of, site_left_at, site_may
 use crate::next_number::{above_past, above_script};
 use crate::note::has_begun;
 use crate::pending::crash_files;
-use crate::{Crashing, Event, MemorySite, Piece, Script, Site, SiteError, Step};
+use crate::{Crashing, Event, MemorySite, Piece, Script, Selection, Site, SiteError, Step};
 use std::alloc::AllocError;
 
 /// Puts events behind a script, all of them or none.
@@ -75,6 +75,7 @@ impl MemorySite {
         ensures coming { coming self.new ≡ [] }
         ensures taken { self.new.taken ≡ 0 }
         ensures counts { SameCounts (site_view self.old) (site_view self.new) }
+        ensures selection { self.new.selection ≡ self.old.selection }
         ensures faults { faults_of self.new ≡ record (faults_of self.old) { stop = None } }
     {
         crash_files(&mut self.files, &mut self.pending, choice);
@@ -99,7 +100,9 @@ impl Site for MemorySite {
 
     ghost one_past = { λ s t c. (λ x. x, λ x. x) };
 
-    fn select(&mut self, _store: &str, _port: u16) -> Result<(), SiteError>
+    fn select(&mut self, selection: Selection) -> Result<(), SiteError>
+        ensures chosen { OnOk result ((site_view self.new).chosen ≡ Some selection) }
+        ensures unchosen { OnErr result ((site_view self.new).chosen ≡ None) }
         ensures contents { (site_view self.new).contents ≡ (site_view self.old).contents }
         ensures calls { (site_view self.new).calls ≡ (site_view self.old).calls }
         ensures reads { (site_view self.new).reads ≡ (site_view self.old).reads }
@@ -117,6 +120,7 @@ impl Site for MemorySite {
         ensures never { IsOk result }
         ensures faults { faults_of self.new ≡ faults_of self.old }
     {
+        self.selection = Some(selection);
         Ok(())
     }
 }
@@ -179,6 +183,7 @@ impl Crashing for MemorySite {
         ensures openings { IfSome (site_view self.old).transcript (λ items. Kept items (site_openings self.old) (site_openings self.new)) }
         ensures numbers { site_numbers self.new ≡ site_numbers self.old }
         ensures counts { SameCounts (site_view self.old) (site_view self.new) }
+        ensures chosen { (site_view self.new).chosen ≡ (site_view self.old).chosen }
         ensures starved { (faults_of self.new).starved ≡ (faults_of self.old).starved }
         ensures faults { faults_of self.new ≡ record (faults_of self.old) { stop = None } }
     {

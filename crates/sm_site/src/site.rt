@@ -1,15 +1,17 @@
 //! A disk and a link on one clock.
-ghost use Rattle.std.specs.Prelude.{◌≡◌, ◌↔◌, ℕ, ◌≤◌, IsErrOf};
+ghost use Rattle.std.specs.Prelude.{◌≡◌, ◌↔◌, ℕ, ◌≤◌, IsErrOf, OnErr, OnOk};
 ghost use Rattle.sm_site.specs.Image.{Image};
 ghost use Rattle.sm_site.specs.Clauses.{Rose, Elapses, SameOutcomes};
 
-use crate::{Disk, Link, SiteError};
+use crate::{Disk, Link, Selection, SiteError};
 
 /// A disk and a link whose clock is one: it says what was sent up to a moment, and what a crash at that moment may leave.
 pub trait Site: Disk + Link {
-    /// Chooses the folder of the disk and the port of the link. Port 0 asks for no link. It changes at most the two counts of
-    /// faults, beside the clock.
-    fn select(&mut self, store: &str, port: u16) -> Result<(), SiteError>
+    /// Chooses the folder of the disk and where the link listens. The site tells what it is selected with from then on; after a refusal
+    /// it is selected with nothing. Beside that it changes at most the two counts of faults, and the clock.
+    fn select(&mut self, selection: Selection) -> Result<(), SiteError>
+        ensures chosen { OnOk result ((Self.Disk.view self.new).chosen ≡ Some selection) }
+        ensures unchosen { OnErr result ((Self.Disk.view self.new).chosen ≡ None) }
         ensures contents { (Self.Disk.view self.new).contents ≡ (Self.Disk.view self.old).contents }
         ensures calls { (Self.Disk.view self.new).calls ≡ (Self.Disk.view self.old).calls }
         ensures reads { (Self.Disk.view self.new).reads ≡ (Self.Disk.view self.old).reads }

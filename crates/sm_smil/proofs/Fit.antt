@@ -11,17 +11,19 @@ use Rattle.std.proofs.lemmas.List.Elements.{All-from_recursion}
 use Rattle.hex.specs.declared.error.FromHexError.{FromHexError}
 use Rattle.hex.specs.Hex.{decode_of, is_hex_digit}
 use Rattle.hex.proofs.HexLemmas.{decode_of-digits}
-use Rattle.sm_model.specs.declared.raw_track.Form.{Form}
-use Rattle.sm_model.specs.declared.raw_track.ParamName.{ParamName}
-use Rattle.sm_model.specs.declared.raw_track.ParamName.TheVariants.{SystemBitrate, TrackId, TrackName, TimeScale, FourCc, CodecPrivateData, MaxWidth, MaxHeight, AudioTag, Channels, SamplingRate, BitsPerSample, PacketSize}
-use Rattle.sm_model.specs.declared.raw_track.SmilParam.{SmilParam}
-use Rattle.sm_model.specs.declared.raw_track.RawTrack.{RawTrack}
+use Rattle.sm_smil.specs.declared.raw_track.Form.{Form}
+use Rattle.sm_smil.specs.declared.raw_track.ParamName.{ParamName}
+use Rattle.sm_smil.specs.declared.raw_track.ParamName.TheVariants.{SystemBitrate, TrackId, TrackName, TimeScale, FourCc, CodecPrivateData, MaxWidth, MaxHeight, AudioTag, Channels, SamplingRate, BitsPerSample, PacketSize}
+use Rattle.sm_smil.specs.declared.raw_track.SmilParam.{SmilParam}
+use Rattle.sm_smil.specs.declared.raw_track.RawTrack.{RawTrack}
 use Rattle.sm_model.specs.declared.track.Kind.{Kind}
 use Rattle.sm_model.specs.declared.track.Kind.TheVariants.{Video, Audio, Text}
 use Rattle.sm_model.specs.Names.{is_name, first_wrong}
-use Rattle.sm_model.specs.LiveTracks.{index_of, value_of, is_private, is_fit, kind_name, stream_name}
-use Rattle.sm_model.specs.LiveWalk.{Walk}
-use Rattle.sm_model.specs.LiveFaults.{misfits, inner_faults, is_invalid, end_faults, tracks_faults, faults_of, least_from}
+use Rattle.sm_smil.specs.LiveTracks.{index_of, value_of, is_private, is_fit, stream_name}
+use Rattle.sm_model.specs.Kinds.{kind_name}
+use Rattle.sm_smil.specs.LiveWalk.{Walk}
+use Rattle.sm_smil.specs.LiveFaults.{misfits, inner_faults, is_invalid, end_faults, tracks_faults, faults_of}
+use Rattle.sm_model.specs.Places.{least_from}
 use Rattle.sm_smil.specs.Answers.{AreFit}
 
 -- digits that are private data decode

@@ -1,9 +1,10 @@
 -- The least of two lists of places, one behind the other.
 use Rattle.std.proofs.Common.{◌≡◌, ℕ, List, [], ◌∷◌, ◌++◌, Option, refl, sym, ◌+◌, ◌<◌, length, take, drop, get_or, drop-cons, add-one}
 use Rattle.std.proofs.lemmas.List.{take_more}
-use Rattle.sm_model.specs.declared.raw_track.Form.{Form}
-use Rattle.sm_model.specs.declared.raw_track.RawTrack.{RawTrack}
-use Rattle.sm_model.specs.LiveFaults.{least_from, sooner, inner_faults, end_faults, tracks_faults}
+use Rattle.sm_smil.specs.declared.raw_track.Form.{Form}
+use Rattle.sm_smil.specs.declared.raw_track.RawTrack.{RawTrack}
+use Rattle.sm_model.specs.Places.{least_from, sooner}
+use Rattle.sm_smil.specs.LiveFaults.{inner_faults, end_faults, tracks_faults}
 
 pub least_from_append : (f : Option ℕ) (xs ys : List ℕ) → least_from f (xs ++ ys) ≡ least_from (least_from f xs) ys
 least_from_append f [] ys = refl

@@ -1,14 +1,14 @@
 -- A text gives one answer as a live manifest, and has a reading as a ladder.
 use Rattle.std.proofs.Common.{◌≡◌, ℕ, List, Result, length, refl}
 use Rattle.sm_model.specs.declared.track.Track.{Track}
-use Rattle.sm_model.specs.declared.raw_track.Form.TheVariants.{Ladder}
+use Rattle.sm_smil.specs.declared.raw_track.Form.TheVariants.{Ladder}
 use Rattle.sm_model.specs.declared.smil.SmilTrack.{SmilTrack}
-use Rattle.sm_model.specs.LiveTracks.{ladder_track}
-use Rattle.sm_model.specs.LiveWalk.{nothing_met, walk_tags}
-use Rattle.sm_model.specs.LiveManifests.{IsLiveManifest, IsLadder, fault_of, tracks_or_fault}
-use Rattle.sm_model.specs.LiveRead.{live_manifest}
-use Rattle.sm_model.specs.TagsRead.{tags_of}
-use Rattle.sm_model.proofs.TagTotals.{tags_total}
+use Rattle.sm_smil.specs.LiveTracks.{ladder_track}
+use Rattle.sm_smil.specs.LiveWalk.{nothing_met, walk_tags}
+use Rattle.sm_smil.specs.LiveManifests.{IsLiveManifest, IsLadder, fault_of, tracks_or_fault}
+use Rattle.sm_smil.specs.LiveRead.{live_manifest}
+use Rattle.sm_tag.specs.TagsRead.{tags_of}
+use Rattle.sm_tag.proofs.TagTotals.{tags_total}
 use Rattle.sm_smil.proofs.OneReading.{one_live_manifest}
 
 pub some_answer : (text : List ℕ) → IsLiveManifest text (live_manifest text)

@@ -3,10 +3,10 @@ use Rattle.std.proofs.Common.{◌≡◌, ℕ, List, Result, sym, ◌∙◌, leng
 use Rattle.sm_model.specs.declared.tag.Tag.{Tag}
 use Rattle.sm_model.specs.declared.track.Track.{Track}
 use Rattle.sm_model.specs.declared.smil.SmilTrack.{SmilTrack}
-use Rattle.sm_model.specs.declared.raw_track.Form.TheVariants.{Pushed, Ladder}
-use Rattle.sm_model.specs.LiveTracks.{smil_track, ladder_track}
-use Rattle.sm_model.specs.LiveWalk.{nothing_met, walk_tags}
-use Rattle.sm_model.specs.LiveManifests.{fault_of, tracks_or_fault, IsLiveManifest, IsLadder}
+use Rattle.sm_smil.specs.declared.raw_track.Form.TheVariants.{Pushed, Ladder}
+use Rattle.sm_smil.specs.LiveTracks.{smil_track, ladder_track}
+use Rattle.sm_smil.specs.LiveWalk.{nothing_met, walk_tags}
+use Rattle.sm_smil.specs.LiveManifests.{fault_of, tracks_or_fault, IsLiveManifest, IsLadder}
 use Rattle.sm_tag.proofs.Unique.{Runs-unique}
 
 pub one_live_manifest : (text : List ℕ) (r s : Result (List SmilTrack) ℕ) → IsLiveManifest text r → IsLiveManifest text s → r ≡ s

@@ -2,10 +2,10 @@
 use Rattle.std.proofs.Common.{◌≡◌, ℕ, List, [], ◌∷◌, Some, None, false, refl}
 use Rattle.sm_model.specs.declared.tag.Tag.{Tag}
 use Rattle.sm_model.specs.declared.tag.Tag.TheVariants.{Start, Finish, Text, End, Bad}
-use Rattle.sm_model.specs.declared.raw_track.Form.{Form}
-use Rattle.sm_model.specs.Tags.{Left, Runs, ends, follows, Next, is_last}
-use Rattle.sm_model.specs.LiveWalk.{Walk, nothing_met, step, walk_tags}
-use Rattle.sm_model.specs.LiveManifests.{bad_of}
+use Rattle.sm_smil.specs.declared.raw_track.Form.{Form}
+use Rattle.sm_tag.specs.Tags.{Left, Runs, ends, follows, Next, is_last}
+use Rattle.sm_smil.specs.LiveWalk.{Walk, nothing_met, step, walk_tags}
+use Rattle.sm_tag.specs.Elements.{bad_of}
 use Rattle.sm_smil.specs.Answers.{WalkedOver}
 
 -- what the tags that are left give, the tags of the whole text give

@@ -5,8 +5,8 @@ use Rattle.std.proofs.lemmas.List.{take_all}
 use Rattle.std.proofs.lemmas.List.Elements.{All-cons}
 use Rattle.sm_smil.proofs.WalkRuled.{stands_first, stands_later, min_either}
 use Rattle.sm_model.specs.declared.tag.Tag.{Tag}
-use Rattle.sm_model.specs.declared.raw_track.Form.{Form}
-use Rattle.sm_model.specs.declared.raw_track.RawTrack.{RawTrack}
+use Rattle.sm_smil.specs.declared.raw_track.Form.{Form}
+use Rattle.sm_smil.specs.declared.raw_track.RawTrack.{RawTrack}
 use Rattle.sm_smil.proofs.Fit.{whole_fit}
 use Rattle.sm_smil.specs.Answers.{AreFit}
 use Rattle.sm_smil.specs.Ruled.{whole_tracks, faults, IsLeast}

@@ -10,19 +10,22 @@ use Rattle.std.proofs.lemmas.List.Sums.{AllPass-from_list_all}
 use Rattle.std.proofs.lemmas.Slice.Eq.{bytes_eq-Decides}
 use Rattle.hex.specs.Hex.{decode_of, is_hex_digit}
 use Rattle.hex.proofs.HexLemmas.{decode_of-digits, decode_of-ok}
-use Rattle.sm_model.specs.declared.raw_track.Form.{Form}
-use Rattle.sm_model.specs.declared.raw_track.Form.TheVariants.{Pushed, Ladder}
-use Rattle.sm_model.specs.declared.raw_track.ParamName.TheVariants.{SystemBitrate, TrackId, TimeScale, FourCc, CodecPrivateData}
-use Rattle.sm_model.specs.declared.raw_track.SmilParam.{SmilParam}
-use Rattle.sm_model.specs.declared.raw_track.RawTrack.{RawTrack}
+use Rattle.sm_smil.specs.declared.raw_track.Form.{Form}
+use Rattle.sm_smil.specs.declared.raw_track.Form.TheVariants.{Pushed, Ladder}
+use Rattle.sm_smil.specs.declared.raw_track.ParamName.TheVariants.{SystemBitrate, TrackId, TimeScale, FourCc, CodecPrivateData}
+use Rattle.sm_smil.specs.declared.raw_track.SmilParam.{SmilParam}
+use Rattle.sm_smil.specs.declared.raw_track.RawTrack.{RawTrack}
 use Rattle.sm_model.specs.declared.track.Kind.{Kind}
 use Rattle.sm_model.specs.declared.track.Kind.TheVariants.{Video, Audio, Text}
 use Rattle.sm_model.specs.declared.smil.SmilTrack.{SmilTrack}
 use Rattle.sm_model.specs.Digits.{is_number, number_of, decimal_from}
 use Rattle.sm_model.specs.Channels.{is_fourcc, IsTrack, Agree, IsChannel, IsUntimed, Differ, IsSmil}
-use Rattle.sm_model.specs.LiveTracks.{is_same, value_of, is_private, is_timescale, is_fit, stream_name, bitrate_text, number_in, bitrate_of, track_id_of, timescale_in, timescale_of, bytes_in, track_of, smil_track, ladder_track}
-use Rattle.sm_model.specs.LiveWalk.{Walk}
-use Rattle.sm_model.specs.LiveFaults.{is_invalid, misfits, inner_faults, are_equal, do_differ, are_one_kind, clash, share_id, collide, lacks_id, lacks_part, collides_with, end_faults, tracks_faults, open_faults, text_faults, faults_of, least_from}
+use Rattle.sm_model.specs.Same.{is_same}
+use Rattle.sm_smil.specs.LiveTracks.{value_of, is_private, is_timescale, is_fit, stream_name, bitrate_text, number_in, bitrate_of, track_id_of, timescale_in, timescale_of, bytes_in, track_of, smil_track, ladder_track}
+use Rattle.sm_smil.specs.LiveWalk.{Walk}
+use Rattle.sm_smil.specs.LiveFaults.{is_invalid, misfits, inner_faults, are_equal, do_differ, clash, share_id, collide, lacks_id, lacks_part, collides_with, end_faults, tracks_faults, open_faults, text_faults, faults_of}
+use Rattle.sm_model.specs.Kinds.{are_one_kind}
+use Rattle.sm_model.specs.Places.{least_from}
 use Rattle.sm_smil.specs.Answers.{AreFit}
 use Rattle.sm_smil.proofs.Fit.{neither, none_least, fits_all}
 

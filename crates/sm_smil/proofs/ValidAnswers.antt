@@ -2,11 +2,12 @@
 use Rattle.std.proofs.Common.{◌≡◌, ℕ, List, length, map, Option, Some, None, Ok, refl, subst}
 use Rattle.sm_model.specs.declared.tag.Tag.{Tag}
 use Rattle.sm_model.specs.declared.smil.SmilTrack.{SmilTrack}
-use Rattle.sm_model.specs.declared.raw_track.Form.TheVariants.{Pushed}
+use Rattle.sm_smil.specs.declared.raw_track.Form.TheVariants.{Pushed}
 use Rattle.sm_model.specs.Channels.{IsSmil}
-use Rattle.sm_model.specs.LiveTracks.{smil_track}
-use Rattle.sm_model.specs.LiveWalk.{nothing_met, walk_tags}
-use Rattle.sm_model.specs.LiveManifests.{bad_of, fault_of, tracks_or_fault, IsLiveManifest}
+use Rattle.sm_smil.specs.LiveTracks.{smil_track}
+use Rattle.sm_smil.specs.LiveWalk.{nothing_met, walk_tags}
+use Rattle.sm_tag.specs.Elements.{bad_of}
+use Rattle.sm_smil.specs.LiveManifests.{fault_of, tracks_or_fault, IsLiveManifest}
 use Rattle.sm_smil.proofs.Valid.{faultless, is_smil}
 use Rattle.sm_smil.proofs.WalkLemmas.{few_tracks}
 

@@ -6,10 +6,12 @@ use Rattle.sm_model.specs.declared.tag.Attribute.{Attribute}
 use Rattle.sm_model.specs.declared.tag.Tag.{Tag}
 use Rattle.sm_model.specs.declared.tag.Tag.TheVariants.{Start, Finish, Text, End, Bad}
 use Rattle.sm_model.specs.declared.track.Kind.{Kind}
-use Rattle.sm_model.specs.declared.raw_track.Form.{Form}
-use Rattle.sm_model.specs.declared.raw_track.RawTrack.{RawTrack}
-use Rattle.sm_model.specs.LiveTracks.{is_same}
-use Rattle.sm_model.specs.LiveWalk.{Walk, nothing_met, is_switch, track_kind, kind_in, enters, begins, with_current, passes, meets, begins_element, ends_element, step, walk_tags, first_place}
+use Rattle.sm_smil.specs.declared.raw_track.Form.{Form}
+use Rattle.sm_smil.specs.declared.raw_track.RawTrack.{RawTrack}
+use Rattle.sm_model.specs.Same.{is_same}
+use Rattle.sm_smil.specs.LiveWalk.{Walk, nothing_met, is_switch, track_kind, kind_in, begins, with_current, passes, meets, begins_element, ends_element, step, walk_tags}
+use Rattle.sm_tag.specs.Elements.{enters}
+use Rattle.sm_model.specs.Places.{first_place}
 
 -- at most 64 tracks have ended, and fewer where one hasn't, which then is open
 pub record Fits (w : Walk) : Type 0 where

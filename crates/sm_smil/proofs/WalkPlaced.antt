@@ -6,12 +6,15 @@ use Rattle.sm_model.specs.declared.tag.Attribute.{Attribute}
 use Rattle.sm_model.specs.declared.tag.Tag.{Tag}
 use Rattle.sm_model.specs.declared.tag.Tag.TheVariants.{Start, Finish, Text, End, Bad}
 use Rattle.sm_model.specs.declared.track.Kind.{Kind}
-use Rattle.sm_model.specs.declared.raw_track.Form.{Form}
-use Rattle.sm_model.specs.declared.raw_track.ParamName.{ParamName}
-use Rattle.sm_model.specs.declared.raw_track.SmilParam.{SmilParam}
-use Rattle.sm_model.specs.declared.raw_track.RawTrack.{RawTrack}
-use Rattle.sm_model.specs.LiveTracks.{is_same, value_of}
-use Rattle.sm_model.specs.LiveWalk.{Walk, track_kind, enters, with_element, with_pair, with_named, with_param, is_read, param_name, attribute_of, meets, walk_tags, first_place}
+use Rattle.sm_smil.specs.declared.raw_track.Form.{Form}
+use Rattle.sm_smil.specs.declared.raw_track.ParamName.{ParamName}
+use Rattle.sm_smil.specs.declared.raw_track.SmilParam.{SmilParam}
+use Rattle.sm_smil.specs.declared.raw_track.RawTrack.{RawTrack}
+use Rattle.sm_model.specs.Same.{is_same}
+use Rattle.sm_smil.specs.LiveTracks.{value_of}
+use Rattle.sm_smil.specs.LiveWalk.{Walk, track_kind, with_element, with_pair, with_named, with_param, is_read, param_name, meets, walk_tags}
+use Rattle.sm_tag.specs.Elements.{enters, attribute_of}
+use Rattle.sm_model.specs.Places.{first_place}
 use Rattle.sm_tag.proofs.WrittenTags.{append_nil}
 use Rattle.sm_smil.proofs.WalkLemmas.{at_switch}
 use Rattle.sm_smil.specs.Placed.{Placed, placed, started, with_child, ends_track, holding, track_from, tracks_in, ended_tracks, open_tracks, place_behind, other_places}

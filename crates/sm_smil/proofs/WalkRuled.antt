@@ -4,11 +4,13 @@ use Rattle.std.specs.List.{Contains, flat_map, AllByRecursion}
 use Rattle.std.proofs.lemmas.List.Concat.{flat_map-cons}
 use Rattle.std.proofs.lemmas.List.Elements.{All-from_recursion, All-contains}
 use Rattle.sm_model.specs.declared.tag.Tag.{Tag}
-use Rattle.sm_model.specs.declared.raw_track.Form.{Form}
-use Rattle.sm_model.specs.declared.raw_track.RawTrack.{RawTrack}
-use Rattle.sm_model.specs.LiveWalk.{nothing_met, walk_tags}
-use Rattle.sm_model.specs.LiveFaults.{inner_faults, tracks_faults, open_faults, text_faults, faults_of, least_from}
-use Rattle.sm_model.specs.LiveManifests.{bad_of, fault_of, tracks_or_fault}
+use Rattle.sm_smil.specs.declared.raw_track.Form.{Form}
+use Rattle.sm_smil.specs.declared.raw_track.RawTrack.{RawTrack}
+use Rattle.sm_smil.specs.LiveWalk.{nothing_met, walk_tags}
+use Rattle.sm_smil.specs.LiveFaults.{inner_faults, tracks_faults, open_faults, text_faults, faults_of}
+use Rattle.sm_model.specs.Places.{least_from}
+use Rattle.sm_tag.specs.Elements.{bad_of}
+use Rattle.sm_smil.specs.LiveManifests.{fault_of, tracks_or_fault}
 use Rattle.sm_tag.proofs.WrittenTags.{append_nil}
 use Rattle.sm_smil.proofs.WalkPlaced.{Walked, reaches, or_first}
 use Rattle.sm_smil.specs.Placed.{placed, place_behind, other_places}

@@ -11,31 +11,35 @@ use Rattle.sm_tag.proofs.Zeros.{without_zeros_nonzero}
 use Rattle.sm_model.specs.declared.tag.Attribute.{Attribute}
 use Rattle.sm_model.specs.declared.tag.Tag.{Tag}
 use Rattle.sm_model.specs.declared.tag.Tag.TheVariants.{Start, End}
-use Rattle.sm_model.specs.declared.markup.Markup.{Markup}
-use Rattle.sm_model.specs.declared.markup.Markup.TheVariants as markup
-use Rattle.sm_model.specs.declared.markup.Lead.{Lead}
-use Rattle.sm_model.specs.declared.markup.Lead.TheVariants as lead
-use Rattle.sm_model.specs.declared.raw_track.Form.{Form}
-use Rattle.sm_model.specs.declared.raw_track.Form.TheVariants.{Pushed, Ladder}
+use Rattle.sm_tag.specs.declared.grammar.Markup.{Markup}
+use Rattle.sm_tag.specs.declared.grammar.Markup.TheVariants as markup
+use Rattle.sm_tag.specs.declared.grammar.Lead.{Lead}
+use Rattle.sm_tag.specs.declared.grammar.Lead.TheVariants as lead
+use Rattle.sm_smil.specs.declared.raw_track.Form.{Form}
+use Rattle.sm_smil.specs.declared.raw_track.Form.TheVariants.{Pushed, Ladder}
 use Rattle.sm_model.specs.declared.smil.SmilTrack.{SmilTrack}
-use Rattle.sm_model.specs.declared.raw_track.ParamName.TheVariants.{TrackId, TrackName, TimeScale, FourCc, CodecPrivateData, MaxWidth, MaxHeight, AudioTag, Channels, SamplingRate, BitsPerSample, PacketSize}
-use Rattle.sm_model.specs.declared.raw_track.RawTrack.{RawTrack}
+use Rattle.sm_smil.specs.declared.raw_track.ParamName.TheVariants.{TrackId, TrackName, TimeScale, FourCc, CodecPrivateData, MaxWidth, MaxHeight, AudioTag, Channels, SamplingRate, BitsPerSample, PacketSize}
+use Rattle.sm_smil.specs.declared.raw_track.RawTrack.{RawTrack}
 use Rattle.sm_model.specs.declared.track.Kind.{Kind}
 use Rattle.sm_model.specs.declared.track.Kind.TheVariants as kind
 use Rattle.sm_model.specs.declared.track.Track.{Track}
 use Rattle.sm_model.specs.Channels.{IsTrack, Agree, IsChannel, IsNarrowTrack}
-use Rattle.sm_model.specs.TagParts.{name_at}
-use Rattle.sm_model.specs.TagMarkup.{Markups, lead_at, finish_at, instruction_at, past_word}
-use Rattle.sm_model.specs.Tags.{Left, Founds, bare, marked, skipped, Next, ends, begin, without_zeros, without_mark}
-use Rattle.sm_model.specs.LiveTracks.{is_same, value_of, number_in, stream_name, bitrate_of, timescale_of, bytes_in, numbers_of, track_id_of, track_of, smil_track, ladder_track}
-use Rattle.sm_model.specs.LiveWalk.{Walk, nothing_met, walk_tags}
-use Rattle.sm_model.specs.LiveFaults.{inner_faults, are_one_kind, clash, collide, lacks_part, collides_with, end_faults, tracks_faults, text_faults, share_id, faults_of, least_from}
-use Rattle.sm_model.specs.LiveManifests.{bad_of, fault_of, tracks_or_fault, IsLadder, IsLiveManifest}
-use Rattle.sm_model.specs.LiveText.{track_lines, tracks_lines, head_lines, foot_lines, live_text}
+use Rattle.sm_tag.specs.TagParts.{name_at}
+use Rattle.sm_tag.specs.TagMarkup.{Markups, lead_at, finish_at, instruction_at, past_word}
+use Rattle.sm_tag.specs.Tags.{Left, Founds, bare, marked, skipped, Next, ends, begin, without_zeros, without_mark}
+use Rattle.sm_model.specs.Same.{is_same}
+use Rattle.sm_smil.specs.LiveTracks.{value_of, number_in, stream_name, bitrate_of, timescale_of, bytes_in, numbers_of, track_id_of, track_of, smil_track, ladder_track}
+use Rattle.sm_smil.specs.LiveWalk.{Walk, nothing_met, walk_tags}
+use Rattle.sm_smil.specs.LiveFaults.{inner_faults, clash, collide, lacks_part, collides_with, end_faults, tracks_faults, text_faults, share_id, faults_of}
+use Rattle.sm_model.specs.Kinds.{are_one_kind}
+use Rattle.sm_model.specs.Places.{least_from}
+use Rattle.sm_tag.specs.Elements.{bad_of}
+use Rattle.sm_smil.specs.LiveManifests.{fault_of, tracks_or_fault, IsLadder, IsLiveManifest}
+use Rattle.sm_smil.specs.LiveText.{track_lines, tracks_lines, head_lines, foot_lines, live_text}
 use Rattle.sm_smil.specs.Untimed.{untimed_tracks}
 use Rattle.sm_smil.proofs.Fit.{neither}
 use Rattle.sm_smil.proofs.OneReading.{one_ladder, one_live_manifest}
-use Rattle.sm_model.specs.TagText.{left_at}
+use Rattle.sm_tag.specs.TagText.{left_at}
 use Rattle.sm_tag.proofs.WrittenTags.{append_nil, Starts-again}
 use Rattle.sm_tag.proofs.WrittenNext.{next_finish}
 use Rattle.sm_smil.proofs.WrittenLines.{Leads, Begins, in_switch, start_line, finish_line, on_start, on_finish, feed_read}

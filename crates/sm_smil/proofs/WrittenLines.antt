@@ -5,17 +5,17 @@ use Rattle.std.specs.List.{list_all}
 use Rattle.sm_model.specs.declared.tag.Attribute.{Attribute}
 use Rattle.sm_model.specs.declared.tag.Tag.{Tag}
 use Rattle.sm_model.specs.declared.tag.Tag.TheVariants.{Start, Finish, Text}
-use Rattle.sm_model.specs.declared.markup.Markup.TheVariants as markup
-use Rattle.sm_model.specs.declared.raw_track.Form.{Form}
+use Rattle.sm_tag.specs.declared.grammar.Markup.TheVariants as markup
+use Rattle.sm_smil.specs.declared.raw_track.Form.{Form}
 use Rattle.sm_model.specs.declared.track.Kind.{Kind}
 use Rattle.sm_model.specs.declared.track.Kind.TheVariants as kind
-use Rattle.sm_model.specs.TagParts.{name_at}
-use Rattle.sm_model.specs.TagMarkup.{Markups, finish_at}
-use Rattle.sm_model.specs.Tags.{Left, Next, Runs, follows, closes}
-use Rattle.sm_model.specs.LiveWalk.{Walk, step, walk_tags}
-use Rattle.sm_model.specs.LiveManifests.{bad_of}
-use Rattle.sm_model.specs.LiveText.{param_line, opening_line, closing_line, element_name}
-use Rattle.sm_model.specs.TagText.{is_plain, AreWritten, attributes_then, closing, left_at, IsOpen}
+use Rattle.sm_tag.specs.TagParts.{name_at}
+use Rattle.sm_tag.specs.TagMarkup.{Markups, finish_at}
+use Rattle.sm_tag.specs.Tags.{Left, Next, Runs, follows, closes}
+use Rattle.sm_smil.specs.LiveWalk.{Walk, step, walk_tags}
+use Rattle.sm_tag.specs.Elements.{bad_of}
+use Rattle.sm_smil.specs.LiveText.{param_line, opening_line, closing_line, element_name}
+use Rattle.sm_tag.specs.TagText.{is_plain, AreWritten, attributes_then, closing, left_at, IsOpen}
 use Rattle.sm_tag.proofs.WrittenTags.{Starts-again}
 use Rattle.sm_tag.proofs.WrittenNext.{next_feed, next_start, next_finish}
 

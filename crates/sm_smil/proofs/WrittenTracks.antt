@@ -9,19 +9,19 @@ use Rattle.sm_model.specs.declared.track.Kind.{Kind}
 use Rattle.sm_model.specs.declared.track.Kind.TheVariants as kind
 use Rattle.sm_model.specs.declared.track.Params.{Params}
 use Rattle.sm_model.specs.declared.track.Track.{Track}
-use Rattle.sm_model.specs.declared.raw_track.Form.{Form}
-use Rattle.sm_model.specs.declared.raw_track.Form.TheVariants.{Pushed, Ladder}
-use Rattle.sm_model.specs.declared.raw_track.ParamName.{ParamName}
-use Rattle.sm_model.specs.declared.raw_track.ParamName.TheVariants.{SystemBitrate, TrackId, TrackName, TimeScale, FourCc, CodecPrivateData, MaxWidth, MaxHeight, AudioTag, Channels, SamplingRate, BitsPerSample, PacketSize}
-use Rattle.sm_model.specs.declared.raw_track.SmilParam.{SmilParam}
-use Rattle.sm_model.specs.declared.raw_track.RawTrack.{RawTrack}
+use Rattle.sm_smil.specs.declared.raw_track.Form.{Form}
+use Rattle.sm_smil.specs.declared.raw_track.Form.TheVariants.{Pushed, Ladder}
+use Rattle.sm_smil.specs.declared.raw_track.ParamName.{ParamName}
+use Rattle.sm_smil.specs.declared.raw_track.ParamName.TheVariants.{SystemBitrate, TrackId, TrackName, TimeScale, FourCc, CodecPrivateData, MaxWidth, MaxHeight, AudioTag, Channels, SamplingRate, BitsPerSample, PacketSize}
+use Rattle.sm_smil.specs.declared.raw_track.SmilParam.{SmilParam}
+use Rattle.sm_smil.specs.declared.raw_track.RawTrack.{RawTrack}
 use Rattle.sm_model.specs.Channels.{IsNarrowTrack, IsNarrowOption}
-use Rattle.sm_model.specs.LiveTracks.{index_of, value_of, is_fit}
-use Rattle.sm_model.specs.LiveWalk.{Walk, step, with_param, is_read, param_name, text_param, number_param, video_param, audio_param, kind_in}
-use Rattle.sm_model.specs.LiveFaults.{misfits}
-use Rattle.sm_model.specs.LiveText.{param_line, number_line, option_line, number_lines, opening_line, closing_line, track_lines, element_name}
+use Rattle.sm_smil.specs.LiveTracks.{index_of, value_of, is_fit}
+use Rattle.sm_smil.specs.LiveWalk.{Walk, step, with_param, is_read, param_name, text_param, number_param, video_param, audio_param, kind_in}
+use Rattle.sm_smil.specs.LiveFaults.{misfits}
+use Rattle.sm_smil.specs.LiveText.{param_line, number_line, option_line, number_lines, opening_line, closing_line, track_lines, element_name}
 use Rattle.sm_smil.proofs.Fit.{same_name}
-use Rattle.sm_model.specs.TagText.{is_plain, left_at}
+use Rattle.sm_tag.specs.TagText.{is_plain, left_at}
 use Rattle.sm_smil.proofs.WrittenLines.{Leads, Begins, in_switch, in_track, param_attributes, param_read, param_begins, track_attributes, opening_read, opening_begins, closing_read, closing_begins}
 use Rattle.sm_smil.proofs.WrittenValues.{expected, IsWritable, decimal_plain, decimal_number, name_plain, fourcc_plain, private_plain, private_again, timescale_fits}
 

@@ -9,15 +9,15 @@ use Rattle.std.proofs.lemmas.List.Sums.{list_all-from_AllPass}
 use Rattle.hex.specs.Hex.{encode_upper, encode_with, upper_digits, is_hex_digit, IsBytes}
 use Rattle.hex.proofs.HexLemmas.{length-encode_with, decode_of-encode_upper, decode_of-ok}
 use Rattle.sm_model.specs.declared.track.Track.{Track}
-use Rattle.sm_model.specs.declared.raw_track.Form.{Form}
-use Rattle.sm_model.specs.declared.raw_track.Form.TheVariants.{Pushed, Ladder}
-use Rattle.sm_model.specs.declared.raw_track.ParamName.{ParamName}
-use Rattle.sm_model.specs.declared.raw_track.ParamName.TheVariants.{SystemBitrate, TrackId, TrackName, TimeScale, FourCc, CodecPrivateData, MaxWidth, MaxHeight, AudioTag, Channels, SamplingRate, BitsPerSample, PacketSize}
+use Rattle.sm_smil.specs.declared.raw_track.Form.{Form}
+use Rattle.sm_smil.specs.declared.raw_track.Form.TheVariants.{Pushed, Ladder}
+use Rattle.sm_smil.specs.declared.raw_track.ParamName.{ParamName}
+use Rattle.sm_smil.specs.declared.raw_track.ParamName.TheVariants.{SystemBitrate, TrackId, TrackName, TimeScale, FourCc, CodecPrivateData, MaxWidth, MaxHeight, AudioTag, Channels, SamplingRate, BitsPerSample, PacketSize}
 use Rattle.sm_model.specs.Digits.{is_digit, decimal_from, is_number, number_of}
 use Rattle.sm_model.specs.Names.{is_name, is_name_byte, first_wrong}
 use Rattle.sm_model.specs.Channels.{is_fourcc, is_fourcc_byte, IsTrack, IsNarrowTrack, IsNarrowOption}
-use Rattle.sm_model.specs.LiveTracks.{is_private, is_timescale, number_in}
-use Rattle.sm_model.specs.TagText.{is_plain}
+use Rattle.sm_smil.specs.LiveTracks.{is_private, is_timescale, number_in}
+use Rattle.sm_tag.specs.TagText.{is_plain}
 use Rattle.sm_tag.proofs.WrittenTags.{not_of}
 
 plain_of : (p : ℕ → Bool) → p 34 ≡ false → p 60 ≡ false → p 38 ≡ false → (b : List ℕ) → list_all p b ≡ true → list_all is_plain b ≡ true

@@ -4,10 +4,11 @@ use Rattle.sm_model.specs.declared.tag.Attribute.{Attribute}
 use Rattle.sm_model.specs.declared.tag.Tag.{Tag}
 use Rattle.sm_model.specs.declared.tag.Tag.TheVariants.{Start, Finish, Text, End, Bad}
 use Rattle.sm_model.specs.declared.track.Kind.{Kind}
-use Rattle.sm_model.specs.declared.raw_track.Form.{Form}
-use Rattle.sm_model.specs.declared.raw_track.RawTrack.{RawTrack}
-use Rattle.sm_model.specs.LiveTracks.{is_same}
-use Rattle.sm_model.specs.LiveWalk.{attribute_of, track_kind, with_element}
+use Rattle.sm_smil.specs.declared.raw_track.Form.{Form}
+use Rattle.sm_smil.specs.declared.raw_track.RawTrack.{RawTrack}
+use Rattle.sm_model.specs.Same.{is_same}
+use Rattle.sm_tag.specs.Elements.{attribute_of}
+use Rattle.sm_smil.specs.LiveWalk.{track_kind, with_element}
 
 -- a tag, and the names of the elements that it stands in, from the outermost on; an end tag stands in the element that it ends
 pub record Placed : Type 0 where

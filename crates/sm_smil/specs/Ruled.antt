@@ -2,10 +2,10 @@
 use Rattle.std.specs.Prelude.{◌≡◌, ◌≤◌, ℕ, Bool, List, [], ◌++◌, map, take, Result, Ok, Err, All}
 use Rattle.std.specs.List.{Contains, flat_map}
 use Rattle.sm_model.specs.declared.tag.Tag.{Tag}
-use Rattle.sm_model.specs.declared.raw_track.Form.{Form}
-use Rattle.sm_model.specs.declared.raw_track.RawTrack.{RawTrack}
-use Rattle.sm_model.specs.LiveFaults.{inner_faults, tracks_faults, text_faults}
-use Rattle.sm_model.specs.LiveManifests.{bad_of}
+use Rattle.sm_smil.specs.declared.raw_track.Form.{Form}
+use Rattle.sm_smil.specs.declared.raw_track.RawTrack.{RawTrack}
+use Rattle.sm_smil.specs.LiveFaults.{inner_faults, tracks_faults, text_faults}
+use Rattle.sm_tag.specs.Elements.{bad_of}
 use Rattle.sm_smil.specs.Placed.{placed, tracks_in, ended_tracks, open_tracks, place_behind, other_places}
 
 -- the tracks of a text, each with whether its end tag stands there

@@ -3,14 +3,17 @@ ghost use Rattle.std.specs.Prelude.{◌≡◌, ◌++◌, [], None, option_map, o
 ghost use Rattle.std.specs.List.{list_all};
 ghost use Rattle.hex.specs.Hex.{is_hex_digit};
 ghost use Rattle.sm_model.specs.Digits.{is_number};
-ghost use Rattle.sm_model.specs.LiveTracks.{value_of, is_private, is_timescale, is_fit, kind_name, stream_name, bitrate_text, number_in, bitrate_of, track_id_of};
-ghost use Rattle.sm_model.specs.LiveTracks.{ticks_of, timescale_in, timescale_of};
-ghost use Rattle.sm_model.specs.LiveFaults.{is_invalid, misfits, inner_faults, are_equal, do_differ, are_one_kind, clash, share_id, collide, lacks_id, lacks_part};
-ghost use Rattle.sm_model.specs.LiveFaults.{collides_with, end_faults, tracks_faults, open_faults, text_faults, faults_of, sooner, least_from};
+ghost use Rattle.sm_smil.specs.LiveTracks.{value_of, is_private, is_timescale, is_fit, stream_name, bitrate_text, number_in, bitrate_of, track_id_of};
+ghost use Rattle.sm_model.specs.Kinds.{kind_name};
+ghost use Rattle.sm_smil.specs.LiveTracks.{ticks_of, timescale_in, timescale_of};
+ghost use Rattle.sm_smil.specs.LiveFaults.{is_invalid, misfits, inner_faults, are_equal, do_differ, clash, share_id, collide, lacks_id, lacks_part};
+ghost use Rattle.sm_model.specs.Kinds.{are_one_kind};
+ghost use Rattle.sm_smil.specs.LiveFaults.{collides_with, end_faults, tracks_faults, open_faults, text_faults, faults_of};
+ghost use Rattle.sm_model.specs.Places.{sooner, least_from};
 
 use crate::names::value_of;
+use crate::raw_track::{Form, ParamName, RawTrack, SmilParam};
 use crate::walk::Walk;
-use sm_model::raw_track::{Form, ParamName, RawTrack, SmilParam};
 use sm_model::{Bytes, Kind, Name, is_fourcc, number_of};
 
 fn is_hex_digit(c: u8) -> bool
@@ -26,7 +29,7 @@ fn are_hex_digits(text: &[u8]) -> bool
 }
 
 // An even number of hexadecimal digits, at most 65,536 of them: tested before room for the bytes is taken.
-#[tactic(auto, unfolding(sm_model::specs::LiveTracks::is_private))]
+#[tactic(auto, unfolding(crate::specs::LiveTracks::is_private))]
 fn is_private(value: &[u8]) -> bool
     ensures { result ≡ is_private value.now }
 {
@@ -40,7 +43,7 @@ fn is_number(value: &[u8]) -> bool
     number_of(value).is_some()
 }
 
-#[tactic(auto, unfolding(sm_model::specs::LiveTracks::is_timescale, sm_model::specs::Digits::number_of))]
+#[tactic(auto, unfolding(crate::specs::LiveTracks::is_timescale, sm_model::specs::Digits::number_of))]
 fn is_timescale(value: &[u8]) -> bool
     ensures { result ≡ is_timescale value.now }
 {
@@ -51,7 +54,7 @@ fn is_timescale(value: &[u8]) -> bool
 }
 
 /// Whether a value is one that its name can have.
-#[tactic(auto, unfolding(sm_model::specs::LiveTracks::is_fit))]
+#[tactic(auto, unfolding(crate::specs::LiveTracks::is_fit))]
 pub fn is_fit(name: ParamName, value: &[u8]) -> bool
     ensures { result ≡ is_fit name value.now }
 {
@@ -225,7 +228,7 @@ fn is_kind(a: Kind, b: Kind) -> bool
     }
 }
 
-#[tactic(auto, unfolding(sm_model::specs::LiveFaults::clash))]
+#[tactic(auto, unfolding(crate::specs::LiveFaults::clash))]
 fn clash(a: &RawTrack, b: &RawTrack) -> bool
     ensures { result ≡ clash a.now b.now }
 {
@@ -247,7 +250,7 @@ fn share_id(form: Form, a: &RawTrack, b: &RawTrack) -> bool
     }
 }
 
-#[tactic(auto, unfolding(sm_model::specs::LiveFaults::collide))]
+#[tactic(auto, unfolding(crate::specs::LiveFaults::collide))]
 fn collide(form: Form, a: &RawTrack, b: &RawTrack) -> bool
     ensures { result ≡ collide form a.now b.now }
 {
@@ -276,7 +279,7 @@ fn lacks_id(form: Form, track: &RawTrack) -> bool
 }
 
 /// Whether a track lacks its bitrate, or a track_ID that it needs.
-#[tactic(auto, unfolding(sm_model::specs::LiveFaults::lacks_part))]
+#[tactic(auto, unfolding(crate::specs::LiveFaults::lacks_part))]
 pub fn lacks_part(form: Form, track: &RawTrack) -> bool
     ensures { result ≡ lacks_part form track.now }
 {
@@ -284,7 +287,7 @@ pub fn lacks_part(form: Form, track: &RawTrack) -> bool
 }
 
 // What the end of the track shows.
-#[tactic(auto, unfolding(sm_model::specs::LiveFaults::end_faults))]
+#[tactic(auto, unfolding(crate::specs::LiveFaults::end_faults))]
 fn note_end(fault: &mut Option<u64>, form: Form, earlier: &[RawTrack], track: &RawTrack)
     ensures { fault.new ≡ least_from fault.old (end_faults form earlier.now track.now) }
 {

@@ -3,15 +3,15 @@ ghost use Rattle.std.specs.Prelude.{◌≡◌, ◌↔◌, ℕ, List, All, Result
 ghost use Rattle.sm_model.specs.declared.track.Track.{Track};
 ghost use Rattle.sm_model.specs.declared.smil.SmilTrack.{SmilTrack};
 ghost use Rattle.sm_model.specs.Channels.{IsChannel, IsNarrowTrack, IsSmil};
-ghost use Rattle.sm_model.specs.LiveManifests.{IsLiveManifest, IsLadder};
-ghost use Rattle.sm_model.specs.LiveRead.{live_manifest};
-ghost use Rattle.sm_model.specs.LiveText.{live_text};
+ghost use Rattle.sm_smil.specs.LiveManifests.{IsLiveManifest, IsLadder};
+ghost use Rattle.sm_smil.specs.LiveRead.{live_manifest};
+ghost use Rattle.sm_smil.specs.LiveText.{live_text};
 ghost use Rattle.sm_smil.specs.Untimed.{untimed_tracks};
 ghost use Rattle.sm_smil.specs.Ruled.{IsRuled};
 ghost use Rattle.sm_model.specs.declared.tag.Tag.{Tag};
-ghost use Rattle.sm_model.specs.declared.raw_track.Form.TheVariants.{Pushed, Ladder};
-ghost use Rattle.sm_model.specs.Tags.{TagsOf};
-ghost use Rattle.sm_model.specs.LiveTracks.{smil_track, ladder_track};
+ghost use Rattle.sm_smil.specs.declared.raw_track.Form.TheVariants.{Pushed, Ladder};
+ghost use Rattle.sm_tag.specs.Tags.{TagsOf};
+ghost use Rattle.sm_smil.specs.LiveTracks.{smil_track, ladder_track};
 
 /// The live manifest of a valid channel is read as that channel: as a ladder, and as a pushed header, where its tracks have
 /// the track_IDs 1, 2 and so on, and no timescale yet. Each track of a real channel is narrow.

@@ -1,12 +1,13 @@
 //! The names of elements, attributes and params.
 ghost use Rattle.std.specs.Prelude.{◌≡◌, option_map};
-ghost use Rattle.sm_model.specs.LiveTracks.{value_of};
-ghost use Rattle.sm_model.specs.LiveWalk.{text_param, number_param, video_param, audio_param, param_name, kind_in, attribute_of};
+ghost use Rattle.sm_smil.specs.LiveTracks.{value_of};
+ghost use Rattle.sm_smil.specs.LiveWalk.{text_param, number_param, video_param, audio_param, param_name, kind_in};
+ghost use Rattle.sm_tag.specs.Elements.{attribute_of};
 
-use sm_model::raw_track::{ParamName, SmilParam};
+use crate::raw_track::{ParamName, SmilParam};
 use sm_model::{Attribute, Kind};
 
-#[tactic(auto, unfolding(sm_model::specs::LiveWalk::text_param))]
+#[tactic(auto, unfolding(crate::specs::LiveWalk::text_param))]
 fn text_param(name: &[u8]) -> Option<ParamName>
     ensures { result ≡ text_param name.now }
 {
@@ -21,7 +22,7 @@ fn text_param(name: &[u8]) -> Option<ParamName>
     }
 }
 
-#[tactic(auto, unfolding(sm_model::specs::LiveWalk::number_param))]
+#[tactic(auto, unfolding(crate::specs::LiveWalk::number_param))]
 fn number_param(name: &[u8]) -> Option<ParamName>
     ensures { result ≡ number_param name.now }
 {
@@ -36,7 +37,7 @@ fn number_param(name: &[u8]) -> Option<ParamName>
     }
 }
 
-#[tactic(auto, unfolding(sm_model::specs::LiveWalk::video_param))]
+#[tactic(auto, unfolding(crate::specs::LiveWalk::video_param))]
 fn video_param(name: &[u8]) -> Option<ParamName>
     ensures { result ≡ video_param name.now }
 {
@@ -49,7 +50,7 @@ fn video_param(name: &[u8]) -> Option<ParamName>
     }
 }
 
-#[tactic(auto, unfolding(sm_model::specs::LiveWalk::audio_param))]
+#[tactic(auto, unfolding(crate::specs::LiveWalk::audio_param))]
 fn audio_param(name: &[u8]) -> Option<ParamName>
     ensures { result ≡ audio_param name.now }
 {
@@ -69,7 +70,7 @@ fn audio_param(name: &[u8]) -> Option<ParamName>
 }
 
 /// The name of a param, where it is one that is read.
-#[tactic(auto, unfolding(sm_model::specs::LiveWalk::param_name))]
+#[tactic(auto, unfolding(crate::specs::LiveWalk::param_name))]
 pub fn param_name(name: &[u8]) -> Option<ParamName>
     ensures { result ≡ param_name name.now }
 {
@@ -86,7 +87,7 @@ pub fn param_name(name: &[u8]) -> Option<ParamName>
 }
 
 /// The kind of track that an element inside the switch is.
-#[tactic(auto, unfolding(sm_model::specs::LiveWalk::kind_in))]
+#[tactic(auto, unfolding(crate::specs::LiveWalk::kind_in))]
 pub fn kind_in(element: &[u8]) -> Option<Kind>
     ensures { result ≡ kind_in element.now }
 {

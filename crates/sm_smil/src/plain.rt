@@ -2,23 +2,22 @@
 //! it stands in, lists the places of all that is at fault, and takes the least.
 ghost use Rattle.std.specs.Prelude.{◌≡◌, ◌++◌, List, [], length, IfOk, OnOk, MatchOption, option_to_list, take};
 ghost use Rattle.std.specs.List.{flat_map};
-ghost use Rattle.sm_model.specs.LiveFaults.{misfits, inner_faults, end_faults, tracks_faults, text_faults};
-ghost use Rattle.sm_model.specs.LiveManifests.{bad_of};
+ghost use Rattle.sm_smil.specs.LiveFaults.{misfits, inner_faults, end_faults, tracks_faults, text_faults};
+ghost use Rattle.sm_tag.specs.Elements.{bad_of};
 ghost use Rattle.sm_smil.specs.Placed.{behind_tag, placed, with_child, ends_track, holding, track_at, tracks_in, ended_tracks, open_tracks, place_behind};
 ghost use Rattle.sm_smil.specs.Placed.{other_place, other_places};
 ghost use Rattle.sm_smil.specs.Ruled.{all_tracks, whole_tracks, cut_tracks, faults, IsLeast, IsRuled};
-ghost use Rattle.sm_smil.specs.Answers.{Answers};
+ghost use Rattle.sm_model.specs.Gives.{Answers};
 ghost use Rattle.sm_model.specs.declared.tag.Tag.{Tag as TagValue};
-ghost use Rattle.sm_model.specs.declared.raw_track.Form.TheVariants.{Pushed, Ladder};
-ghost use Rattle.sm_model.specs.Tags.{TagsOf};
-ghost use Rattle.sm_model.specs.LiveTracks.{smil_track, ladder_track};
+ghost use Rattle.sm_smil.specs.declared.raw_track.Form.TheVariants.{Pushed, Ladder};
+ghost use Rattle.sm_tag.specs.Tags.{TagsOf};
+ghost use Rattle.sm_smil.specs.LiveTracks.{smil_track, ladder_track};
 
-use crate::fault::SmilFault;
 use crate::judge::{collides_with, is_fit, is_misread, lacks_part, option_bytes};
+use crate::raw_track::{Form, RawTrack, SmilParam};
 use crate::track::{ladder_tracks, smil_tracks};
 use crate::walk::{add_element, raw_track, track_kind};
-use sm_model::raw_track::{Form, RawTrack, SmilParam};
-use sm_model::{Bytes, Channel, NoMemory, Smil, Tag, is_same};
+use sm_model::{Bytes, Channel, NoMemory, Smil, Tag, TextFault, is_same};
 use sm_tag::plain::tags;
 use std::alloc::Global;
 
@@ -295,7 +294,7 @@ fn add_inner(places: &mut Vec<u64>, track: &RawTrack) -> Result<(), NoMemory>
 }
 
 // Adds what the end of a track shows.
-#[tactic(auto, unfolding(sm_model::specs::LiveFaults::end_faults))]
+#[tactic(auto, unfolding(crate::specs::LiveFaults::end_faults))]
 fn add_end(
     places: &mut Vec<u64>,
     form: Form,
@@ -384,13 +383,13 @@ pub fn least(places: &[u64]) -> Option<u64>
 }
 
 /// The tracks of the live server manifest of a push, as the rule says them.
-pub fn read_live_manifest(alloc: Global, text: &[u8]) -> Result<Smil, SmilFault>
+pub fn read_live_manifest(alloc: Global, text: &[u8]) -> Result<Smil, TextFault>
     ensures { Answers result (λ r. (tags : List TagValue) × TagsOf text.now tags × IsRuled smil_track Pushed (length text.now) tags r) }
 {
     let tags = tags(alloc, text)?;
     let places = faults(alloc, Form::Pushed, text.len() as u64, &tags)?;
     match least(&places) {
-        Some(at) => Err(SmilFault::Bad { at }),
+        Some(at) => Err(TextFault::Bad { at }),
         None => {
             let tracks = whole_tracks(alloc, Form::Pushed, &tags)?;
             Ok(Smil::from_vec(smil_tracks(alloc, &tracks)?))
@@ -399,13 +398,13 @@ pub fn read_live_manifest(alloc: Global, text: &[u8]) -> Result<Smil, SmilFault>
 }
 
 /// The channel of a ladder, as the rule says it.
-pub fn read_ladder(alloc: Global, text: &[u8]) -> Result<Channel, SmilFault>
+pub fn read_ladder(alloc: Global, text: &[u8]) -> Result<Channel, TextFault>
     ensures { Answers result (λ r. (tags : List TagValue) × TagsOf text.now tags × IsRuled ladder_track Ladder (length text.now) tags r) }
 {
     let tags = tags(alloc, text)?;
     let places = faults(alloc, Form::Ladder, text.len() as u64, &tags)?;
     match least(&places) {
-        Some(at) => Err(SmilFault::Bad { at }),
+        Some(at) => Err(TextFault::Bad { at }),
         None => {
             let tracks = whole_tracks(alloc, Form::Ladder, &tags)?;
             Ok(Channel::from_vec(ladder_tracks(alloc, &tracks)?))

@@ -2,8 +2,8 @@
 ghost use Rattle.std.specs.Prelude.{◌≡◌, ◌≤◌, ◌++◌, [], length, OnOk, IfOk, codes};
 ghost use Rattle.std.specs.Fmt.{decimal};
 ghost use Rattle.sm_model.specs.Channels.{IsChannel};
-ghost use Rattle.sm_model.specs.LiveText.{element_name, param_line, number_line, option_line, number_lines, opening_line, closing_line, track_lines, tracks_lines};
-ghost use Rattle.sm_model.specs.LiveText.{live_text};
+ghost use Rattle.sm_smil.specs.LiveText.{element_name, param_line, number_line, option_line, number_lines, opening_line, closing_line, track_lines, tracks_lines};
+ghost use Rattle.sm_smil.specs.LiveText.{live_text};
 
 use sm_model::{Bytes, Channel, Kind, NoMemory, Params, Track};
 use std::alloc::Global;
@@ -22,7 +22,7 @@ fn append_two(out: &mut Vec<u8>, first: &[u8], second: &[u8]) -> Result<(), NoMe
     append(out, second)
 }
 
-#[tactic(auto, unfolding(sm_model::specs::LiveText::param_line))]
+#[tactic(auto, unfolding(crate::specs::LiveText::param_line))]
 fn append_param(out: &mut Vec<u8>, name: &[u8], value: &[u8]) -> Result<(), NoMemory>
     ensures { OnOk result (out.new.items ≡ out.old.items ++ param_line name.now value.now) }
 {
@@ -52,7 +52,7 @@ fn append_option(
     }
 }
 
-#[tactic(auto, unfolding(sm_model::specs::LiveText::number_lines))]
+#[tactic(auto, unfolding(crate::specs::LiveText::number_lines))]
 fn append_numbers(alloc: Global, out: &mut Vec<u8>, n: &Params) -> Result<(), NoMemory>
     ensures { OnOk result (out.new.items ≡ out.old.items ++ number_lines n.now) }
 {
@@ -75,7 +75,7 @@ fn element_name(kind: Kind) -> &'static [u8]
     }
 }
 
-#[tactic(auto, unfolding(sm_model::specs::LiveText::opening_line))]
+#[tactic(auto, unfolding(crate::specs::LiveText::opening_line))]
 fn append_opening(
     alloc: Global,
     out: &mut Vec<u8>,
@@ -90,7 +90,7 @@ fn append_opening(
     append(out, b"\">\n")
 }
 
-#[tactic(auto, unfolding(sm_model::specs::LiveText::closing_line))]
+#[tactic(auto, unfolding(crate::specs::LiveText::closing_line))]
 fn append_closing(out: &mut Vec<u8>, kind: Kind) -> Result<(), NoMemory>
     ensures { OnOk result (out.new.items ≡ out.old.items ++ closing_line kind) }
 {
@@ -99,7 +99,7 @@ fn append_closing(out: &mut Vec<u8>, kind: Kind) -> Result<(), NoMemory>
     append(out, b">\n")
 }
 
-#[tactic(auto, unfolding(sm_model::specs::LiveText::track_lines))]
+#[tactic(auto, unfolding(crate::specs::LiveText::track_lines))]
 fn append_track(alloc: Global, out: &mut Vec<u8>, id: u32, t: &Track) -> Result<(), NoMemory>
     ensures { OnOk result (out.new.items ≡ out.old.items ++ track_lines id t.now) }
 {
@@ -127,7 +127,7 @@ fn append_tracks(alloc: Global, out: &mut Vec<u8>, tracks: &[Track]) -> Result<(
 }
 
 /// The live manifest of a channel, which is a ladder too: its tracks in order, each with its place plus 1 as its track_ID.
-#[tactic(auto, unfolding(sm_model::specs::LiveText::live_text))]
+#[tactic(auto, unfolding(crate::specs::LiveText::live_text))]
 pub fn put_live_manifest(alloc: Global, channel: &Channel) -> Result<Bytes, NoMemory>
     requires { IsChannel channel.now }
     ensures { IfOk result (λ text. text ≡ live_text channel.now) }

@@ -1,13 +1,13 @@
 //! The tracks that a live manifest names.
 ghost use Rattle.std.specs.Prelude.{◌≡◌, IfOk, All, map, true, Some};
 ghost use Rattle.sm_model.specs.Names.{is_name};
-ghost use Rattle.sm_model.specs.LiveTracks.{value_of, is_private, bytes_in, numbers_of, track_of, smil_track, ladder_track};
+ghost use Rattle.sm_smil.specs.LiveTracks.{value_of, is_private, bytes_in, numbers_of, track_of, smil_track, ladder_track};
 ghost use Rattle.sm_smil.specs.Answers.{AreFit};
 
 use crate::judge::{bitrate_of, name_of, number_at, timescale_of};
 use crate::names::value_of;
+use crate::raw_track::{ParamName, RawTrack};
 use hex::FromHexError;
-use sm_model::raw_track::{ParamName, RawTrack};
 use sm_model::{Bytes, Name, NameFault, NoMemory, Params, SmilTrack, Track};
 use std::alloc::Global;
 
@@ -45,7 +45,7 @@ fn private_of(alloc: Global, raw: &RawTrack) -> Result<Bytes, NoMemory>
     }
 }
 
-#[tactic(auto, unfolding(sm_model::specs::LiveTracks::numbers_of))]
+#[tactic(auto, unfolding(crate::specs::LiveTracks::numbers_of))]
 fn numbers_of(raw: &RawTrack) -> Params
     ensures { result ≡ numbers_of raw.now }
 {
@@ -60,7 +60,7 @@ fn numbers_of(raw: &RawTrack) -> Params
     }
 }
 
-#[tactic(auto, unfolding(sm_model::specs::LiveTracks::track_of))]
+#[tactic(auto, unfolding(crate::specs::LiveTracks::track_of))]
 fn track_of(alloc: Global, timescale: u32, raw: &RawTrack) -> Result<Track, NoMemory>
     requires { AreFit raw.now.params }
     ensures { IfOk result (λ t. t ≡ track_of timescale raw.now) }

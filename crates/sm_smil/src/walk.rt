@@ -1,9 +1,11 @@
 //! The walk over the tags of a live manifest.
 ghost use Rattle.std.specs.Prelude.{◌≡◌, ◌-◌, [], length, take, codes, IfOk, OnOk, None, option_map};
-ghost use Rattle.sm_model.specs.LiveWalk.{is_read, with_param, with_named, with_element, is_switch, track_kind, first_place, attribute_of};
+ghost use Rattle.sm_smil.specs.LiveWalk.{is_read, with_param, with_named, with_element, is_switch, track_kind};
+ghost use Rattle.sm_model.specs.Places.{first_place};
+ghost use Rattle.sm_tag.specs.Elements.{attribute_of};
 
 use crate::names::{attribute_of, kind_in, param_name, value_of};
-use sm_model::raw_track::{Form, ParamName, RawTrack, SmilParam, SmilParams};
+use crate::raw_track::{Form, ParamName, RawTrack, SmilParam, SmilParams};
 use sm_model::{Attribute, Attributes, Bytes, Kind, NoMemory, Tag};
 use std::alloc::Global;
 use std::marker::Model;
@@ -19,7 +21,7 @@ pub struct Walk {
 }
 
 impl Model for Walk {
-    ghost use Rattle.sm_model.specs.LiveWalk.{Walk as Met};
+    ghost use Rattle.sm_smil.specs.LiveWalk.{Walk as Met};
 
     ghost Value = { Met };
 
@@ -146,7 +148,7 @@ pub fn raw_track(
 }
 
 impl Walk {
-    ghost use Rattle.sm_model.specs.LiveWalk.{nothing_met, step, begins, passes, meets, begins_element, ends_element};
+    ghost use Rattle.sm_smil.specs.LiveWalk.{nothing_met, step, begins, passes, meets, begins_element, ends_element};
 
     /// Nothing was met yet.
     pub fn new(alloc: Global) -> Walk

@@ -1,7 +1,7 @@
 -- One attribute more.
 use Rattle.std.proofs.Common.{◌≡◌, ℕ, Bool, None, List, [], Result, Ok}
 use Rattle.sm_model.specs.declared.tag.Attribute.{Attribute}
-use Rattle.sm_model.specs.TagParts.{Stop, opening_at, Values, mark_at, AttributeAt, unopened, opened, Tails, unmarked, broken}
+use Rattle.sm_tag.specs.TagParts.{Stop, opening_at, Values, mark_at, AttributeAt, unopened, opened, Tails, unmarked, broken}
 use Rattle.sm_tag.specs.declared.halt.Halt.{Halt}
 use Rattle.sm_tag.specs.declared.halt.Halt.TheVariants.{Memory, Short, Wrong}
 use Rattle.sm_tag.specs.Reads.{Fails, FailsBy}

@@ -9,14 +9,14 @@ use Rattle.std.proofs.lemmas.List.{take-append-le}
 use Rattle.std.proofs.Math.Seq.{drop-append_seam}
 use Rattle.std.proofs.lemmas.Slice.Eq.{starts_is}
 use Rattle.sm_model.specs.declared.tag.Attribute.{Attribute}
-use Rattle.sm_model.specs.declared.markup.Markup.{Markup}
-use Rattle.sm_model.specs.declared.markup.Markup.TheVariants.{Skipped, Finish, Start}
+use Rattle.sm_tag.specs.declared.grammar.Markup.{Markup}
+use Rattle.sm_tag.specs.declared.grammar.Markup.TheVariants.{Skipped, Finish, Start}
 use Rattle.sm_model.specs.Digits.{is_digit}
-use Rattle.sm_model.specs.TagBytes.{is_tag_start, is_tag_byte, is_space, prefix, remaining}
-use Rattle.sm_model.specs.TagParts.{Stop, name_at, quote_at, word_at, entity_at, number_end, number_at, reference_at, piece_at, Values, closed, goes_on}
-use Rattle.sm_model.specs.TagParts.{opening_at, AttributeAt, opened, mark_at, Tails, ended, another}
-use Rattle.sm_model.specs.TagMarkup.{past_word, finish_at, comment_at, instruction_at, Starts, named, Markups}
-use Rattle.sm_model.specs.TagText.{IsTagName, closing}
+use Rattle.sm_tag.specs.TagBytes.{is_tag_start, is_tag_byte, is_space, prefix, remaining}
+use Rattle.sm_tag.specs.TagParts.{Stop, name_at, quote_at, word_at, entity_at, number_end, number_at, reference_at, piece_at, Values, closed, goes_on}
+use Rattle.sm_tag.specs.TagParts.{opening_at, AttributeAt, opened, mark_at, Tails, ended, another}
+use Rattle.sm_tag.specs.TagMarkup.{past_word, finish_at, comment_at, instruction_at, Starts, named, Markups}
+use Rattle.sm_tag.specs.TagText.{IsTagName, closing}
 use Rattle.sm_tag.proofs.WrittenTags.{append_nil, append_push, front_until, behind_until, name_again, not_of}
 use Rattle.sm_tag.specs.Grammar as grammar
 use Rattle.sm_tag.specs.Grammar.{IsSpace, Reference, Value, IsAttribute, Attributes, AreNew, IsStart, IsFinish, UpTo, IsSkipped}

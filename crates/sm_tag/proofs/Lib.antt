@@ -1,3 +1,5 @@
+pub mod TagLengths
+pub mod TagTotals
 pub mod AttributeLemmas
 pub mod Pieces
 pub mod MarkupLemmas

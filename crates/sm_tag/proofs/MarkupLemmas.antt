@@ -1,9 +1,9 @@
 -- Faults in a start tag, and one markup more that is skipped.
 use Rattle.std.proofs.Common.{◌≡◌, ℕ, List, [], Ok, ◌≤◌, arith}
-use Rattle.sm_model.specs.declared.markup.Lead.{Lead}
-use Rattle.sm_model.specs.declared.markup.Lead.TheVariants as lead
-use Rattle.sm_model.specs.TagParts.{name_at, Tails}
-use Rattle.sm_model.specs.TagMarkup.{Starts, unnamed, named}
+use Rattle.sm_tag.specs.declared.grammar.Lead.{Lead}
+use Rattle.sm_tag.specs.declared.grammar.Lead.TheVariants as lead
+use Rattle.sm_tag.specs.TagParts.{name_at, Tails}
+use Rattle.sm_tag.specs.TagMarkup.{Starts, unnamed, named}
 use Rattle.sm_tag.specs.declared.halt.Halt.{Halt}
 use Rattle.sm_tag.specs.declared.halt.Halt.TheVariants.{Memory, Short, Wrong}
 use Rattle.sm_tag.specs.Reads.{Fails, FailsBy}

@@ -11,7 +11,7 @@ use Rattle.std.specs.BTreeSet.{BTreeSet, insert_key, contains}
 use Rattle.std.proofs.lemmas.Map.Text.{is_eq-slice_cmp}
 use denote.Ref.{Bor}
 use Rattle.sm_model.specs.declared.tag.Attribute.{Attribute}
-use Rattle.sm_model.specs.TagParts.{has_name}
+use Rattle.sm_tag.specs.TagParts.{has_name}
 
 -- whether a name of the set is this one
 abbrev pub in_set : List ℕ → List (Bor (List ℕ)) → Bool

@@ -1,6 +1,6 @@
 -- One piece more of a value.
 use Rattle.std.proofs.Common.{◌≡◌, ℕ, Bool, true, false, List, [], ◌++◌, Result, Ok, Err, ap, sym, ◌∙◌}
-use Rattle.sm_model.specs.TagParts.{Stop, short, wrong, piece_at, Values, refused, closed, goes_on}
+use Rattle.sm_tag.specs.TagParts.{Stop, short, wrong, piece_at, Values, refused, closed, goes_on}
 use Rattle.sm_tag.specs.declared.halt.Halt.{Halt}
 use Rattle.sm_tag.specs.declared.halt.Halt.TheVariants.{Memory, Short, Wrong}
 use Rattle.sm_tag.specs.Reads.{adding_piece, Fails, FailsBy}

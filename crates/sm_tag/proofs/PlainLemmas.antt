@@ -4,11 +4,11 @@ use Rattle.std.proofs.lemmas.Bool.{eqb-true}
 use Rattle.std.proofs.lemmas.List.{take_all}
 use Rattle.sm_model.specs.declared.tag.Attribute.{Attribute}
 use Rattle.sm_model.specs.declared.tag.Tag.{Tag}
-use Rattle.sm_model.specs.declared.markup.Markup.{Markup}
-use Rattle.sm_model.specs.declared.markup.Markup.TheVariants.{Skipped, Finish, Start}
-use Rattle.sm_model.specs.TagParts.{Stop, mark_at, has_name, AttributeAt, Tails, unmarked, broken, another}
-use Rattle.sm_model.specs.TagMarkup.{Markups}
-use Rattle.sm_model.specs.Tags.{Left, Next, Runs, follows, is_last}
+use Rattle.sm_tag.specs.declared.grammar.Markup.{Markup}
+use Rattle.sm_tag.specs.declared.grammar.Markup.TheVariants.{Skipped, Finish, Start}
+use Rattle.sm_tag.specs.TagParts.{Stop, mark_at, has_name, AttributeAt, Tails, unmarked, broken, another}
+use Rattle.sm_tag.specs.TagMarkup.{Markups}
+use Rattle.sm_tag.specs.Tags.{Left, Next, Runs, follows, is_last}
 use Rattle.sm_tag.specs.declared.halt.Halt.{Halt}
 use Rattle.sm_tag.specs.declared.halt.Halt.TheVariants.{Memory, Short, Wrong}
 use Rattle.sm_tag.specs.Grammar.{IsMade}

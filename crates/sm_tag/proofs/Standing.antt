@@ -6,14 +6,14 @@ use Rattle.std.proofs.lemmas.Bool.{eqb-true}
 use Rattle.std.proofs.Math.Seq.{drop-append_seam}
 use Rattle.sm_model.specs.declared.tag.Tag.{Tag}
 use Rattle.sm_model.specs.declared.tag.Tag.TheVariants as tags
-use Rattle.sm_model.specs.declared.markup.Markup.{Markup}
-use Rattle.sm_model.specs.declared.markup.Markup.TheVariants.{Skipped, Finish, Start}
-use Rattle.sm_model.specs.declared.markup.Lead.{Lead}
-use Rattle.sm_model.specs.declared.markup.Lead.TheVariants as lead
-use Rattle.sm_model.specs.TagBytes.{is_space, is_text, prefix, remaining}
-use Rattle.sm_model.specs.TagMarkup.{Markups, lead_inside, lead_stray, lead_outside, lead_at}
-use Rattle.sm_model.specs.Tags as whole
-use Rattle.sm_model.specs.Tags.{Left, Founds, bare, lost, stray, marked, skipped, gives, Next, Runs, ends, follows, is_last, begin, without_zeros, without_mark, kept, TagsOf}
+use Rattle.sm_tag.specs.declared.grammar.Markup.{Markup}
+use Rattle.sm_tag.specs.declared.grammar.Markup.TheVariants.{Skipped, Finish, Start}
+use Rattle.sm_tag.specs.declared.grammar.Lead.{Lead}
+use Rattle.sm_tag.specs.declared.grammar.Lead.TheVariants as lead
+use Rattle.sm_tag.specs.TagBytes.{is_space, is_text, prefix, remaining}
+use Rattle.sm_tag.specs.TagMarkup.{Markups, lead_inside, lead_stray, lead_outside, lead_at}
+use Rattle.sm_tag.specs.Tags as whole
+use Rattle.sm_tag.specs.Tags.{Left, Founds, bare, lost, stray, marked, skipped, gives, Next, Runs, ends, follows, is_last, begin, without_zeros, without_mark, kept, TagsOf}
 use Rattle.sm_tag.proofs.GrammarSound.{MarkupMade, markups_made, split_is, prefix_all, starts_made}
 use Rattle.sm_tag.specs.Grammar.{IsRun, StandsIn}
 

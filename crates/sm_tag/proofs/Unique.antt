@@ -3,14 +3,14 @@ use Rattle.std.proofs.Common.{◌≡◌, ℕ, Bool, true, false, eqb, List, [], 
 use Rattle.std.specs.Prelude.{MatchBool}
 use Rattle.sm_model.specs.declared.tag.Attribute.{Attribute}
 use Rattle.sm_model.specs.declared.tag.Tag.{Tag}
-use Rattle.sm_model.specs.declared.markup.Markup.{Markup}
-use Rattle.sm_model.specs.declared.markup.Markup.TheVariants.{Skipped}
-use Rattle.sm_model.specs.declared.markup.Lead.{Lead}
-use Rattle.sm_model.specs.declared.markup.Lead.TheVariants as lead
-use Rattle.sm_model.specs.TagParts.{Stop, short, wrong, piece_at, opening_at, mark_at, name_at, Values, refused, closed, goes_on, AttributeAt, unopened, opened, Tails, unmarked, ended, broken, twice, another}
-use Rattle.sm_model.specs.TagMarkup.{Starts, unnamed, named, Markups, lead_at}
-use Rattle.sm_model.specs.Tags as tags
-use Rattle.sm_model.specs.Tags.{Left, Founds, bare, lost, stray, marked, skipped, Next, gives, Runs, ends, follows}
+use Rattle.sm_tag.specs.declared.grammar.Markup.{Markup}
+use Rattle.sm_tag.specs.declared.grammar.Markup.TheVariants.{Skipped}
+use Rattle.sm_tag.specs.declared.grammar.Lead.{Lead}
+use Rattle.sm_tag.specs.declared.grammar.Lead.TheVariants as lead
+use Rattle.sm_tag.specs.TagParts.{Stop, short, wrong, piece_at, opening_at, mark_at, name_at, Values, refused, closed, goes_on, AttributeAt, unopened, opened, Tails, unmarked, ended, broken, twice, another}
+use Rattle.sm_tag.specs.TagMarkup.{Starts, unnamed, named, Markups, lead_at}
+use Rattle.sm_tag.specs.Tags as tags
+use Rattle.sm_tag.specs.Tags.{Left, Founds, bare, lost, stray, marked, skipped, Next, gives, Runs, ends, follows}
 
 abbrev pub ok_or : {A : Type 0} → A → Result A Stop → A
 ok_or d (Ok x) = x

@@ -2,13 +2,13 @@
 use Rattle.std.proofs.Common.{◌≡◌, ℕ, ◌-◌, Bool, true, not, cond, List, [], ◌∷◌, ◌++◌, length, take, Ok, refl, sym, subst}
 use Rattle.sm_model.specs.declared.tag.Attribute.{Attribute}
 use Rattle.sm_model.specs.declared.tag.Tag.TheVariants.{Start, Finish, Text}
-use Rattle.sm_model.specs.declared.markup.Markup.{Markup}
-use Rattle.sm_model.specs.declared.markup.Markup.TheVariants as markup
-use Rattle.sm_model.specs.declared.markup.Lead.{Lead}
-use Rattle.sm_model.specs.declared.markup.Lead.TheVariants as lead
-use Rattle.sm_model.specs.TagMarkup.{Markups, lead_at}
-use Rattle.sm_model.specs.Tags.{Founds, bare, marked, Next, closes}
-use Rattle.sm_model.specs.TagText.{left_at, IsOpen}
+use Rattle.sm_tag.specs.declared.grammar.Markup.{Markup}
+use Rattle.sm_tag.specs.declared.grammar.Markup.TheVariants as markup
+use Rattle.sm_tag.specs.declared.grammar.Lead.{Lead}
+use Rattle.sm_tag.specs.declared.grammar.Lead.TheVariants as lead
+use Rattle.sm_tag.specs.TagMarkup.{Markups, lead_at}
+use Rattle.sm_tag.specs.Tags.{Founds, bare, marked, Next, closes}
+use Rattle.sm_tag.specs.TagText.{left_at, IsOpen}
 
 lead_tag : (cs : List ℕ) → lead_at true (60 ∷ cs) ≡ (lead.Tag, length (60 ∷ cs), cs)
 unfolding lead_at

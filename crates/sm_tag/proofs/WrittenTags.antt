@@ -3,11 +3,11 @@ use Rattle.std.proofs.Common.{◌≡◌, ℕ, Bool, true, false, not, eqb, ltb, 
 use Rattle.std.specs.List.{list_all}
 use Rattle.std.proofs.lemmas.Bool.{and_parts, eqb-true, lt-ltb}
 use Rattle.sm_model.specs.declared.tag.Attribute.{Attribute}
-use Rattle.sm_model.specs.declared.markup.Markup.TheVariants as markup
-use Rattle.sm_model.specs.TagBytes.{is_tag_start, is_tag_byte, prefix, remaining}
-use Rattle.sm_model.specs.TagParts.{piece_at, Values, closed, goes_on, name_at, opening_at, quote_at, AttributeAt, opened, mark_at, Tails, ended, another}
-use Rattle.sm_model.specs.TagMarkup.{Starts, named, finish_at}
-use Rattle.sm_model.specs.TagText.{is_plain, IsTagName, closing, attributes_then, AreWritten}
+use Rattle.sm_tag.specs.declared.grammar.Markup.TheVariants as markup
+use Rattle.sm_tag.specs.TagBytes.{is_tag_start, is_tag_byte, prefix, remaining}
+use Rattle.sm_tag.specs.TagParts.{piece_at, Values, closed, goes_on, name_at, opening_at, quote_at, AttributeAt, opened, mark_at, Tails, ended, another}
+use Rattle.sm_tag.specs.TagMarkup.{Starts, named, finish_at}
+use Rattle.sm_tag.specs.TagText.{is_plain, IsTagName, closing, attributes_then, AreWritten}
 
 denied : (b : Bool) → not b ≡ true → b ≡ false
 denied true e = cc

@@ -6,13 +6,13 @@ use Rattle.std.proofs.lemmas.Bool.{lt-ltb, le-ltb, ltb-true, ltb-false}
 use Rattle.std.proofs.lemmas.Bool.Decides.{Decides-eqb}
 use Rattle.std.proofs.lemmas.Slice.Eq.{starts_is}
 use Rattle.sm_model.specs.declared.tag.Attribute.{Attribute}
-use Rattle.sm_model.specs.declared.markup.Markup.{Markup}
-use Rattle.sm_model.specs.declared.markup.Markup.TheVariants.{Skipped, Finish}
+use Rattle.sm_tag.specs.declared.grammar.Markup.{Markup}
+use Rattle.sm_tag.specs.declared.grammar.Markup.TheVariants.{Skipped, Finish}
 use Rattle.sm_model.specs.Digits.{is_digit, decimal_from}
-use Rattle.sm_model.specs.TagBytes.{is_tag_start, is_tag_byte, is_space, prefix, remaining}
-use Rattle.sm_model.specs.TagParts.{Stop, short, wrong, ◌>>=◌, name_at, byte_at, quote_at, word_at, entity_at, or_else, is_scalar, number_end, number_at, reference_at, piece_at, Values, refused, closed, goes_on}
-use Rattle.sm_model.specs.TagParts.{opening_at, naming, AttributeAt, unopened, opened, mark_behind, mark_at, Tails, unmarked, ended, broken, twice, another}
-use Rattle.sm_model.specs.TagMarkup.{past_word, finish_at, comment_at, instruction_at, starting, Starts, unnamed, named, Markups}
+use Rattle.sm_tag.specs.TagBytes.{is_tag_start, is_tag_byte, is_space, prefix, remaining}
+use Rattle.sm_tag.specs.TagParts.{Stop, short, wrong, ◌>>=◌, name_at, byte_at, quote_at, word_at, entity_at, or_else, is_scalar, number_end, number_at, reference_at, piece_at, Values, refused, closed, goes_on}
+use Rattle.sm_tag.specs.TagParts.{opening_at, naming, AttributeAt, unopened, opened, mark_behind, mark_at, Tails, unmarked, ended, broken, twice, another}
+use Rattle.sm_tag.specs.TagMarkup.{past_word, finish_at, comment_at, instruction_at, starting, Starts, unnamed, named, Markups}
 use Rattle.sm_tag.proofs.Unique.{pairs, triples}
 use Rattle.sm_tag.proofs.WrittenTags.{front_until, behind_until}
 use Rattle.sm_tag.proofs.Standing.{stops}

@@ -5,11 +5,11 @@ use Rattle.sm_model.specs.declared.tag.Attribute.{Attribute}
 use Rattle.sm_model.specs.Digits.{is_digit, decimal_from}
 use Rattle.sm_model.specs.declared.tag.Tag.{Tag}
 use Rattle.sm_model.specs.declared.tag.Tag.TheVariants as tags
-use Rattle.sm_model.specs.declared.markup.Markup.{Markup}
-use Rattle.sm_model.specs.declared.markup.Markup.TheVariants as markup
-use Rattle.sm_model.specs.TagBytes.{is_space, is_text}
-use Rattle.sm_model.specs.TagParts.{is_scalar, has_name}
-use Rattle.sm_model.specs.TagText.{IsTagName, closing}
+use Rattle.sm_tag.specs.declared.grammar.Markup.{Markup}
+use Rattle.sm_tag.specs.declared.grammar.Markup.TheVariants as markup
+use Rattle.sm_tag.specs.TagBytes.{is_space, is_text}
+use Rattle.sm_tag.specs.TagParts.{is_scalar, has_name}
+use Rattle.sm_tag.specs.TagText.{IsTagName, closing}
 
 -- white space, maybe none
 abbrev pub IsSpace : List ℕ → Type 0

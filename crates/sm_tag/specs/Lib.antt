@@ -1,3 +1,10 @@
+pub mod TagBytes
+pub mod TagParts
+pub mod TagMarkup
+pub mod Tags
+pub mod TagText
+pub mod TagsRead
+pub mod Elements
 pub mod Reads
 pub mod Advances
 pub mod Grammar

@@ -5,8 +5,8 @@ use Rattle.sm_tag.specs.declared.halt.Halt.TheVariants.{Memory, Short, Wrong}
 use Rattle.sm_tag.specs.declared.scan.Class.{Class}
 use Rattle.sm_tag.specs.declared.scan.Class.TheVariants.{Space, Name, Digit, Text}
 use Rattle.sm_model.specs.Digits.{is_digit}
-use Rattle.sm_model.specs.TagBytes.{is_tag_byte, is_space, is_text}
-use Rattle.sm_model.specs.TagParts.{Stop, short, wrong, ◌>>=◌}
+use Rattle.sm_tag.specs.TagBytes.{is_tag_byte, is_space, is_text}
+use Rattle.sm_tag.specs.TagParts.{Stop, short, wrong, ◌>>=◌}
 
 -- the bytes of a class
 abbrev pub is_of : Class → ℕ → Bool

@@ -1,6 +1,6 @@
 //! Attributes of a start tag.
 ghost use Rattle.std.specs.Prelude.{◌≡◌, ◌<◌, ◌≤◌, [], length, IfOk};
-ghost use Rattle.sm_model.specs.TagParts.{opening_at, AttributeAt, mark_at, Tails};
+ghost use Rattle.sm_tag.specs.TagParts.{opening_at, AttributeAt, mark_at, Tails};
 ghost use Rattle.sm_tag.specs.Reads.{Gives, GivesBy};
 
 use crate::halt::Halt;
@@ -10,7 +10,7 @@ use sm_model::{Attribute, Bytes};
 use std::alloc::Global;
 use std::collections::BTreeSet;
 
-#[tactic(auto, unfolding(sm_model::specs::TagParts::opening_at))]
+#[tactic(auto, unfolding(crate::specs::TagParts::opening_at))]
 fn opening_of(bytes: &[u8]) -> Result<(&[u8], u8, &[u8]), Halt>
     ensures read { Gives (λ x. (x.0.now, x.1, x.2.now)) result (opening_at bytes.now) }
     ensures shorter { IfOk result (λ x. length x.2.now ≤ length bytes.now) }
@@ -32,7 +32,7 @@ pub fn attribute_of(alloc: Global, bytes: &[u8]) -> Result<(&[u8], Bytes, &[u8])
 }
 
 // Where the tag ends: whether its element is empty, and what is behind it. Else where an attribute is to stand.
-#[tactic(auto, unfolding(sm_model::specs::TagParts::mark_at))]
+#[tactic(auto, unfolding(crate::specs::TagParts::mark_at))]
 pub fn mark_of(bytes: &[u8]) -> Result<(Option<bool>, &[u8]), Halt>
     ensures read { Gives (λ x. (x.0, x.1.now)) result (mark_at bytes.now) }
     ensures shorter { IfOk result (λ x. length x.1.now ≤ length bytes.now) }

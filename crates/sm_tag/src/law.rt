@@ -3,13 +3,13 @@ ghost use Rattle.std.specs.Prelude.{◌≡◌, ◌↔◌, ℕ, Bool, List, [], �
 ghost use Rattle.std.specs.List.{AllByRecursion};
 ghost use Rattle.sm_model.specs.declared.tag.Attribute.{Attribute};
 ghost use Rattle.sm_model.specs.declared.tag.Tag.{Tag};
-ghost use Rattle.sm_model.specs.declared.markup.Markup.TheVariants.{Start, Finish, Skipped};
-ghost use Rattle.sm_model.specs.TagParts.{wrong};
-ghost use Rattle.sm_model.specs.TagMarkup.{Starts, Markups, finish_at};
-ghost use Rattle.sm_model.specs.TagText.{IsTagName, AreWritten, attributes_then, closing};
-ghost use Rattle.sm_model.specs.Tags.{TagsOf};
+ghost use Rattle.sm_tag.specs.declared.grammar.Markup.TheVariants.{Start, Finish, Skipped};
+ghost use Rattle.sm_tag.specs.TagParts.{wrong};
+ghost use Rattle.sm_tag.specs.TagMarkup.{Starts, Markups, finish_at};
+ghost use Rattle.sm_tag.specs.TagText.{IsTagName, AreWritten, attributes_then, closing};
+ghost use Rattle.sm_tag.specs.Tags.{TagsOf};
 ghost use Rattle.sm_tag.specs.Grammar.{IsStart, IsFinish, IsSkipped, StandsIn};
-ghost use Rattle.sm_model.specs.TagsRead.{tags_of};
+ghost use Rattle.sm_tag.specs.TagsRead.{tags_of};
 
 /// Every text has a list of tags, and no two. So what is said of some list of its tags is said of the one that
 /// [`crate::Tags`] reads.

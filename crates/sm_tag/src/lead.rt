@@ -1,18 +1,18 @@
 //! What comes next in a text.
 ghost use Rattle.std.specs.Prelude.{◌≡◌, ◌≤◌, length, IfOk};
-ghost use Rattle.sm_model.specs.TagMarkup.{lead_at};
-ghost use Rattle.sm_model.specs.Tags.{Founds};
+ghost use Rattle.sm_tag.specs.TagMarkup.{lead_at};
+ghost use Rattle.sm_tag.specs.Tags.{Founds};
 ghost use Rattle.sm_tag.specs.Advances.{MovesOn};
 
+use crate::grammar::{Lead, Markup};
 use crate::halt::Halt;
 use crate::markup::markup_of;
 use crate::scan::{Class, skip_spaces, split};
 use sm_model::NoMemory;
-use sm_model::markup::{Lead, Markup};
 use std::alloc::Global;
 
 // What comes next up to a `<`, how many bytes are left from its place on, and what is behind it.
-#[tactic(auto, unfolding(sm_model::specs::TagMarkup::lead_at))]
+#[tactic(auto, unfolding(crate::specs::TagMarkup::lead_at))]
 fn lead_of(inside: bool, bytes: &[u8]) -> (Lead, usize, &[u8])
     ensures read { (result.0, result.1, result.2.now) ≡ lead_at inside bytes.now }
     ensures moves_on { MovesOn result.0 (length result.2.now) (length bytes.now) }

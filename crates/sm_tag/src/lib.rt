@@ -2,6 +2,8 @@
 #![tactic(auto)]
 
 mod attribute;
+/// What a text of tags is made of: the definition of tags and its readers speak of it.
+pub mod grammar;
 mod halt;
 mod law;
 mod lead;
@@ -18,6 +20,3 @@ pub use law::{
 };
 pub use sm_model::{Attribute, Attributes, Tag};
 pub use tags::Tags;
-
-#[cfg(test)]
-mod tests;

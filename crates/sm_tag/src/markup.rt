@@ -1,16 +1,16 @@
 //! What begins with `<`.
 ghost use Rattle.std.specs.Prelude.{◌≡◌, ◌≤◌, length, IfOk};
-ghost use Rattle.sm_model.specs.TagMarkup.{finish_at, comment_at, instruction_at, Starts, Markups};
+ghost use Rattle.sm_tag.specs.TagMarkup.{finish_at, comment_at, instruction_at, Starts, Markups};
 ghost use Rattle.sm_tag.specs.Reads.{Gives, GivesBy};
 
 use crate::attribute::attributes_of;
+use crate::grammar::Markup;
 use crate::halt::Halt;
 use crate::scan::{byte_of, name_of, past_of, skip_spaces, word_of};
-use sm_model::markup::Markup;
 use sm_model::{Attributes, Bytes};
 use std::alloc::Global;
 
-#[tactic(auto, unfolding(sm_model::specs::TagMarkup::finish_at))]
+#[tactic(auto, unfolding(crate::specs::TagMarkup::finish_at))]
 pub fn finish_of(alloc: Global, bytes: &[u8]) -> Result<(Markup, &[u8]), Halt>
     ensures read { Gives (λ x. (x.0, x.1.now)) result (finish_at bytes.now) }
     ensures shorter { IfOk result (λ x. length x.1.now ≤ length bytes.now) }
@@ -20,7 +20,7 @@ pub fn finish_of(alloc: Global, bytes: &[u8]) -> Result<(Markup, &[u8]), Halt>
     Ok((Markup::Finish(Bytes::from_slice(alloc, name)?), rest))
 }
 
-#[tactic(auto, unfolding(sm_model::specs::TagMarkup::comment_at))]
+#[tactic(auto, unfolding(crate::specs::TagMarkup::comment_at))]
 pub fn comment_of(bytes: &[u8]) -> Result<(Markup, &[u8]), Halt>
     ensures read { Gives (λ x. (x.0, x.1.now)) result (comment_at bytes.now) }
     ensures shorter { IfOk result (λ x. length x.1.now ≤ length bytes.now) }
@@ -29,7 +29,7 @@ pub fn comment_of(bytes: &[u8]) -> Result<(Markup, &[u8]), Halt>
     Ok((Markup::Skipped, past_of(b"-->", rest)?))
 }
 
-#[tactic(auto, unfolding(sm_model::specs::TagMarkup::instruction_at))]
+#[tactic(auto, unfolding(crate::specs::TagMarkup::instruction_at))]
 pub fn instruction_of(bytes: &[u8]) -> Result<(Markup, &[u8]), Halt>
     ensures read { Gives (λ x. (x.0, x.1.now)) result (instruction_at bytes.now) }
     ensures shorter { IfOk result (λ x. length x.1.now ≤ length bytes.now) }

@@ -1,18 +1,18 @@
 //! Plain programs beside the grammar of tags: what a whole piece of text is, if it is one of these, and the tags of a text.
 ghost use Rattle.std.specs.Prelude.{◌≡◌, ◌≤◌, ◌++◌, List, length, IfOk, OnOk};
 ghost use Rattle.sm_model.specs.declared.tag.Tag.{Tag as TagValue};
-ghost use Rattle.sm_model.specs.TagParts.{has_name, Tails};
-ghost use Rattle.sm_model.specs.TagMarkup.{Markups, Starts};
-ghost use Rattle.sm_model.specs.Tags.{Runs, TagsOf, is_last};
+ghost use Rattle.sm_tag.specs.TagParts.{has_name, Tails};
+ghost use Rattle.sm_tag.specs.TagMarkup.{Markups, Starts};
+ghost use Rattle.sm_tag.specs.Tags.{Runs, TagsOf, is_last};
 ghost use Rattle.sm_tag.specs.Grammar.{IsPiece};
 ghost use Rattle.sm_tag.specs.Reads.{GivesBy};
 
 use crate::Tags;
 use crate::attribute::{attribute_of, mark_of};
+use crate::grammar::Markup;
 use crate::halt::Halt;
 use crate::markup::{comment_of, finish_of, instruction_of};
 use crate::scan::name_of;
-use sm_model::markup::Markup;
 use sm_model::{Attribute, Attributes, Bytes, NoMemory, Tag, is_same};
 use std::alloc::Global;
 

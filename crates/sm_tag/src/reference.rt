@@ -1,6 +1,6 @@
 //! References in values.
 ghost use Rattle.std.specs.Prelude.{◌≡◌, ◌≤◌, ℕ, List, Result, length, IfOk};
-ghost use Rattle.sm_model.specs.TagParts.{Stop, or_else, entity_at, number_end, number_at, reference_at};
+ghost use Rattle.sm_tag.specs.TagParts.{Stop, or_else, entity_at, number_end, number_at, reference_at};
 ghost use Rattle.sm_tag.specs.Reads.{Gives};
 
 use crate::halt::Halt;
@@ -8,7 +8,7 @@ use crate::scan::{Class, byte_of, split, word_of};
 use sm_model::decimal_up_to;
 
 // What was found, or else the character that this word stands for.
-#[tactic(auto, unfolding(sm_model::specs::TagParts::entity_at))]
+#[tactic(auto, unfolding(crate::specs::TagParts::entity_at))]
 fn named_or<'a>(
     found: Result<(char, &'a [u8]), Halt>,
     word: &[u8],
@@ -25,7 +25,7 @@ fn named_or<'a>(
     }
 }
 
-#[tactic(auto, unfolding(sm_model::specs::TagParts::number_end))]
+#[tactic(auto, unfolding(crate::specs::TagParts::number_end))]
 fn number_end_of<'a>(digits: &[u8], rest: &'a [u8]) -> Result<(char, &'a [u8]), Halt>
     ensures read { Gives (λ x. (x.0, x.1.now)) result (number_end digits.now rest.now) }
     ensures shorter { IfOk result (λ x. length x.1.now ≤ length rest.now) }
@@ -45,7 +45,7 @@ fn number_end_of<'a>(digits: &[u8], rest: &'a [u8]) -> Result<(char, &'a [u8]), 
     }
 }
 
-#[tactic(auto, unfolding(sm_model::specs::TagParts::number_at))]
+#[tactic(auto, unfolding(crate::specs::TagParts::number_at))]
 fn number_of(bytes: &[u8]) -> Result<(char, &[u8]), Halt>
     ensures read { Gives (λ x. (x.0, x.1.now)) result (number_at bytes.now) }
     ensures shorter { IfOk result (λ x. length x.1.now ≤ length bytes.now) }

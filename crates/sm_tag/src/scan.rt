@@ -1,8 +1,8 @@
 //! Runs of bytes, names and fixed words.
 ghost use Rattle.std.specs.Prelude.{◌≡◌, ◌<◌, ◌≤◌, ◌+◌, length, IfOk};
-ghost use Rattle.sm_model.specs.TagBytes.{is_tag_start, prefix, remaining};
-ghost use Rattle.sm_model.specs.TagParts.{name_at, byte_at, word_at};
-ghost use Rattle.sm_model.specs.TagMarkup.{past_word};
+ghost use Rattle.sm_tag.specs.TagBytes.{is_tag_start, prefix, remaining};
+ghost use Rattle.sm_tag.specs.TagParts.{name_at, byte_at, word_at};
+ghost use Rattle.sm_tag.specs.TagMarkup.{past_word};
 ghost use Rattle.sm_tag.specs.Reads.{is_of, Gives};
 
 use crate::halt::Halt;
@@ -65,7 +65,7 @@ pub fn skip_spaces(bytes: &[u8]) -> &[u8]
 }
 
 /// A name, and what is behind it.
-#[tactic(auto, unfolding(sm_model::specs::TagParts::name_at))]
+#[tactic(auto, unfolding(crate::specs::TagParts::name_at))]
 pub fn name_of(bytes: &[u8]) -> Result<(&[u8], &[u8]), Halt>
     ensures read { Gives (λ x. (x.0.now, x.1.now)) result (name_at bytes.now) }
     ensures shorter { IfOk result (λ x. length x.1.now ≤ length bytes.now) }
@@ -100,7 +100,7 @@ pub fn byte_of(byte: u8, bytes: &[u8]) -> Result<&[u8], Halt>
 }
 
 /// What is behind this word.
-#[tactic(auto, unfolding(sm_model::specs::TagParts::word_at))]
+#[tactic(auto, unfolding(crate::specs::TagParts::word_at))]
 pub fn word_of<'a>(word: &[u8], bytes: &'a [u8]) -> Result<&'a [u8], Halt>
     ensures read { Gives (λ x. x.now) result (word_at word.now bytes.now) }
     ensures shorter { IfOk result (λ x. length x.now ≤ length bytes.now) }
@@ -115,7 +115,7 @@ pub fn word_of<'a>(word: &[u8], bytes: &'a [u8]) -> Result<&'a [u8], Halt>
 }
 
 /// What is behind the first such word.
-#[tactic(auto, unfolding(sm_model::specs::TagMarkup::past_word))]
+#[tactic(auto, unfolding(crate::specs::TagMarkup::past_word))]
 pub fn past_of<'a>(word: &[u8], bytes: &'a [u8]) -> Result<&'a [u8], Halt>
     ensures read { Gives (λ x. x.now) result (past_word word.now bytes.now) }
     ensures shorter { IfOk result (λ x. length x.now ≤ length bytes.now) }

@@ -1,10 +1,10 @@
 //! The reader of tags.
 ghost use Rattle.std.specs.Prelude.{◌≡◌, ◌-◌, ◌<◌, ◌≤◌, [], length, IfOk, OnErr, vec_len, take, false, None};
-ghost use Rattle.sm_model.specs.Tags.{closes, without_zeros, without_mark};
+ghost use Rattle.sm_tag.specs.Tags.{closes, without_zeros, without_mark};
 ghost use Rattle.sm_tag.specs.Advances.{MovesOn, Advances};
 
+use crate::grammar::{Lead, Markup};
 use crate::lead::found_of;
-use sm_model::markup::{Lead, Markup};
 use sm_model::{Attributes, Bytes, NoMemory, Tag};
 use std::alloc::Global;
 use std::marker::Model;
@@ -27,7 +27,7 @@ pub struct Tags<'a> {
 
 impl<'a> Model for Tags<'a> {
     ghost use Rattle.std.specs.Prelude.{◌≤◌, length};
-    ghost use Rattle.sm_model.specs.Tags.{Left};
+    ghost use Rattle.sm_tag.specs.Tags.{Left};
 
     ghost Value = { Left };
 
@@ -71,7 +71,7 @@ fn skip_mark(bytes: &[u8]) -> &[u8]
 }
 
 impl<'a> Tags<'a> {
-    ghost use Rattle.sm_model.specs.Tags.{Next, starts, finishes, marks, gives, begin};
+    ghost use Rattle.sm_tag.specs.Tags.{Next, starts, finishes, marks, gives, begin};
 
     /// A reader before the first tag of this text.
     pub fn new(alloc: Global, text: &'a [u8]) -> Tags<'a>

@@ -1,6 +1,6 @@
 //! Values of attributes.
 ghost use Rattle.std.specs.Prelude.{◌≡◌, ◌<◌, ◌≤◌, ◌++◌, [], length, encode_utf8, OnOk, IfErr, IfOk};
-ghost use Rattle.sm_model.specs.TagParts.{quote_at, piece_at, Values};
+ghost use Rattle.sm_tag.specs.TagParts.{quote_at, piece_at, Values};
 ghost use Rattle.sm_tag.specs.Reads.{adding_piece, Gives, GivesBy};
 
 use crate::halt::Halt;
@@ -8,7 +8,7 @@ use crate::reference::reference_of;
 use std::alloc::Global;
 
 /// A quote of either kind, and what is behind it.
-#[tactic(auto, unfolding(sm_model::specs::TagParts::quote_at))]
+#[tactic(auto, unfolding(crate::specs::TagParts::quote_at))]
 pub fn quote_of(bytes: &[u8]) -> Result<(u8, &[u8]), Halt>
     ensures read { Gives (λ x. (x.0, x.1.now)) result (quote_at bytes.now) }
     ensures shorter { IfOk result (λ x. length x.1.now ≤ length bytes.now) }
@@ -36,7 +36,7 @@ fn push_char(out: &mut Vec<u8>, c: char) -> Result<(), Halt>
 }
 
 // Adds a byte of a value, or the character of a reference. Says whether the value goes on.
-#[tactic(auto, unfolding(sm_model::specs::TagParts::piece_at))]
+#[tactic(auto, unfolding(crate::specs::TagParts::piece_at))]
 fn piece_of<'a>(value: &mut Vec<u8>, quote: u8, bytes: &'a [u8]) -> Result<(bool, &'a [u8]), Halt>
     ensures read { Gives (λ x. (x.0, value.new.items, x.1.now)) result (adding_piece value.old.items (piece_at quote bytes.now)) }
     ensures shorter { IfOk result (λ x. length x.1.now < length bytes.now) }

@@ -13,10 +13,7 @@ mod tfxd;
 mod trun;
 
 pub use put::{append_traf, put_tfrf, put_tfxd, put_traf, traf_len};
-pub use read::{TrafFault, read_traf};
-pub use sm_model::{Cause, Defaults, Pairs, Row, Rows, Run};
+pub use read::read_traf;
+pub use sm_model::{Cause, Defaults, Pairs, ReadFault as TrafFault, Row, Rows, Run};
 pub use tfrf::{Ahead, read_tfrf};
 pub use tfxd::read_tfxd;
-
-#[cfg(test)]
-mod tests;

@@ -202,6 +202,3 @@ pub fn put_tfrf(alloc: Global, ahead: &[(u64, u64)]) -> Result<Bytes, NoMemory>
     append_tfrf(&mut out, ahead)?;
     Ok(Bytes::from_vec(out))
 }
-
-#[cfg(test)]
-mod tests;

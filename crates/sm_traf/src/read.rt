@@ -4,7 +4,7 @@ ghost use Rattle.sm_model.specs.Fields.{tfrf_fits};
 ghost use Rattle.sm_model.specs.Frag.{run_of, traf, ahead_of};
 ghost use Rattle.sm_box.specs.Seen.{seen};
 ghost use Rattle.sm_traf.specs.Parts.{seen_parts, Passes};
-ghost use Rattle.sm_traf.specs.Gives.{Gives};
+ghost use Rattle.sm_model.specs.Gives.{Gives};
 
 use crate::fields::version;
 use crate::parts::{Parts, parts_of};
@@ -14,19 +14,8 @@ use crate::tfrf::pairs_of;
 use crate::tfxd::tfxd_pair;
 use crate::trun::{rows_of, start_of};
 use sm_box::{Found, u32_at};
-use sm_model::{Cause, Defaults, NoMemory, Pairs, Run};
+use sm_model::{Cause, Defaults, NoMemory, Pairs, ReadFault, Run};
 use std::alloc::Global;
-use thiserror::Error;
-
-/// Why a `traf` was not read.
-#[derive(Debug, Drop, PartialEq, Eq, Error)]
-pub enum TrafFault {
-    /// It is refused: the first cause of the causes' list that it shows by itself.
-    #[error("{0}")]
-    Refused(Cause),
-    #[error("out of memory")]
-    NoMemory,
-}
 
 // The pairs ahead, none where there is no `tfrf`.
 #[tactic(auto, unfolding(sm_model::specs::Frag::ahead_of))]
@@ -67,17 +56,17 @@ fn run_of(alloc: Global, defaults: &Defaults, parts: &Parts) -> Result<Run, NoMe
 /// refused. Boxes that are not looked at are skipped. It takes memory only once every length was compared with its
 /// count, 16 bytes for each sample and each pair; its time is linear in the body and the samples.
 #[tactic(auto, unfolding(sm_model::specs::Frag::traf, sm_model::specs::Frag::judged))]
-pub fn read_traf(alloc: Global, body: &[u8], defaults: &Defaults) -> Result<Run, TrafFault>
+pub fn read_traf(alloc: Global, body: &[u8], defaults: &Defaults) -> Result<Run, ReadFault>
     ensures { Gives result (traf defaults.now body.now) }
 {
     let Some(parts) = parts_of(body) else {
-        return Err(TrafFault::Refused(Cause::BadBox));
+        return Err(ReadFault::Refused(Cause::BadBox));
     };
     if let Some(cause) = refused(&parts) {
-        return Err(TrafFault::Refused(cause));
+        return Err(ReadFault::Refused(cause));
     }
     match run_of(alloc, defaults, &parts) {
         Ok(run) => Ok(run),
-        Err(NoMemory) => Err(TrafFault::NoMemory),
+        Err(NoMemory) => Err(ReadFault::NoMemory),
     }
 }

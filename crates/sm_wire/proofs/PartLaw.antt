@@ -5,7 +5,7 @@ use Rattle.std.proofs.lemmas.List.{append-nil}
 use Rattle.sm_model.specs.declared.cause.Cause.{Cause}
 use Rattle.sm_model.specs.declared.cause.Refusal.{Refusal}
 use Rattle.sm_model.specs.declared.target.Target.{Target}
-use Rattle.sm_model.specs.Body.{body}
+use Rattle.sm_push.specs.Body.{body}
 use Rattle.sm_conn.specs.declared.part.Part.{Part}
 use Rattle.sm_conn.specs.declared.part.Part.TheVariants as part
 use Rattle.sm_conn.specs.Parts.{PartItem, bad}

@@ -9,7 +9,7 @@ use Rattle.sm_model.specs.declared.item.Item.{Item}
 use Rattle.sm_model.specs.declared.item.Item.TheVariants as items
 use Rattle.sm_model.specs.Items.{Given, item_of}
 use Rattle.sm_model.specs.Items as given
-use Rattle.sm_model.specs.Body.{Outcome, body, body_end, cut_off, walk, led_by, refused}
+use Rattle.sm_push.specs.Body.{Outcome, body, body_end, cut_off, walk, led_by, refused}
 use Rattle.sm_wire.specs.declared.item.WireItem.{WireItem}
 use Rattle.sm_wire.specs.declared.item.WireItem.TheVariants.{Header, Frag}
 use Rattle.sm_wire.specs.Wire.{shown}

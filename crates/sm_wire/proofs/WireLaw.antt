@@ -6,7 +6,7 @@ use Rattle.sm_model.specs.declared.cause.Cause.{Cause}
 use Rattle.sm_model.specs.declared.cause.Refusal.{Refusal}
 use Rattle.sm_model.specs.declared.header.HeaderTrack.{HeaderTrack}
 use Rattle.sm_model.specs.Items.{Given}
-use Rattle.sm_model.specs.Body.{Outcome, body, body_end, cut_off, walk, led_by, refused, IsFrontOf}
+use Rattle.sm_push.specs.Body.{Outcome, body, body_end, cut_off, walk, led_by, refused, IsFrontOf}
 use Rattle.sm_model.specs.declared.target.Target.{Target}
 use Rattle.sm_conn.specs.Parts.{PartItem, got, continued, posted, byte, ended, bad}
 use Rattle.sm_wire.specs.declared.item.WireItem.{WireItem}

@@ -1,7 +1,7 @@
 -- What one part leads to.
 use Rattle.std.specs.Prelude.{◌≡◌, ℕ, Bool, true, false, List, [], ◌∷◌, ◌++◌, map, Option, Some, None}
 use Rattle.sm_model.specs.declared.cause.Refusal.{Refusal}
-use Rattle.sm_model.specs.Body.{body, body_end}
+use Rattle.sm_push.specs.Body.{body, body_end}
 use Rattle.sm_conn.specs.declared.part.Part.{Part}
 use Rattle.sm_conn.specs.Parts.{PartItem}
 use Rattle.sm_conn.specs.Stands.{items_of}

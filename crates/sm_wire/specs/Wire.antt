@@ -4,7 +4,7 @@ use Rattle.sm_model.specs.declared.cause.Cause.{Cause}
 use Rattle.sm_model.specs.declared.cause.Refusal.{Refusal}
 use Rattle.sm_model.specs.Items.{Given}
 use Rattle.sm_model.specs.Items as given
-use Rattle.sm_model.specs.Body.{Outcome, body, body_end}
+use Rattle.sm_push.specs.Body.{Outcome, body, body_end}
 use Rattle.sm_wire.specs.declared.item.WireItem.{WireItem}
 use Rattle.sm_wire.specs.declared.item.WireItem.TheVariants.{Continue, Get, Header, Frag, End, Refuse}
 use Rattle.sm_conn.specs.Parts.{PartItem, got, posted, continued, byte, ended, bad, IsParts}

@@ -3,7 +3,7 @@ ghost use Rattle.std.specs.Prelude.{◌≡◌, ℕ, List, ◌∷◌, [], ◌++�
 ghost use Rattle.sm_model.specs.declared.cause.Refusal.{Refusal};
 ghost use Rattle.sm_model.specs.declared.header.HeaderTrack.{HeaderTrack};
 ghost use Rattle.sm_model.specs.Items.{Given};
-ghost use Rattle.sm_model.specs.Body.{body, led_by, refused};
+ghost use Rattle.sm_push.specs.Body.{body, led_by, refused};
 ghost use Rattle.sm_conn.specs.Parts.{PartItem, byte};
 ghost use Rattle.sm_wire.specs.declared.item.WireItem.{WireItem};
 ghost use Rattle.sm_wire.specs.declared.item.WireItem.TheVariants.{Refuse};

@@ -4,8 +4,6 @@
 mod item;
 pub mod law;
 mod plain;
-#[cfg(test)]
-mod tests;
 
 pub use item::WireItem;
 pub use plain::read_plainly;

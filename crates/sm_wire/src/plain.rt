@@ -1,6 +1,6 @@
 //! What a connection gave, read from all of its bytes.
 ghost use Rattle.std.specs.Prelude.{◌≡◌, ◌++◌, ◌∷◌, [], IfOk, OnOk, Some, None, map, false};
-ghost use Rattle.sm_model.specs.Body.{body};
+ghost use Rattle.sm_push.specs.Body.{body};
 ghost use Rattle.sm_conn.specs.Stands.{joined};
 ghost use Rattle.sm_wire.specs.declared.item.WireItem.TheVariants.{Refuse};
 ghost use Rattle.sm_wire.specs.Wire.{shown, unplaced, wire, IsWire};
@@ -153,7 +153,7 @@ fn take_inside(
 {
     match part {
         Part::Body(piece) => {
-            let mut all = bytes.into_vec();
+            let mut all = bytes.into_vec(alloc)?;
             all.extend_from_slice(piece.as_slice())?;
             Ok(Behind::More(Some(Bytes::from_vec(all))))
         }

@@ -51,6 +51,7 @@ same_view old new is = subst (λ (v : View). SameBut old v) (sym is) (record {
   transcript = refl;
   link_faults = refl;
   send_faults = refl;
+  chosen = refl;
 })
 
 pub rose_from : (a b n : ℕ) → b ≡ a → Rose b n → Rose a n
@@ -74,7 +75,7 @@ module _ {D : Type 0} (view : D → View) (leave : D → Image → Type 0) (left
       (λ all. from_some (view d).transcript IsServed (k.base ++ k.items) s.told
       (inr (let sum = events_both k.base k.items in let count = all.1 in let is = all.0 in omega (arith, sum, count, is, many))))
       (λ over. if_some (view d).transcript (λ items. (before : List Item) × (m : ℕ) × (items ≡ before ++ at m Over)) IsServed (λ items is. inl is) over.2)
-      s.ended.0
+      s.ended
     where
       k : History
       k = s.later

@@ -11,7 +11,7 @@ use Rattle.sm_model.specs.declared.entry.Entry.TheVariants.{Declare, Keep}
 use Rattle.sm_model.specs.declared.track.Track.{Track}
 use Rattle.sm_model.specs.Channels.{IsNarrowOption, IsNarrowTrack}
 use Rattle.sm_model.specs.Names.{is_name, first_wrong}
-use Rattle.sm_model.specs.LiveTracks.{is_same}
+use Rattle.sm_model.specs.Same.{is_same}
 use Rattle.sm_log.specs.Adds.{Add, is_listed, times_from, times_of}
 use Rattle.sm_log.specs.Times.{with_entry}
 use Rattle.sm_log.specs.Logs.{channel_of, adds_from, adds_of, listed_by, IsSound}

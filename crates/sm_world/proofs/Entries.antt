@@ -7,7 +7,7 @@ use Rattle.sm_model.specs.declared.entry.Entry.{Entry}
 use Rattle.sm_model.specs.declared.entry.Entry.TheVariants.{Keep}
 use Rattle.sm_model.specs.declared.fragment.Fragment.{Fragment}
 use Rattle.sm_site.specs.Meanings.{Item}
-use Rattle.sm_origin.specs.declared.reply.Reply.{Reply}
+use Rattle.sm_reply.specs.declared.reply.Reply.{Reply}
 use Rattle.sm_origin.specs.Machine.{Machine, SameLog, entry_of, Writes, refused, there, full, kept, unwritten, Clear, Row, answered, unread, unsettled, wrote, Step, row, wants, untold}
 use Rattle.sm_world.specs.Pushed.{IsPushed}
 use Rattle.sm_world.proofs.Sources.{in_one, pushed_later}

@@ -16,7 +16,8 @@ use Rattle.sm_model.specs.declared.track.Params.{Params}
 use Rattle.sm_model.specs.declared.track.Track.{Track}
 use Rattle.sm_model.specs.Channels.{IsTrack, IsChannel, IsNarrowOption, AreNarrow, is_fourcc_byte}
 use Rattle.std.specs.List.{list_all}
-use Rattle.sm_model.specs.LiveTracks.{is_same, kind_name}
+use Rattle.sm_model.specs.Same.{is_same}
+use Rattle.sm_model.specs.Kinds.{kind_name}
 use Rattle.sm_model.specs.Names.{is_name, first_wrong}
 use Rattle.sm_log.specs.Adds.{Add, tracks_of, is_listed, times_from, times_of}
 use Rattle.sm_log.specs.Times.{IsSpan, with_entry}

@@ -19,7 +19,7 @@ use Rattle.sm_origin.specs.Shown.{IsReal}
 use Rattle.sm_serve.specs.declared.texts.TheConstants.{TOO_MANY}
 use Rattle.sm_serve.specs.Connections.{received, live, is_among, deals_in}
 use Rattle.sm_serve.specs.Run.{Phase, idle, acting, sending, shutting, Point, Stepped, act_of, act_of_target, closes, sent_of, phase_after, at, Moves, Run, begins, goes_on, LeadsTo, rests, moves_on}
-use Rattle.sm_serve.specs.Run.{opened, crowded, came, unread, passed, left, over, continues, acts_on, wants, done, sent, failed, unsent, shut, declared}
+use Rattle.sm_serve.specs.Run.{opened, crowded, came, unread, passed, left, over, continues, acts_on, wants, done, sent, failed, unsent, shut, declared, recalled}
 use Rattle.sm_serve.proofs.Adding.{Extends}
 use Rattle.sm_serve.proofs.Answering.{IsAway}
 use Rattle.sm_serve.proofs.Fronts.{steps_on}
@@ -456,6 +456,10 @@ module _ (conn : ℕ) (request : List ℕ) (first : List Entry) (base : List Ite
           next q idle (ap (λ (r : Point). r.machine) is) (ap (λ (r : Point). r.phase) is) (sent_none m (Shut n) e refl)
           (λ waits. tt) (shut_gone m n e phase)
       stays_on xs q real out (declared header x phase conn_is is_step e one is) =
+          let step : IsAct x = (subst (λ (ys : List Stepped). AreActs ys) one real).0 in
+          grows x q is_step.before_is step e idle (ap (λ (r : Point). r.machine) is) (ap (λ (r : Point). r.phase) is) (λ waits. tt)
+          (stays_gone idle idle phase (λ bad. cc) (λ a. tt) (still_nothing e))
+      stays_on xs q real out (recalled address x phase conn_is is_step e one is) =
           let step : IsAct x = (subst (λ (ys : List Stepped). AreActs ys) one real).0 in
           grows x q is_step.before_is step e idle (ap (λ (r : Point). r.machine) is) (ap (λ (r : Point). r.phase) is) (λ waits. tt)
           (stays_gone idle idle phase (λ bad. cc) (λ a. tt) (still_nothing e))

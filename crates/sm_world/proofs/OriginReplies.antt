@@ -1,5 +1,5 @@
 -- What an origin sends in answer to a GET is a reply of it.
-use Rattle.std.proofs.Common.{◌≡◌, inl, inr, ℕ, suc, ◌<◌, ◌≤◌, ◌^◌, Bool, true, false, if◌then◌else◌, List, [], ◌∷◌, ◌++◌, length, Option, Some, None, refl, sym, ◌∙◌, ap, subst, arith, length-append}
+use Rattle.std.proofs.Common.{◌≡◌, inl, inr, ℕ, suc, ◌+◌, ◌<◌, ◌≤◌, ◌^◌, Bool, true, false, if◌then◌else◌, List, [], ◌∷◌, ◌++◌, length, Option, Some, None, refl, sym, ◌∙◌, ap, subst, arith, length-append}
 use Rattle.std.specs.Prelude.{codes}
 use Rattle.std.specs.Fmt.{digits}
 use Rattle.std.specs.List.{Contains, position}
@@ -30,9 +30,10 @@ use Rattle.sm_head.specs.declared.reply.Content.TheVariants.{Xml, Mp4, Plain}
 use Rattle.sm_head.specs.declared.reply.TheConstants.{NO_MEMORY}
 use Rattle.sm_head.specs.Judged.{is_push}
 use Rattle.sm_head.specs.Replies.{reply_text, phrase}
-use Rattle.sm_origin.specs.declared.reply.Reply.{Reply}
+use Rattle.sm_reply.specs.declared.reply.Reply.{Reply}
 use Rattle.sm_origin.specs.Machine.{Machine, entry_of, Row, answered, unread, unsettled, wrote, Step, row, wants, untold}
-use Rattle.sm_origin.specs.Replies.{unplaced, ok, no_memory, id_in, ids, fragment_of, manifest_of, manifest_reply, kept_reply, fragment_reply, reply_of}
+use Rattle.sm_reply.specs.Replies.{unplaced, ok, no_memory, fragment_of, manifest_of, manifest_reply, kept_reply, fragment_reply, reply_of}
+use Rattle.sm_log.specs.Adds.{id_in, ids}
 use Rattle.sm_origin.specs.Shown.{IsReal}
 use Rattle.sm_origin.proofs.Real.{channel_writable, kept_samples}
 use Rattle.sm_serve.specs.declared.texts.TheConstants.{TOO_MANY}
@@ -40,6 +41,18 @@ use Rattle.sm_serve.specs.Run.{act_of_target, sent_of}
 use Rattle.sm_fetch.specs.Origins.{IsKeptText, IsUnwell, IsOriginReply}
 use Rattle.sm_world.proofs.GetText.{IsRefusable}
 use Rattle.sm_world.proofs.ManifestSize.{few_listed, manifest_size}
+
+-- ---- what is kept stands within the log
+
+kept_within : (a : Address) (from : ℕ) (log : List Entry) (k : ℕ × Fragment) → kept_from a from log ≡ Some k → k.0 < from + length log
+kept_within a from [] k is = absurd (cc)
+kept_within a from (Declare tracks ∷ log) k is = let later = kept_within a (suc from) log k is in omega (arith, later)
+kept_within a from (Keep f ∷ log) k is = here (is_kept_at a f) is (λ e. kept_within a (suc from) log k e)
+  where
+    here : (b : Bool) → (if b then Some (from, f) else kept_from a (suc from) log) ≡ Some k → (kept_from a (suc from) log ≡ Some k → k.0 < suc from + length log)
+        → k.0 < from + length (Keep f ∷ log)
+    here true e rest = let first : from ≡ k.0 = cc in omega (arith, first)
+    here false e rest = let later = rest e in omega (arith, later)
 
 -- ---- texts that stand ready
 
@@ -109,18 +122,6 @@ none_kept : (log : List Entry) (a : Address) → IsSound log → channel_of log 
 none_kept [] a sound is = refl
 none_kept (Declare tracks ∷ log) a sound is = absurd (cc)
 none_kept (Keep f ∷ log) a sound is = absurd (let new = (sound.each [] log (Keep f) refl).1 in cc)
-
-behind : (e : Entry) (log : List Entry) (x : Entry) → Contains log x → Contains (e ∷ log) x
-behind e log x there = Contains-append_right (e ∷ []) log x there
-
-kept_there : (a : Address) (place : ℕ) (log : List Entry) (k : ℕ × Fragment) → kept_from a place log ≡ Some k → Contains log (Keep k.1)
-kept_there a place [] k is = absurd (cc)
-kept_there a place (Declare tracks ∷ log) k is = behind (Declare tracks) log (Keep k.1) (kept_there a (suc place) log k is)
-kept_there a place (Keep f ∷ log) k is = go (is_kept_at a f) (λ e. kept_there a (suc place) log k e) is
-  where
-    go : (b : Bool) → (kept_from a (suc place) log ≡ Some k → Contains log (Keep k.1)) → (if b then Some (place, f) else kept_from a (suc place) log) ≡ Some k → Contains (Keep f ∷ log) (Keep k.1)
-    go true rest e = let same : (let p : ℕ × Fragment = (place, f) in p) ≡ k = cc in (0, omega arith, ap (λ (p : ℕ × Fragment). Keep p.1) same)
-    go false rest e = behind (Keep f) log (Keep k.1) (rest e)
 
 place_low : (p : Track → Bool) (channel : List Track) (o : Option ℕ) → position p channel ≡ o → length channel ≤ 64 → ids o < 2 ^ 32
 place_low p channel None is few = omega arith
@@ -258,8 +259,9 @@ module _ (log : List Entry) (named : List ℕ) where
                 samples = kept_samples log a place f real.each kept;
                 pairs = ahead_wide log a.stream a.time real.sound;
               };
-              address_is = kept_address log a place f kept;
-              kept = kept_there a 0 log (place, f) kept;
+              placed = kept;
+              seq_fits = omega (arith, real.sound.few, kept_within a 0 log (place, f) kept);
+              id_is = λ other is. ap (λ (c : List Track). id_in c a) (let same : channel ≡ other = cc in same);
             },
             text_low place (id_in channel a) f (ahead_in log a.stream a.time) valid few,
           )

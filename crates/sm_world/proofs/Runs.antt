@@ -18,7 +18,7 @@ use Rattle.sm_wire.specs.Wire.{IsWire}
 use Rattle.sm_origin.specs.Machine.{Machine, entry_of}
 use Rattle.sm_serve.specs.Connections.{received, live, is_among}
 use Rattle.sm_serve.specs.Run.{Counts, Phase, idle, acting, sending, shutting, Point, Stepped, IsStep, act_of, act_of_target, phase_after, sent_of, closes, at, Moves, Run, begins, goes_on}
-use Rattle.sm_serve.specs.Run.{opened, crowded, came, unread, passed, left, over, continues, acts_on, wants, done, sent, failed, unsent, shut, declared}
+use Rattle.sm_serve.specs.Run.{opened, crowded, came, unread, passed, left, over, continues, acts_on, wants, done, sent, failed, unsent, shut, declared, recalled}
 use Rattle.sm_serve.proofs.Transcripts.{received_push, live_push}
 use Rattle.sm_serve.proofs.Events.{live_is_open}
 use Rattle.sm_world.specs.Pushed.{IsPushed}
@@ -144,6 +144,8 @@ module _ (first : Machine) (items : List Item) (p : Point) (es : List Item) (xs 
   stands_on (shut m n phase e none is) = silent _ _ _ _ is tt
   stands_on (declared header step phase conn is_step e one is) =
       acted _ step _ _ _ _ is_step (λ f some. absurd (let bad : Some (Declare header) ≡ Some (Keep f) = sym (ap entry_of is_step.act_is) ∙ some in cc)) is tt
+  stands_on (recalled a step phase conn is_step e one is) =
+      acted _ step _ _ _ _ is_step (λ f some. absurd (let bad : None ≡ Some (Keep f) = sym (ap entry_of is_step.act_is) ∙ some in cc)) is tt
 
 pub stood : (first : Machine) (begin : ℕ) (items : List Item) (steps : List Stepped) (p : Point) → first.doubt ≡ None → Run true first begin items steps p → Stood first items p
 stood first begin [] [] p none begins = record {

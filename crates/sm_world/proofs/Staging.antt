@@ -10,7 +10,7 @@ use Rattle.sm_fetch.specs.declared.push.Pushed.TheVariants as pushed
 use Rattle.sm_fetch.specs.Exchanges.{logged}
 use Rattle.sm_fetch.specs.Fetched.{PushedBody}
 use Rattle.sm_fetch.specs.Spelt.{SpellsPush}
-use Rattle.sm_origin.specs.Replies.{counts_line}
+use Rattle.sm_reply.specs.Replies.{counts_line}
 use Rattle.sm_site.specs.Memory.{site_view, site_may_leave, site_left_at}
 use Rattle.sm_world.specs.Later.{IsLater}
 use Rattle.sm_world.specs.LaterLaws.{continues_later, continues_same, continues_then}

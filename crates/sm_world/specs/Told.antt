@@ -4,7 +4,7 @@ use Rattle.sm_fetch.specs.declared.dial.Exchange.{Exchange}
 use Rattle.sm_fetch.specs.declared.push.Pushed.{Pushed}
 use Rattle.sm_fetch.specs.declared.push.Pushed.TheVariants as pushed
 use Rattle.sm_fetch.specs.Spelt.{SpellsPush}
-use Rattle.sm_origin.specs.Replies.{counts_line}
+use Rattle.sm_reply.specs.Replies.{counts_line}
 use Rattle.sm_world.specs.declared.told.Told.{Told}
 use Rattle.sm_world.specs.declared.told.Told.TheVariants as told
 

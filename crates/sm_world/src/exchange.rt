@@ -1,6 +1,6 @@
 //! The exchanges of an origin on a site.
 ghost use Rattle.std.specs.Prelude.{◌≡◌, ◌≤◌, ◌⊎◌, ◌++◌, ◌∷◌, [], Ok, Some, None, OnOk, OnErr, IsErrOf};
-ghost use Rattle.sm_fetch.specs.Exchanges.{logged, Rose, IsWithin};
+ghost use Rattle.sm_fetch.specs.Exchanges.{logged, Rose, IsTurnedTo, IsWithin, untold_peer};
 ghost use Rattle.sm_fetch.specs.Origins.{Grows, AnswersFrom};
 ghost use Rattle.sm_site.specs.Faults.{is_listed};
 ghost use Rattle.sm_world.specs.Answering.{HasCause, answer_for, faults_after};
@@ -66,11 +66,13 @@ fn told(
     }
 }
 
-/// It tells its exchanges, and the logs that the origin may have behind it.
+/// It tells its exchanges, and the logs that the origin may have behind it, and not what it is turned to.
 impl<S: Crashing> Dial for OriginDial<S> {
     ghost log = { λ d. Some d.1.made };
 
     ghost dial_faults = { λ d. d.1.faults };
+
+    ghost chosen = { λ d. untold_peer };
 
     ghost store = { λ d. StandsAt S.Disk.view S.Disk.may_leave S.Disk.left_at d.1.state d.0 };
 
@@ -78,6 +80,7 @@ impl<S: Crashing> Dial for OriginDial<S> {
     ghost later = { λ d e. IsLater S.Disk.view S.Disk.may_leave S.Disk.left_at d e };
 
     fn select(&mut self, _host: &str, _port: u16) -> Result<(), DialError>
+        ensures chosen { OnOk result (IsTurnedTo untold_peer _host.now _port) }
         ensures log { Some self.new.1.made ≡ Some self.old.1.made }
         ensures later { self.old.1.faults ≤ self.new.1.faults }
         ensures failed { IsErrOf result DialError.Failed → Rose self.old.1.faults self.new.1.faults }
@@ -93,6 +96,7 @@ impl<S: Crashing> Dial for OriginDial<S> {
     /// `Lost` is answered where the number is listed so, once the origin has acted; and otherwise where the store could not be
     /// opened because its disk failed, or the link failed before all was served. `NoMemory` is not told, and says nothing of what the origin did.
     fn exchange(&mut self, request: &[u8], limit: u64) -> Answer
+        ensures chosen { untold_peer ≡ untold_peer }
         ensures log { Some self.new.1.made ≡ logged (Some self.old.1.made) request.now limit result }
         ensures within { IsWithin limit result }
         ensures later { self.old.1.faults ≤ self.new.1.faults }
@@ -122,6 +126,7 @@ impl<S: Crashing> Dial for OriginDial<S> {
     }
 
     fn pause(&mut self)
+        ensures chosen { untold_peer ≡ untold_peer }
         ensures log { Some self.new.1.made ≡ Some self.old.1.made }
         ensures later { self.old.1.faults ≤ self.new.1.faults }
         ensures store { Grows (StandsAt S.Disk.view S.Disk.may_leave S.Disk.left_at self.old.1.state self.old.0)

@@ -1,6 +1,6 @@
 //! What an origin says of a push.
 ghost use Rattle.std.specs.Prelude.{◌≡◌, ◌≤◌, ◌-◌, IfOk, IfSome};
-ghost use Rattle.sm_origin.specs.Replies.{counts_line};
+ghost use Rattle.sm_reply.specs.Replies.{counts_line};
 ghost use Rattle.sm_world.specs.Told.{Says};
 
 use sm_fetch::Pushed;

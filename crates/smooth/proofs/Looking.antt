@@ -8,7 +8,7 @@ use Rattle.sm_model.specs.declared.cause.Refusal.{Refusal}
 use Rattle.sm_model.specs.declared.fragment.Fragment.{Fragment}
 use Rattle.sm_model.specs.Fragments.{IsValid}
 use Rattle.sm_model.specs.Items.{Given, first_from}
-use Rattle.sm_model.specs.Body.{Outcome, body, body_end, cut_off, IsFrontOf}
+use Rattle.sm_push.specs.Body.{Outcome, body, body_end, cut_off, IsFrontOf}
 use Rattle.sm_push.specs.Validity.{IsValidItem}
 use Rattle.sm_push.specs.Standing.{Standing, Stands, Answers}
 use Rattle.sm_push.specs.declared.fault.PushFault.{PushFault}

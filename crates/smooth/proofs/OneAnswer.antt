@@ -3,7 +3,7 @@ use Rattle.std.proofs.Common.{◌≡◌, ℕ, true, List, [], Option, Some, None
 use Rattle.sm_model.specs.declared.cause.Refusal.{Refusal}
 use Rattle.sm_model.specs.declared.fragment.Fragment.{Fragment}
 use Rattle.sm_model.specs.FragText.{frag_text}
-use Rattle.sm_model.specs.Body.{body_end}
+use Rattle.sm_push.specs.Body.{body_end}
 use Rattle.smooth.specs.declared.answer.Picked.{Picked}
 use Rattle.smooth.specs.declared.answer.Picked.TheVariants.{Found, Refused, NotKept}
 use Rattle.smooth.specs.Answers.{IsPicked, IsAbsent, IsRefused, IsDue, refusal_line}

@@ -12,7 +12,7 @@ use Rattle.sm_model.specs.declared.item.Item.TheVariants as items
 use Rattle.sm_model.specs.declared.track.Track.{Track}
 use Rattle.sm_model.specs.Fragments.{IsValid}
 use Rattle.sm_model.specs.Items.{Given, Header, Frag, item_of, id_of, id_at, first_from}
-use Rattle.sm_model.specs.Body.{body, walk}
+use Rattle.sm_push.specs.Body.{body, walk}
 use Rattle.sm_push.specs.Validity.{IsValidItem}
 use Rattle.smooth.specs.declared.seek.Hit.{Hit}
 use Rattle.smooth.specs.declared.seek.Tally.{Tally}

@@ -1,16 +1,17 @@
 -- What a fault of a command on a store means.
-use Rattle.std.proofs.Common.{◌≡◌, ◌⊎◌, inl, inr, ℕ, Bool, Result, Ok, Err, refl, sym, subst}
+use Rattle.std.proofs.Common.{◌≡◌, ◌⊎◌, inl, inr, ℕ, Bool, Option, None, Some, Result, Ok, Err, refl, sym, subst}
 use Rattle.std.specs.Prelude.{IfOk}
 use Rattle.sm_model.specs.declared.no_memory.NoMemory.{NoMemory}
 use Rattle.sm_site.specs.Image.{Image}
-use Rattle.sm_site.specs.Meanings.{View}
+use Rattle.sm_site.specs.Meanings.{Chosen, View}
 use Rattle.sm_archive.specs.declared.answers.Declared.{Declared}
 use Rattle.sm_archive.specs.declared.answers.Declared.TheVariants as declared
-use Rattle.sm_store.specs.declared.fault.StoreFault.{StoreFault}
-use Rattle.sm_store.specs.declared.fault.StoreFault.TheVariants as fault
-use Rattle.sm_store.specs.Serving.{Input, TriesLadder, WhyUnread, WhyUnready, outcome_of}
+use Rattle.sm_command.specs.declared.fault.StoreFault.{StoreFault}
+use Rattle.sm_command.specs.declared.fault.StoreFault.TheVariants as fault
+use Rattle.sm_command.specs.Serving.{Input, TriesLadder, WhyUnread, WhyUnready, outcome_of}
 use Rattle.smooth.specs.declared.answer.Answer.{Answer}
-use Rattle.smooth.specs.Stores.{End, ServeMeans, Tells, input_of, or_starved}
+use Rattle.smooth.specs.declared.answer.Answer.TheVariants.{Found}
+use Rattle.smooth.specs.Stores.{End, IsSelected, ServeMeans, Tells, input_of, or_starved}
 
 -- a ladder is never answered by damage
 not_damaged : (answer : Declared) → Err fault.Damaged ≡ outcome_of answer → ⊥
@@ -54,3 +55,27 @@ unserved view leave left_at ladder turns input input' d d' why (Ok a) answer h t
     subst (λ (x : Answer). ServeMeans view leave left_at ladder turns input input' d d' x) (sym is) (told view leave left_at ladder turns input input' d d' why a h tells)
 unserved view leave left_at ladder turns input input' d d' why (Err none) answer h tells is =
     subst (λ (x : Answer). ServeMeans view leave left_at ladder turns input input' d d' x) (sym is) (inr (why, h))
+
+-- ---- what the site is selected with
+
+pub selected : (answer : Answer) (chosen : Chosen) (view : View) → view.chosen ≡ Some chosen → IsSelected answer chosen view
+selected (Found line) chosen view is = is
+selected answer chosen view is = inl is
+
+told_selected : (why : StoreFault) (answer : Answer) (chosen : Chosen) (view : View) → Tells why answer → (view.chosen ≡ Some chosen) ⊎ (view.chosen ≡ None)
+    → IsSelected answer chosen view
+told_selected fault.DiskFault answer chosen view is h = subst (λ (a : Answer). IsSelected a chosen view) (sym is) h
+told_selected fault.LinkFault answer chosen view is h = subst (λ (a : Answer). IsSelected a chosen view) (sym is) h
+told_selected (fault.NotAStore at) answer chosen view is h = subst (λ (a : Answer). IsSelected a chosen view) (sym is) h
+told_selected fault.Unread answer chosen view is h = subst (λ (a : Answer). IsSelected a chosen view) (sym is) h
+told_selected fault.LongLadder answer chosen view is h = subst (λ (a : Answer). IsSelected a chosen view) (sym is) h
+told_selected (fault.BadLadder at) answer chosen view is h = subst (λ (a : Answer). IsSelected a chosen view) (sym is) h
+told_selected (fault.Refused cause) answer chosen view is h = subst (λ (a : Answer). IsSelected a chosen view) (sym is) h
+told_selected fault.Full answer chosen view is h = subst (λ (a : Answer). IsSelected a chosen view) (sym is) h
+told_selected fault.Damaged answer chosen view is h = subst (λ (a : Answer). IsSelected a chosen view) (sym is) h
+told_selected fault.NoMemory answer chosen view is h = subst (λ (a : Answer). IsSelected a chosen view) (sym is) h
+
+pub unselected : (why : StoreFault) (r : Result Answer NoMemory) (answer : Answer) (chosen : Chosen) (view : View) → IfOk r (λ a. Tells why a) → answer ≡ or_starved r
+    → (view.chosen ≡ Some chosen) ⊎ (view.chosen ≡ None) → IsSelected answer chosen view
+unselected why (Ok a) answer chosen view tells is h = subst (λ (x : Answer). IsSelected x chosen view) (sym is) (told_selected why a chosen view tells h)
+unselected why (Err none) answer chosen view tells is h = subst (λ (x : Answer). IsSelected x chosen view) (sym is) h

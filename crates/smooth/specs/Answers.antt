@@ -6,7 +6,7 @@ use Rattle.sm_model.specs.declared.fragment.Fragment.{Fragment}
 use Rattle.sm_model.specs.Causes.{cause_number, cause_name}
 use Rattle.sm_model.specs.FragText.{frag_text}
 use Rattle.sm_model.specs.Items.{first_of}
-use Rattle.sm_model.specs.Body.{body, body_end}
+use Rattle.sm_push.specs.Body.{body, body_end}
 use Rattle.smooth.specs.declared.answer.Picked.{Picked}
 use Rattle.smooth.specs.declared.answer.Picked.TheVariants as picked
 use Rattle.smooth.specs.declared.answer.Answer.{Answer}

@@ -3,9 +3,9 @@ use Rattle.std.specs.Prelude.{◌≡◌, ◌⊎◌, ◌==◌, ℕ, List, ◌++�
 use Rattle.sm_fetch.specs.declared.place.Place.{Place}
 use Rattle.sm_fetch.specs.declared.push.Pushed.{Pushed}
 use Rattle.sm_fetch.specs.declared.push.Pushed.TheVariants as pushed
-use Rattle.sm_visit.specs.declared.fault.VisitFault.{VisitFault}
-use Rattle.sm_visit.specs.declared.fault.VisitFault.TheVariants as fault
-use Rattle.sm_visit.specs.Pushing.{HasPushed, Input, Line, WhyUnpushed}
+use Rattle.sm_client.specs.declared.fault.VisitFault.{VisitFault}
+use Rattle.sm_client.specs.declared.fault.VisitFault.TheVariants as fault
+use Rattle.sm_client.specs.Pushing.{HasPushed, Input, Line, WhyUnpushed}
 use Rattle.smooth.specs.declared.answer.Answer.{Answer}
 use Rattle.smooth.specs.declared.answer.Answer.TheVariants.{Found, Unread, TooLong, Undone, LinkFault, Starved}
 use Rattle.smooth.specs.declared.order.PushOrder.{PushOrder}
@@ -49,5 +49,5 @@ TellsUnpushed fault.NoMemory answer = answer ≡ Starved
 -- The whole input was pushed once, and what came of it is told, but for want of memory; or nothing was pushed, and why is told.
 abbrev pub PushMeans : Place → List ℕ → End → End → Line → Line → Answer → Type 0
 PushMeans place id input input' dial dial' answer =
-    ((p : Pushed) × HasPushed place id (source_of input) (source_of input') dial dial' p × (TellsPush p answer ⊎ (answer ≡ Starved)))
+    ((p : Pushed) × HasPushed place.host place id (source_of input) (source_of input') dial dial' p × (TellsPush p answer ⊎ (answer ≡ Starved)))
     ⊎ ((why : VisitFault) × WhyUnpushed (source_of input) (source_of input') dial dial' why × TellsUnpushed why answer)

@@ -3,6 +3,7 @@ use Rattle.std.specs.Prelude.{◌≡◌, ◌⊎◌, ◌++◌, ℕ, List, [], ◌
 use Rattle.sm_ends.specs.Faults.{Rose}
 use Rattle.sm_fetch.specs.declared.dial.DialError.{DialError}
 use Rattle.sm_fetch.specs.declared.dial.DialError.TheVariants as dial_fault
+use Rattle.sm_fetch.specs.Exchanges.{IsTurnedTo}
 use Rattle.sm_client.specs.declared.plan.Plan.{Plan}
 use Rattle.sm_client.specs.declared.report.Miss.{Miss}
 use Rattle.sm_client.specs.declared.report.Miss.TheVariants as miss
@@ -11,7 +12,7 @@ use Rattle.sm_client.specs.declared.report.End.TheVariants as ends
 use Rattle.sm_client.specs.declared.report.Report.{Report}
 use Rattle.sm_client.specs.Turns.{Meaning}
 use Rattle.sm_client.specs.Plays.{Played}
-use Rattle.sm_visit.specs.Pushing.{Line}
+use Rattle.sm_client.specs.Pushing.{Line}
 use Rattle.smooth.specs.declared.answer.Answer.{Answer}
 use Rattle.smooth.specs.declared.answer.Answer.TheVariants.{Found, Undone, LinkFault, TrackFault, Starved}
 
@@ -71,8 +72,9 @@ TellsEnd streams played ends.NoMemory answer = answer ≡ Starved
 abbrev pub TellsPlay : List (List ℕ) → Report → Answer → Type 0
 TellsPlay streams report answer = TellsEnd streams report.played report.end answer
 
--- the plan was played by these policies in turn, with this report
+-- the dial was turned to the host and the port of the plan, which was played by these policies in turn, with this report
 pub record HasPlayed {P : Type 0} (m : Meaning P) (plan : Plan) (policies : List P) (dial dial' : Line) (tracks tracks' : Tape) (report : Report) : Type 0 where
+  pub turned : IsTurnedTo dial'.chosen plan.place.host plan.place.port
   pub played : Played m plan policies dial.log dial'.log tracks.held tracks'.held report
   -- tracks that failed counted it
   pub failed : report.end ≡ ends.WriteFault → Rose tracks.faults tracks'.faults

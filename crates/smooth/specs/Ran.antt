@@ -12,8 +12,8 @@ use Rattle.smooth.specs.declared.answer.Answer.TheVariants.{Found, Words, Unread
 use Rattle.smooth.specs.declared.answer.Answer.TheVariants.{Damaged, DiskFault, LinkFault, TrackFault, Starved, Full, NotAStore}
 use Rattle.smooth.specs.Words.{Wanted, Pick, Serve, Push, Play, Listing, Rehearse, asked}
 use Rattle.smooth.specs.Answers.{IsAnswered, limit, status_of, unwritten_status_of, line_of}
-use Rattle.sm_visit.specs.Pushing.{Line}
-use Rattle.smooth.specs.Stores.{End, ListMeans, ServeMeans}
+use Rattle.sm_client.specs.Pushing.{Line}
+use Rattle.smooth.specs.Stores.{End, IsSelected, ListMeans, ServeMeans, at_folder, at_port}
 use Rattle.smooth.specs.Origins.{PushMeans}
 use Rattle.smooth.specs.Plays.{PlayMeans, Tape}
 use Rattle.smooth.specs.Rehearsals.{RehearseMeans}
@@ -69,13 +69,13 @@ MeansBy view leave left_at m policies None old new d d' answer = answer ≡ Word
 MeansBy view leave left_at m policies (Some (Pick track time)) old new d d' answer =
     PickMeans track time old.input new.input answer × (new.dial ≡ old.dial) × (new.tracks ≡ old.tracks) × (d' ≡ d)
 MeansBy view leave left_at m policies (Some (Serve store port ladder turns)) old new d d' answer =
-    ServeMeans view leave left_at ladder turns old.input new.input d d' answer × (new.dial ≡ old.dial) × (new.tracks ≡ old.tracks)
+    ServeMeans view leave left_at ladder turns old.input new.input d d' answer × IsSelected answer (at_port store port) (view d') × (new.dial ≡ old.dial) × (new.tracks ≡ old.tracks)
 MeansBy view leave left_at m policies (Some (Push host port path id)) old new d d' answer =
     PushMeans (record { host = host; port = port; path = path }) id old.input new.input old.dial new.dial answer × (new.tracks ≡ old.tracks) × (d' ≡ d)
 MeansBy view leave left_at m policies (Some (Play plan)) old new d d' answer =
     PlayMeans m plan policies old.dial new.dial old.tracks new.tracks answer × (new.input ≡ old.input) × (d' ≡ d)
 MeansBy view leave left_at m policies (Some (Listing store)) old new d d' answer =
-    ListMeans view d d' answer × (new.input ≡ old.input) × (new.dial ≡ old.dial) × (new.tracks ≡ old.tracks)
+    ListMeans view d d' answer × IsSelected answer (at_folder store) (view d') × (new.input ≡ old.input) × (new.dial ≡ old.dial) × (new.tracks ≡ old.tracks)
 MeansBy view leave left_at m policies (Some (Rehearse number size)) old new d d' answer =
     RehearseMeans m number size policies answer × IsIdle old new d d'
 

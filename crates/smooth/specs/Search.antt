@@ -3,7 +3,7 @@ use Rattle.std.specs.Prelude.{◌≡◌, ◌<◌, ◌+◌, ◌==◌, ◌&&◌, �
 use Rattle.sm_model.specs.declared.fragment.Fragment.{Fragment}
 use Rattle.sm_model.specs.declared.cause.Refusal.{Refusal}
 use Rattle.sm_model.specs.Items.{Given, Header, Frag, first_from, first_of}
-use Rattle.sm_model.specs.Body.{body}
+use Rattle.sm_push.specs.Body.{body}
 use Rattle.sm_push.specs.Standing.{Stands}
 use Rattle.sm_push.specs.declared.fault.PushFault.{PushFault}
 use Rattle.sm_push.specs.declared.fault.PushFault.TheVariants as pushes

@@ -1,18 +1,19 @@
 -- What a command on a store answers.
-use Rattle.std.specs.Prelude.{◌≡◌, ◌⊎◌, ℕ, Bool, List, ◌++◌, codes, decimal, Option, IfSome, Result, Ok, Err}
+use Rattle.std.specs.Prelude.{◌≡◌, ◌⊎◌, ℕ, Bool, List, ◌++◌, true, false, codes, decimal, Option, None, Some, IfSome, Result, Ok, Err}
 use Rattle.sm_model.specs.declared.cause.Cause.{Cause}
 use Rattle.sm_model.specs.declared.entry.Entry.{Entry}
 use Rattle.sm_model.specs.declared.no_memory.NoMemory.{NoMemory}
 use Rattle.sm_model.specs.Causes.{cause_line}
 use Rattle.sm_site.specs.Image.{Image}
-use Rattle.sm_site.specs.Meanings.{View}
+use Rattle.sm_site.specs.Meanings.{Chosen, View}
 use Rattle.sm_archive.specs.Store.{IsStore}
 use Rattle.sm_serve.specs.declared.outcome.Served.{Served as Outcome}
 use Rattle.sm_serve.specs.declared.outcome.Served.TheVariants as served
-use Rattle.sm_store.specs.declared.fault.StoreFault.{StoreFault}
-use Rattle.sm_store.specs.declared.fault.StoreFault.TheVariants as fault
-use Rattle.sm_store.specs.Listing.{WhyUnlisted, lines_of}
-use Rattle.sm_store.specs.Serving.{HasRun, Input, WhyUnready}
+use Rattle.sm_command.specs.declared.fault.StoreFault.{StoreFault}
+use Rattle.sm_command.specs.declared.fault.StoreFault.TheVariants as fault
+use Rattle.sm_command.specs.Listing.{WhyUnlisted, lines_of}
+use Rattle.sm_serve.specs.Serving.{CountsNone}
+use Rattle.sm_command.specs.Serving.{HasRun, Input, WhyUnready}
 use Rattle.smooth.specs.declared.answer.Answer.{Answer}
 use Rattle.smooth.specs.declared.answer.Answer.TheVariants.{Found, Words, Unread, TooLong, LongLadder, Refused, NotKept, Clash, Undone}
 use Rattle.smooth.specs.declared.answer.Answer.TheVariants.{Damaged, DiskFault, LinkFault, TrackFault, Starved, Full, NotAStore}
@@ -24,6 +25,19 @@ pub record End : Type 0 where
 
 abbrev pub input_of : End → Input
 input_of end = record { told = end.told; faults = end.faults }
+
+-- the folder and the port of the words, and neither one address nor a journal
+abbrev pub at_port : List ℕ → ℕ → Chosen
+at_port store port = record { store = store; make = true; port = port; bind = None; journal = None }
+
+-- the folder alone, where it is there
+abbrev pub at_folder : List ℕ → Chosen
+at_folder store = record { store = store; make = false; port = 0; bind = None; journal = None }
+
+-- The site is selected with this; where nothing was found, with nothing else than this.
+abbrev pub IsSelected : Answer → Chosen → View → Type 0
+IsSelected (Found line) chosen view = view.chosen ≡ Some chosen
+IsSelected answer chosen view = (view.chosen ≡ Some chosen) ⊎ (view.chosen ≡ None)
 
 -- ---- the lines
 
@@ -73,6 +87,7 @@ pub record HasServed {D : Type 0} (view : D → View) (leave : D → Image → T
   pub behind : ℕ
   pub short : ℕ
   pub line_is : line ≡ turns_line taken
+  pub counts : CountsNone (served.Done taken behind short)
   pub run : HasRun view leave left_at ladder input.told input'.told turns d d' (served.Done taken behind short)
 
 -- A fault of the disk is one before the first event. One of the link is that of a choice of the port, or ended the loop. Want of memory may
@@ -99,7 +114,7 @@ ServeMeans view leave left_at ladder turns input input' d d' LinkFault =
     ⊎ WhyUnready view leave left_at ladder (input_of input) (input_of input') d d' fault.LinkFault
 ServeMeans view leave left_at ladder turns input input' d d' TrackFault = ⊥
 ServeMeans view leave left_at ladder turns input input' d d' Starved =
-    ((end : Outcome) × HasRun view leave left_at ladder input.told input'.told turns d d' end)
+    ((end : Outcome) × CountsNone end × HasRun view leave left_at ladder input.told input'.told turns d d' end)
     ⊎ ((why : StoreFault) × WhyUnready view leave left_at ladder (input_of input) (input_of input') d d' why)
 ServeMeans view leave left_at ladder turns input input' d d' Full = WhyUnready view leave left_at ladder (input_of input) (input_of input') d d' fault.Full
 ServeMeans view leave left_at ladder turns input input' d d' (NotAStore line) =

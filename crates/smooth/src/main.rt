@@ -18,6 +18,7 @@ mod origins;
 mod pick;
 mod place;
 mod play;
+mod play_order;
 mod print;
 mod put;
 mod rehearse;
@@ -76,12 +77,12 @@ fn run<I: Source, O: Sink, S: Site, C: Dial, T: Tracks>(
         (option_map (λ list. map string_bytes list.items) (result_ok words))
         (record {
           input = record { told = I.left input.old; faults = I.faults input.old };
-          dial = record { log = C.log dial.old; faults = C.dial_faults dial.old };
+          dial = record { log = C.log dial.old; faults = C.dial_faults dial.old; chosen = C.chosen dial.old };
           tracks = record { held = T.held tracks.old; faults = T.faults tracks.old };
         })
         (record {
           input = record { told = I.left input.new; faults = I.faults input.new };
-          dial = record { log = C.log dial.new; faults = C.dial_faults dial.new };
+          dial = record { log = C.log dial.new; faults = C.dial_faults dial.new; chosen = C.chosen dial.new };
           tracks = record { held = T.held tracks.new; faults = T.faults tracks.new };
         })
         (record { told = O.held output.old; faults = O.faults output.old })

@@ -15,6 +15,7 @@ use crate::matched::{
 };
 use crate::option::Name;
 use crate::place::{is_host, is_path};
+use crate::play_order::PlayOrder;
 use crate::put::{list_put, pick_put, play_put, push_put, rehearse_put, serve_put};
 use crate::words::number;
 use sm_client::{Names, Plan};
@@ -63,15 +64,6 @@ pub struct PushOrder {
     pub path: String,
     /// The name of the stream.
     pub id: StreamName,
-}
-
-/// What is played, and where from.
-#[derive(Debug, Drop)]
-pub struct PlayOrder {
-    /// The host of the plan's place, as a text.
-    pub host: String,
-    /// 1 to 16 streams, at most 1,000,000 fragments of each, 1 to 16 tries, and 1 to 10,000 manifests for one start.
-    pub plan: Plan,
 }
 
 // The numbers among the words of `play`.

@@ -1,14 +1,14 @@
 //! The commands at an origin.
 ghost use Rattle.std.specs.Prelude.{◌≡◌, ◌++◌, IfOk, IfErr};
-ghost use Rattle.sm_visit.specs.Pushing.{HasPushed, WhyUnpushed};
+ghost use Rattle.sm_client.specs.Pushing.{HasPushed, WhyUnpushed};
 ghost use Rattle.smooth.specs.Origins.{PushMeans, TellsPush, TellsUnpushed, place_of, status_line, unreadable_line};
 
 use crate::answer::Answer;
 use crate::order::PushOrder;
+use sm_client::{VisitFault, push_input};
 use sm_ends::Source;
 use sm_fetch::{Dial, Place, Pushed};
 use sm_model::{Bytes, NoMemory};
-use sm_visit::{VisitFault, push_input};
 use std::alloc::Global;
 
 // The body of a reply, and behind it the status.
@@ -74,12 +74,12 @@ fn push_to<I: Source, C: Dial>(
     dial: &mut C,
     order: &PushOrder,
 ) -> Result<Pushed, VisitFault>
-    ensures pushed { IfOk result (λ pushed. HasPushed (place_of order.now) order.now.id
+    ensures pushed { IfOk result (λ pushed. HasPushed (place_of order.now).host (place_of order.now) order.now.id
         (record { told = I.left input.old; faults = I.faults input.old }) (record { told = I.left input.new; faults = I.faults input.new })
-        (record { log = C.log dial.old; faults = C.dial_faults dial.old }) (record { log = C.log dial.new; faults = C.dial_faults dial.new }) pushed) }
+        (record { log = C.log dial.old; faults = C.dial_faults dial.old; chosen = C.chosen dial.old }) (record { log = C.log dial.new; faults = C.dial_faults dial.new; chosen = C.chosen dial.new }) pushed) }
     ensures why { IfErr result (λ why. WhyUnpushed
         (record { told = I.left input.old; faults = I.faults input.old }) (record { told = I.left input.new; faults = I.faults input.new })
-        (record { log = C.log dial.old; faults = C.dial_faults dial.old }) (record { log = C.log dial.new; faults = C.dial_faults dial.new }) why) }
+        (record { log = C.log dial.old; faults = C.dial_faults dial.old; chosen = C.chosen dial.old }) (record { log = C.log dial.new; faults = C.dial_faults dial.new; chosen = C.chosen dial.new }) why) }
 {
     let Ok(place) = place_of(alloc, order) else {
         return Err(VisitFault::NoMemory);
@@ -97,8 +97,8 @@ pub fn push<I: Source, C: Dial>(
     ensures { PushMeans (place_of order.now) order.now.id
         (record { told = I.left input.old; faults = I.faults input.old })
         (record { told = I.left input.new; faults = I.faults input.new })
-        (record { log = C.log dial.old; faults = C.dial_faults dial.old })
-        (record { log = C.log dial.new; faults = C.dial_faults dial.new }) result }
+        (record { log = C.log dial.old; faults = C.dial_faults dial.old; chosen = C.chosen dial.old })
+        (record { log = C.log dial.new; faults = C.dial_faults dial.new; chosen = C.chosen dial.new }) result }
 {
     match push_to(alloc, input, dial, order) {
         Ok(came) => match pushed(alloc, came) {

@@ -5,7 +5,7 @@ ghost use Rattle.smooth.specs.Plays.{HasPlayed, PlayMeans, TellsPlay, WhyUnplaye
 ghost use Rattle.smooth.specs.Plays.{name_at, no_manifest_line, no_more_line, no_stream_line, played_line};
 
 use crate::answer::Answer;
-use crate::order::PlayOrder;
+use crate::play_order::PlayOrder;
 use sm_client::{End, Miss, Names, Outcomes, Plan, Report};
 use sm_ends::Tracks;
 use sm_fetch::{Dial, DialError};
@@ -122,10 +122,10 @@ fn play_at<C: Dial, T: Tracks>(
     requires policies { 0 < length policies.items }
     requires playable { IsPlayable order.now.plan }
     ensures played { IfOk result (λ report. HasPlayed (record { pick = pick_after; retired = retired_after }) order.now.plan policies.items
-        (record { log = C.log dial.old; faults = C.dial_faults dial.old }) (record { log = C.log dial.new; faults = C.dial_faults dial.new })
+        (record { log = C.log dial.old; faults = C.dial_faults dial.old; chosen = C.chosen dial.old }) (record { log = C.log dial.new; faults = C.dial_faults dial.new; chosen = C.chosen dial.new })
         (record { held = T.held tracks.old; faults = T.faults tracks.old }) (record { held = T.held tracks.new; faults = T.faults tracks.new }) report) }
     ensures why { IfErr result (λ why. WhyUnplayed
-        (record { log = C.log dial.old; faults = C.dial_faults dial.old }) (record { log = C.log dial.new; faults = C.dial_faults dial.new })
+        (record { log = C.log dial.old; faults = C.dial_faults dial.old; chosen = C.chosen dial.old }) (record { log = C.log dial.new; faults = C.dial_faults dial.new; chosen = C.chosen dial.new })
         (record { held = T.held tracks.old; faults = T.faults tracks.old }) (record { held = T.held tracks.new; faults = T.faults tracks.new }) why) }
 {
     dial.select(order.host.as_str(), order.plan.place.port)?;
@@ -143,7 +143,7 @@ pub fn play<C: Dial, T: Tracks>(
     requires policies { 0 < length policies.items }
     requires playable { IsPlayable order.now.plan }
     ensures { PlayMeans (record { pick = pick_after; retired = retired_after }) order.now.plan policies.items
-        (record { log = C.log dial.old; faults = C.dial_faults dial.old }) (record { log = C.log dial.new; faults = C.dial_faults dial.new })
+        (record { log = C.log dial.old; faults = C.dial_faults dial.old; chosen = C.chosen dial.old }) (record { log = C.log dial.new; faults = C.dial_faults dial.new; chosen = C.chosen dial.new })
         (record { held = T.held tracks.old; faults = T.faults tracks.old }) (record { held = T.held tracks.new; faults = T.faults tracks.new }) result }
 {
     match play_at(alloc, dial, tracks, policies, order) {

@@ -2,7 +2,7 @@
 ghost use Rattle.std.specs.Prelude.{◌≡◌, ◌≤◌, ◌<◌, ◌+◌, ◌++◌, ◌^◌, ℕ, true, List, [], length, slice_index_or, OnOk, IfOk, Some};
 ghost use Rattle.std.specs.Option.{option_or};
 ghost use Rattle.sm_model.specs.Items.{Given, first_from};
-ghost use Rattle.sm_model.specs.Body.{body_end};
+ghost use Rattle.sm_push.specs.Body.{body_end};
 ghost use Rattle.smooth.specs.Answers.{IsDue, limit, refusal_line};
 ghost use Rattle.smooth.specs.Search.{fragments_in, fragment_of, Hits, IsAmong, Looks, RefusedBy};
 
@@ -157,10 +157,10 @@ impl Search {
         }
     }
 
-    /// What the bytes come to, which are all.
-    pub fn answer(mut self, alloc: Global) -> Result<Picked, NoMemory>
-        requires { (b : List ℕ) × Looks self b }
-        ensures { (b : List ℕ) → Looks self b → IfOk result (λ answer. IsDue self.track self.time b answer) }
+    // What the bytes come to, which are all.
+    fn picked(&mut self, alloc: Global) -> Result<Picked, NoMemory>
+        requires { (b : List ℕ) × Looks self.old b }
+        ensures { (b : List ℕ) → Looks self.old b → IfOk result (λ answer. IsDue self.old.track self.old.time b answer) }
     {
         items_are_valid();
         if let Some(refusal) = self.refusal_at_end()? {
@@ -173,5 +173,13 @@ impl Search {
             }
             None => Ok(Picked::NotKept),
         }
+    }
+
+    /// What the bytes come to, which are all.
+    pub fn answer(mut self, alloc: Global) -> Result<Picked, NoMemory>
+        requires { (b : List ℕ) × Looks self b }
+        ensures { (b : List ℕ) → Looks self b → IfOk result (λ answer. IsDue self.track self.time b answer) }
+    {
+        self.picked(alloc)
     }
 }

@@ -1,14 +1,14 @@
 //! The commands on a store.
 ghost use Rattle.std.specs.Prelude.{◌≡◌, IfOk, string_bytes};
-ghost use Rattle.smooth.specs.Stores.{ListMeans, ServeMeans, Tells, TellsEnd, clash_line, ladder_line, or_starved, store_line, turns_line};
+ghost use Rattle.smooth.specs.Stores.{IsSelected, ListMeans, ServeMeans, Tells, at_folder, at_port, TellsEnd, clash_line, ladder_line, or_starved, store_line, turns_line};
 
 use crate::answer::Answer;
 use crate::order::ServeOrder;
+use sm_command::{StoreFault, list_store, serve_store};
 use sm_ends::Source;
 use sm_model::{Bytes, Cause, NoMemory, Refusal, put_cause};
 use sm_serve::Served;
-use sm_site::Site;
-use sm_store::{StoreFault, list_store, serve_store};
+use sm_site::{Selection, Site};
 use std::alloc::Global;
 
 fn turns_line(alloc: Global, turns: u64) -> Result<Bytes, NoMemory>
@@ -86,30 +86,30 @@ pub fn serve<I: Source, S: Site>(
     alloc: Global,
     input: &mut I,
     site: &mut S,
-    order: &ServeOrder,
+    order: ServeOrder,
 ) -> Answer
-    ensures { ServeMeans S.Disk.view S.Disk.may_leave S.Disk.left_at order.now.ladder order.now.turns
+    ensures selected { IsSelected result (at_port (string_bytes order.store) order.port) (S.Disk.view site.new) }
+    ensures means { ServeMeans S.Disk.view S.Disk.may_leave S.Disk.left_at order.ladder order.turns
         (record { told = I.left input.old; faults = I.faults input.old })
         (record { told = I.left input.new; faults = I.faults input.new }) site.old site.new result }
 {
-    let store = order.store.as_str();
-    match serve_store(
-        alloc,
-        input,
-        site,
-        store,
-        order.port,
-        order.ladder,
-        order.turns,
-    ) {
+    let selection = Selection {
+        store: order.store,
+        make: true,
+        port: order.port,
+        bind: None,
+        journal: None,
+    };
+    match serve_store(alloc, input, site, selection, order.ladder, order.turns) {
         Ok(end) => or_starved(ended(alloc, end)),
         Err(fault) => or_starved(refused(alloc, fault)),
     }
 }
 
 /// Lists the store in that folder.
-pub fn list<S: Site>(alloc: Global, site: &mut S, store: &str) -> Answer
-    ensures { ListMeans S.Disk.view site.old site.new result }
+pub fn list<S: Site>(alloc: Global, site: &mut S, store: String) -> Answer
+    ensures selected { IsSelected result (at_folder (string_bytes store)) (S.Disk.view site.new) }
+    ensures means { ListMeans S.Disk.view site.old site.new result }
 {
     match list_store(alloc, site, store) {
         Ok(text) => Answer::Found(text),

@@ -46,21 +46,21 @@ fn answer_to<I: Source, S: Site, C: Dial, T: Tracks>(
     ensures { Means S.Disk.view S.Disk.may_leave S.Disk.left_at (record { pick = pick_after; retired = retired_after }) policies.items (map string_bytes words.now)
         (record {
           input = record { told = I.left input.old; faults = I.faults input.old };
-          dial = record { log = C.log dial.old; faults = C.dial_faults dial.old };
+          dial = record { log = C.log dial.old; faults = C.dial_faults dial.old; chosen = C.chosen dial.old };
           tracks = record { held = T.held tracks.old; faults = T.faults tracks.old };
         })
         (record {
           input = record { told = I.left input.new; faults = I.faults input.new };
-          dial = record { log = C.log dial.new; faults = C.dial_faults dial.new };
+          dial = record { log = C.log dial.new; faults = C.dial_faults dial.new; chosen = C.chosen dial.new };
           tracks = record { held = T.held tracks.new; faults = T.faults tracks.new };
         }) site.old site.new result }
 {
     match order_of(alloc, words) {
         Ok(Some(Order::Pick { track, time })) => picked(alloc, input, track, time),
-        Ok(Some(Order::Serve(order))) => serve(alloc, input, site, &order),
+        Ok(Some(Order::Serve(order))) => serve(alloc, input, site, order),
         Ok(Some(Order::Push(order))) => push(alloc, input, dial, &order),
         Ok(Some(Order::Play(order))) => play(alloc, dial, tracks, policies, &order),
-        Ok(Some(Order::List { store })) => list(alloc, site, &store),
+        Ok(Some(Order::List { store })) => list(alloc, site, store),
         Ok(Some(Order::Rehearse { number, size })) => rehearse(alloc, number, size, policies),
         Ok(None) => Answer::Words,
         Err(NoMemory) => Answer::Starved,
@@ -94,12 +94,12 @@ pub fn tool<I: Source, O: Sink, S: Site, C: Dial, T: Tracks>(
     ensures { IsRun S.Disk.view S.Disk.may_leave S.Disk.left_at (record { pick = pick_after; retired = retired_after }) policies.items (map string_bytes words.now)
         (record {
           input = record { told = I.left input.old; faults = I.faults input.old };
-          dial = record { log = C.log dial.old; faults = C.dial_faults dial.old };
+          dial = record { log = C.log dial.old; faults = C.dial_faults dial.old; chosen = C.chosen dial.old };
           tracks = record { held = T.held tracks.old; faults = T.faults tracks.old };
         })
         (record {
           input = record { told = I.left input.new; faults = I.faults input.new };
-          dial = record { log = C.log dial.new; faults = C.dial_faults dial.new };
+          dial = record { log = C.log dial.new; faults = C.dial_faults dial.new; chosen = C.chosen dial.new };
           tracks = record { held = T.held tracks.new; faults = T.faults tracks.new };
         })
         (record { told = O.held output.old; faults = O.faults output.old })

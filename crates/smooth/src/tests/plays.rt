@@ -87,10 +87,9 @@ fn answer(alloc: Global, step: Step) -> Result<Given, Fail> {
             reply(alloc, "200 OK", "video/mp4", &body)
         }
         Step::Cuts => match reply(alloc, "200 OK", "video/mp4", &served(alloc, 1, 0, 0)?)? {
-            Given::Bytes(bytes) => {
-                let mut items = bytes.into_vec();
-                items.truncate(150);
-                Ok(Given::Bytes(Bytes::from_vec(items)))
+            Given::Bytes(mut bytes) => {
+                bytes.truncate(150);
+                Ok(Given::Bytes(bytes))
             }
             Given::Lost => Ok(Given::Lost),
         },

@@ -24,7 +24,7 @@ returns-clause-ready c =
     let ch = c.reserve.new.self.catalog.channel in
     let sealed : IsSealedBody (Some ch) (Keep f) c.in_ok-body.body = subst (λ (t : List Track). IsSealedBody (Some t) (Keep f) c.in_ok-body.body) c.channel.ensures.same c.in_ok-body.ensures.sealed in
     let body : IsBody (Some ch) (Keep f) c.in_ok-body.body = inr sealed in
-    let told : Some c.in-Some.meta ≡ meta_of c.in_ok-body.body = c.in-Some.ensures ∙ ap meta_of c.as_slice.ensures in
+    let told : Some c.in-Some.meta ≡ meta_of c.in_ok-body.body = c.in-Some.ensures ∙ ap meta_of c.as_slice-2.ensures in
     record {
       address = c.in_ok-address.ensures;
       body = body;

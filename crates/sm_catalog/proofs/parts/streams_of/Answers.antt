@@ -3,7 +3,7 @@ use Rattle.std.proofs.lemmas.List.{drop_more, map_push}
 use Rattle.std.proofs.lemmas.List.Elements.{All-push}
 use Rattle.std.specs.List.{position}
 use Rattle.sm_model.specs.declared.track.Track.{Track}
-use Rattle.sm_model.specs.LiveTracks.{is_same}
+use Rattle.sm_model.specs.Same.{is_same}
 use Rattle.sm_log.specs.Adds.{names_from, names_of}
 use Rattle.sm_catalog.specs.declared.stream.Stream.{Stream}
 use Rattle.sm_catalog.specs.Content.{Lane, IsFresh}

@@ -1,4 +1,4 @@
-use Rattle.std.proofs.Common.{refl, arith, sym}
+use Rattle.std.proofs.Common.{refl, arith, sym, ◌∙◌}
 use Rattle.sm_client.proofs.Dials.{dialed-start, dialed-then, dialed-dropped}
 use Rattle.sm_client.proofs.Playing.{part-by, playing-start, playing-more, playing-ended, playing-done}
 use Rattle.sm_client.proofs.call.play_all.Goals as goal
@@ -10,6 +10,7 @@ loop-name-init g c = record {
   few = omega arith;
   later = omega arith;
   goes_on = g.met.C.Dial.later_same _;
+  chosen = refl;
   dial = dialed-start _ _ _;
 }
 
@@ -24,6 +25,7 @@ loop-name-preserved g c =
       few = omega (arith, i.few, e.few, c.requires.count);
       later = omega (arith, i.later, e.later);
       goes_on = g.met.C.Dial.later_then _ _ _ i.goes_on e.goes_on;
+      chosen = e.chosen ∙ i.chosen;
       dial = dialed-dropped (dialed-then i.dial e.dial);
     }
 

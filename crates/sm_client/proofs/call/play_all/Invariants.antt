@@ -16,6 +16,7 @@ invariant-loop-name g l = record {
   place : l.number ≡ l.name-index;
   few : l.played ≤ l.number * 4294967295;
   goes_on : g.C.Dial.later l.fn.dial l.dial;
+  chosen : g.C.Dial.chosen l.dial ≡ g.C.Dial.chosen l.fn.dial;
   dial : Dialed (g.C.Dial.log l.fn.dial) (g.C.Dial.log l.dial) (g.C.Dial.dial_faults l.fn.dial) (g.C.Dial.dial_faults l.dial) (g.C.Dial.store l.fn.dial) (g.C.Dial.store l.dial) [];
   later : g.T.Tracks.faults l.fn.tracks ≤ g.T.Tracks.faults l.tracks;
 }

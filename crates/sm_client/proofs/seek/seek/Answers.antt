@@ -1,16 +1,17 @@
-use Rattle.std.proofs.Common.{sym, ◌∙◌}
+use Rattle.std.proofs.Common.{sym, ◌∙◌, refl}
 use Rattle.sm_client.proofs.Dials.{dialed-start, dialed-then, dialed-carried}
 use Rattle.sm_client.proofs.Seeks.{seeking-start, seeking-more, seeking-found, seeking-ended}
 use Rattle.sm_client.proofs.seek.seek.Goals as goal
 
 pub loop-alloc-init : goal.loop-alloc-init
-loop-alloc-init g c = record { seeking = seeking-start _ _ _ _ c.requires.levels; goes_on = g.met.C.Dial.later_same _; dial = dialed-start _ _ _ }
+loop-alloc-init g c = record { seeking = seeking-start _ _ _ _ c.requires.levels; goes_on = g.met.C.Dial.later_same _; chosen = refl; dial = dialed-start _ _ _ }
 
 pub loop-alloc-preserved : goal.loop-alloc-preserved
 loop-alloc-preserved g c = record {
   seeking = seeking-more _ c.loop-alloc.invariant.seeking (λ q h more. c.in_default.ensures.none q h (sym
       (c.is_known.ensures q h) ∙ c.loop-alloc-test.true) more) c.in_default-relist.ensures.relists c.in_default-relist.ensures.written c.in_default-relist.ensures.levels;
   goes_on = g.met.C.Dial.later_then _ _ _ c.loop-alloc.invariant.goes_on c.in_default-relist.ensures.goes_on;
+  chosen = c.in_default-relist.ensures.chosen ∙ c.loop-alloc.invariant.chosen;
   dial = dialed-then c.loop-alloc.invariant.dial c.in_default-relist.ensures.dial;
 }
 

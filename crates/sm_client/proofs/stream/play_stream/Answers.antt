@@ -12,6 +12,7 @@ loop-init g c = record {
   others = λ k other. Keeps-refl _;
   later = omega arith;
   goes_on = c.in-Stands.ensures.goes_on;
+  chosen = c.in-Stands.ensures.chosen;
   dial = c.in-Stands.ensures.dial;
 }
 
@@ -26,6 +27,7 @@ loop-preserved g c =
       others = λ k other. Keeps-trans _ _ _ (i.others k other) (e.others k other);
       later = omega (arith, i.later, e.later);
       goes_on = g.met.C.Dial.later_then _ _ _ i.goes_on e.goes_on;
+      chosen = e.chosen ∙ i.chosen;
       dial = dialed-then i.dial e.dial;
     }
 

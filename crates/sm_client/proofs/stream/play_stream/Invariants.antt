@@ -19,6 +19,7 @@ invariant-loop g l = record {
   written : l.standing.written ≡ l.counter;
   others : (k : ℕ) → k ≢ l.number → Keeps (g.T.Tracks.held l.fn.tracks k) (g.T.Tracks.held l.tracks k);
   goes_on : g.C.Dial.later l.fn.dial l.dial;
+  chosen : g.C.Dial.chosen l.dial ≡ g.C.Dial.chosen l.fn.dial;
   dial : Dialed (g.C.Dial.log l.fn.dial) (g.C.Dial.log l.dial) (g.C.Dial.dial_faults l.fn.dial) (g.C.Dial.dial_faults l.dial) (g.C.Dial.store l.fn.dial) (g.C.Dial.store l.dial) [];
   later : g.T.Tracks.faults l.fn.tracks ≤ g.T.Tracks.faults l.tracks;
 }

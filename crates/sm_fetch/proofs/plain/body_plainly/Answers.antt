@@ -10,7 +10,7 @@ returns-in-Ended c = record {
   rest = drop c.loop-end.end c.args.bytes.now;
   joined = sym (take-append-drop c.loop-end.end c.args.bytes.now);
   ends = sym c.in_ok-front.ensures.place ∙ c.in-Ended.is;
-  body_is = c.into_vec.ensures ∙ c.in_ok-front.ensures.body;
+  body_is = c.in_ok-own-in-Ended.ensures ∙ c.in_ok-front.ensures.body;
 }
 
 pub returns-in-Failed : goal.returns-in-Failed

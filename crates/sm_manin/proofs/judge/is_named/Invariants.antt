@@ -1,6 +1,6 @@
 use Rattle.std.proofs.Common.{◌≡◌, drop}
 use Rattle.std.specs.List.{list_any}
-use Rattle.sm_model.specs.LiveTracks.{is_same}
+use Rattle.sm_model.specs.Same.{is_same}
 use Rattle.sm_manin.specs.ManifestFaults.{name_of}
 use Rattle.sm_manin.proofs.judge.is_named.Given as goal
 

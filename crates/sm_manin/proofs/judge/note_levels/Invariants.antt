@@ -1,5 +1,5 @@
 use Rattle.std.proofs.Common.{◌≡◌, take, drop, []}
-use Rattle.sm_model.specs.LiveFaults.{least_from}
+use Rattle.sm_model.specs.Places.{least_from}
 use Rattle.sm_manin.specs.ManifestFaults.{level_faults}
 use Rattle.sm_manin.proofs.judge.note_levels.Given as goal
 

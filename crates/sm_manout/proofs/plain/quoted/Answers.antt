@@ -1,6 +1,6 @@
 use Rattle.std.proofs.Common.{◌≡◌, ℕ, ◌+◌, ◌<◌, ◌≤◌, Bool, false, cond, List, [], ◌∷◌, length, drop, get_or, Some, None, refl, ap, sym, ◌∙◌, arith, length-drop}
 use Rattle.std.proofs.lemmas.List.{drop_more}
-use Rattle.sm_model.specs.LiveTracks.{is_same}
+use Rattle.sm_model.specs.Same.{is_same}
 use Rattle.sm_manout.specs.Shown.{quoted}
 use Rattle.sm_manout.proofs.plain.quoted.Goals as goal
 

@@ -1,6 +1,6 @@
 use Rattle.std.proofs.Common.{sym, ap, subst, ◌∙◌}
 use Rattle.sm_box.specs.Seen.{seen}
-use Rattle.sm_moof.specs.Gives.{Gives}
+use Rattle.sm_model.specs.Gives.{Gives}
 use Rattle.sm_model.proofs.OrderLemmas.{trafs_in, moof_run_bad, moof_run_empty, moof_run_first}
 use Rattle.sm_moof.proofs.read.read_moof.Goals as goal
 

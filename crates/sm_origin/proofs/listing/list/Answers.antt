@@ -1,14 +1,22 @@
-use Rattle.std.proofs.Common.{◌≡◌, ◌∙◌, ap, sym, subst, List, ℕ, IfOk}
-use Rattle.sm_log.specs.Adds.{Add, listed}
-use Rattle.sm_manout.specs.ManifestText.{manifest}
+use Rattle.std.proofs.Common.{◌≡◌, ◌∙◌, ap, sym, subst, List, Option, None, Some, option_map, IfOk}
+use Rattle.sm_model.specs.declared.entry.Entry.{Entry}
+use Rattle.sm_model.specs.declared.track.Track.{Track}
+use Rattle.sm_log.specs.Adds.{Add}
+use Rattle.sm_log.specs.Logs.{channel_of}
+use Rattle.sm_catalog.specs.Content.{Content}
+use Rattle.sm_archive.specs.Looking.{ShowsCatalog}
 use Rattle.sm_head.specs.declared.reply.Content.TheVariants.{Xml}
-use Rattle.sm_origin.specs.Replies.{ok, manifest_reply}
+use Rattle.sm_reply.specs.declared.reply.Reply.{Reply}
+use Rattle.sm_reply.specs.Replies.{ok, manifest_with, manifest_reply, catalog_reply}
 use Rattle.sm_origin.proofs.listing.list.Goals as goal
 
-pub returns-in_ok-text-in-Some : goal.returns-in_ok-text-in-Some
-returns-in_ok-text-in-Some c = λ bodies body log doubt k.
-    let shows = c.in-Some.ensures bodies body log doubt k in
-    let channel = c.in-Some.catalog.now.channel in
-    subst (λ x. IfOk c.ok.result (λ reply. reply ≡ manifest_reply x log)) (sym shows.0)
-    (subst (λ (l : List ℕ). IfOk c.ok.result (λ reply. reply ≡ ok Xml l))
-    (c.as_slice.ensures ∙ (c.in_ok-text-in-Some.ensures ∙ ap (λ (adds : List Add). manifest channel (listed channel adds)) shows.1)) c.ok.ensures)
+-- the manifest of the catalog that a log shows is the log's
+shown : (o : Option Content) (log : List Entry) → ShowsCatalog o log → catalog_reply o ≡ manifest_reply (channel_of log) log
+shown None log shows = sym (ap (λ (channel : Option (List Track)). manifest_reply channel log) shows)
+shown (Some c) log shows =
+    ap (λ (adds : List Add). ok Xml (manifest_with c.channel adds)) shows.1 ∙ sym (ap (λ (channel : Option (List Track)). manifest_reply channel log) shows.0)
+
+pub returns : goal.returns
+returns c = λ bodies body log doubt k.
+    subst (λ (meant : Reply). IfOk c.manifest_reply.result (λ reply. reply ≡ meant))
+    (shown (option_map (λ r. r.now) c.catalog.result) log (c.catalog.ensures bodies body log doubt k)) c.manifest_reply.ensures

@@ -1,5 +1,5 @@
 use Rattle.std.proofs.Common.{◌≡◌, drop}
-use Rattle.sm_model.specs.Header.{has_two_timescales}
+use Rattle.sm_push.specs.Header.{has_two_timescales}
 use Rattle.sm_push.proofs.header.has_two_timescales.Given as goal
 
 abbrev pub invariant-loop-i : goal.invariant-loop-i

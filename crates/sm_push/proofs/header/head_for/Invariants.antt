@@ -1,5 +1,5 @@
 use Rattle.std.proofs.Common.{◌≡◌, drop}
-use Rattle.sm_model.specs.Header.{head_for}
+use Rattle.sm_push.specs.Header.{head_for}
 use Rattle.sm_push.proofs.header.head_for.Given as goal
 
 abbrev pub invariant-loop-head : goal.invariant-loop-head

@@ -1,6 +1,6 @@
 use Rattle.std.proofs.Common.{◌≡◌, ◌∙◌, List, ap, arith}
 use Rattle.std.specs.Prelude.{Some, None}
-use Rattle.sm_model.specs.Header.{heads_for, head_for}
+use Rattle.sm_push.specs.Header.{heads_for, head_for}
 use Rattle.sm_model.specs.declared.heads.TrackHead.{TrackHead}
 use Rattle.sm_push.proofs.HeaderLemmas.{heads_on, heads_none, heads_all}
 use Rattle.sm_push.proofs.header.heads_for.Goals as goal

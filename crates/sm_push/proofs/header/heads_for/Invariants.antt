@@ -1,6 +1,6 @@
 use Rattle.std.proofs.Common.{◌≡◌, ◌++◌, drop}
 use Rattle.std.specs.Option.{option_map}
-use Rattle.sm_model.specs.Header.{heads_for}
+use Rattle.sm_push.specs.Header.{heads_for}
 use Rattle.sm_push.proofs.header.heads_for.Given as goal
 
 abbrev pub invariant-loop-track : goal.invariant-loop-track

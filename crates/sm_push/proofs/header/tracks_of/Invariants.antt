@@ -1,5 +1,5 @@
 use Rattle.std.proofs.Common.{◌≡◌, ◌++◌, drop}
-use Rattle.sm_model.specs.Header.{tracks_of}
+use Rattle.sm_push.specs.Header.{tracks_of}
 use Rattle.sm_push.proofs.header.tracks_of.Given as goal
 
 abbrev pub invariant-loop-i : goal.invariant-loop-i

@@ -1,5 +1,5 @@
 use Rattle.std.proofs.Common.{◌∙◌, ap}
-use Rattle.sm_model.specs.Body.{body, push_start}
+use Rattle.sm_push.specs.Body.{body, push_start}
 use Rattle.sm_push.proofs.Boxes.{boxes_walk}
 use Rattle.sm_push.proofs.Splits.{split_all}
 use Rattle.sm_push.proofs.law.by_boxes.Goals as goal

@@ -1,4 +1,4 @@
-use Rattle.sm_model.specs.Body.{push_start}
+use Rattle.sm_push.specs.Body.{push_start}
 use Rattle.sm_push.proofs.Walking.{walk_front}
 use Rattle.sm_push.proofs.law.front.Goals as goal
 

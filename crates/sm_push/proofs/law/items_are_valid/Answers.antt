@@ -1,5 +1,5 @@
 use Rattle.std.proofs.Common.{subst}
-use Rattle.sm_model.specs.LiveManifests.{IsLiveManifest}
+use Rattle.sm_smil.specs.LiveManifests.{IsLiveManifest}
 use Rattle.sm_push.proofs.HeaderValid.{header_valid}
 use Rattle.sm_push.proofs.Valid.{body_valid}
 use Rattle.sm_push.proofs.law.items_are_valid.Goals as goal

@@ -1,5 +1,5 @@
 use Rattle.sm_model.specs.Boxes.{box_of}
-use Rattle.sm_model.specs.LiveText.{live_text}
+use Rattle.sm_smil.specs.LiveText.{live_text}
 use Rattle.sm_model.specs.MoovText.{bare_moov}
 use Rattle.sm_push.proofs.WrittenHeader.{header_again}
 use Rattle.sm_push.proofs.law.written_header_is_read.Goals as goal

@@ -2,9 +2,9 @@ use Rattle.std.proofs.Common.{◌≡◌, sym, ap, ◌∙◌, Some, None, Ok, Err
 use Rattle.sm_model.specs.declared.cause.Cause.{Cause}
 use Rattle.sm_model.specs.declared.run.Run.{Run}
 use Rattle.std.specs.Prelude.{Result}
-use Rattle.sm_model.specs.declared.push.PushState.{PushState}
+use Rattle.sm_push.specs.declared.state.PushState.{PushState}
 use Rattle.sm_model.specs.Frag.{moof_run}
-use Rattle.sm_model.specs.PushBoxes.{Step, track_in}
+use Rattle.sm_push.specs.PushBoxes.{Step, track_in}
 use Rattle.sm_push.proofs.MoofLemmas.{MoofLaws, moof_fails, moof_waits}
 use Rattle.sm_push.proofs.step.take_moof.Goals as goal
 

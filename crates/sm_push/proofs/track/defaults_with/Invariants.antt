@@ -1,5 +1,5 @@
 use Rattle.std.proofs.Common.{◌≡◌, drop}
-use Rattle.sm_model.specs.Header.{track_with}
+use Rattle.sm_push.specs.Header.{track_with}
 use Rattle.sm_push.proofs.track.defaults_with.Given as goal
 
 abbrev pub invariant-loop-track : goal.invariant-loop-track

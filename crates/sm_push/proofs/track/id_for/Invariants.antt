@@ -1,5 +1,5 @@
 use Rattle.std.proofs.Common.{◌≡◌, drop}
-use Rattle.sm_model.specs.Header.{id_for}
+use Rattle.sm_push.specs.Header.{id_for}
 use Rattle.sm_push.proofs.track.id_for.Given as goal
 
 abbrev pub invariant-loop-track : goal.invariant-loop-track

@@ -2,7 +2,7 @@ use Rattle.std.proofs.Common.{◌≡◌, Bool, false, if◌then◌else◌, refl,
 use Rattle.sm_site.proofs.Views.{same_here}
 use Rattle.sm_serve.specs.Run.{idle, acting, shutting, in_phase}
 use Rattle.sm_site.specs.Meanings.Deal.{Shut}
-use Rattle.sm_serve.proofs.Transcripts.{adds_told, told_here, faults_here, script_here}
+use Rattle.sm_serve.proofs.Transcripts.{adds_told, told_here, faults_here, script_here, chosen_here}
 use Rattle.sm_serve.proofs.Reaching.{reached, reached_here}
 use Rattle.sm_serve.proofs.Sending.{LinkCall, contents_here, shut_after}
 use Rattle.sm_serve.proofs.answer.end_item.Goals as goal
@@ -49,3 +49,6 @@ returns-clause-goes_on g c h more origin keeps stands phase =
     let n = c.args.number in
     reached_here g.S.Disk.view g.S.Disk.may_leave g.S.Disk.left_at h n (acting n more) (h.point.counts n) origin c.args.site.now keeps stands
     (phase ∙ ap (λ (b : Bool). if b then shutting n else acting n more) c.if-close.false) refl
+
+pub returns-then-close-clause-chosen : goal.returns-then-close-clause-chosen
+returns-then-close-clause-chosen g c = chosen_here g.S.Disk.view g.S.Link.view g.met.S.Site.one_view c.args.site.now c.close.new.self c.close.ensures.disk.chosen

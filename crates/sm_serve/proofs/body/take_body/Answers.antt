@@ -24,6 +24,7 @@ loop-done-init g c = record {
   told = refl;
   link_faults = refl;
   script = refl;
+  chosen = refl;
   open_ = c.requires.open;
   same = record { number = refl; conn = refl };
   goes_on = λ h b more items keeps stands is left phase counts.
@@ -75,6 +76,7 @@ loop-done-preserved g c =
       told = c.take_chunk.ensures.told ∙ c.loop-done.invariant.told;
       link_faults = c.take_chunk.ensures.link_faults ∙ c.loop-done.invariant.link_faults;
       script = c.take_chunk.ensures.script ∙ c.loop-done.invariant.script;
+      chosen = c.take_chunk.ensures.chosen ∙ c.loop-done.invariant.chosen;
       open_ = c.if-not-take_chunk.ensures.push refl;
       same = same_then c.args.live.now c.loop-done.live c.take_chunk.new.live c.loop-done.invariant.same c.take_chunk.ensures.same;
       goes_on = λ h b more items keeps stands is left phase counts.

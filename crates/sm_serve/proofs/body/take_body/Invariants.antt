@@ -20,6 +20,7 @@ invariant-loop-done g l = record {
   open_ : is_some l.live.push ≡ true;
   link_faults : (g.S.Disk.view l.site).link_faults ≡ (g.S.Disk.view l.fn.site).link_faults;
   script : (g.S.Disk.view l.site).script ≡ (g.S.Disk.view l.fn.site).script;
+  chosen : (g.S.Disk.view l.site).chosen ≡ (g.S.Disk.view l.fn.site).chosen;
   same : SameConn l.fn.live l.live;
   goes_on : (h : History) (b : List ℕ) (more : List PartItem) (items : List WireItem) → Keeps g.S.Disk.view g.S.Disk.may_leave g.S.Disk.left_at h l.fn.site
       → StandsOn g.S.Disk.view g.S.Disk.may_leave h.point.machine l.fn.origin l.fn.site → PlaceIs l.fn.live.push (Some b) → Left (Some b) (map (λ x. byte x) l.bytes ++ more) items

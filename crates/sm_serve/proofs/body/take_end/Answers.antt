@@ -1,5 +1,5 @@
 use Rattle.std.proofs.Common.{◌≡◌, false, if◌then◌else◌, [], ◌∷◌, Some, None, refl, ◌∙◌, ap}
-use Rattle.sm_model.specs.Body.{body_end}
+use Rattle.sm_push.specs.Body.{body_end}
 use Rattle.sm_conn.specs.Parts.{ended}
 use Rattle.sm_wire.specs.declared.item.WireItem.TheVariants.{Refuse}
 use Rattle.sm_wire.specs.Wire.{wire}

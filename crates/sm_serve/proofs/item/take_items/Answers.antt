@@ -52,6 +52,7 @@ loop-item-preserved g c =
       told = c.take_item.ensures.told ∙ c.loop-item.invariant.told;
       link_faults = c.take_item.ensures.link_faults ∙ c.loop-item.invariant.link_faults;
       script = c.take_item.ensures.script ∙ c.loop-item.invariant.script;
+      chosen = c.take_item.ensures.chosen ∙ c.loop-item.invariant.chosen;
       same = same_then c.args.live.now c.loop-item.live c.take_item.new.live c.loop-item.invariant.same c.take_item.ensures.same;
       goes_on = λ h more keeps stands phase counts.
           let rest = map shown_item (drop (i + 1) items) ++ more in
@@ -85,6 +86,7 @@ loop-item-init g c = record {
   told = refl;
   link_faults = refl;
   script = refl;
+  chosen = refl;
   same = record { number = refl; conn = refl; push = refl };
   goes_on = λ h more keeps stands phase counts.
       reached_here g.S.Disk.view g.S.Disk.may_leave g.S.Disk.left_at h c.args.live.now.number (acting c.args.live.now.number (map shown_item c.args.items.items ++ more))

@@ -17,6 +17,7 @@ invariant-loop-item g l = record {
   told : is_some (g.S.Disk.view l.site).transcript ≡ is_some (g.S.Disk.view l.fn.site).transcript;
   link_faults : (g.S.Disk.view l.site).link_faults ≡ (g.S.Disk.view l.fn.site).link_faults;
   script : (g.S.Disk.view l.site).script ≡ (g.S.Disk.view l.fn.site).script;
+  chosen : (g.S.Disk.view l.site).chosen ≡ (g.S.Disk.view l.fn.site).chosen;
   same : SameBut l.fn.live l.live;
   goes_on : (h : History) (more : List WireItem) → Keeps g.S.Disk.view g.S.Disk.may_leave g.S.Disk.left_at h l.fn.site
       → StandsOn g.S.Disk.view g.S.Disk.may_leave h.point.machine l.fn.origin l.fn.site → h.point.phase ≡ acting l.fn.live.number (map shown_item l.fn.items.items ++ more) → h.point.counts l.fn.live.number ≡ counts_of l.fn.live

@@ -26,6 +26,7 @@ loop-part-init g c = record {
   told = refl;
   link_faults = refl;
   script = refl;
+  chosen = refl;
   same = record { number = refl; conn = refl };
   goes_on = λ h place more items keeps stands is left phase counts.
       open_here g.S.Disk.view g.S.Disk.may_leave g.S.Disk.left_at h c.args.live.now.number c.args.site.now c.args.live.now.push (counts_of c.args.live.now) place
@@ -71,6 +72,7 @@ loop-part-preserved g c =
       told = c.take_part.ensures.told ∙ c.loop-part.invariant.told;
       link_faults = c.take_part.ensures.link_faults ∙ c.loop-part.invariant.link_faults;
       script = c.take_part.ensures.script ∙ c.loop-part.invariant.script;
+      chosen = c.take_part.ensures.chosen ∙ c.loop-part.invariant.chosen;
       same = same_then c.args.live.now c.loop-part.live c.take_part.new.live c.loop-part.invariant.same c.take_part.ensures.same;
       goes_on = λ h place more items keeps stands is left phase counts.
           let rest = joined (drop (i + 1) parts) ++ more in

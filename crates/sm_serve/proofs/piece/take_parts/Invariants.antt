@@ -19,6 +19,7 @@ invariant-loop-part g l = record {
   told : is_some (g.S.Disk.view l.site).transcript ≡ is_some (g.S.Disk.view l.fn.site).transcript;
   link_faults : (g.S.Disk.view l.site).link_faults ≡ (g.S.Disk.view l.fn.site).link_faults;
   script : (g.S.Disk.view l.site).script ≡ (g.S.Disk.view l.fn.site).script;
+  chosen : (g.S.Disk.view l.site).chosen ≡ (g.S.Disk.view l.fn.site).chosen;
   same : SameConn l.fn.live l.live;
   goes_on : (h : History) (place : Option (List ℕ)) (more : List PartItem) (items : List WireItem) → Keeps g.S.Disk.view g.S.Disk.may_leave g.S.Disk.left_at h l.fn.site
       → StandsOn g.S.Disk.view g.S.Disk.may_leave h.point.machine l.fn.origin l.fn.site → PlaceIs l.fn.live.push place → Left place (joined l.fn.parts.items ++ more) items

@@ -1,4 +1,4 @@
-use Rattle.std.proofs.Common.{◌≡◌, ⊎_elim, IfSome, refl, sym, ap, subst, arith}
+use Rattle.std.proofs.Common.{◌≡◌, ⊎_elim, IfSome, refl, sym, ◌∙◌, ap, subst, arith}
 use Rattle.sm_site.specs.declared.event.Event.{Event}
 use Rattle.sm_site.specs.declared.event.Event.TheVariants.{Ended}
 use Rattle.sm_site.specs.Meanings.Deal.{Over}
@@ -10,7 +10,7 @@ use Rattle.sm_serve.specs.declared.outcome.Turn.{Turn as Turned}
 use Rattle.sm_serve.specs.declared.outcome.Turn.TheVariants as turned
 use Rattle.sm_serve.specs.declared.outcome.Turn.TheVariants.{Went, LinkFault, NoMemory}
 use Rattle.sm_serve.specs.Serving.{taken_by, IsAtRest}
-use Rattle.sm_serve.proofs.Transcripts.{adds_told, told_here}
+use Rattle.sm_serve.proofs.Transcripts.{adds_told, told_here, chosen_here}
 use Rattle.sm_serve.proofs.Sending.{LinkCall, contents_here}
 use Rattle.sm_serve.proofs.Events.{pend, still_serves, turn_taken, turn_not_taken, may_handle, is_new}
 use Rattle.sm_serve.proofs.serving.turn.Goals as goal
@@ -148,3 +148,13 @@ returns-in-Err-NoMemory-clause-link_faults g c =
     let between = ap (λ (v : View). v.link_faults) (g.met.S.Site.one_view c.next.new.self) in
     let later = c.next.ensures.link_faults in
     omega (arith, before, between, later)
+
+pub returns-in-Ok-clause-chosen : goal.returns-in-Ok-clause-chosen
+returns-in-Ok-clause-chosen g c =
+    c.handle.ensures.chosen ∙ chosen_here g.S.Disk.view g.S.Link.view g.met.S.Site.one_view c.args.site.now c.next.new.self c.next.ensures.disk.chosen
+
+pub returns-in-Err-Failed-clause-chosen : goal.returns-in-Err-Failed-clause-chosen
+returns-in-Err-Failed-clause-chosen g c = chosen_here g.S.Disk.view g.S.Link.view g.met.S.Site.one_view c.args.site.now c.next.new.self c.next.ensures.disk.chosen
+
+pub returns-in-Err-NoMemory-clause-chosen : goal.returns-in-Err-NoMemory-clause-chosen
+returns-in-Err-NoMemory-clause-chosen g c = chosen_here g.S.Disk.view g.S.Link.view g.met.S.Site.one_view c.args.site.now c.next.new.self c.next.ensures.disk.chosen

@@ -1,5 +1,5 @@
 use Rattle.std.proofs.Common.{◌≡◌, drop}
-use Rattle.sm_model.specs.LiveFaults.{collides_with}
+use Rattle.sm_smil.specs.LiveFaults.{collides_with}
 use Rattle.sm_smil.proofs.judge.collides_with.Given as goal
 
 abbrev pub invariant-loop-other : goal.invariant-loop-other

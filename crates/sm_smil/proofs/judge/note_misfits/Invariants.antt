@@ -1,5 +1,6 @@
 use Rattle.std.proofs.Common.{◌≡◌, drop}
-use Rattle.sm_model.specs.LiveFaults.{least_from, misfits}
+use Rattle.sm_model.specs.Places.{least_from}
+use Rattle.sm_smil.specs.LiveFaults.{misfits}
 use Rattle.sm_smil.proofs.judge.note_misfits.Given as goal
 
 abbrev pub invariant-loop-param : goal.invariant-loop-param

@@ -1,5 +1,6 @@
 use Rattle.std.proofs.Common.{◌≡◌, take, drop, []}
-use Rattle.sm_model.specs.LiveFaults.{least_from, tracks_faults}
+use Rattle.sm_model.specs.Places.{least_from}
+use Rattle.sm_smil.specs.LiveFaults.{tracks_faults}
 use Rattle.sm_smil.proofs.judge.note_tracks.Given as goal
 
 abbrev pub invariant-loop-i : goal.invariant-loop-i

@@ -1,6 +1,6 @@
 use Rattle.std.proofs.Common.{subst, sym, length}
-use Rattle.sm_model.specs.declared.raw_track.Form.TheVariants.{Pushed, Ladder}
-use Rattle.sm_model.specs.LiveTracks.{smil_track, ladder_track}
+use Rattle.sm_smil.specs.declared.raw_track.Form.TheVariants.{Pushed, Ladder}
+use Rattle.sm_smil.specs.LiveTracks.{smil_track, ladder_track}
 use Rattle.sm_smil.specs.Ruled.{IsRuled}
 use Rattle.sm_smil.proofs.WalkRuled.{ruled, ruled_so}
 use Rattle.sm_smil.proofs.law.live_manifests_are_by_rule.Goals as goal

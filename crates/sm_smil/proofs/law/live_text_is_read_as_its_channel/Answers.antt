@@ -1,5 +1,5 @@
-use Rattle.sm_model.specs.LiveRead.{live_manifest}
-use Rattle.sm_model.specs.LiveText.{live_text}
+use Rattle.sm_smil.specs.LiveRead.{live_manifest}
+use Rattle.sm_smil.specs.LiveText.{live_text}
 use Rattle.sm_smil.proofs.OneAnswer.{some_answer}
 use Rattle.sm_smil.proofs.WrittenChannel.{live_text_gives, live_text_pushes}
 use Rattle.sm_smil.proofs.law.live_text_is_read_as_its_channel.Goals as goal

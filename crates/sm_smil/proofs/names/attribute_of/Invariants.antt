@@ -1,5 +1,5 @@
 use Rattle.std.proofs.Common.{◌≡◌, drop}
-use Rattle.sm_model.specs.LiveWalk.{attribute_of}
+use Rattle.sm_tag.specs.Elements.{attribute_of}
 use Rattle.sm_smil.proofs.names.attribute_of.Given as goal
 
 abbrev pub invariant-loop-attribute : goal.invariant-loop-attribute

@@ -1,5 +1,5 @@
 use Rattle.std.proofs.Common.{◌≡◌, drop}
-use Rattle.sm_model.specs.LiveTracks.{value_of}
+use Rattle.sm_smil.specs.LiveTracks.{value_of}
 use Rattle.sm_smil.proofs.names.value_of.Given as goal
 
 abbrev pub invariant-loop-param : goal.invariant-loop-param

@@ -1,5 +1,5 @@
 use Rattle.std.proofs.Common.{◌≡◌, ◌++◌, drop}
-use Rattle.sm_model.specs.LiveFaults.{misfits}
+use Rattle.sm_smil.specs.LiveFaults.{misfits}
 use Rattle.sm_smil.proofs.plain.add_misfits.Given as goal
 
 abbrev pub invariant-loop-param : goal.invariant-loop-param

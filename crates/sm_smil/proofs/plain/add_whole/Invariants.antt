@@ -1,5 +1,5 @@
 use Rattle.std.proofs.Common.{◌≡◌, ◌++◌, take, drop, []}
-use Rattle.sm_model.specs.LiveFaults.{tracks_faults}
+use Rattle.sm_smil.specs.LiveFaults.{tracks_faults}
 use Rattle.sm_smil.proofs.plain.add_whole.Given as goal
 
 abbrev pub invariant-loop-i : goal.invariant-loop-i

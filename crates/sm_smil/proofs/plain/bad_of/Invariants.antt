@@ -1,5 +1,5 @@
 use Rattle.std.proofs.Common.{◌≡◌, drop}
-use Rattle.sm_model.specs.LiveManifests.{bad_of}
+use Rattle.sm_tag.specs.Elements.{bad_of}
 use Rattle.sm_smil.proofs.plain.bad_of.Given as goal
 
 abbrev pub invariant-loop-tag : goal.invariant-loop-tag

@@ -1,4 +1,4 @@
-use Rattle.sm_model.specs.declared.raw_track.Form.TheVariants.{Pushed}
+use Rattle.sm_smil.specs.declared.raw_track.Form.TheVariants.{Pushed}
 use Rattle.sm_smil.proofs.PlainLemmas.{faultless_fit}
 use Rattle.sm_smil.proofs.plain.read_live_manifest.Goals as goal
 

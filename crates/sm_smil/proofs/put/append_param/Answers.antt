@@ -1,5 +1,5 @@
 use Rattle.std.proofs.lemmas.Result.{IfOk-equal}
-use Rattle.sm_model.specs.LiveText.{param_line}
+use Rattle.sm_smil.specs.LiveText.{param_line}
 use Rattle.sm_smil.proofs.Joined.{three}
 use Rattle.sm_smil.proofs.put.append_param.Goals as goal
 

@@ -1,5 +1,5 @@
 use Rattle.std.proofs.Common.{◌≡◌, ◌+◌, ◌++◌, drop}
-use Rattle.sm_model.specs.LiveText.{tracks_lines}
+use Rattle.sm_smil.specs.LiveText.{tracks_lines}
 use Rattle.sm_smil.proofs.put.append_tracks.Given as goal
 
 abbrev pub invariant-loop-t : goal.invariant-loop-t

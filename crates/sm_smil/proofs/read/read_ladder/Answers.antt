@@ -1,5 +1,5 @@
 use Rattle.std.proofs.Common.{length, sym, ◌∙◌}
-use Rattle.sm_model.specs.declared.raw_track.Form.TheVariants.{Ladder}
+use Rattle.sm_smil.specs.declared.raw_track.Form.TheVariants.{Ladder}
 use Rattle.sm_smil.proofs.Fit.{all_fit}
 use Rattle.sm_smil.proofs.Valid.{faultless, is_channel}
 use Rattle.sm_smil.proofs.WalkLemmas.{few_tracks}

@@ -1,5 +1,5 @@
 use Rattle.std.proofs.Common.{◌≡◌, take, map}
-use Rattle.sm_model.specs.LiveTracks.{ladder_track}
+use Rattle.sm_smil.specs.LiveTracks.{ladder_track}
 use Rattle.sm_smil.proofs.track.ladder_tracks.Given as goal
 
 abbrev pub invariant-loop-raw : goal.invariant-loop-raw

@@ -1,5 +1,5 @@
 use Rattle.std.proofs.lemmas.Result.{err_from_is_err_and}
-use Rattle.sm_model.specs.TagParts.{opened}
+use Rattle.sm_tag.specs.TagParts.{opened}
 use Rattle.sm_tag.proofs.AttributeLemmas.{unopened_fails, opened_fails}
 use Rattle.sm_tag.proofs.attribute.attribute_of.Goals as goal
 

@@ -1,6 +1,6 @@
 use Rattle.std.proofs.Common.{arith}
 use Rattle.std.proofs.lemmas.Result.{err_from_is_err_and}
-use Rattle.sm_model.specs.TagParts.{ended, twice, another}
+use Rattle.sm_tag.specs.TagParts.{ended, twice, another}
 use Rattle.sm_tag.proofs.AttributeLemmas.{follows_unmarked, follows_broken}
 use Rattle.sm_tag.proofs.NameSets.{seen_before, seen_first, knows_more}
 use Rattle.sm_tag.proofs.attribute.attributes_of.Goals as goal

@@ -1,5 +1,5 @@
 use Rattle.std.proofs.Common.{Ok}
-use Rattle.sm_model.specs.declared.markup.Markup.TheVariants.{Skipped, Finish, Start}
+use Rattle.sm_tag.specs.declared.grammar.Markup.TheVariants.{Skipped, Finish, Start}
 use Rattle.sm_tag.proofs.GrammarSound.{markups_made}
 use Rattle.sm_tag.proofs.GrammarRead.{start_read, finish_read, skipped_read}
 use Rattle.sm_tag.proofs.law.tags_are_of_the_grammar.Goals as goal

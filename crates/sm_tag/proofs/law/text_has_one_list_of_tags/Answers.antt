@@ -1,4 +1,4 @@
-use Rattle.sm_model.proofs.TagTotals.{tags_total}
+use Rattle.sm_tag.proofs.TagTotals.{tags_total}
 use Rattle.sm_tag.proofs.Unique.{Runs-unique}
 use Rattle.sm_tag.proofs.law.text_has_one_list_of_tags.Goals as goal
 

@@ -1,5 +1,5 @@
 use Rattle.std.proofs.Common.{sym, arith}
-use Rattle.sm_model.specs.Tags.{bare, lost, stray, marked, skipped}
+use Rattle.sm_tag.specs.Tags.{bare, lost, stray, marked, skipped}
 use Rattle.sm_tag.proofs.MarkupLemmas.{moves_on_further}
 use Rattle.sm_tag.proofs.lead.found_of.Goals as goal
 

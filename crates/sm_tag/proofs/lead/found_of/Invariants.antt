@@ -1,7 +1,7 @@
 use Rattle.std.proofs.Common.{◌≤◌, length, ℕ, List}
-use Rattle.sm_model.specs.declared.markup.Markup.{Markup}
-use Rattle.sm_model.specs.declared.markup.Lead.{Lead}
-use Rattle.sm_model.specs.Tags.{Founds}
+use Rattle.sm_tag.specs.declared.grammar.Markup.{Markup}
+use Rattle.sm_tag.specs.declared.grammar.Lead.{Lead}
+use Rattle.sm_tag.specs.Tags.{Founds}
 use Rattle.sm_tag.proofs.lead.found_of.Given as goal
 
 abbrev pub invariant-skips : goal.invariant-skips

@@ -1,5 +1,5 @@
 use Rattle.std.proofs.lemmas.Result.{err_from_is_err_and}
-use Rattle.sm_model.specs.TagMarkup.{named}
+use Rattle.sm_tag.specs.TagMarkup.{named}
 use Rattle.sm_tag.proofs.MarkupLemmas.{unnamed_fails, named_fails}
 use Rattle.sm_tag.proofs.markup.start_of.Goals as goal
 

@@ -1,5 +1,5 @@
 use Rattle.std.proofs.Common.{[], ◌∷◌, sym, ◌∙◌}
-use Rattle.sm_model.specs.Tags.{ends}
+use Rattle.sm_tag.specs.Tags.{ends}
 use Rattle.sm_tag.proofs.PlainLemmas.{goes_on}
 use Rattle.sm_tag.proofs.plain.+add_tags.Goals as goal
 

@@ -1,6 +1,6 @@
 use Rattle.std.proofs.Common.{sym, ◌∙◌}
 use Rattle.std.proofs.lemmas.Result.{err_from_is_err_and}
-use Rattle.sm_model.specs.TagParts.{ended, twice}
+use Rattle.sm_tag.specs.TagParts.{ended, twice}
 use Rattle.sm_tag.proofs.PlainLemmas.{unmarked_fails, broken_fails, another_by}
 use Rattle.sm_tag.proofs.plain.+tail_of.Goals as goal
 

@@ -1,5 +1,5 @@
 use Rattle.std.proofs.Common.{refl, Err}
-use Rattle.sm_model.specs.TagParts.{reference_at, wrong}
+use Rattle.sm_tag.specs.TagParts.{reference_at, wrong}
 use Rattle.sm_tag.proofs.reference.reference_of.Goals as goal
 
 pub returns-clause-read : goal.returns-clause-read

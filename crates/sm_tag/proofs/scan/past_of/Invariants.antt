@@ -1,5 +1,5 @@
 use Rattle.std.proofs.Common.{◌≡◌, ◌≤◌, length}
-use Rattle.sm_model.specs.TagMarkup.{past_word}
+use Rattle.sm_tag.specs.TagMarkup.{past_word}
 use Rattle.sm_tag.proofs.scan.past_of.Given as goal
 
 abbrev pub invariant-loop-rest : goal.invariant-loop-rest

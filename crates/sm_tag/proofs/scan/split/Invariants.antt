@@ -1,5 +1,5 @@
 use Rattle.std.proofs.Common.{◌≡◌, ◌≤◌, ◌++◌, ◌-◌, length, take, drop}
-use Rattle.sm_model.specs.TagBytes.{prefix, remaining}
+use Rattle.sm_tag.specs.TagBytes.{prefix, remaining}
 use Rattle.sm_tag.specs.Reads.{is_of}
 use Rattle.sm_tag.proofs.scan.split.Given as goal
 

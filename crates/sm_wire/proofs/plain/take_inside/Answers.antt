@@ -21,7 +21,7 @@ pub returns-in_ok-extend_from_slice-in-Body : goal.returns-in_ok-extend_from_sli
 returns-in_ok-extend_from_slice-in-Body c =
     let before = c.args.out.now.items in
     let joined : c.from_vec.result ≡ c.args.bytes ++ c.in-Body.piece =
-    c.from_vec.ensures ∙ c.in_ok-extend_from_slice-in-Body.ensures.items ∙ ap (λ x. x ++ c.as_slice.result.now) c.into_vec-all.ensures ∙ ap (λ y. c.args.bytes ++ y) c.as_slice.ensures in
+    c.from_vec.ensures ∙ c.in_ok-extend_from_slice-in-Body.ensures.items ∙ ap (λ x. x ++ c.as_slice.result.now) c.in_ok-all-in-Body.ensures ∙ ap (λ y. c.args.bytes ++ y) c.as_slice.ensures in
     goes_as before before before (Some c.args.bytes) _ _ (More (Some c.from_vec.result)) _ c.in-Body.is (ap (λ b. More (Some b)) joined) refl (bytes_go before c.args.bytes c.in-Body.piece)
 
 pub returns-in_ok-push-in-End : goal.returns-in_ok-push-in-End

@@ -1,4 +1,6 @@
-use Rattle.std.proofs.Common.{◌+◌, ◌++◌, ℕ, List, take, subst, arith}
+use Rattle.std.proofs.Common.{◌≤◌, ◌+◌, ◌++◌, ℕ, List, take, subst, arith}
+use Rattle.std.proofs.KnownBytes.{Consumes-kept}
+use Rattle.smooth.specs.Answers.{limit}
 use Rattle.smooth.specs.Search.{Looks}
 use Rattle.smooth.proofs.Picking.{IsPiece, piece_taken, read_on, read_over, at_most, long}
 use Rattle.smooth.proofs.pick.pick.Goals as goal
@@ -36,3 +38,9 @@ loop-total-preserved g c =
 
 pub returns-clause-long : goal.returns-clause-long
 returns-clause-long g c = λ _. long _ _ c.loop-total.invariant.read.bytes c.loop-total.invariant.read.taken (omega (arith, c.loop-total.invariant.read.total_is))
+
+pub returns-in_err-count-clause-failed : goal.returns-in_err-count-clause-failed
+returns-in_err-count-clause-failed g c = λ _.
+    let read = c.loop-total.invariant.read in
+    let few : c.loop-total.total ≤ limit = omega arith in
+    (read.bytes, Consumes-kept _ _ _ read.bytes read.taken c.in_err-count.ensures.bytes, omega (arith, few, read.total_is))

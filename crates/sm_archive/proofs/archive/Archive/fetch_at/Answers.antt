@@ -1,10 +1,8 @@
-use Rattle.std.proofs.Common.{◌≡◌, ◌∙◌, List, ℕ, Some, sym, ap, subst}
-use Rattle.sm_model.specs.declared.track.Track.{Track}
+use Rattle.std.proofs.Common.{◌≡◌, ◌∙◌, Some, sym, ap, subst}
 use Rattle.sm_model.specs.declared.entry.Entry.TheVariants.{Keep}
 use Rattle.sm_model.specs.Entries.{address_of}
 use Rattle.sm_model.specs.Fragments.{IsValid}
-use Rattle.sm_record.specs.Bodies.{IsBody}
-use Rattle.sm_archive.proofs.Fetching.{place_low, body_there, keep_is, failed_as, found_is, valid_there}
+use Rattle.sm_archive.proofs.Fetching.{place_low, body_there, failed_as, found_is, valid_there}
 use Rattle.sm_model.specs.declared.fragment.Fragment.{Fragment}
 use Rattle.sm_archive.proofs.archive.Archive.fetch_at.Goals as goal
 
@@ -13,29 +11,23 @@ read-requires g c =
     let h = c.requires.stands in
     record { within = place_low c.args.self.now c.args.index.now h.0 h.1 (g.D.Disk.may_leave c.args.disk.now) c.args.address.now c.args.place h.2 c.requires.index c.requires.place }
 
-pub returns-clause-damaged : goal.returns-clause-damaged
-returns-clause-damaged g c = λ e log doubt s some.
+pub returns-in-Damaged-clause-damaged : goal.returns-in-Damaged-clause-damaged
+returns-in-Damaged-clause-damaged g c = λ e log doubt s some.
     let b = body_there (g.D.Disk.view c.args.disk.now).contents c.args.self.now c.args.index.now log doubt
     (g.D.Disk.may_leave c.args.disk.now) c.args.address.now c.args.place c.in-Ok.body s c.requires.index c.requires.place some c.in-Ok.ensures.bytes in
-    let own : IsBody (Some c.channel.result.now) (Keep b.0) c.as_slice.result.now =
-    subst (λ (t : List Track). IsBody (Some t) (Keep b.0) c.as_slice.result.now) (sym c.channel.ensures.same) (subst (λ (x : List ℕ). IsBody (Some c.args.index.now.catalog.channel) (Keep b.0) x) (sym c.as_slice.ensures) b.3) in
-    c.in-Err.ensures.damaged (failed_as c.in-Err.fault c.in-Damaged.is) b.0 own b.2 (valid_there log c.args.place b.0 s.keeps.sound b.1)
+    c.in-Err.ensures.damaged (failed_as c.in-Err.fault c.in-Damaged.is) b.0 b.3 b.2 (valid_there log c.args.place b.0 s.keeps.sound b.1)
 
 pub returns-in-Ok-kept_at-clause-found : goal.returns-in-Ok-kept_at-clause-found
 returns-in-Ok-kept_at-clause-found g c = λ at f is.
     let k = c.in-Ok-kept_at.ensures.kept in
     let same = found_is c.args.place at c.in-Ok-kept_at.fragment f is in (
       sym same.0,
-      subst (λ (x : Fragment). address_of x ≡ c.args.address.now) same.1 k.1,
+      subst (λ (x : Fragment). address_of x ≡ c.args.address.now) same.1 k.0,
       λ log doubt s some.
           let b = body_there (g.D.Disk.view c.args.disk.now).contents c.args.self.now c.args.index.now log doubt
           (g.D.Disk.may_leave c.args.disk.now) c.args.address.now c.args.place c.in-Ok.body s c.requires.index c.requires.place some c.in-Ok.ensures.bytes in
-          let own : IsBody (Some c.args.index.now.catalog.channel) (Keep c.in-Ok-kept_at.fragment) c.in-Ok.body =
-          subst (λ (t : List Track). IsBody (Some t) (Keep c.in-Ok-kept_at.fragment) c.in-Ok.body) c.channel.ensures.same
-          (subst (λ (x : List ℕ). IsBody (Some c.channel.result.now) (Keep c.in-Ok-kept_at.fragment) x) c.as_slice.ensures k.0) in
-          let one = c.a_body_has_one_entry.ensures (Some c.args.index.now.catalog.channel) (Keep b.0) (Keep c.in-Ok-kept_at.fragment) c.in-Ok.body b.3 own in
-          b.1 ∙ ap (λ (x : Fragment). Some (Keep x)) (keep_is b.0 c.in-Ok-kept_at.fragment one ∙ same.1),
+          b.1 ∙ ap (λ (x : Fragment). Some (Keep x)) (k.2 b.0 b.3 ∙ same.1),
     )
 
 pub returns-in-Ok-kept_at-clause-valid : goal.returns-in-Ok-kept_at-clause-valid
-returns-in-Ok-kept_at-clause-valid g c = λ at f is. subst (λ (x : Fragment). IsValid x) (found_is c.args.place at c.in-Ok-kept_at.fragment f is).1 c.in-Ok-kept_at.ensures.kept.2
+returns-in-Ok-kept_at-clause-valid g c = λ at f is. subst (λ (x : Fragment). IsValid x) (found_is c.args.place at c.in-Ok-kept_at.fragment f is).1 c.in-Ok-kept_at.ensures.kept.1

@@ -5,7 +5,7 @@ use Rattle.std.proofs.lemmas.List.Quantifiers.{position-Some}
 use Rattle.std.proofs.lemmas.Slice.Eq.{bytes_eq-Decides}
 use Rattle.std.specs.List.{position}
 use Rattle.sm_log.specs.declared.verdict.Judged.TheVariants as judged
-use Rattle.sm_model.specs.LiveTracks.{is_same}
+use Rattle.sm_model.specs.Same.{is_same}
 use Rattle.sm_log.specs.Times.{entry_at, with_entry}
 use Rattle.sm_log.specs.Adds.{verdict}
 use Rattle.sm_timeline.specs.Lines.{Entries}

@@ -1,6 +1,6 @@
 use Rattle.std.proofs.Common.{◌≡◌, Some, None, sym, ap, ◌∙◌}
 use Rattle.std.specs.List.{position, slice_get}
-use Rattle.sm_model.specs.LiveTracks.{is_same}
+use Rattle.sm_model.specs.Same.{is_same}
 use Rattle.sm_log.specs.Times.{entry_at}
 use Rattle.sm_log.specs.Adds.{listed, ahead, behind}
 use Rattle.sm_catalog.specs.Content.{Content, Lane}

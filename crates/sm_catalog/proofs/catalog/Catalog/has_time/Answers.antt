@@ -1,6 +1,6 @@
 use Rattle.std.proofs.Common.{◌≡◌, ℕ, List, Some, None, is_some, sym, ap, ◌∙◌}
 use Rattle.std.specs.List.{position}
-use Rattle.sm_model.specs.LiveTracks.{is_same}
+use Rattle.sm_model.specs.Same.{is_same}
 use Rattle.sm_log.specs.Times.{entry_at}
 use Rattle.sm_log.specs.Adds.{times_of}
 use Rattle.sm_catalog.specs.Content.{Content, Lane}

@@ -1,6 +1,6 @@
 use Rattle.std.proofs.Common.{◌≡◌, ℕ, Option, Some, None, is_some, sym, ap, ◌∙◌}
 use Rattle.std.specs.List.{position}
-use Rattle.sm_model.specs.LiveTracks.{is_same}
+use Rattle.sm_model.specs.Same.{is_same}
 use Rattle.sm_log.specs.Adds.{track_at, judged_by, verdict}
 use Rattle.sm_catalog.specs.Content.{Content, Lane}
 use Rattle.sm_catalog.specs.Whole.{adds_in}

@@ -1,6 +1,6 @@
 use Rattle.std.proofs.Common.{◌≡◌, Some, None, sym, ap, ◌∙◌}
 use Rattle.std.specs.List.{position}
-use Rattle.sm_model.specs.LiveTracks.{is_same}
+use Rattle.sm_model.specs.Same.{is_same}
 use Rattle.sm_log.specs.Adds.{times_of}
 use Rattle.sm_catalog.specs.Content.{Content, Lane}
 use Rattle.sm_catalog.proofs.Lookups.{none_named, no_times, found_lane}

@@ -6,7 +6,7 @@ use Rattle.sm_archive.specs.declared.fetch.Fetched.TheVariants as fetched
 use Rattle.sm_archive.specs.Stands.{Stands}
 use Rattle.sm_log.specs.Logs.{channel_of}
 use Rattle.sm_origin.specs.Machine.{unread, wants}
-use Rattle.sm_origin.specs.Replies.{fragment_of}
+use Rattle.sm_reply.specs.Replies.{fragment_of}
 use Rattle.sm_origin.proofs.Places.{has_channel, place_within, kept_there}
 use Rattle.sm_origin.proofs.Steps.{told_row}
 use Rattle.sm_origin.proofs.Acts.{told_before, held_told, held_read, made_step, read_gives}

@@ -5,7 +5,7 @@ use Rattle.sm_model.specs.declared.act.Act.TheVariants.{Fragment as Ask}
 use Rattle.sm_cache.specs.declared.cache.Kept.{Kept}
 use Rattle.sm_site.proofs.Moments.{no_call}
 use Rattle.sm_origin.specs.Caching.{Remembers, held_at}
-use Rattle.sm_origin.specs.Replies.{fragment_of}
+use Rattle.sm_reply.specs.Replies.{fragment_of}
 use Rattle.sm_origin.proofs.Places.{has_channel, place_within, kept_there}
 use Rattle.sm_origin.proofs.Acts.{made_step, read_gives}
 use Rattle.sm_origin.proofs.Asked.{asked_is, two_hundred}

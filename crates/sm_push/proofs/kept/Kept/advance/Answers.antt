@@ -1,6 +1,6 @@
 use Rattle.std.proofs.Common.{◌≡◌, ◌++◌, take, drop, ap, ◌∙◌, sym, arith, List, ℕ, refl}
 use Rattle.std.proofs.lemmas.Result.{err_from_is_err_and}
-use Rattle.sm_model.specs.Body.{walk}
+use Rattle.sm_push.specs.Body.{walk}
 use Rattle.sm_push.proofs.Steps.{skip_advances, fault_advances, held_more}
 use Rattle.sm_push.proofs.kept.Kept.advance.Goals as goal
 

@@ -1,8 +1,8 @@
 use Rattle.std.proofs.Common.{◌≡◌, ◌≤◌, ℕ, List, subst, sym, refl, arith, length}
-use Rattle.sm_model.specs.declared.push.BoxDecision.TheVariants.{Take, Pass, Refuse}
+use Rattle.sm_push.specs.declared.state.BoxDecision.TheVariants.{Take, Pass, Refuse}
 use Rattle.sm_model.specs.Boxes.{IsOneBox}
-use Rattle.sm_model.specs.PushHeads.{decision}
-use Rattle.sm_model.specs.PushBoxes.{taken}
+use Rattle.sm_push.specs.PushHeads.{decision}
+use Rattle.sm_push.specs.PushBoxes.{taken}
 use Rattle.sm_push.specs.Steps.{Takes, HoldsBoxes}
 use Rattle.sm_push.specs.Held.{most_of}
 use Rattle.sm_push.proofs.Limits.{take_limited}

@@ -1,6 +1,6 @@
 use Rattle.std.proofs.Common.{◌≡◌, ◌≤◌, ◌+◌, ◌⊎◌, ℕ, length, ap, ◌∙◌, sym, subst, arith}
-use Rattle.sm_model.specs.declared.push.BoxDecision.TheVariants.{Take}
-use Rattle.sm_model.specs.PushHeads.{decision}
+use Rattle.sm_push.specs.declared.state.BoxDecision.TheVariants.{Take}
+use Rattle.sm_push.specs.PushHeads.{decision}
 use Rattle.sm_push.specs.Heads.{IsOpen}
 use Rattle.sm_push.specs.Standing.{StaysInside}
 use Rattle.sm_push.specs.Held.{lacking}

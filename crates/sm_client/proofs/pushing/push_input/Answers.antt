@@ -1,0 +1,11 @@
+use Rattle.sm_fetch.proofs.Answering.{answered_none, answered_then}
+use Rattle.sm_client.proofs.pushing.push_input.Goals as goal
+
+pub returns-in_err-select-clause-answered : goal.returns-in_err-select-clause-answered
+returns-in_err-select-clause-answered g c = answered_none c.select.ensures.log c.select.ensures.store
+
+pub returns-in_err-body-clause-answered : goal.returns-in_err-body-clause-answered
+returns-in_err-body-clause-answered g c = answered_none c.select.ensures.log c.select.ensures.store
+
+pub returns-clause-answered : goal.returns-clause-answered
+returns-clause-answered g c = answered_then (answered_none c.select.ensures.log c.select.ensures.store) c.push_body.ensures.answered

@@ -1,0 +1,40 @@
+//! Pushing an input.
+ghost use Rattle.std.specs.Prelude.{◌≡◌, ◌≤◌, IfOk, IfErr};
+ghost use Rattle.sm_fetch.specs.Origins.{Answered};
+ghost use Rattle.sm_client.specs.Pushing.{HasPushed, WhyUnpushed};
+
+use crate::VisitFault;
+use sm_ends::{Source, read_input};
+use sm_fetch::{Dial, Place, Pushed, push_body};
+use sm_model::Name;
+use std::alloc::Global;
+
+// The most bytes that an input may have.
+const MOST: u64 = 268_435_456;
+
+/// Turns to the host and port of a place, reads the input to its end, at most 268,435,456 bytes, and pushes it whole to the channel
+/// there, as a stream of that name. A fault says that nothing was sent.
+pub fn push_input<I: Source, C: Dial>(
+    alloc: Global,
+    input: &mut I,
+    dial: &mut C,
+    host: &str,
+    place: &Place,
+    id: &Name,
+) -> Result<Pushed, VisitFault>
+    ensures pushed { IfOk result (λ pushed. HasPushed host.now place.now id.now
+        (record { told = I.left input.old; faults = I.faults input.old }) (record { told = I.left input.new; faults = I.faults input.new })
+        (record { log = C.log dial.old; faults = C.dial_faults dial.old; chosen = C.chosen dial.old })
+        (record { log = C.log dial.new; faults = C.dial_faults dial.new; chosen = C.chosen dial.new }) pushed) }
+    ensures why { IfErr result (λ why. WhyUnpushed
+        (record { told = I.left input.old; faults = I.faults input.old }) (record { told = I.left input.new; faults = I.faults input.new })
+        (record { log = C.log dial.old; faults = C.dial_faults dial.old; chosen = C.chosen dial.old })
+        (record { log = C.log dial.new; faults = C.dial_faults dial.new; chosen = C.chosen dial.new }) why) }
+    ensures later { C.dial_faults dial.old ≤ C.dial_faults dial.new }
+    ensures goes_on { C.later dial.old dial.new }
+    ensures answered { Answered (C.log dial.old) (C.log dial.new) (C.store dial.old) (C.store dial.new) }
+{
+    dial.select(host, place.port)?;
+    let body = read_input(alloc, input, MOST)?;
+    Ok(push_body(alloc, dial, place, id, body.as_slice()))
+}

@@ -1,0 +1,122 @@
+-- What a crash leaves at the moments of a command.
+use Rattle.std.proofs.Common.{⊎_elim, inl, ◌≡◌, ◌≤◌, ◌<◌, ◌++◌, ℕ, List, [], ◌∷◌, Option, Some, None, IsSome, refl, sym, ◌∙◌, ap, subst, arith}
+use Rattle.std.specs.Prelude.{IfSome, slice_get}
+use Rattle.std.proofs.lemmas.List.{append-nil}
+use Rattle.std.proofs.lemmas.Bool.{cases_lt}
+use Rattle.sm_model.specs.declared.entry.Entry.{Entry}
+use Rattle.sm_site.specs.Clauses.{Elapses, SameOutcomes, Throughout}
+use Rattle.sm_site.specs.Image.{Image}
+use Rattle.sm_site.specs.Meanings.{View, Item}
+use Rattle.sm_site.proofs.Moments.{and_then, weakened}
+use Rattle.sm_seglog.specs.Stores.{HasStore}
+use Rattle.sm_archive.specs.Store.{IsStore, Spell}
+use Rattle.sm_origin.specs.Machine.{Machine}
+use Rattle.sm_origin.specs.Opening.{HasOneStore}
+use Rattle.sm_origin.specs.Shown.{Claim}
+use Rattle.sm_origin.specs.Stores.{Fits}
+use Rattle.sm_serve.specs.Shown.{Shown, replies}
+use Rattle.sm_command.specs.Lasting.{AtEachMoment, Outlasts}
+
+-- ---- one part, and then another
+
+module _ {D : Type 0} (view : D → View) (left_at : D → ℕ → Image → Type 0) where
+  pub at_each : (old new : D) (P : ℕ → Image → Type 0) (Q : Image → Type 0) → Throughout view left_at old new P → ((t : ℕ) (c : Image) → P t c → Q c)
+      → AtEachMoment view left_at old new Q
+  at_each old new P Q all so = record { later = all.later; keeps = all.keeps; each = λ t c after left. so t c (all.each t c after left) }
+
+  pub weaker : (old new : D) (P Q : Image → Type 0) → AtEachMoment view left_at old new P → ((c : Image) → P c → Q c) → AtEachMoment view left_at old new Q
+  weaker old new P Q all so = record { later = all.later; keeps = all.keeps; each = λ t c after left. so c (all.each t c after left) }
+
+  pub one_by_one : (old mid new : D) (P : Image → Type 0) → AtEachMoment view left_at old mid P → AtEachMoment view left_at mid new P → AtEachMoment view left_at old new P
+  one_by_one old mid new P first second = record {
+    later = omega (arith, first.later, second.later);
+    keeps = λ t c le.
+        let so_far = first.keeps t c le in
+        let on = second.keeps t c (omega (arith, le, first.later)) in
+        (λ left. so_far.0 (on.0 left), λ left. on.1 (so_far.1 left));
+    each = λ t c after left. ⊎_elim (λ later. second.each t c later left) (λ before. first.each t c after ((second.keeps t c before).0 left)) (cases_lt (view mid).moment t);
+  }
+
+  -- a call that leaves the outcomes as they are
+  pub chosen : (old new : D) (was is : Image → Type 0) → Elapses (view old) (view new) (left_at old) (left_at new) was is → SameOutcomes was is → AtEachMoment view left_at old new was
+  chosen old new was is time same = record {
+    later = time.later;
+    keeps = time.keeps;
+    each = λ t c after left. ⊎_elim (λ o. o) (λ n. (same c).0 n) (time.within t c after left);
+  }
+
+-- ---- one store
+
+pub one_here : (log : List Entry) (outcomes : Image → Type 0) → HasOneStore log outcomes → (c : Image) → outcomes c → IsStore log c
+one_here log outcomes one c left = record { bodies = one.bodies; has = one.each c left; spell = one.spell; sound = one.sound }
+
+-- an image with the same bodies
+pub spelled : (log : List Entry) (outcomes : Image → Type 0) → (one : HasOneStore log outcomes) → (c : Image) → HasStore one.bodies c → IsStore log c
+spelled log outcomes one c has = record { bodies = one.bodies; has = has; spell = one.spell; sound = one.sound }
+
+pub one_still : (log : List Entry) (was is : Image → Type 0) → SameOutcomes was is → HasOneStore log was → HasOneStore log is
+one_still log was is same one = record { bodies = one.bodies; each = λ c left. one.each c ((same c).0 left); spell = one.spell; sound = one.sound }
+
+-- the log that the contents are
+pub log_is : ((xs ys : List (List ℕ)) (image : Image) → HasStore xs image → HasStore ys image → xs ≡ ys) → ((bodies : List (List ℕ)) (a b : List Entry) → Spell bodies a → Spell bodies b → a ≡ b)
+    → (contents : Option Image) (outcomes : Image → Type 0) (found log : List Entry) → IsSome contents → IfSome contents outcomes → IfSome contents (IsStore found) → HasOneStore log outcomes → found ≡ log
+log_is one_list one_log None outcomes found log some pass store one = absurd (cc)
+log_is one_list one_log (Some c) outcomes found log some pass store one =
+    one_log one.bodies found log (subst (λ (bodies : List (List ℕ)). Spell bodies found) (one_list store.bodies one.bodies c store.has (one.each c pass)) store.spell) one.spell
+
+pub fits_found : (m : Machine) (log : List Entry) (image : Image) → m.log ≡ log → IsStore log image → Fits m image
+fits_found m log image is store = record { doubt = []; of_doubt = inl refl; store = subst (λ (l : List Entry). IsStore l image) (sym (append-nil m.log ∙ is)) store }
+
+module _ {D : Type 0} (view : D → View) (leave : D → Image → Type 0) (left_at : D → ℕ → Image → Type 0) (at_now : (d : D) (c : Image) → left_at d (view d).moment c → leave d c) where
+  -- the moment at which the call began is one of those at which the store stood
+  pub store_since : (log : List Entry) (old new : D) → HasOneStore log (leave old) → AtEachMoment view left_at old new (IsStore log) → (t : ℕ) (image : Image) → (view old).moment ≤ t
+      → left_at new t image → IsStore log image
+  store_since log old new one all t image from left =
+      ⊎_elim (λ after. all.each t image after left)
+      (λ (before : t ≤ (view old).moment).
+      let now : t ≡ (view old).moment = omega (arith, before, from) in
+      one_here log (leave old) one image (at_now old image (subst (λ (k : ℕ). left_at old k image) now ((all.keeps t image before).0 left))))
+      (cases_lt (view old).moment t)
+
+  -- what is left after a call that leaves nothing else
+  pub no_more : (now_at : (d : D) (c : Image) → leave d c → left_at d (view d).moment c) → (old new : D) → Throughout view left_at old new (λ t c. leave old c) → (c : Image) → leave new c
+      → leave old c
+  no_more now_at old new all c left =
+      ⊎_elim (λ after. all.each (view new).moment c after (now_at new c left))
+      (λ (before : (view new).moment ≤ (view old).moment).
+      let later = all.later in
+      let still : (view new).moment ≡ (view old).moment = omega (arith, before, later) in
+      at_now old c (subst (λ (k : ℕ). left_at old k c) still ((all.keeps (view new).moment c before).0 (now_at new c left))))
+      (cases_lt (view old).moment (view new).moment)
+
+  -- a part that leaves nothing else, and then another
+  pub no_other : (now_at : (d : D) (c : Image) → leave d c → left_at d (view d).moment c) → (old mid new : D) → Throughout view left_at old mid (λ t c. leave old c)
+      → Throughout view left_at mid new (λ t c. leave mid c) → Throughout view left_at old new (λ t c. leave old c)
+  no_other now_at old mid new first second =
+      and_then view left_at old mid new (λ t c. leave old c) first
+      (weakened view left_at mid new (λ t c. leave mid c) (λ t c. leave old c) second (λ t c left. no_more now_at old mid first c left))
+
+-- ---- nothing was shown
+
+none_there : (i : ℕ) (part : List ℕ) → slice_get [] i ≡ Some part → ⊥
+none_there i part e = cc
+
+nothing_shown : (t : ℕ) (claim : Claim) → Shown [] t claim → ⊥
+unfolding replies
+nothing_shown t claim shown = none_there shown.index shown.part shown.replied
+
+module _ {D : Type 0} (view : D → View) (leave : D → Image → Type 0) (left_at : D → ℕ → Image → Type 0) (at_now : (d : D) (c : Image) → left_at d (view d).moment c → leave d c) where
+  -- a call without an entry
+  pub silent_lasts : (log : List Entry) (base : List Item) (old new : D) → HasOneStore log (leave old) → AtEachMoment view left_at old new (IsStore log) → (view new).transcript ≡ Some base
+      → Outlasts view left_at log base old new
+  silent_lasts log base old new one all told = record {
+    items = [];
+    told = told ∙ ap (λ (is : List Item). Some is) (sym (append-nil base));
+    survives = λ t image from left. record {
+      now = log;
+      store = store_since view leave left_at at_now log old new one all t image from left;
+      more = [];
+      extends = sym (append-nil log);
+      holds = λ claim shown. absurd (nothing_shown t claim shown);
+    };
+  }

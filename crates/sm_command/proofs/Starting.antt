@@ -1,0 +1,324 @@
+-- How a store comes to be served.
+use Rattle.std.proofs.Common.{inl, inr, ◌≡◌, ℕ, Bool, true, false, List, [], ◌∷◌, ◌++◌, Option, Some, None, Result, Ok, Err, ◌≤◌, refl, sym, ap, subst, ◌∙◌, arith}
+use Rattle.std.proofs.lemmas.List.{append-nil}
+use Rattle.std.specs.Prelude.{IfSome, IsSome, IfOk, IfErr, IsErrOf, ◌⊎◌}
+use Rattle.sm_model.specs.declared.entry.Entry.{Entry}
+use Rattle.sm_model.specs.declared.track.Track.{Track}
+use Rattle.sm_site.specs.Clauses.{Rose}
+use Rattle.sm_site.specs.Image.{Image}
+use Rattle.sm_site.specs.Meanings.{View, Item, DiskCall}
+use Rattle.sm_seglog.specs.Stores.{HasStore}
+use Rattle.sm_archive.specs.declared.answers.Declared.{Declared}
+use Rattle.sm_archive.specs.declared.answers.Declared.TheVariants as declared
+use Rattle.sm_archive.specs.Store.{IsStore, Spell}
+use Rattle.sm_origin.specs.Machine.{Machine}
+use Rattle.sm_origin.specs.Opening.{HasOneStore}
+use Rattle.sm_origin.specs.Shown.{Claim, Holds}
+use Rattle.sm_origin.specs.Stores.{Fits}
+use Rattle.sm_origin.specs.Answers.{reply_to_header}
+use Rattle.sm_reply.specs.declared.reply.Counted.TheVariants.{Neither}
+use Rattle.sm_reply.specs.Replies.{silent}
+use Rattle.sm_serve.specs.declared.state.State.{State}
+use Rattle.sm_serve.specs.declared.outcome.Served.{Served as Outcome}
+use Rattle.sm_serve.specs.declared.outcome.Served.TheVariants as served
+use Rattle.sm_serve.specs.declared.live.Live.{Live}
+use Rattle.sm_serve.specs.Connections.{live}
+use Rattle.sm_serve.specs.Moments.{FitsAt}
+use Rattle.sm_serve.specs.Run.{Stepped, Point, Run, begins, start}
+use Rattle.sm_serve.specs.Shown.{Shown}
+use Rattle.sm_serve.specs.Standing.{History, StandsOn}
+use Rattle.sm_serve.specs.Serving.{AreResting, Begins, DeclaresIn, Serves, Served, Known, numbers_of}
+use Rattle.sm_serve.proofs.Lasting.{on_itself, on_then}
+use Rattle.sm_command.specs.declared.fault.StoreFault.{StoreFault}
+use Rattle.sm_command.specs.declared.fault.StoreFault.TheVariants as fault
+use Rattle.sm_command.specs.Choosing.{WhyUnchosen}
+use Rattle.sm_command.specs.Lasting.{AtEachMoment, Outlasts}
+use Rattle.sm_command.specs.Serving.{Input, Found, DeclaresTo, GoesUnseen, HasRun, IsBegun, PrepareMeans, ReadsLadder, RunLasts, RunsFrom, StopsFrom, TriesLadder, WhyUnopened, WhyUnread, WhyUnready, outcome_of}
+use Rattle.sm_command.proofs.Lasting.{fits_found, log_is, store_since}
+
+pub found : {D : Type 0} (view : D → View) (leave : D → Image → Type 0) (state : State) (old new : D)
+    → ((m : Machine) × (m.doubt ≡ None) × StandsOn view leave m state.origin new)
+    → IfSome (view old).contents (λ c. (m : Machine) × IsStore m.log c × (m.doubt ≡ None) × StandsOn view leave m state.origin new)
+    → Found view leave state old new
+found {D} view leave state old new some told = by_contents (view old).contents refl told
+  where
+    by_contents : (c : Option Image) → (view old).contents ≡ c
+        → IfSome c (λ c. (m : Machine) × IsStore m.log c × (m.doubt ≡ None) × StandsOn view leave m state.origin new) → Found view leave state old new
+    by_contents None e h = record {
+      machine = some.0;
+      settled = some.1;
+      store = subst (λ (x : Option Image). IfSome x (IsStore some.0.log)) (sym e) tt;
+      stands = some.2;
+    }
+    by_contents (Some c) e h = record {
+      machine = h.0;
+      settled = h.2;
+      store = subst (λ (x : Option Image). IfSome x (IsStore h.0.log)) (sym e) h.1;
+      stands = h.3;
+    }
+
+pub stated_is : (why other : StoreFault) → (let r : Result State StoreFault = Err why in r) ≡ Err other → why ≡ other
+stated_is why other e = cc
+
+pub error_as : (why : StoreFault) (at : ℕ) → (let r : Result Outcome StoreFault = Err why in r) ≡ Err (fault.NotAStore at) → (let r : Result State StoreFault = Err why in r) ≡ Err (fault.NotAStore at)
+error_as why at e = let same : why ≡ fault.NotAStore at = cc in ap (λ (x : StoreFault). let r : Result State StoreFault = Err x in r) same
+
+pub unopened_chosen : (a b : View) (why : StoreFault) → WhyUnchosen a b why → WhyUnopened a b why
+unopened_chosen a b fault.DiskFault h = h
+unopened_chosen a b fault.LinkFault h = h
+unopened_chosen a b (fault.NotAStore at) h = absurd h
+unopened_chosen a b fault.Unread h = h
+unopened_chosen a b fault.LongLadder h = h
+unopened_chosen a b (fault.BadLadder at) h = h
+unopened_chosen a b (fault.Refused cause) h = h
+unopened_chosen a b fault.Full h = h
+unopened_chosen a b fault.Damaged h = h
+unopened_chosen a b fault.NoMemory h = h
+
+silent_by : (answer : Declared) → Ok tt ≡ outcome_of answer → reply_to_header answer ≡ silent Neither
+silent_by declared.Fixed e = refl
+silent_by declared.Agreed e = refl
+silent_by (declared.Refused cause) e = absurd cc
+silent_by declared.Full e = absurd cc
+silent_by declared.DiskFault e = absurd cc
+silent_by declared.NoMemory e = absurd cc
+
+-- a state from which the loop may run: wherever a run began, it is where one is that has the ladder's step alone
+pub record IsPrepared {D : Type 0} (view : D → View) (leave : D → Image → Type 0) (left_at : D → ℕ → Image → Type 0) (ladder : Bool) (told told' : Option (List ℕ)) (state : State) (d : D)
+    (state' : State) (d' : D) : Type 0 where
+  pub channel : Option (List Track)
+  pub input : ReadsLadder ladder told told' channel
+  pub begun : (b : History) → Serves view leave left_at b state d → b.items ≡ [] → b.steps ≡ []
+      → (h : History) × (h.begin ≡ b.begin) × IsBegun b.first channel b.base h × Serves view leave left_at h state' d'
+
+with_ladder : {D : Type 0} (view : D → View) (leave : D → Image → Type 0) (left_at : D → ℕ → Image → Type 0) (told told' : Option (List ℕ)) (state : State) (d : D) (state' : State) (d' : D)
+    → DeclaresTo view leave left_at told told' state d state' d' (Ok tt) → IsPrepared view leave left_at true told told' state d state' d'
+with_ladder view leave left_at told told' state d state' d' declares = record {
+  channel = Some declares.2.channel;
+  input = declares.2.input;
+  begun = λ b serves none no_step.
+      let k = declares.2.runs b serves in (
+        k.later,
+        k.since.begin,
+        record {
+          first = k.since.first;
+          base_is = k.since.base;
+          items = k.same ∙ none;
+          steps = (k.step, k.steps ∙ ap (λ (xs : List Stepped). xs ++ k.step ∷ []) no_step, k.conn, k.act, k.reply ∙ silent_by declares.0 declares.1);
+        },
+        k.serves,
+      );
+}
+
+without : {D : Type 0} (view : D → View) (leave : D → Image → Type 0) (left_at : D → ℕ → Image → Type 0) (told : Option (List ℕ)) (state : State) (d : D)
+    → IsPrepared view leave left_at false told told state d state d
+without view leave left_at told state d = record {
+  channel = None;
+  input = refl;
+  begun = λ b serves none no_step. (b, refl, record { first = refl; base_is = refl; items = none; steps = no_step }, serves);
+}
+
+pub prepared : {D : Type 0} (view : D → View) (leave : D → Image → Type 0) (left_at : D → ℕ → Image → Type 0) (ladder : Bool) (input input' : Input) (state : State) (d : D) (state' : State)
+    (d' : D) → PrepareMeans view leave left_at ladder input input' state d state' d' (Ok tt) → IsPrepared view leave left_at ladder input.told input'.told state d state' d'
+prepared view leave left_at true input input' state d state' d' (inl declares) = with_ladder view leave left_at input.told input'.told state d state' d' declares
+prepared view leave left_at true input input' state d state' d' (inr bad) = absurd bad
+prepared {D} view leave left_at false input input' state d state' d' same =
+    subst (λ (x : D). IsPrepared view leave left_at false input.told input'.told state d state' x) (sym same.site_is) (
+    subst (λ (s : State). IsPrepared view leave left_at false input.told input'.told state d s d) (sym same.state_is) (
+    subst (λ (i : Input). IsPrepared view leave left_at false input.told i.told state d state d) (sym same.input_is) (without view leave left_at input.told state d)
+    )
+    )
+
+pub stops : {D : Type 0} (view : D → View) (leave : D → Image → Type 0) (left_at : D → ℕ → Image → Type 0) (ladder : Bool) (input input' : Input) (state : State) (d : D) (state' : State)
+    (d' : D) (why : StoreFault) → PrepareMeans view leave left_at ladder input input' state d state' d' (Err why) → StopsFrom view leave left_at ladder input input' state d d' why
+stops view leave left_at true input input' state d state' d' why (inl declares) = (refl, inr (state', declares))
+stops view leave left_at true input input' state d state' d' why (inr unread) = (refl, inl unread)
+stops view leave left_at false input input' state d state' d' why same = let bad = same.done in absurd cc
+
+-- ---- serving
+
+later_rose : (a b c : ℕ) → a ≤ b → Rose b c → Rose a c
+later_rose a b c le rose =
+    let later = rose.later in
+    record { later = omega (arith, le, later); rose = λ last. (let now = rose.rose last in omega (arith, le, now)) }
+
+same_rose : (a b c : ℕ) → b ≡ a → Rose b c → Rose a c
+same_rose a b c e rose = subst (λ (n : ℕ). Rose n c) e rose
+
+base_of : (told : Option (List Item)) → IsSome told → (base : List Item) × (told ≡ Some base)
+base_of None h = absurd cc
+base_of (Some base) h = (base, refl)
+
+pub known : {D : Type 0} (view : D → View) (leave : D → Image → Type 0) (left_at : D → ℕ → Image → Type 0) (ladder : Bool) (told told' : Option (List ℕ)) (state : State) (d : D) (state' : State)
+    (d' : D) → Begins view leave left_at state d → IsPrepared view leave left_at ladder told told' state d state' d' → ((m : Machine) × StandsOn view leave m state.origin d)
+    → (view d').transcript ≡ (view d).transcript → Known view leave left_at state' d'
+known view leave left_at ladder told told' state d state' d' begin p stands same some =
+    let base = base_of (view d').transcript some in
+    let b = begin stands.0 base.0 stands.1 (sym same ∙ base.1) in
+    let h = p.begun b.0 b.6 b.4 b.5 in
+    (h.0, h.3)
+
+pub runs_from : {D : Type 0} (view : D → View) (leave : D → Image → Type 0) (left_at : D → ℕ → Image → Type 0) (ladder : Bool) (told told' : Option (List ℕ)) (turns : ℕ) (state : State) (d : D)
+    (state' : State) (d' : D) (after : State) (e : D) (end : Outcome) → IsPrepared view leave left_at ladder told told' state d state' d' → (view d').link_faults ≡ (view d).link_faults
+    → (end ≡ served.LinkFault → Rose (view d').link_faults (view e).link_faults)
+    → ((h : History) → Serves view leave left_at h state' d' → Served view leave left_at h end turns after e)
+    → RunsFrom view leave left_at ladder told told' turns state d e end
+runs_from view leave left_at ladder told told' turns state d state' d' after e end p same blamed runs = record {
+  channel = p.channel;
+  input = p.input;
+  blamed = λ is. same_rose (view d).link_faults (view d').link_faults (view e).link_faults same (blamed is);
+  run = λ b serves none no_step. (let h = p.begun b serves none no_step in (h.0, h.1, h.2, (after, runs h.0 h.3)));
+}
+
+-- neither a ladder that isn't read nor one that is refused says that the files are no store
+no_place : (answer : Declared) (at : ℕ) → (let r : Result (Unit {0}) StoreFault = Err (fault.NotAStore at) in r) ≡ outcome_of answer → ⊥
+no_place declared.Fixed at e = cc
+no_place declared.Agreed at e = cc
+no_place (declared.Refused cause) at e = cc
+no_place declared.Full at e = cc
+no_place declared.DiskFault at e = cc
+no_place declared.NoMemory at e = cc
+
+pub ladder_is_placed : {D : Type 0} (view : D → View) (leave : D → Image → Type 0) (left_at : D → ℕ → Image → Type 0) (ladder : Bool) (input input' : Input) (state : State) (d d' : D)
+    (r : Result Outcome StoreFault) → IfErr r (λ why. StopsFrom view leave left_at ladder input input' state d d' why) → (at : ℕ) → IsErrOf r (fault.NotAStore at) → ⊥
+ladder_is_placed view leave left_at ladder input input' state d d' r h at is =
+    by_cause (subst (λ (x : Result Outcome StoreFault). IfErr x (λ why. StopsFrom view leave left_at ladder input input' state d d' why)) is h)
+  where
+    by_cause : StopsFrom view leave left_at ladder input input' state d d' (fault.NotAStore at) → ⊥
+    by_cause (asked, inl unread) = unread
+    by_cause (asked, inr declares) = no_place declares.1.0 at declares.1.1
+
+-- ---- a run that went on
+
+pub unseen_itself : {D : Type 0} (view : D → View) (leave : D → Image → Type 0) (left_at : D → ℕ → Image → Type 0) (h : History) (state : State) (d : D) → Serves view leave left_at h state d
+    → GoesUnseen view leave left_at h state d
+unseen_itself view leave left_at h state d serves = record { later = h; serves = serves; since = record { first = refl; begin = refl; base = refl; on = on_itself h }; same = refl }
+
+pub unseen_declared : {D : Type 0} (view : D → View) (leave : D → Image → Type 0) (left_at : D → ℕ → Image → Type 0) (h : History) (channel : List Track) (answer : Declared) (state : State) (d : D)
+    → DeclaresIn view leave left_at h channel answer state d → GoesUnseen view leave left_at h state d
+unseen_declared view leave left_at h channel answer state d k = record { later = k.later; serves = k.serves; since = k.since; same = k.same }
+
+pub served_lasts : {D : Type 0} (view : D → View) (leave : D → Image → Type 0) (left_at : D → ℕ → Image → Type 0) (h : History) (state : State) (d : D) (end : Outcome) (turns : ℕ) (after : State) (e : D)
+    → (u : GoesUnseen view leave left_at h state d) → Served view leave left_at u.later end turns after e → RunLasts view left_at h e
+served_lasts view leave left_at h state d end turns after e u s = record {
+  later = s.later;
+  since = record { first = s.since.first ∙ u.since.first; begin = s.since.begin ∙ u.since.begin; base = s.since.base ∙ u.since.base; on = on_then h u.later s.later u.since.on s.since.on };
+  told = s.told;
+  survives = s.survives;
+}
+
+-- where no event was waited for, what a crash leaves is what the run up to then leaves
+pub stopped_lasts : {D : Type 0} (view : D → View) (leave : D → Image → Type 0) (left_at : D → ℕ → Image → Type 0) → ((s : D) (t : ℕ) (image : Image) → left_at s t image → IsSome (view s).contents)
+    → ((first : Machine) (begin : ℕ) (items : List Item) (steps : List Stepped) (point : Point) → Run true first begin items steps point → (t : ℕ) (image : Image) → FitsAt first steps t image
+    → (log : List Entry) × IsStore log image × ((more : List Entry) × (log ≡ first.log ++ more)) × ((claim : Claim) → Shown items t claim → Holds log claim))
+    → (h : History) (state : State) (d : D) → GoesUnseen view leave left_at h state d → RunLasts view left_at h d
+stopped_lasts view leave left_at left_told crashes h state d u =
+    let k = u.later in
+    let keeps = u.serves.keeps in
+    record {
+      later = k;
+      since = u.since;
+      told = keeps.told;
+      survives = λ t image from left.
+          let run = subst (λ (b : Bool). Run b k.first k.begin k.items k.steps k.point) (left_told d t image left) keeps.run in
+          let s = crashes k.first k.begin k.items k.steps k.point run t image (keeps.images t image from left) in
+          record { log = s.0; store = s.1; more = s.2.0; extends = s.2.1; holds = s.3 };
+    }
+
+-- ---- the whole
+
+recorded_first : (o : Option (List DiskCall)) → IfSome o (λ cs. (before : List DiskCall) × (cs ≡ before ++ []))
+recorded_first None = tt
+recorded_first (Some cs) = (cs, sym (append-nil cs))
+
+none_live : live [] ≡ []
+unfolding live
+none_live = refl
+
+no_lives : (ls : List Live) → numbers_of ls ≡ [] → ls ≡ []
+no_lives [] e = refl
+no_lives (l ∷ ls) e = absurd (cc)
+
+-- a run that begins when the call did
+abbrev pub early : Machine → ℕ → List Item → History
+early m begin base = record { first = m; begin = begin; base = base; items = []; steps = []; point = start m begin }
+
+module _ {D : Type 0} (view : D → View) (leave : D → Image → Type 0) (left_at : D → ℕ → Image → Type 0) (pass : (d : D) → IfSome (view d).contents (leave d))
+    (at_now : (d : D) (c : Image) → left_at d (view d).moment c → leave d c) (now_at : (d : D) (c : Image) → leave d c → left_at d (view d).moment c)
+    (one_list : (xs ys : List (List ℕ)) (image : Image) → HasStore xs image → HasStore ys image → xs ≡ ys)
+    (one_log : (bodies : List (List ℕ)) (a b : List Entry) → Spell bodies a → Spell bodies b → a ≡ b) where
+  pub found_is : (state : State) (old mid : D) (f : Found view leave state old mid) → IsSome (view old).contents → (log : List Entry) → HasOneStore log (leave old) → f.machine.log ≡ log
+  found_is state old mid f some log one = log_is one_list one_log (view old).contents (leave old) f.machine.log log some (pass old) f.store one
+
+  pub serves_early : (state : State) (old mid : D) (f : Found view leave state old mid) → (view mid).transcript ≡ (view old).transcript → Begins view leave left_at state mid
+      → IsSome (view old).contents → (log : List Entry) → HasOneStore log (leave old) → AtEachMoment view left_at old mid (IsStore log) → (base : List Item) → (view old).transcript ≡ Some base
+      → Serves view leave left_at (early f.machine (view old).moment base) state mid
+  serves_early state old mid f same begin some log one all base told =
+      let m = f.machine in
+      let b = begin m base f.stands (same ∙ told) in
+      let fits : (t : ℕ) (image : Image) → (view old).moment ≤ t → left_at mid t image → Fits m image =
+      λ t image from left. fits_found m log image (found_is state old mid f some log one) (store_since view leave left_at at_now log old mid one all t image from left) in
+      let numbers : numbers_of state.lives.items ≡ live [] = b.6.rest.numbers ∙ ap (λ (is : List Item). live is) b.4 in
+      record {
+        keeps = record {
+          run = begins;
+          told = same ∙ told ∙ ap (λ (is : List Item). Some is) (sym (append-nil base));
+          clock = λ has. all.later;
+          current = λ has t le. refl;
+          now = λ image left. fits (view mid).moment image all.later (now_at mid image left);
+          images = λ t image from left. inl (fits t image from left);
+          recorded = recorded_first (view mid).calls;
+          blamed = λ below. omega arith;
+        };
+        rest = record {
+          stands = f.stands;
+          phase_is = refl;
+          numbers = numbers;
+          resting = subst (λ (ls : List Live). AreResting (early m (view old).moment base) ls) (sym (no_lives state.lives.items (numbers ∙ none_live))) tt;
+        };
+      }
+
+  -- a call that opened the store and ran from it
+  pub opened_lasts : (state : State) (old mid new : D) (f : Found view leave state old mid) → (view mid).transcript ≡ (view old).transcript → Begins view leave left_at state mid
+      → ((log : List Entry) → HasOneStore log (leave old) → AtEachMoment view left_at old mid (IsStore log)) → ((h : History) → Serves view leave left_at h state mid → RunLasts view left_at h new)
+      → IsSome (view old).contents → (log : List Entry) → HasOneStore log (leave old) → (base : List Item) → (view old).transcript ≡ Some base → Outlasts view left_at log base old new
+  opened_lasts state old mid new f same begin all lasts some log one base told =
+      let l = lasts (early f.machine (view old).moment base) (serves_early state old mid f same begin some log one (all log one) base told) in
+      let is : l.later.first.log ≡ log = ap (λ (m : Machine). m.log) l.since.first ∙ found_is state old mid f some log one in
+      record {
+        items = l.later.items;
+        told = l.told ∙ ap (λ (b : List Item). Some (b ++ l.later.items)) l.since.base;
+        survives = λ t image from left.
+            let s = l.survives t image (subst (λ (k : ℕ). k ≤ t) (sym l.since.begin) from) left in
+            record { now = s.log; store = s.store; more = s.more; extends = s.extends ∙ ap (λ (xs : List Entry). xs ++ s.more) is; holds = s.holds };
+      }
+
+  pub has_run : (ladder : Bool) (told told' : Option (List ℕ)) (turns : ℕ) (state : State) (old mid new : D) (r : Result Outcome StoreFault) → Found view leave state old mid
+      → Begins view leave left_at state mid → ((log : List Entry) → HasOneStore log (leave old) → AtEachMoment view left_at old mid (IsStore log))
+      → (view mid).transcript ≡ (view old).transcript → (view old).link_faults ≤ (view mid).link_faults
+      → IfOk r (λ end. RunsFrom view leave left_at ladder told told' turns state mid new end) → IfOk r (λ end. HasRun view leave left_at ladder told told' turns old new end)
+  has_run ladder told told' turns state old mid new (Err why) f begin all same le runs = tt
+  has_run ladder told told' turns state old mid new (Ok end) f begin all same le runs = record {
+    machine = f.machine;
+    settled = f.settled;
+    store = f.store;
+    channel = runs.channel;
+    input = runs.input;
+    blamed = λ is. later_rose (view old).link_faults (view mid).link_faults (view new).link_faults le (runs.blamed is);
+    run = λ base e.
+        let b = begin f.machine base f.stands (same ∙ e) in
+        let h = runs.run b.0 b.6 b.4 b.5 in
+        (h.0, record { first = h.2.first ∙ b.1; base_is = h.2.base_is ∙ b.3; items = h.2.items; steps = h.2.steps }, h.3);
+    whole = λ some log one base e. runs.run (early f.machine (view old).moment base) (serves_early state old mid f same begin some log one (all log one) base e) refl refl;
+  }
+
+pub why_stopped : {D : Type 0} (view : D → View) (leave : D → Image → Type 0) (left_at : D → ℕ → Image → Type 0) (ladder : Bool) (input input' : Input) (state : State) (old mid new : D)
+    (r : Result Outcome StoreFault) → Found view leave state old mid → (view old).disk_faults ≤ (view mid).disk_faults → Begins view leave left_at state mid
+    → IfErr r (λ why. StopsFrom view leave left_at ladder input input' state mid new why) → IfErr r (λ why. WhyUnready view leave left_at ladder input input' old new why)
+why_stopped view leave left_at ladder input input' state old mid new (Ok end) f le begin h = tt
+why_stopped view leave left_at ladder input input' state old mid new (Err why) f le begin h = inr (h.0, by_cause h.1)
+  where
+    by_cause : (WhyUnread input input' why ⊎ ((after : State) × DeclaresTo view leave left_at input.told input'.told state mid after new (Err why)))
+        → WhyUnread input input' why ⊎ TriesLadder view leave left_at input.told input'.told old new (Err why)
+    by_cause (inl unread) = inl unread
+    by_cause (inr declares) = inr (record { state = state; opened = mid; found = f; no_fewer = le; begins = begin; after = declares.0; declares = declares.1 })

@@ -1,0 +1,40 @@
+use Rattle.std.proofs.Common.{◌≡◌, Err, ◌∙◌}
+use Rattle.sm_archive.specs.Store.{IsStore}
+use Rattle.sm_command.specs.declared.fault.StoreFault.{StoreFault}
+use Rattle.sm_command.proofs.Chosen.{chosen_still}
+use Rattle.sm_command.proofs.Lasting.{at_each, one_by_one, one_here, one_still, weaker}
+use Rattle.sm_command.proofs.Lines.{chosen_is_placed, error_is, unlisted_chosen}
+use Rattle.sm_command.proofs.listing.list_store.Goals as goal
+
+pub returns-in-Ok-clause-any_moment : goal.returns-in-Ok-clause-any_moment
+returns-in-Ok-clause-any_moment g c log one =
+    let V = g.S.Disk.view in
+    let L = g.S.Disk.left_at in
+    one_by_one V L c.args.site.now c.choose.new.site c.list_disk.new.disk (IsStore log)
+    (weaker V L c.args.site.now c.choose.new.site _ (IsStore log) c.choose.ensures.any_moment (one_here log _ one))
+    (at_each V L c.choose.new.site c.list_disk.new.disk _ (IsStore log) (c.list_disk.ensures.any_moment log (one_still log _ _ c.choose.ensures.crash one)) (λ t image is. is))
+
+pub returns-in-Err-clause-any_moment : goal.returns-in-Err-clause-any_moment
+returns-in-Err-clause-any_moment g c log one =
+    weaker g.S.Disk.view g.S.Disk.left_at c.args.site.now c.choose.new.site _ (IsStore log) c.choose.ensures.any_moment (one_here log _ one)
+
+pub returns-in-Ok-clause-untouched : goal.returns-in-Ok-clause-untouched
+returns-in-Ok-clause-untouched g c at is =
+    let V = g.S.Disk.view in
+    let L = g.S.Disk.left_at in
+    let u = c.list_disk.ensures.untouched at is in (
+      u.0 ∙ c.choose.ensures.contents,
+      one_by_one V L c.args.site.now c.choose.new.site c.list_disk.new.disk (g.S.Disk.may_leave c.args.site.now) c.choose.ensures.any_moment
+          (at_each V L c.choose.new.site c.list_disk.new.disk _ (g.S.Disk.may_leave c.args.site.now) u.2 (λ t image left. (c.choose.ensures.crash image).0 left)),
+    )
+
+pub returns-in-Err-clause-untouched : goal.returns-in-Err-clause-untouched
+returns-in-Err-clause-untouched g c at is =
+    absurd (chosen_is_placed (g.S.Disk.view c.args.site.now) (g.S.Disk.view c.choose.new.site) c.in-Err.fault c.in-Err.ensures.why at (error_is c.in-Err.fault _ is))
+
+pub returns-in-Err-clause-why : goal.returns-in-Err-clause-why
+returns-in-Err-clause-why g c = unlisted_chosen (g.S.Disk.view c.args.site.now) (g.S.Disk.view c.choose.new.site) c.in-Err.fault c.in-Err.ensures.why
+
+pub returns-in-Ok-clause-chosen : goal.returns-in-Ok-clause-chosen
+returns-in-Ok-clause-chosen g c =
+    chosen_still c.list_disk.result _ (g.S.Disk.view c.choose.new.site) (g.S.Disk.view c.list_disk.new.disk) c.in-Ok.ensures.chosen c.list_disk.ensures.link.chosen

@@ -1,0 +1,5 @@
+pub mod Choosing
+pub mod Lasting
+pub mod Listing
+pub mod Opening
+pub mod Serving

@@ -1,0 +1,70 @@
+-- The list of what a store keeps.
+use Rattle.std.specs.Prelude.{◌≡◌, ℕ, suc, List, [], ◌∷◌, ◌++◌, length, codes, decimal, Option, Some, None, IfSome, IsSome, slice_get}
+use Rattle.sm_model.specs.declared.address.Address.{Address}
+use Rattle.sm_model.specs.declared.entry.Entry.{Entry}
+use Rattle.sm_model.specs.declared.entry.Entry.TheVariants.{Declare, Keep}
+use Rattle.sm_model.specs.declared.fragment.Fragment.{Fragment}
+use Rattle.sm_model.specs.Entries.{address_of}
+use Rattle.sm_site.specs.Clauses.{Rose}
+use Rattle.sm_site.specs.Meanings.{View}
+use Rattle.sm_archive.specs.Opening.{NotAStore}
+use Rattle.sm_command.specs.declared.fault.StoreFault.{StoreFault}
+use Rattle.sm_command.specs.declared.fault.StoreFault.TheVariants as fault
+
+-- the place in the log, the name of the stream and the bitrate
+abbrev pub place_text : ℕ → Fragment → List ℕ
+place_text place f = codes "keep " ++ (decimal place ++ (codes " " ++ (f.stream ++ (codes " " ++ decimal f.bitrate))))
+
+-- the start, the duration, and how many samples there are
+abbrev pub span_text : Fragment → List ℕ
+span_text f = codes " " ++ (decimal f.time ++ (codes " " ++ (decimal f.duration ++ (codes " " ++ (decimal (length f.samples) ++ codes "\n")))))
+
+abbrev pub kept_line : ℕ → Fragment → List ℕ
+kept_line place f = place_text place f ++ span_text f
+
+abbrev pub line_at : ℕ → Entry → List ℕ
+line_at place (Declare tracks) = []
+line_at place (Keep f) = kept_line place f
+
+abbrev pub line_in : ℕ → Option Entry → List ℕ
+line_in place None = []
+line_in place (Some e) = line_at place e
+
+-- a line for each fragment, in order, where the first entry has this place
+abbrev pub lines_from : ℕ → List Entry → List ℕ
+lines_from place [] = []
+lines_from place (e ∷ log) = line_at place e ++ lines_from (suc place) log
+
+abbrev pub lines_of : List Entry → List ℕ
+lines_of log = lines_from 0 log
+
+-- the address of the fragment at a place, and none where no fragment stands there
+abbrev pub AddressIs : List Entry → ℕ → Option Address → Type 0
+AddressIs log place None = (f : Fragment) → slice_get log place ≡ Some (Keep f) → ⊥
+AddressIs log place (Some address) = (f : Fragment) × (slice_get log place ≡ Some (Keep f)) × (address ≡ address_of f)
+
+-- Why nothing was listed. An entry is never damaged on a disk that tells its contents.
+abbrev pub WhyUnlisted : View → View → StoreFault → Type 0
+WhyUnlisted old new fault.DiskFault = Rose old.disk_faults new.disk_faults
+WhyUnlisted old new fault.LinkFault = Rose old.link_faults new.link_faults
+WhyUnlisted old new (fault.NotAStore at) = IfSome old.contents (NotAStore at)
+WhyUnlisted old new fault.Unread = ⊥
+WhyUnlisted old new fault.LongLadder = ⊥
+WhyUnlisted old new (fault.BadLadder at) = ⊥
+WhyUnlisted old new (fault.Refused cause) = ⊥
+WhyUnlisted old new fault.Full = ⊥
+WhyUnlisted old new fault.Damaged = IsSome old.contents → ⊥
+WhyUnlisted old new fault.NoMemory = Unit {0}
+
+-- why a place was not put into the list
+abbrev pub WhyUnput : View → View → StoreFault → Type 0
+WhyUnput old new fault.DiskFault = Rose old.disk_faults new.disk_faults
+WhyUnput old new fault.LinkFault = ⊥
+WhyUnput old new (fault.NotAStore at) = ⊥
+WhyUnput old new fault.Unread = ⊥
+WhyUnput old new fault.LongLadder = ⊥
+WhyUnput old new (fault.BadLadder at) = ⊥
+WhyUnput old new (fault.Refused cause) = ⊥
+WhyUnput old new fault.Full = ⊥
+WhyUnput old new fault.Damaged = IsSome old.contents → ⊥
+WhyUnput old new fault.NoMemory = Unit {0}

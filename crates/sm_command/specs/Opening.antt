@@ -1,0 +1,63 @@
+-- What opening a store as an archive comes to.
+use Rattle.std.specs.Prelude.{◌≡◌, ◌≤◌, ◌⊎◌, ◌++◌, ℕ, List, Option, None, Some, IfSome, Result, Ok, Err}
+use Rattle.sm_model.specs.declared.entry.Entry.{Entry}
+use Rattle.sm_model.specs.declared.track.Track.{Track}
+use Rattle.sm_site.specs.Clauses.{Acted, Rose}
+use Rattle.sm_site.specs.Image.{Image}
+use Rattle.sm_site.specs.Meanings.{View}
+use Rattle.sm_archive.specs.declared.answers.Declared.{Declared}
+use Rattle.sm_archive.specs.declared.answers.Declared.TheVariants as declared
+use Rattle.sm_archive.specs.declared.archive.Archive.{Archive}
+use Rattle.sm_archive.specs.declared.limits.Limits.{Limits}
+use Rattle.sm_archive.specs.Declaring.{DeclareStep}
+use Rattle.sm_archive.specs.Stands.{Stands}
+use Rattle.sm_archive.specs.Store.{IsStore}
+use Rattle.sm_command.specs.declared.fault.StoreFault.{StoreFault}
+use Rattle.sm_command.specs.Serving.{Input, IsLadderInput, WhyUnopened, WhyUnread, outcome_of}
+
+abbrev pub standard : Limits
+standard = record { store_bytes = 68719476736; entries = 1000000; times = 262144 }
+
+-- the archive stands for a log without a doubt, which is the store's where the disk tells its contents, under the standard limits
+pub record IsOpened {D : Type 0} (view : D → View) (leave : D → Image → Type 0) (archive : Archive) (old new : D) : Type 0 where
+  pub log : List Entry
+  pub store : IfSome (view old).contents (IsStore log)
+  pub stands : Stands archive log None (leave new)
+  pub limits_are : archive.limits ≡ standard
+
+-- the image is a store whose log begins with this one
+abbrev pub BeginsWith : List Entry → Image → Type 0
+BeginsWith log image = (now : List Entry) × (more : List Entry) × IsStore now image × (now ≡ log ++ more)
+
+-- The input was read to its end as a ladder, whose channel was declared to an archive that stood for this log; this is what it comes to.
+pub record Agrees {D : Type 0} (view : D → View) (leave : D → Image → Type 0) (told told' : Option (List ℕ)) (log : List Entry) (archive : Archive) (old new : D)
+    (result : Result (Unit {0}) StoreFault) : Type 0 where
+  pub channel : List Track
+  pub input : IsLadderInput told told' (Ok channel)
+  pub answer : Declared
+  pub comes_to : result ≡ outcome_of answer
+  pub step : DeclareStep (Acted (view old) (view new)) (leave new) archive log None channel answer
+  -- a disk that failed counted it
+  pub fault : answer ≡ declared.DiskFault → Rose (view old).disk_faults (view new).disk_faults
+
+-- a store was opened, and a channel was declared to it
+pub record Tries {D : Type 0} (view : D → View) (leave : D → Image → Type 0) (told told' : Option (List ℕ)) (archive : Archive) (old new : D)
+    (result : Result (Unit {0}) StoreFault) : Type 0 where
+  pub before : Archive
+  pub opened : D
+  pub found : IsOpened view leave before old opened
+  pub no_fewer : (view old).disk_faults ≤ (view opened).disk_faults
+  pub agrees : Agrees view leave told told' found.log archive opened new result
+
+-- The archive has a channel with the tracks of the ladder that the input is: one that it had, or that one, which was declared.
+pub record IsDeclared {D : Type 0} (view : D → View) (leave : D → Image → Type 0) (told told' : Option (List ℕ)) (archive : Archive) (old new : D) : Type 0 where
+  pub tries : Tries view leave told told' archive old new (Ok tt)
+  pub log : List Entry
+  pub stands : Stands archive log None (leave new)
+  pub limits_are : archive.limits ≡ standard
+
+-- why no archive was opened, or none that has the channel of the input
+abbrev pub WhyUndeclared : {D : Type 0} (view : D → View) (leave : D → Image → Type 0) → Input → Input → D → D → StoreFault → Type 0
+WhyUndeclared view leave input input' old new why =
+    WhyUnopened (view old) (view new) why
+    ⊎ (WhyUnread input input' why ⊎ ((archive : Archive) × Tries view leave input.told input'.told archive old new (Err why)))

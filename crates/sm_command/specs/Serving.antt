@@ -1,0 +1,221 @@
+-- What serving a store comes to.
+use Rattle.std.specs.Prelude.{◌≡◌, ◌⊎◌, ◌<◌, ◌≤◌, ◌+◌, ◌++◌, ℕ, Bool, true, false, IsTrue, List, [], ◌∷◌, length, Option, Some, None, IfSome, IsSome, Result, Ok, Err}
+use Rattle.std.specs.Io.KnownBytes.{Consumes, IsAtEnd}
+use Rattle.sm_ends.specs.Faults.{Rose}
+use Rattle.sm_ends.specs.Moves.{TakesCount}
+use Rattle.sm_model.specs.declared.entry.Entry.{Entry}
+use Rattle.sm_model.specs.declared.track.Track.{Track}
+use Rattle.sm_model.specs.declared.act.Act.TheVariants.{Header}
+use Rattle.sm_smil.specs.LiveManifests.{IsLadder}
+use Rattle.sm_site.specs.Clauses as site
+use Rattle.sm_site.specs.Image.{Image}
+use Rattle.sm_site.specs.Meanings.{View, Item}
+use Rattle.sm_archive.specs.declared.answers.Declared.{Declared}
+use Rattle.sm_archive.specs.declared.answers.Declared.TheVariants as declared
+use Rattle.sm_archive.specs.Store.{IsStore}
+use Rattle.sm_archive.specs.Opening as opening
+use Rattle.sm_origin.specs.Machine.{Machine}
+use Rattle.sm_origin.specs.Opening.{HasOneStore}
+use Rattle.sm_reply.specs.declared.reply.Counted.TheVariants.{Neither}
+use Rattle.sm_reply.specs.Replies.{silent}
+use Rattle.sm_serve.specs.declared.state.State.{State}
+use Rattle.sm_serve.specs.declared.outcome.Served.{Served as Outcome}
+use Rattle.sm_serve.specs.declared.outcome.Served.TheVariants as served
+use Rattle.sm_serve.specs.Run.{Stepped}
+use Rattle.sm_serve.specs.Standing.{History, StandsOn}
+use Rattle.sm_serve.specs.Serving.{Begins, Serves, Since, DeclaresIn, Served}
+use Rattle.sm_serve.specs.Surviving.{Survives}
+use Rattle.sm_command.specs.declared.fault.StoreFault.{StoreFault}
+use Rattle.sm_command.specs.declared.fault.StoreFault.TheVariants as fault
+
+-- an input before a call and after it: what it tells, and its count of faults
+pub record Input : Type 0 where
+  pub told : Option (List ℕ)
+  pub faults : ℕ
+
+-- ---- the ladder
+
+abbrev pub ladder_limit : ℕ
+ladder_limit = 1048576
+
+-- the input was read to its end, and is the text of this channel's ladder, or is wrong at this place
+pub record IsLadderInput (old new : Option (List ℕ)) (read : Result (List Track) ℕ) : Type 0 where
+  pub text : List ℕ
+  pub consumed : Consumes old new text
+  pub ended : IsAtEnd new
+  pub short : length text ≤ ladder_limit
+  pub is : IsLadder text read
+
+-- the ladder that was read, if one was asked for
+abbrev pub ReadsLadder : Bool → Option (List ℕ) → Option (List ℕ) → Option (List Track) → Type 0
+ReadsLadder false old new None = new ≡ old
+ReadsLadder false old new (Some channel) = ⊥
+ReadsLadder true old new None = ⊥
+ReadsLadder true old new (Some channel) = IsLadderInput old new (Ok channel)
+
+-- why no ladder was read
+abbrev pub WhyUnread : Input → Input → StoreFault → Type 0
+WhyUnread old new fault.DiskFault = ⊥
+WhyUnread old new fault.LinkFault = ⊥
+WhyUnread old new (fault.NotAStore at) = ⊥
+WhyUnread old new fault.Unread = Rose old.faults new.faults
+WhyUnread old new fault.LongLadder = IfSome old.told (λ text. ladder_limit < length text) × TakesCount old.told new.told (ladder_limit + 1)
+WhyUnread old new (fault.BadLadder at) = IsLadderInput old.told new.told (Err at)
+WhyUnread old new (fault.Refused cause) = ⊥
+WhyUnread old new fault.Full = ⊥
+WhyUnread old new fault.Damaged = ⊥
+WhyUnread old new fault.NoMemory = Unit {0}
+
+-- what an answer to a ladder comes to
+abbrev pub outcome_of : Declared → Result (Unit {0}) StoreFault
+outcome_of declared.Fixed = Ok tt
+outcome_of declared.Agreed = Ok tt
+outcome_of (declared.Refused cause) = Err (fault.Refused cause)
+outcome_of declared.Full = Err fault.Full
+outcome_of declared.DiskFault = Err fault.DiskFault
+outcome_of declared.NoMemory = Err fault.NoMemory
+
+-- the channel of the ladder that was read was declared, and this was answered
+pub record Declares {D : Type 0} (view : D → View) (leave : D → Image → Type 0) (left_at : D → ℕ → Image → Type 0) (told told' : Option (List ℕ))
+    (state : State) (d : D) (state' : State) (d' : D)
+    (answer : Declared) : Type 0 where
+  pub channel : List Track
+  pub input : IsLadderInput told told' (Ok channel)
+  pub runs : (h : History) → Serves view leave left_at h state d → DeclaresIn view leave left_at h channel answer state' d'
+  -- a disk that failed counted it
+  pub fault : answer ≡ declared.DiskFault → site.Rose (view d).disk_faults (view d').disk_faults
+
+-- the same, where this is what it comes to
+abbrev pub DeclaresTo : {D : Type 0} (view : D → View) (leave : D → Image → Type 0) (left_at : D → ℕ → Image → Type 0) → Option (List ℕ)
+    → Option (List ℕ) → State → D → State → D
+    → Result (Unit {0}) StoreFault → Type 0
+DeclaresTo view leave left_at told told' state d state' d' result = (answer : Declared) × (result ≡ outcome_of answer)
+    × Declares view leave left_at told told' state d state' d' answer
+
+-- the run went on, perhaps by a step, and without an entry
+pub record GoesUnseen {D : Type 0} (view : D → View) (leave : D → Image → Type 0) (left_at : D → ℕ → Image → Type 0) (h : History) (state : State)
+    (d : D) : Type 0 where
+  pub later : History
+  pub serves : Serves view leave left_at later state d
+  pub since : Since h later
+  pub same : later.items ≡ h.items
+
+abbrev pub NotRead : Input → Input → Result (Unit {0}) StoreFault → Type 0
+NotRead old new (Ok x) = ⊥
+NotRead old new (Err why) = WhyUnread old new why
+
+-- a ladder was read and declared, or none was read
+abbrev pub LadderMeans : {D : Type 0} (view : D → View) (leave : D → Image → Type 0) (left_at : D → ℕ → Image → Type 0) → Input → Input → State
+    → D → State → D
+    → Result (Unit {0}) StoreFault → Type 0
+LadderMeans view leave left_at input input' state d state' d' result =
+    DeclaresTo view leave left_at input.told input'.told state d state' d' result ⊎ NotRead input input' result
+
+-- without a ladder nothing is done
+pub record IsSame {D : Type 0} (input input' : Input) (state : State) (d : D) (state' : State) (d' : D) (result : Result (Unit {0}) StoreFault) : Type 0 where
+  pub done : result ≡ Ok tt
+  pub input_is : input' ≡ input
+  pub state_is : state' ≡ state
+  pub site_is : d' ≡ d
+
+abbrev pub PrepareMeans : {D : Type 0} (view : D → View) (leave : D → Image → Type 0) (left_at : D → ℕ → Image → Type 0) → Bool → Input → Input
+    → State → D → State → D
+    → Result (Unit {0}) StoreFault → Type 0
+PrepareMeans view leave left_at true input input' state d state' d' result = LadderMeans view leave left_at input input' state d state' d' result
+PrepareMeans view leave left_at false input input' state d state' d' result = IsSame input input' state d state' d' result
+
+-- ---- the start
+
+-- the state stands for a log without a doubt, which is the store's where the disk tells its contents
+pub record Found {D : Type 0} (view : D → View) (leave : D → Image → Type 0) (state : State) (old new : D) : Type 0 where
+  pub machine : Machine
+  pub settled : machine.doubt ≡ None
+  pub store : IfSome (view old).contents (IsStore machine.log)
+  pub stands : StandsOn view leave machine state.origin new
+
+-- why no store was opened
+abbrev pub WhyUnopened : View → View → StoreFault → Type 0
+WhyUnopened old new fault.DiskFault = site.Rose old.disk_faults new.disk_faults
+WhyUnopened old new fault.LinkFault = site.Rose old.link_faults new.link_faults
+WhyUnopened old new (fault.NotAStore at) = IfSome old.contents (opening.NotAStore at)
+WhyUnopened old new fault.Unread = ⊥
+WhyUnopened old new fault.LongLadder = ⊥
+WhyUnopened old new (fault.BadLadder at) = ⊥
+WhyUnopened old new (fault.Refused cause) = ⊥
+WhyUnopened old new fault.Full = ⊥
+WhyUnopened old new fault.Damaged = ⊥
+WhyUnopened old new fault.NoMemory = Unit {0}
+
+-- the store was opened, the ladder was declared to what was found, and this is what it comes to
+pub record TriesLadder {D : Type 0} (view : D → View) (leave : D → Image → Type 0) (left_at : D → ℕ → Image → Type 0) (told told' : Option (List ℕ))
+    (old new : D)
+    (result : Result (Unit {0}) StoreFault) : Type 0 where
+  pub state : State
+  pub opened : D
+  pub found : Found view leave state old opened
+  pub no_fewer : (view old).disk_faults ≤ (view opened).disk_faults
+  pub begins : Begins view leave left_at state opened
+  pub after : State
+  pub declares : DeclaresTo view leave left_at told told' state opened after new result
+
+-- Why nothing was served. Beside want of memory: what failed counted it, or this was answered to the ladder, if one was asked for.
+abbrev pub WhyUnready : {D : Type 0} (view : D → View) (leave : D → Image → Type 0) (left_at : D → ℕ → Image → Type 0) → Bool → Input → Input
+    → D → D → StoreFault → Type 0
+WhyUnready view leave left_at ladder input input' old new why =
+    WhyUnopened (view old) (view new) why
+    ⊎ (IsTrue ladder × (WhyUnread input input' why ⊎ TriesLadder view leave left_at input.told input'.told old new (Err why)))
+
+-- ---- the run
+
+-- a ladder is one step, and without one there is none
+abbrev pub LadderSteps : Option (List Track) → List Stepped → Type 0
+LadderSteps None steps = steps ≡ []
+LadderSteps (Some channel) steps = (step : Stepped) × (steps ≡ step ∷ []) × (step.conn ≡ None) × (step.act ≡ Header channel) × (step.reply ≡ silent Neither)
+
+-- a run that began with this machine, behind these entries, and has the ladder's step alone
+pub record IsBegun (machine : Machine) (channel : Option (List Track)) (base : List Item) (h : History) : Type 0 where
+  pub first : h.first ≡ machine
+  pub base_is : h.base ≡ base
+  pub items : h.items ≡ []
+  pub steps : LadderSteps channel h.steps
+
+-- from a state where a run begins the loop ran to the end that it tells, with the ladder's step in front
+pub record RunsFrom {D : Type 0} (view : D → View) (leave : D → Image → Type 0) (left_at : D → ℕ → Image → Type 0) (ladder : Bool)
+    (told told' : Option (List ℕ)) (turns : ℕ) (state : State)
+    (d d' : D) (end : Outcome) : Type 0 where
+  pub channel : Option (List Track)
+  pub input : ReadsLadder ladder told told' channel
+  pub blamed : end ≡ served.LinkFault → site.Rose (view d).link_faults (view d').link_faults
+  pub run : (b : History) → Serves view leave left_at b state d → b.items ≡ [] → b.steps ≡ []
+      → (h : History) × (h.begin ≡ b.begin) × IsBegun b.first channel b.base h × ((after : State) × Served view leave left_at h end turns after d')
+
+-- However it ended, a run that had come to the state went on; whatever a crash may leave at a moment since its start survives.
+pub record RunLasts {D : Type 0} (view : D → View) (left_at : D → ℕ → Image → Type 0) (h : History) (d : D) : Type 0 where
+  pub later : History
+  pub since : Since h later
+  pub told : (view d).transcript ≡ Some (later.base ++ later.items)
+  pub survives : (t : ℕ) (image : Image) → later.begin ≤ t → left_at d t image → Survives later.first later.items t image
+
+-- the ladder that was asked for was not read, or this was answered to it
+abbrev pub StopsFrom : {D : Type 0} (view : D → View) (leave : D → Image → Type 0) (left_at : D → ℕ → Image → Type 0) → Bool → Input → Input
+    → State → D → D → StoreFault → Type 0
+StopsFrom view leave left_at ladder input input' state d d' why =
+    IsTrue ladder × (WhyUnread input input' why ⊎ ((after : State) × DeclaresTo view leave left_at input.told input'.told state d after d' (Err why)))
+
+-- The loop ran from the log that was found, with the ladder's step in front, to the end that it tells; where the transcript is told, that
+-- is its run, and what a crash may leave at each moment fits it.
+pub record HasRun {D : Type 0} (view : D → View) (leave : D → Image → Type 0) (left_at : D → ℕ → Image → Type 0) (ladder : Bool)
+    (told told' : Option (List ℕ)) (turns : ℕ) (old new : D)
+    (end : Outcome) : Type 0 where
+  pub machine : Machine
+  pub settled : machine.doubt ≡ None
+  pub store : IfSome (view old).contents (IsStore machine.log)
+  pub channel : Option (List Track)
+  pub input : ReadsLadder ladder told told' channel
+  -- a link that failed counted it
+  pub blamed : end ≡ served.LinkFault → site.Rose (view old).link_faults (view new).link_faults
+  pub run : (base : List Item) → (view old).transcript ≡ Some base
+      → (h : History) × IsBegun machine channel base h × ((state : State) × Served view leave left_at h end turns state new)
+  -- Where each image that a crash might leave was one store, it is a run of the whole call: its moments begin with the call's.
+  pub whole : IsSome (view old).contents → (log : List Entry) → HasOneStore log (leave old) → (base : List Item) → (view old).transcript ≡ Some base
+      → (h : History) × (h.begin ≡ (view old).moment) × IsBegun machine channel base h × ((state : State) × Served view leave left_at h end turns state new)

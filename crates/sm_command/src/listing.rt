@@ -1,0 +1,188 @@
+//! Listing what a store keeps.
+ghost use Rattle.std.specs.Prelude.{◌≡◌, ◌≤◌, ◌++◌, ℕ, List, Option, None, IfOk, IfErr, IfSome, OnOk, IsErrOf, IsSome, is_some, string_bytes, slice_get, false};
+ghost use Rattle.sm_model.specs.declared.entry.Entry.{Entry};
+ghost use Rattle.sm_site.specs.Clauses.{NoMore, Throughout};
+ghost use Rattle.sm_site.specs.Meanings.{SameLink};
+ghost use Rattle.sm_archive.specs.Stands.{Keeps, Stands};
+ghost use Rattle.sm_archive.specs.Store.{IsStore};
+ghost use Rattle.sm_origin.specs.Opening.{HasOneStore};
+ghost use Rattle.sm_command.specs.declared.fault.StoreFault.TheVariants as fault;
+ghost use Rattle.sm_command.specs.Choosing.{IsChosen};
+ghost use Rattle.sm_command.specs.Lasting.{AtEachMoment};
+ghost use Rattle.sm_command.specs.Listing.{kept_line, line_in, place_text, span_text, lines_of, AddressIs, WhyUnlisted, WhyUnput};
+
+use crate::StoreFault;
+use crate::choosing::choose;
+use crate::opening::open_archive;
+use sm_archive::{Archive, Fetched};
+use sm_log::law::kept_is_added;
+use sm_model::{Address, Bytes, Fragment, NoMemory};
+use sm_site::{Disk, Selection, Site};
+use std::alloc::Global;
+
+fn put_place(alloc: Global, place: u64, fragment: &Fragment) -> Result<String, NoMemory>
+    ensures { IfOk result (λ text. string_bytes text ≡ place_text place fragment.now) }
+{
+    let stream = fragment.stream.as_str();
+    let bitrate = fragment.bitrate;
+    Ok(format!(in alloc; "keep {place} {stream} {bitrate}")?)
+}
+
+fn put_span(alloc: Global, fragment: &Fragment) -> Result<String, NoMemory>
+    ensures { IfOk result (λ text. string_bytes text ≡ span_text fragment.now) }
+{
+    let time = fragment.time;
+    let duration = fragment.duration;
+    let samples = fragment.samples.len();
+    Ok(format!(in alloc; " {time} {duration} {samples}\n")?)
+}
+
+// Puts a text behind another.
+fn put_behind(text: &mut String, more: &str) -> Result<(), NoMemory>
+    ensures { OnOk result (string_bytes text.new ≡ string_bytes text.old ++ more.now) }
+{
+    text.push_str(more)?;
+    Ok(())
+}
+
+// The line of a fragment that is kept at a place.
+fn put_line(alloc: Global, place: u64, fragment: &Fragment) -> Result<String, NoMemory>
+    ensures { IfOk result (λ line. string_bytes line ≡ kept_line place fragment.now) }
+{
+    let mut line = put_place(alloc, place, fragment)?;
+    let span = put_span(alloc, fragment)?;
+    put_behind(&mut line, &span)?;
+    Ok(line)
+}
+
+// The address of the fragment at a place, if one stands there.
+fn address_at(alloc: Global, archive: &Archive, place: u64) -> Result<Option<Address>, NoMemory>
+    ensures { (bodies : List (List ℕ)) (body : Option (List ℕ)) (log : List Entry) (doubt : Option Entry) → Keeps archive.now bodies body log doubt
+        → IfOk result (AddressIs log place) }
+{
+    let Some(meta) = archive.meta(place) else {
+        return Ok(None);
+    };
+    let Some(catalog) = archive.catalog() else {
+        return Ok(None);
+    };
+    let tracks = catalog.channel().as_slice();
+    let at = meta.track as usize;
+    if at >= tracks.len() {
+        return Ok(None);
+    }
+    let track = &tracks[at];
+    Ok(Some(Address {
+        stream: track.name.copy(alloc)?,
+        bitrate: track.bitrate,
+        time: meta.time,
+    }))
+}
+
+// The line of the fragment at a place, and nothing where none stands there.
+fn line_of<D: Disk>(
+    alloc: Global,
+    disk: &mut D,
+    archive: &Archive,
+    place: u64,
+) -> Result<String, StoreFault>
+    requires stands { (log : List Entry) × Stands archive.now log None (D.may_leave disk.old) }
+    ensures line { IfOk result (λ line. (log : List Entry) → Stands archive.now log None (D.may_leave disk.old) → IsSome (D.view disk.old).contents
+        → string_bytes line ≡ line_in place (slice_get log place)) }
+    ensures stands { (log : List Entry) → Stands archive.now log None (D.may_leave disk.old) → Stands archive.now log None (D.may_leave disk.new) }
+    ensures why { IfErr result (λ why. WhyUnput (D.view disk.old) (D.view disk.new) why) }
+    ensures told { is_some (D.view disk.new).contents ≡ is_some (D.view disk.old).contents }
+    ensures any_moment { Throughout D.view D.left_at disk.old disk.new (λ t c. D.may_leave disk.old c) }
+    ensures no_fewer { (D.view disk.old).disk_faults ≤ (D.view disk.new).disk_faults }
+    ensures link { SameLink (D.view disk.old) (D.view disk.new) }
+{
+    kept_is_added();
+    let address = match address_at(alloc, archive, place) {
+        Err(NoMemory) => return Err(StoreFault::NoMemory),
+        Ok(None) => return Ok(String::new(alloc)),
+        Ok(Some(address)) => address,
+    };
+    match archive.fetch(alloc, disk, &address) {
+        Fetched::Found { place: _, fragment } => match put_line(alloc, place, &fragment) {
+            Ok(line) => Ok(line),
+            Err(NoMemory) => Err(StoreFault::NoMemory),
+        },
+        Fetched::Absent => Err(StoreFault::Damaged),
+        Fetched::Damaged => Err(StoreFault::Damaged),
+        Fetched::DiskFault => Err(StoreFault::DiskFault),
+        Fetched::NoMemory => Err(StoreFault::NoMemory),
+    }
+}
+
+fn bytes_of(text: String) -> Bytes
+    ensures { result ≡ string_bytes text }
+{
+    Bytes::from_vec(text.into_bytes())
+}
+
+// The lines of all places.
+fn lines<D: Disk>(alloc: Global, disk: &mut D, archive: &Archive) -> Result<Bytes, StoreFault>
+    requires stands { (log : List Entry) × Stands archive.now log None (D.may_leave disk.old) }
+    ensures lines { IfOk result (λ text. (log : List Entry) → Stands archive.now log None (D.may_leave disk.old) → IsSome (D.view disk.old).contents
+        → text ≡ lines_of log) }
+    ensures why { IfErr result (λ why. WhyUnput (D.view disk.old) (D.view disk.new) why) }
+    ensures any_moment { Throughout D.view D.left_at disk.old disk.new (λ t c. D.may_leave disk.old c) }
+    ensures link { SameLink (D.view disk.old) (D.view disk.new) }
+{
+    let mut text = String::new(alloc);
+    for place in 0..archive.len() {
+        let line = line_of(alloc, disk, archive, place)?;
+        match put_behind(&mut text, &line) {
+            Ok(()) => {}
+            Err(NoMemory) => return Err(StoreFault::NoMemory),
+        }
+    }
+    Ok(bytes_of(text))
+}
+
+// The list of a store whose folder was chosen.
+fn list_disk<D: Disk>(alloc: Global, disk: &mut D) -> Result<Bytes, StoreFault>
+    ensures listed { IfOk result (λ text. IfSome (D.view disk.old).contents (λ c. (log : List Entry) × IsStore log c × (text ≡ lines_of log))) }
+    ensures why { IfErr result (λ why. WhyUnlisted (D.view disk.old) (D.view disk.new) why) }
+    ensures any_moment { (log : List Entry) → HasOneStore log (D.may_leave disk.old)
+        → Throughout D.view D.left_at disk.old disk.new (λ t c. IsStore log c) }
+    ensures untouched { (at : ℕ) → IsErrOf result (fault.NotAStore at) → ((D.view disk.new).contents ≡ (D.view disk.old).contents)
+        × NoMore (D.may_leave disk.old) (D.may_leave disk.new) × Throughout D.view D.left_at disk.old disk.new (λ t c. D.may_leave disk.old c) }
+    ensures link { SameLink (D.view disk.old) (D.view disk.new) }
+{
+    match open_archive(alloc, disk) {
+        Ok(archive) => lines(alloc, disk, &archive),
+        Err(fault) => Err(fault),
+    }
+}
+
+/// The list of what is kept in the store in that folder: for each fragment, in the order of the log, a line with its place, its
+/// stream's name, its bitrate, its start, its duration and the number of its samples. The store stays as it is: a file that is fresh is
+/// made, and nothing else is written.
+pub fn list_store<S: Site>(alloc: Global, site: &mut S, store: String) -> Result<Bytes, StoreFault>
+    // No other folder is chosen, none is made, and no port is chosen.
+    ensures chosen { IsChosen result (record { store = string_bytes store; make = false; port = 0; bind = None; journal = None }) (S.Disk.view site.new) }
+    ensures listed { IfOk result (λ text. IfSome (S.Disk.view site.old).contents (λ c. (log : List Entry) × IsStore log c × (text ≡ lines_of log))) }
+    ensures why { IfErr result (λ why. WhyUnlisted (S.Disk.view site.old) (S.Disk.view site.new) why) }
+    // Where each image that a crash might have left was one store, a crash leaves that store at each moment.
+    ensures any_moment { (log : List Entry) → HasOneStore log (S.Disk.may_leave site.old)
+        → AtEachMoment S.Disk.view S.Disk.left_at site.old site.new (IsStore log) }
+    // What is no store isn't written: the contents stay, and at no moment a crash leaves what it couldn't leave before.
+    ensures untouched { (at : ℕ) → IsErrOf result (fault.NotAStore at) → ((S.Disk.view site.new).contents ≡ (S.Disk.view site.old).contents)
+        × AtEachMoment S.Disk.view S.Disk.left_at site.old site.new (S.Disk.may_leave site.old) }
+    // Nothing is taken from the link, and nothing is sent.
+    ensures transcript { (S.Disk.view site.new).transcript ≡ (S.Disk.view site.old).transcript }
+    ensures send_faults { (S.Disk.view site.new).send_faults ≡ (S.Disk.view site.old).send_faults }
+{
+    let folder = Selection {
+        store,
+        make: false,
+        port: 0,
+        bind: None,
+        journal: None,
+    };
+    match choose(site, folder) {
+        Ok(()) => list_disk(alloc, site),
+        Err(fault) => Err(fault),
+    }
+}

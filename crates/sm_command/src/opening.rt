@@ -1,0 +1,121 @@
+//! Opening a store as an archive, for commands that don't serve it.
+ghost use Rattle.std.specs.Prelude.{◌≡◌, ◌≤◌, ◌⊎◌, ℕ, List, Option, None, Ok, IfOk, IfErr, IsErrOf, IsSome, OnOk, is_some};
+ghost use Rattle.sm_model.specs.Channels.{IsChannel};
+ghost use Rattle.sm_model.specs.declared.entry.Entry.{Entry};
+ghost use Rattle.sm_site.specs.Clauses.{NoMore, Throughout};
+ghost use Rattle.sm_site.specs.Meanings.{SameLink};
+ghost use Rattle.sm_archive.specs.Stands.{Stands};
+ghost use Rattle.sm_archive.specs.Store.{IsStore};
+ghost use Rattle.sm_origin.specs.Opening.{HasOneStore};
+ghost use Rattle.sm_command.specs.declared.fault.StoreFault.TheVariants as fault;
+ghost use Rattle.sm_command.specs.Opening.{Agrees, BeginsWith, IsDeclared, IsOpened, WhyUndeclared};
+ghost use Rattle.sm_command.specs.Serving.{IsLadderInput, NotRead, WhyUnopened};
+
+use crate::StoreFault;
+use crate::start::{ladder_of, outcome_of};
+use sm_archive::{Archive, Limits, OpenFault, bodies_have_one_log, open_store};
+use sm_ends::Source;
+use sm_model::Channel;
+use sm_seglog::law::stores_have_one_reading;
+use sm_site::Disk;
+use std::alloc::Global;
+
+/// Opens the store of a disk whose folder was chosen, under the standard limits. A file that is fresh is made; nothing else is written,
+/// and what is no store isn't touched.
+pub fn open_archive<D: Disk>(alloc: Global, disk: &mut D) -> Result<Archive, StoreFault>
+    ensures opened { IfOk result (λ archive. IsOpened D.view D.may_leave archive disk.old disk.new) }
+    ensures why { IfErr result (λ why. WhyUnopened (D.view disk.old) (D.view disk.new) why) }
+    // Where each image that a crash might have left was one store, a crash leaves that store at each moment, and behind the call too.
+    ensures any_moment { (log : List Entry) → HasOneStore log (D.may_leave disk.old)
+        → Throughout D.view D.left_at disk.old disk.new (λ t c. IsStore log c) }
+    ensures stays { (log : List Entry) → HasOneStore log (D.may_leave disk.old) → HasOneStore log (D.may_leave disk.new) }
+    // What is no store isn't written: the contents stay, and at no moment a crash leaves what it couldn't leave before.
+    ensures untouched { (at : ℕ) → IsErrOf result (fault.NotAStore at) → ((D.view disk.new).contents ≡ (D.view disk.old).contents)
+        × NoMore (D.may_leave disk.old) (D.may_leave disk.new) × Throughout D.view D.left_at disk.old disk.new (λ t c. D.may_leave disk.old c) }
+    ensures told { is_some (D.view disk.new).contents ≡ is_some (D.view disk.old).contents }
+    ensures no_fewer { (D.view disk.old).disk_faults ≤ (D.view disk.new).disk_faults }
+    ensures link { SameLink (D.view disk.old) (D.view disk.new) }
+{
+    match open_store(alloc, disk, Limits::standard()) {
+        Ok(archive) => Ok(archive),
+        Err(OpenFault::DiskFault) => Err(StoreFault::DiskFault),
+        Err(OpenFault::NotAStore { at }) => Err(StoreFault::NotAStore { at }),
+        Err(OpenFault::NoMemory) => Err(StoreFault::NoMemory),
+    }
+}
+
+// Declares a channel to an archive.
+fn declare_to<D: Disk>(
+    alloc: Global,
+    disk: &mut D,
+    archive: &mut Archive,
+    channel: &Channel,
+) -> Result<(), StoreFault>
+    requires valid { IsChannel channel.now }
+    requires stands { (log : List Entry) × Stands archive.old log None (D.may_leave disk.old) }
+    ensures agrees { (told told' : Option (List ℕ)) → IsLadderInput told told' (Ok channel.now) → (log : List Entry)
+        → Stands archive.old log None (D.may_leave disk.old) → Agrees D.view D.may_leave told told' log archive.new disk.old disk.new result }
+    ensures stands { OnOk result ((log : List Entry) × Stands archive.new log None (D.may_leave disk.new)) }
+    ensures any_moment { (log : List Entry) → Stands archive.old log None (D.may_leave disk.old) → IsSome (D.view disk.old).contents
+        → Throughout D.view D.left_at disk.old disk.new (λ t c. BeginsWith log c) }
+    ensures limits { archive.new.limits ≡ archive.old.limits }
+    ensures no_fewer { (D.view disk.old).disk_faults ≤ (D.view disk.new).disk_faults }
+    ensures link { SameLink (D.view disk.old) (D.view disk.new) }
+{
+    let answer = archive.declare(alloc, disk, channel);
+    outcome_of(answer)
+}
+
+// Reads a ladder and declares its channel to an archive.
+fn declare_input<I: Source, D: Disk>(
+    alloc: Global,
+    input: &mut I,
+    disk: &mut D,
+    archive: &mut Archive,
+) -> Result<(), StoreFault>
+    requires stands { (log : List Entry) × Stands archive.old log None (D.may_leave disk.old) }
+    ensures means { (log : List Entry) → Stands archive.old log None (D.may_leave disk.old)
+        → Agrees D.view D.may_leave (I.left input.old) (I.left input.new) log archive.new disk.old disk.new result
+        ⊎ NotRead (record { told = I.left input.old; faults = I.faults input.old })
+        (record { told = I.left input.new; faults = I.faults input.new }) result }
+    ensures stands { OnOk result ((log : List Entry) × Stands archive.new log None (D.may_leave disk.new)) }
+    ensures any_moment { (log : List Entry) → Stands archive.old log None (D.may_leave disk.old) → IsSome (D.view disk.old).contents
+        → Throughout D.view D.left_at disk.old disk.new (λ t c. BeginsWith log c) }
+    ensures limits { archive.new.limits ≡ archive.old.limits }
+    ensures no_fewer { (D.view disk.old).disk_faults ≤ (D.view disk.new).disk_faults }
+    ensures link { SameLink (D.view disk.old) (D.view disk.new) }
+{
+    match ladder_of(alloc, input) {
+        Ok(channel) => declare_to(alloc, disk, archive, &channel),
+        Err(fault) => Err(fault),
+    }
+}
+
+/// Opens the store of a disk whose folder was chosen, as `open_archive` does, reads the input to its end as a ladder, at most
+/// 1,048,576 bytes, and declares its channel; one that stands already is to have its tracks.
+pub fn open_declared<I: Source, D: Disk>(
+    alloc: Global,
+    input: &mut I,
+    disk: &mut D,
+) -> Result<Archive, StoreFault>
+    ensures declared { IfOk result (λ archive. IsDeclared D.view D.may_leave (I.left input.old) (I.left input.new) archive disk.old disk.new) }
+    ensures why { IfErr result (λ why. WhyUndeclared D.view D.may_leave
+        (record { told = I.left input.old; faults = I.faults input.old })
+        (record { told = I.left input.new; faults = I.faults input.new }) disk.old disk.new why) }
+    // Where each image that a crash might have left was one store, a crash leaves at each moment a store whose log begins with that one.
+    ensures any_moment { IsSome (D.view disk.old).contents → (log : List Entry) → HasOneStore log (D.may_leave disk.old)
+        → Throughout D.view D.left_at disk.old disk.new (λ t c. BeginsWith log c) }
+    // What is no store isn't written: the contents stay, and at no moment a crash leaves what it couldn't leave before.
+    ensures untouched { (at : ℕ) → IsErrOf result (fault.NotAStore at) → ((D.view disk.new).contents ≡ (D.view disk.old).contents)
+        × NoMore (D.may_leave disk.old) (D.may_leave disk.new) × Throughout D.view D.left_at disk.old disk.new (λ t c. D.may_leave disk.old c) }
+    ensures no_fewer { (D.view disk.old).disk_faults ≤ (D.view disk.new).disk_faults }
+    ensures link { SameLink (D.view disk.old) (D.view disk.new) }
+{
+    bodies_have_one_log();
+    stores_have_one_reading();
+    let mut archive = open_archive(alloc, disk)?;
+    match declare_input(alloc, input, disk, &mut archive) {
+        Ok(()) => Ok(archive),
+        Err(fault) => Err(fault),
+    }
+}

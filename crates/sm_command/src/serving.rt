@@ -1,0 +1,86 @@
+//! Serving a store.
+ghost use Rattle.std.specs.Prelude.{◌≡◌, ℕ, List, Some, IsSome, IfOk, IfErr, IsErrOf};
+ghost use Rattle.sm_model.specs.declared.entry.Entry.{Entry};
+ghost use Rattle.sm_site.specs.Meanings.{Item};
+ghost use Rattle.sm_origin.specs.Machine.{Machine};
+ghost use Rattle.sm_origin.specs.Opening.{HasOneStore};
+ghost use Rattle.sm_serve.specs.Serving.{Begins, Serves, CountsNone};
+ghost use Rattle.sm_serve.specs.Standing.{History, StandsOn};
+ghost use Rattle.sm_command.specs.declared.fault.StoreFault.TheVariants as fault;
+ghost use Rattle.sm_command.specs.Choosing.{IsChosen};
+ghost use Rattle.sm_command.specs.Lasting.{AtEachMoment, Outlasts};
+ghost use Rattle.sm_command.specs.Serving.{HasRun, RunLasts, RunsFrom, StopsFrom, WhyUnready};
+
+use crate::StoreFault;
+use crate::start::{open_state, prepare};
+use sm_archive::bodies_have_one_log;
+use sm_ends::Source;
+use sm_seglog::law::stores_have_one_reading;
+use sm_serve::shown::crashes_hold_what_was_shown;
+use sm_serve::{Served, State, serve};
+use sm_site::{Selection, Site};
+use std::alloc::Global;
+
+// Serves from a state that was just opened.
+fn serve_state<I: Source, S: Site>(
+    alloc: Global,
+    input: &mut I,
+    site: &mut S,
+    state: &mut State,
+    ladder: bool,
+    turns: u64,
+) -> Result<Served, StoreFault>
+    requires begins { Begins S.Disk.view S.Disk.may_leave S.Disk.left_at state.old site.old }
+    requires stands { (m : Machine) × StandsOn S.Disk.view S.Disk.may_leave m state.old.origin site.old }
+    ensures run { IfOk result (λ end. RunsFrom S.Disk.view S.Disk.may_leave S.Disk.left_at ladder (I.left input.old)
+        (I.left input.new) turns state.old site.old site.new end) }
+    ensures why { IfErr result (λ why. StopsFrom S.Disk.view S.Disk.may_leave S.Disk.left_at ladder
+        (record { told = I.left input.old; faults = I.faults input.old })
+        (record { told = I.left input.new; faults = I.faults input.new }) state.old site.old site.new why) }
+    ensures counts { IfOk result CountsNone }
+    ensures chosen { (S.Disk.view site.new).chosen ≡ (S.Disk.view site.old).chosen }
+    ensures lasts { (h : History) → Serves S.Disk.view S.Disk.may_leave S.Disk.left_at h state.old site.old
+        → RunLasts S.Disk.view S.Disk.left_at h site.new }
+{
+    crashes_hold_what_was_shown();
+    match prepare(alloc, input, site, state, ladder) {
+        Ok(()) => Ok(serve(site, state, turns)),
+        Err(fault) => Err(fault),
+    }
+}
+
+/// Serves the store of a selection, until nothing more comes or so many events were taken.
+///
+/// With a ladder the input is read to its end, at most 1,048,576 bytes, and its channel is declared before the first event. A
+/// fault says that no event was waited for; from the first event on the loop says how it ended.
+pub fn serve_store<I: Source, S: Site>(
+    alloc: Global,
+    input: &mut I,
+    site: &mut S,
+    selection: Selection,
+    ladder: bool,
+    turns: u64,
+) -> Result<Served, StoreFault>
+    // No other folder and no other port is chosen.
+    ensures chosen { IsChosen result selection (S.Disk.view site.new) }
+    ensures run { IfOk result (λ end. HasRun S.Disk.view S.Disk.may_leave S.Disk.left_at ladder (I.left input.old) (I.left input.new) turns site.old site.new end) }
+    ensures why { IfErr result (λ why. WhyUnready S.Disk.view S.Disk.may_leave S.Disk.left_at ladder
+        (record { told = I.left input.old; faults = I.faults input.old })
+        (record { told = I.left input.new; faults = I.faults input.new }) site.old site.new why) }
+    ensures counts { IfOk result CountsNone }
+    // However it ends, on a disk that tells its contents: where each image that a crash might have left was one store, what a crash may leave
+    // at any moment since the call began is a store whose log begins with that one, and holds what the call had shown by then.
+    ensures any_moment { IsSome (S.Disk.view site.old).contents → (log : List Entry) → HasOneStore log (S.Disk.may_leave site.old)
+        → (base : List Item) → (S.Disk.view site.old).transcript ≡ Some base
+        → Outlasts S.Disk.view S.Disk.left_at log base site.old site.new }
+    // What is no store isn't written: the contents stay, and at no moment a crash leaves what it couldn't leave before.
+    ensures untouched { (at : ℕ) → IsErrOf result (fault.NotAStore at) → ((S.Disk.view site.new).contents ≡ (S.Disk.view site.old).contents)
+        × AtEachMoment S.Disk.view S.Disk.left_at site.old site.new (S.Disk.may_leave site.old) }
+{
+    bodies_have_one_log();
+    stores_have_one_reading();
+    match open_state(alloc, site, selection) {
+        Ok(mut state) => serve_state(alloc, input, site, &mut state, ladder, turns),
+        Err(fault) => Err(fault),
+    }
+}

@@ -1,0 +1,172 @@
+//! Opening a store to be served, with its ladder.
+ghost use Rattle.std.specs.Prelude.{◌≡◌, ◌≤◌, ℕ, List, Option, Ok, IfOk, IfErr, IsErrOf};
+ghost use Rattle.sm_model.specs.Channels.{IsChannel};
+ghost use Rattle.sm_model.specs.declared.entry.Entry.{Entry};
+ghost use Rattle.sm_site.specs.Clauses.{NoMore, Throughout};
+ghost use Rattle.sm_archive.specs.Store.{IsStore};
+ghost use Rattle.sm_origin.specs.Machine.{Machine};
+ghost use Rattle.sm_origin.specs.Opening.{HasOneStore};
+ghost use Rattle.sm_serve.specs.Serving.{Begins, Serves};
+ghost use Rattle.sm_serve.specs.Standing.{History, StandsOn};
+ghost use Rattle.sm_command.specs.declared.fault.StoreFault.TheVariants as fault;
+ghost use Rattle.sm_command.specs.Choosing.{IsChosen};
+ghost use Rattle.sm_command.specs.Lasting.{AtEachMoment};
+ghost use Rattle.sm_command.specs.Serving.{Found, IsLadderInput, DeclaresTo, GoesUnseen, LadderMeans, PrepareMeans, WhyUnopened, WhyUnread, outcome_of};
+
+use crate::StoreFault;
+use crate::choosing::choose;
+use sm_archive::{Declared, Limits, OpenFault};
+use sm_ends::{InputFault, Source, read_input};
+use sm_model::Channel;
+use sm_serve::State;
+use sm_site::{Selection, Site};
+use sm_smil::{SmilFault, read_ladder};
+use std::alloc::Global;
+
+// The most bytes that a ladder may have.
+const LADDER: u64 = 1_048_576;
+
+// Opens the store of a site that was selected.
+fn start<S: Site>(alloc: Global, site: &mut S) -> Result<State, StoreFault>
+    ensures found { IfOk result (λ state. Found S.Disk.view S.Disk.may_leave state site.old site.new) }
+    ensures begins { IfOk result (λ state. Begins S.Disk.view S.Disk.may_leave S.Disk.left_at state site.new) }
+    ensures any_moment { (log : List Entry) → HasOneStore log (S.Disk.may_leave site.old)
+        → Throughout S.Disk.view S.Disk.left_at site.old site.new (λ t c. IsStore log c) }
+    ensures untouched { (at : ℕ) → IsErrOf result (fault.NotAStore at) → ((S.Disk.view site.new).contents ≡ (S.Disk.view site.old).contents)
+        × NoMore (S.Disk.may_leave site.old) (S.Disk.may_leave site.new)
+        × Throughout S.Disk.view S.Disk.left_at site.old site.new (λ t c. S.Disk.may_leave site.old c) }
+    ensures transcript { (S.Disk.view site.new).transcript ≡ (S.Disk.view site.old).transcript }
+    ensures why { IfErr result (λ why. WhyUnopened (S.Disk.view site.old) (S.Disk.view site.new) why) }
+    ensures disk_faults { (S.Disk.view site.old).disk_faults ≤ (S.Disk.view site.new).disk_faults }
+    ensures link_faults { (S.Disk.view site.old).link_faults ≤ (S.Disk.view site.new).link_faults }
+    ensures chosen { (S.Disk.view site.new).chosen ≡ (S.Disk.view site.old).chosen }
+{
+    match State::start(alloc, site, Limits::standard()) {
+        Ok(state) => Ok(state),
+        Err(OpenFault::DiskFault) => Err(StoreFault::DiskFault),
+        Err(OpenFault::NotAStore { at }) => Err(StoreFault::NotAStore { at }),
+        Err(OpenFault::NoMemory) => Err(StoreFault::NoMemory),
+    }
+}
+
+/// Chooses the folder and the port, and opens the store there.
+pub(crate) fn open_state<S: Site>(
+    alloc: Global,
+    site: &mut S,
+    selection: Selection,
+) -> Result<State, StoreFault>
+    ensures chosen { IsChosen result selection (S.Disk.view site.new) }
+    ensures found { IfOk result (λ state. Found S.Disk.view S.Disk.may_leave state site.old site.new) }
+    ensures begins { IfOk result (λ state. Begins S.Disk.view S.Disk.may_leave S.Disk.left_at state site.new) }
+    // Where every image was one store, it stays that at each moment.
+    ensures any_moment { (log : List Entry) → HasOneStore log (S.Disk.may_leave site.old)
+        → AtEachMoment S.Disk.view S.Disk.left_at site.old site.new (IsStore log) }
+    ensures untouched { (at : ℕ) → IsErrOf result (fault.NotAStore at) → ((S.Disk.view site.new).contents ≡ (S.Disk.view site.old).contents)
+        × AtEachMoment S.Disk.view S.Disk.left_at site.old site.new (S.Disk.may_leave site.old) }
+    ensures transcript { (S.Disk.view site.new).transcript ≡ (S.Disk.view site.old).transcript }
+    ensures why { IfErr result (λ why. WhyUnopened (S.Disk.view site.old) (S.Disk.view site.new) why) }
+    ensures disk_faults { (S.Disk.view site.old).disk_faults ≤ (S.Disk.view site.new).disk_faults }
+    ensures link_faults { (S.Disk.view site.old).link_faults ≤ (S.Disk.view site.new).link_faults }
+{
+    match choose(site, selection) {
+        Ok(()) => start(alloc, site),
+        Err(fault) => Err(fault),
+    }
+}
+
+/// The channel of the ladder that the input is.
+pub(crate) fn ladder_of<I: Source>(alloc: Global, input: &mut I) -> Result<Channel, StoreFault>
+    ensures read { IfOk result (λ channel. IsLadderInput (I.left input.old) (I.left input.new) (Ok channel)) }
+    ensures valid { IfOk result IsChannel }
+    ensures why { IfErr result (λ why. WhyUnread (record { told = I.left input.old; faults = I.faults input.old })
+        (record { told = I.left input.new; faults = I.faults input.new }) why) }
+{
+    let text = match read_input(alloc, input, LADDER) {
+        Ok(text) => text,
+        Err(InputFault::Failed) => return Err(StoreFault::Unread),
+        Err(InputFault::TooLong) => return Err(StoreFault::LongLadder),
+        Err(InputFault::NoMemory) => return Err(StoreFault::NoMemory),
+    };
+    match read_ladder(alloc, text.as_slice()) {
+        Ok(channel) => Ok(channel),
+        Err(SmilFault::Bad { at }) => Err(StoreFault::BadLadder { at }),
+        Err(SmilFault::NoMemory) => Err(StoreFault::NoMemory),
+    }
+}
+
+/// What an answer to a ladder comes to.
+pub(crate) fn outcome_of(answer: Declared) -> Result<(), StoreFault>
+    ensures { result ≡ outcome_of answer }
+{
+    match answer {
+        Declared::Fixed | Declared::Agreed => Ok(()),
+        Declared::Refused(cause) => Err(StoreFault::Refused(cause)),
+        Declared::Full => Err(StoreFault::Full),
+        Declared::DiskFault => Err(StoreFault::DiskFault),
+        Declared::NoMemory => Err(StoreFault::NoMemory),
+    }
+}
+
+// Declares the channel of a ladder.
+fn declare<S: Site>(site: &mut S, state: &mut State, channel: &Channel) -> Result<(), StoreFault>
+    requires valid { IsChannel channel.now }
+    requires stands { (m : Machine) × StandsOn S.Disk.view S.Disk.may_leave m state.old.origin site.old }
+    ensures declares { (told told' : Option (List ℕ)) → IsLadderInput told told' (Ok channel.now)
+        → DeclaresTo S.Disk.view S.Disk.may_leave S.Disk.left_at told told' state.old site.old state.new site.new result }
+    ensures unseen { (h : History) → Serves S.Disk.view S.Disk.may_leave S.Disk.left_at h state.old site.old
+        → GoesUnseen S.Disk.view S.Disk.may_leave S.Disk.left_at h state.new site.new }
+    ensures stands { (m : Machine) × StandsOn S.Disk.view S.Disk.may_leave m state.new.origin site.new }
+    ensures transcript { (S.Disk.view site.new).transcript ≡ (S.Disk.view site.old).transcript }
+    ensures link_faults { (S.Disk.view site.new).link_faults ≡ (S.Disk.view site.old).link_faults }
+    ensures chosen { (S.Disk.view site.new).chosen ≡ (S.Disk.view site.old).chosen }
+{
+    let answer = state.declare(site, channel);
+    outcome_of(answer)
+}
+
+// Reads a ladder and declares it.
+fn declare_ladder<I: Source, S: Site>(
+    alloc: Global,
+    input: &mut I,
+    site: &mut S,
+    state: &mut State,
+) -> Result<(), StoreFault>
+    requires stands { (m : Machine) × StandsOn S.Disk.view S.Disk.may_leave m state.old.origin site.old }
+    ensures means { LadderMeans S.Disk.view S.Disk.may_leave S.Disk.left_at (record { told = I.left input.old; faults = I.faults input.old })
+        (record { told = I.left input.new; faults = I.faults input.new }) state.old site.old state.new site.new result }
+    ensures unseen { (h : History) → Serves S.Disk.view S.Disk.may_leave S.Disk.left_at h state.old site.old
+        → GoesUnseen S.Disk.view S.Disk.may_leave S.Disk.left_at h state.new site.new }
+    ensures stands { (m : Machine) × StandsOn S.Disk.view S.Disk.may_leave m state.new.origin site.new }
+    ensures transcript { (S.Disk.view site.new).transcript ≡ (S.Disk.view site.old).transcript }
+    ensures link_faults { (S.Disk.view site.new).link_faults ≡ (S.Disk.view site.old).link_faults }
+    ensures chosen { (S.Disk.view site.new).chosen ≡ (S.Disk.view site.old).chosen }
+{
+    match ladder_of(alloc, input) {
+        Ok(channel) => declare(site, state, &channel),
+        Err(fault) => Err(fault),
+    }
+}
+
+/// Declares the ladder that the input is, if one is asked for.
+pub(crate) fn prepare<I: Source, S: Site>(
+    alloc: Global,
+    input: &mut I,
+    site: &mut S,
+    state: &mut State,
+    ladder: bool,
+) -> Result<(), StoreFault>
+    requires stands { (m : Machine) × StandsOn S.Disk.view S.Disk.may_leave m state.old.origin site.old }
+    ensures means { PrepareMeans S.Disk.view S.Disk.may_leave S.Disk.left_at ladder (record { told = I.left input.old; faults = I.faults input.old })
+        (record { told = I.left input.new; faults = I.faults input.new }) state.old site.old state.new site.new result }
+    ensures unseen { (h : History) → Serves S.Disk.view S.Disk.may_leave S.Disk.left_at h state.old site.old
+        → GoesUnseen S.Disk.view S.Disk.may_leave S.Disk.left_at h state.new site.new }
+    ensures stands { (m : Machine) × StandsOn S.Disk.view S.Disk.may_leave m state.new.origin site.new }
+    ensures transcript { (S.Disk.view site.new).transcript ≡ (S.Disk.view site.old).transcript }
+    ensures link_faults { (S.Disk.view site.new).link_faults ≡ (S.Disk.view site.old).link_faults }
+    ensures chosen { (S.Disk.view site.new).chosen ≡ (S.Disk.view site.old).chosen }
+{
+    if ladder {
+        return declare_ladder(alloc, input, site, state);
+    }
+    Ok(())
+}

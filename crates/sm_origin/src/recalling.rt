@@ -1,0 +1,67 @@
+//! A fragment that is read back, without a reply.
+ghost use Rattle.std.specs.Prelude.{◌≡◌, ◌⊎◌, ◌↔◌, ◌≤◌, ℕ, None, IsSome, is_some};
+ghost use Rattle.sm_model.specs.declared.act.Act.TheVariants.{Fragment as Ask};
+ghost use Rattle.sm_model.specs.declared.fragment.Fragment.{Fragment};
+ghost use Rattle.sm_model.specs.Entries.{address_of};
+ghost use Rattle.sm_model.specs.Fragments.{IsValid};
+ghost use Rattle.sm_log.specs.Adds.{place_of};
+ghost use Rattle.sm_log.specs.Logs.{adds_of};
+ghost use Rattle.sm_site.specs.Meanings.{SameLink};
+ghost use Rattle.sm_site.specs.Clauses.{Rose};
+ghost use Rattle.sm_archive.specs.declared.fetch.Fetched.TheVariants.{Found, Absent, DiskFault, Damaged, NoMemory};
+ghost use Rattle.sm_origin.specs.Answers.{reply_to_fetched};
+ghost use Rattle.sm_origin.specs.Machine.{Machine};
+ghost use Rattle.sm_origin.specs.Acting.{IsHeld, StandsFor, ActGives};
+
+use crate::origin::Origin;
+use sm_archive::{Fetched, an_image_fits};
+use sm_cache::Kept;
+use sm_log::law::kept_is_added;
+use sm_model::Address;
+use sm_site::Disk;
+use std::alloc::Global;
+
+// What the cache holds, once more.
+fn again(alloc: Global, kept: &Kept) -> Fetched
+    ensures { (result ≡ Found kept.now.place kept.now.fragment) ⊎ (result ≡ NoMemory) }
+{
+    match kept.fragment.copy(alloc) {
+        Ok(fragment) => Fetched::Found {
+            place: kept.place,
+            fragment,
+        },
+        Err(_) => Fetched::NoMemory,
+    }
+}
+
+impl Origin {
+    /// Reads back the fragment of an address for one who is no connection: what asks for it, without a reply. It comes from the cache, whose order
+    /// stays, or else from the disk, and isn't put into the cache.
+    pub fn recall<D: Disk>(&self, alloc: Global, disk: &mut D, address: &Address) -> Fetched
+        requires stands { (m : Machine) × StandsFor (IsSome (D.view disk.old).contents) m self.now (D.may_leave disk.old) }
+        // It stands for some machine again, whichever it stood for.
+        ensures stands { (m : Machine) × StandsFor (IsSome (D.view disk.new).contents) m self.now (D.may_leave disk.new) }
+        // It is one step, whose reply is what a connection would be told.
+        ensures step { IsSome (D.view disk.old).contents → (m : Machine) → StandsFor (IsSome (D.view disk.old).contents) m self.now (D.may_leave disk.old)
+            → ActGives D.view D.may_leave D.left_at disk.old disk.new m self.now (Ask address.now) (reply_to_fetched m.log address.now result) }
+        // What is found is what the log has at its place; where the disk tells its contents it is the log's own.
+        ensures found { (place : ℕ) (f : Fragment) → result ≡ Found place f → (m : Machine)
+            → StandsFor (IsSome (D.view disk.old).contents) m self.now (D.may_leave disk.old)
+            → IsHeld (IsSome (D.view disk.old).contents) m.log (address.now, record { place = place; fragment = f }) }
+        ensures valid { (place : ℕ) (f : Fragment) → result ≡ Found place f → IsValid f × (address_of f ≡ address.now) }
+        ensures absent { (m : Machine) → StandsFor (IsSome (D.view disk.old).contents) m self.now (D.may_leave disk.old)
+            → (result ≡ Absent) ↔ (place_of address.now (adds_of m.log) ≡ None) }
+        ensures damaged { result ≡ Damaged → IsSome (D.view disk.old).contents → ⊥ }
+        ensures fault { result ≡ DiskFault → Rose (D.view disk.old).disk_faults (D.view disk.new).disk_faults }
+        ensures told { is_some (D.view disk.new).contents ≡ is_some (D.view disk.old).contents }
+        ensures no_fewer { (D.view disk.old).disk_faults ≤ (D.view disk.new).disk_faults }
+        ensures link { SameLink (D.view disk.old) (D.view disk.new) }
+    {
+        an_image_fits::<D>();
+        kept_is_added();
+        match self.cache.peek(address) {
+            Some(kept) => again(alloc, kept),
+            None => self.archive.fetch(alloc, disk, address),
+        }
+    }
+}

@@ -1,0 +1,5 @@
+use Rattle.std.proofs.Common.{inr, refl}
+use Rattle.sm_real.proofs.peers.Peers.note.Goals as goal
+
+pub returns-in-Some : goal.returns-in-Some
+returns-in-Some c = inr (record { place = c.in-Some.place; there = c.in-Some.ensures; after = c.note.new.self; only = refl })

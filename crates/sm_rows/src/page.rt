@@ -1,0 +1,210 @@
+//! A text of rows, read.
+use crate::RowFault;
+use crate::case::Case;
+use crate::definition::{Definition, expanded};
+use crate::line::{Line, lines_of};
+use crate::row::Row;
+use crate::token::{Token, tokens_of};
+use crate::words::Words;
+use std::alloc::Global;
+
+// Lines that `use` puts in its place.
+#[derive(Debug, Drop)]
+struct Block {
+    name: String,
+    lines: Vec<Line>,
+}
+
+/// What texts of rows say: names and blocks, and the rows that were read last.
+#[derive(Debug, Drop)]
+pub struct Page {
+    definitions: Vec<Definition>,
+    blocks: Vec<Block>,
+    rows: Vec<Row>,
+}
+
+// Where the next line stands.
+#[derive(Clone, Copy, Debug)]
+enum Place {
+    Top,
+    Block,
+    Row,
+}
+
+impl Page {
+    /// A page without names and rows.
+    pub fn new(alloc: Global) -> Page {
+        Page {
+            definitions: Vec::new(alloc),
+            blocks: Vec::new(alloc),
+            rows: Vec::new(alloc),
+        }
+    }
+
+    /// Lets `$name` stand for these bytes, as those of a file.
+    pub fn define(&mut self, alloc: Global, name: &str, bytes: &[u8]) -> Result<(), RowFault> {
+        let token = Token {
+            bytes: Vec::from_slice(alloc, bytes)?,
+            quoted: true,
+        };
+        self.definitions.push(Definition {
+            name: Vec::from_slice(alloc, name.as_bytes())?,
+            parameters: Vec::new(alloc),
+            body: vec![in alloc; token]?,
+        })?;
+        Ok(())
+    }
+
+    /// Reads a text: its names and blocks are added to those that are known, and its rows take the place of the former. After
+    /// a fault the page has the lines in front of it.
+    pub fn read(&mut self, alloc: Global, text: &str) -> Result<(), RowFault> {
+        self.rows = Vec::new(alloc);
+        let mut place = Place::Top;
+        for line in lines_of(alloc, text)? {
+            place = self.take(alloc, place, line)?;
+        }
+        Ok(())
+    }
+
+    // Takes a line, and says where the next one stands.
+    fn take(&mut self, alloc: Global, place: Place, line: Line) -> Result<Place, RowFault> {
+        if line.key.is_empty() {
+            return Ok(Place::Top);
+        }
+        match place {
+            Place::Top => return self.begin(alloc, line),
+            Place::Block => {
+                if let Some(block) = self.blocks.last_mut() {
+                    block.lines.push(line)?;
+                }
+            }
+            Place::Row => self.add(alloc, line)?,
+        }
+        Ok(place)
+    }
+
+    // Takes a line behind a blank one.
+    fn begin(&mut self, alloc: Global, line: Line) -> Result<Place, RowFault> {
+        match line.key.as_str() {
+            "let" => {
+                self.add_definition(alloc, &line)?;
+                Ok(Place::Top)
+            }
+            "block" => {
+                let Line {
+                    number: _,
+                    key: _,
+                    value,
+                } = line;
+                self.blocks.push(Block {
+                    name: value,
+                    lines: Vec::new(alloc),
+                })?;
+                Ok(Place::Block)
+            }
+            "row" => {
+                let Line {
+                    number,
+                    key: _,
+                    value,
+                } = line;
+                self.rows.push(Row {
+                    number,
+                    name: value,
+                    call: String::new(alloc),
+                    lines: Vec::new(alloc),
+                })?;
+                Ok(Place::Row)
+            }
+            _ => Err(line.fault("neither a row nor a name nor a block begins here")),
+        }
+    }
+
+    fn add_definition(&mut self, alloc: Global, line: &Line) -> Result<(), RowFault> {
+        let mut head = Vec::new(alloc);
+        let mut body = Vec::new(alloc);
+        let mut is_body = false;
+        for token in tokens_of(alloc, line.number, line.value.as_str())? {
+            if is_body {
+                body.push(token)?;
+            } else if token.is("=") {
+                is_body = true;
+            } else {
+                head.push(token)?;
+            }
+        }
+        if !is_body || head.is_empty() {
+            return Err(line.fault("a name without a meaning"));
+        }
+        let name = head.remove(0);
+        let body = expanded(
+            alloc,
+            line.number,
+            self.definitions.as_slice(),
+            body.as_slice(),
+        )?;
+        self.definitions.push(Definition {
+            name: name.bytes,
+            parameters: head,
+            body,
+        })?;
+        Ok(())
+    }
+
+    // Adds a line to the last row.
+    fn add(&mut self, alloc: Global, line: Line) -> Result<(), RowFault> {
+        let Some(row) = self.rows.last_mut() else {
+            return Ok(());
+        };
+        match line.key.as_str() {
+            "call" => {
+                row.call = line.value;
+                Ok(())
+            }
+            "use" => {
+                for block in self.blocks.iter() {
+                    if block.name.as_str() == line.value.as_str() {
+                        return append_lines(alloc, &mut row.lines, block.lines.as_slice());
+                    }
+                }
+                Err(line.fault("there is no such block"))
+            }
+            _ => {
+                row.lines.push(line)?;
+                Ok(())
+            }
+        }
+    }
+
+    /// How many rows were read.
+    pub fn len(&self) -> usize {
+        self.rows.len()
+    }
+
+    /// Whether no row was read.
+    pub fn is_empty(&self) -> bool {
+        self.rows.is_empty()
+    }
+
+    /// The row at a place, from 0.
+    pub fn case(&self, at: usize) -> Option<Case<'_>> {
+        let row = self.rows.get(at)?;
+        Some(Case { page: self, row })
+    }
+
+    /// The words of a text that stands in this line.
+    pub(crate) fn words(&self, alloc: Global, line: u64, text: &str) -> Result<Words, RowFault> {
+        let tokens = tokens_of(alloc, line, text)?;
+        Ok(Words {
+            line,
+            tokens: expanded(alloc, line, self.definitions.as_slice(), tokens.as_slice())?,
+        })
+    }
+}
+
+fn append_lines(alloc: Global, out: &mut Vec<Line>, lines: &[Line]) -> Result<(), RowFault> {
+    for line in lines {
+        out.push(line.copy(alloc)?)?;
+    }
+    Ok(())
+}

@@ -1,4 +1,0 @@
-pub mod Lasting
-pub mod Lines
-pub mod Real
-pub mod Starting

@@ -1,4 +1,0 @@
-pub mod Choosing
-pub mod Lasting
-pub mod Listing
-pub mod Serving

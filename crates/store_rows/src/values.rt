@@ -1,0 +1,67 @@
+//! Channels, fragments and addresses, as rows say them.
+use anyhow::{Result, bail};
+use sm_model::{Address, Bytes, Channel, Fragment, Name, Sample, Samples, Track};
+use sm_rows::Words;
+use sm_rows::values::{numbers_of, track_of};
+use std::alloc::Global;
+
+/// Whether a line says a track, or the private data or the numbers of the last one.
+pub fn is_of_track(key: &str) -> bool {
+    matches!(key, "track" | "private" | "numbers")
+}
+
+fn name(alloc: Global, words: &Words) -> Result<Name> {
+    match Name::read(alloc, words.raw(0)?) {
+        Ok(name) => Ok(name),
+        Err(_) => bail!("no name"),
+    }
+}
+
+/// Takes a line of a track.
+pub fn add_to(alloc: Global, tracks: &mut Vec<Track>, key: &str, words: &Words) -> Result<()> {
+    if key == "track" {
+        tracks.push(track_of(alloc, words)?)?;
+        return Ok(());
+    }
+    let Some(track) = tracks.last_mut() else {
+        bail!("no track");
+    };
+    if key == "private" {
+        track.private = Bytes::from_vec(words.bytes(alloc, 0)?);
+    } else {
+        track.numbers = numbers_of(words)?;
+    }
+    Ok(())
+}
+
+/// The channel of these tracks, which are taken out.
+pub fn channel(alloc: Global, tracks: &mut Vec<Track>) -> Channel {
+    Channel::from_vec(std::mem::replace(tracks, Vec::new(alloc)))
+}
+
+/// The address that the words say from this one on: stream, bitrate and time.
+pub fn address(alloc: Global, words: &Words) -> Result<Address> {
+    Ok(Address {
+        stream: name(alloc, words)?,
+        bitrate: words.short(1)?,
+        time: words.number(2)?,
+    })
+}
+
+/// A fragment: its stream, bitrate, time and duration, and the bytes of its one sample, which has a duration of 20,000,000.
+pub fn fragment(alloc: Global, words: &Words) -> Result<Fragment> {
+    let sample = Sample {
+        duration: 20_000_000,
+        flags: 0,
+        offset: 0,
+        bytes: Bytes::from_slice(alloc, words.bytes(alloc, 4)?.as_slice())?,
+    };
+    Ok(Fragment {
+        stream: name(alloc, words)?,
+        bitrate: words.short(1)?,
+        time: words.number(2)?,
+        duration: words.number(3)?,
+        signed: false,
+        samples: Samples::from_vec(vec![in alloc; sample]?),
+    })
+}
