@@ -3,6 +3,7 @@ pub mod Places
 pub mod Steps
 pub mod Acts
 pub mod Asked
+pub mod Replied
 pub mod Fronts
 pub mod Telling
 pub mod KeptNow

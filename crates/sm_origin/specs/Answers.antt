@@ -23,14 +23,6 @@ reply_to_header declared.Full = unplaced cause.Full
 reply_to_header declared.DiskFault = unplaced cause.DiskFault
 reply_to_header declared.NoMemory = no_memory
 
-abbrev pub reply_to_fragment : Keeping → Reply
-reply_to_fragment (keeping.Kept place) = silent Kept
-reply_to_fragment (keeping.Known place) = silent Known
-reply_to_fragment (keeping.Refused why) = unplaced why
-reply_to_fragment keeping.Full = unplaced cause.Full
-reply_to_fragment keeping.DiskFault = unplaced cause.DiskFault
-reply_to_fragment keeping.NoMemory = no_memory
-
 -- what a connection would be told where this was read back: what the log answers, or why it could not be read
 abbrev pub reply_to_fetched : List Entry → Address → Fetched → Reply
 reply_to_fetched log a (fetched.Found place f) = reply_of log (Ask a)

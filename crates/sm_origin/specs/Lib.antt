@@ -6,3 +6,4 @@ pub mod Opening
 pub mod Caching
 pub mod Giving
 pub mod Shown
+pub mod Replying

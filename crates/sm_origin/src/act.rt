@@ -4,9 +4,11 @@ ghost use Rattle.sm_model.specs.declared.address.Address.{Address};
 ghost use Rattle.sm_model.specs.declared.act.Act.TheVariants.{Fragment as Ask};
 ghost use Rattle.sm_cache.specs.declared.cache.Kept.{Kept};
 ghost use Rattle.sm_site.specs.Meanings.{SameLink};
+ghost use Rattle.sm_site.specs.Clauses.{Rose};
 ghost use Rattle.sm_origin.specs.Machine.{Machine};
 ghost use Rattle.sm_origin.specs.Acting.{StandsFor, IsValidAct, ActGives};
 ghost use Rattle.sm_origin.specs.Caching.{Remembers, held_at};
+ghost use Rattle.sm_origin.specs.Replying.{Replies};
 
 use crate::counts::tell_counts;
 use crate::listing::list;
@@ -30,6 +32,9 @@ impl Origin {
         ensures step { IsSome (S.Disk.view site.old).contents → (m : Machine)
             → StandsFor (IsSome (S.Disk.view site.old).contents) m self.old (S.Disk.may_leave site.old)
             → ActGives S.Disk.view S.Disk.may_leave S.Disk.left_at site.old site.new m self.new act.now result }
+        // The same of the reply on any disk; of a fragment that is read back its address, its place and that it is valid.
+        ensures replied { (m : Machine) → StandsFor (IsSome (S.Disk.view site.old).contents) m self.old (S.Disk.may_leave site.old)
+            → Replies (Rose (S.Disk.view site.old).disk_faults (S.Disk.view site.new).disk_faults) (IsSome (S.Disk.view site.new).contents) (S.Disk.may_leave site.new) m self.new act.now result }
         // A fragment in the cache is given without a read of the disk.
         ensures unread { (a : Address) (kept : Kept) → act.now ≡ Ask a → held_at a self.old.cache ≡ Some kept
             → (S.Disk.view site.new).reads ≡ (S.Disk.view site.old).reads }

@@ -5,10 +5,12 @@ ghost use Rattle.sm_log.specs.Logs.{channel_of};
 ghost use Rattle.sm_model.specs.declared.act.Act.TheVariants.{Fragment as Ask};
 ghost use Rattle.sm_cache.specs.declared.cache.Kept.{Kept};
 ghost use Rattle.sm_site.specs.Meanings.{SameLink};
+ghost use Rattle.sm_site.specs.Clauses.{Rose};
 ghost use Rattle.sm_origin.specs.Machine.{Machine};
 ghost use Rattle.sm_origin.specs.Acting.{StandsFor, ActGives};
 ghost use Rattle.sm_origin.specs.Caching.{Remembers, held_at, with_kept};
 ghost use Rattle.sm_origin.specs.Giving.{OfLog, Gives, missing};
+ghost use Rattle.sm_origin.specs.Replying.{Replies};
 
 use crate::kept::give;
 use crate::origin::Origin;
@@ -77,6 +79,8 @@ impl Origin {
         ensures stands { (m : Machine) × StandsFor (IsSome (D.view disk.new).contents) m self.new (D.may_leave disk.new) }
         ensures step { IsSome (D.view disk.old).contents → (m : Machine) → StandsFor (IsSome (D.view disk.old).contents) m self.old (D.may_leave disk.old)
             → ActGives D.view D.may_leave D.left_at disk.old disk.new m self.new (Ask address.now) result }
+        ensures replied { (m : Machine) → StandsFor (IsSome (D.view disk.old).contents) m self.old (D.may_leave disk.old)
+            → Replies (Rose (D.view disk.old).disk_faults (D.view disk.new).disk_faults) (IsSome (D.view disk.new).contents) (D.may_leave disk.new) m self.new (Ask address.now) result }
         ensures remembers { Remembers (Ask address.now) result self.old.cache self.new.cache }
         ensures told { is_some (D.view disk.new).contents ≡ is_some (D.view disk.old).contents }
         ensures no_fewer { (D.view disk.old).disk_faults ≤ (D.view disk.new).disk_faults }
@@ -107,6 +111,8 @@ impl Origin {
         ensures stands { (m : Machine) × StandsFor (IsSome (D.view disk.new).contents) m self.new (D.may_leave disk.new) }
         ensures step { IsSome (D.view disk.old).contents → (m : Machine) → StandsFor (IsSome (D.view disk.old).contents) m self.old (D.may_leave disk.old)
             → ActGives D.view D.may_leave D.left_at disk.old disk.new m self.new (Ask address.now) result }
+        ensures replied { (m : Machine) → StandsFor (IsSome (D.view disk.old).contents) m self.old (D.may_leave disk.old)
+            → Replies (Rose (D.view disk.old).disk_faults (D.view disk.new).disk_faults) (IsSome (D.view disk.new).contents) (D.may_leave disk.new) m self.new (Ask address.now) result }
         ensures unread { (kept : Kept) → held_at address.now self.old.cache ≡ Some kept → (D.view disk.new).reads ≡ (D.view disk.old).reads }
         ensures remembers { Remembers (Ask address.now) result self.old.cache self.new.cache }
         ensures told { is_some (D.view disk.new).contents ≡ is_some (D.view disk.old).contents }

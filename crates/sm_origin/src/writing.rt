@@ -11,6 +11,7 @@ ghost use Rattle.sm_origin.specs.Answers.{reply_to_header};
 ghost use Rattle.sm_origin.specs.Machine.{Machine};
 ghost use Rattle.sm_origin.specs.Acting.{StandsFor, ActGives};
 ghost use Rattle.sm_origin.specs.Caching.{Remembers, with_kept};
+ghost use Rattle.sm_origin.specs.Replying.{Replies};
 
 use crate::origin::Origin;
 use crate::told::{tell_declared, tell_kept};
@@ -49,6 +50,8 @@ impl Origin {
         ensures stands { (m : Machine) × StandsFor (IsSome (D.view disk.new).contents) m self.new (D.may_leave disk.new) }
         ensures step { IsSome (D.view disk.old).contents → (m : Machine) → StandsFor (IsSome (D.view disk.old).contents) m self.old (D.may_leave disk.old)
             → ActGives D.view D.may_leave D.left_at disk.old disk.new m self.new (Frag fragment.now) result }
+        ensures replied { (m : Machine) → StandsFor (IsSome (D.view disk.old).contents) m self.old (D.may_leave disk.old)
+            → Replies (Rose (D.view disk.old).disk_faults (D.view disk.new).disk_faults) (IsSome (D.view disk.new).contents) (D.may_leave disk.new) m self.new (Frag fragment.now) result }
         ensures remembers { Remembers (Frag fragment.now) result self.old.cache self.new.cache }
         ensures told { is_some (D.view disk.new).contents ≡ is_some (D.view disk.old).contents }
         ensures no_fewer { (D.view disk.old).disk_faults ≤ (D.view disk.new).disk_faults }
@@ -102,6 +105,8 @@ impl Origin {
         ensures stands { (m : Machine) × StandsFor (IsSome (D.view disk.new).contents) m self.new (D.may_leave disk.new) }
         ensures step { IsSome (D.view disk.old).contents → (m : Machine) → StandsFor (IsSome (D.view disk.old).contents) m self.old (D.may_leave disk.old)
             → ActGives D.view D.may_leave D.left_at disk.old disk.new m self.new (Header channel.now) result }
+        ensures replied { (m : Machine) → StandsFor (IsSome (D.view disk.old).contents) m self.old (D.may_leave disk.old)
+            → Replies (Rose (D.view disk.old).disk_faults (D.view disk.new).disk_faults) (IsSome (D.view disk.new).contents) (D.may_leave disk.new) m self.new (Header channel.now) result }
         ensures remembers { Remembers (Header channel.now) result self.old.cache self.new.cache }
         ensures told { is_some (D.view disk.new).contents ≡ is_some (D.view disk.old).contents }
         ensures no_fewer { (D.view disk.old).disk_faults ≤ (D.view disk.new).disk_faults }

@@ -1,8 +1,10 @@
-use Rattle.std.proofs.Common.{refl, sym, subst}
+use Rattle.std.proofs.Common.{refl, sym, subst, IsSome}
 use Rattle.sm_model.specs.declared.act.Act.{Act}
 use Rattle.sm_model.specs.declared.act.Act.TheVariants.{Manifest, Unknown, End, Refuse}
+use Rattle.sm_site.specs.Clauses.{Rose}
 use Rattle.sm_site.proofs.Moments.{no_call}
 use Rattle.sm_origin.specs.Acting.{ActGives}
+use Rattle.sm_origin.specs.Replying.{Replies}
 use Rattle.sm_origin.proofs.Acts.{made_step, read_gives}
 use Rattle.sm_origin.proofs.origin.Origin.act.Goals as goal
 
@@ -52,3 +54,47 @@ returns-in-Refuse-clause-step g c = λ has_told m s.
     (made_step _ m m (Refuse c.in-Refuse.refusal) c.tell_at.result c.or_starved-in-Refuse.result refl (record { log = refl; doubt = refl }) c.tell_at.ensures
     c.or_starved-in-Refuse.ensures)
     (no_call v g.S.Disk.left_at d _ (λ t x left. g.met.S.Disk.no_later d t x left)) s)
+
+pub returns-in-Manifest-clause-replied : goal.returns-in-Manifest-clause-replied
+returns-in-Manifest-clause-replied g c = λ m s.
+    let d = c.args.site.now in
+    subst (λ (x : Act). Replies (Rose (g.S.Disk.view d).disk_faults (g.S.Disk.view d).disk_faults) (IsSome (g.S.Disk.view d).contents) (g.S.Disk.may_leave d) m c.args.self.now x c.or_starved.result) (sym c.in-Manifest.is)
+    (record {
+      after = m;
+      answer = made_step _ m m Manifest c.list.result c.or_starved.result refl (record { log = refl; doubt = refl }) (c.list.ensures s.stands.bodies s.stands.body m.log m.doubt s.stands.keeps) c.or_starved.ensures;
+      stands = s;
+      limits = refl;
+    })
+
+pub returns-in-Unknown-clause-replied : goal.returns-in-Unknown-clause-replied
+returns-in-Unknown-clause-replied g c = λ m s.
+    let d = c.args.site.now in
+    subst (λ (x : Act). Replies (Rose (g.S.Disk.view d).disk_faults (g.S.Disk.view d).disk_faults) (IsSome (g.S.Disk.view d).contents) (g.S.Disk.may_leave d) m c.args.self.now x c.or_starved-in-Unknown.result) (sym c.in-Unknown.is)
+    (record {
+      after = m;
+      answer = made_step _ m m Unknown c.tell.result c.or_starved-in-Unknown.result refl (record { log = refl; doubt = refl }) c.tell.ensures c.or_starved-in-Unknown.ensures;
+      stands = s;
+      limits = refl;
+    })
+
+pub returns-in-End-clause-replied : goal.returns-in-End-clause-replied
+returns-in-End-clause-replied g c = λ m s.
+    let d = c.args.site.now in
+    subst (λ (x : Act). Replies (Rose (g.S.Disk.view d).disk_faults (g.S.Disk.view d).disk_faults) (IsSome (g.S.Disk.view d).contents) (g.S.Disk.may_leave d) m c.args.self.now x c.or_starved-in-End.result) (sym c.in-End.is)
+    (record {
+      after = m;
+      answer = made_step _ m m (End c.in-End.kept c.in-End.known) c.tell_counts.result c.or_starved-in-End.result refl (record { log = refl; doubt = refl }) c.tell_counts.ensures c.or_starved-in-End.ensures;
+      stands = s;
+      limits = refl;
+    })
+
+pub returns-in-Refuse-clause-replied : goal.returns-in-Refuse-clause-replied
+returns-in-Refuse-clause-replied g c = λ m s.
+    let d = c.args.site.now in
+    subst (λ (x : Act). Replies (Rose (g.S.Disk.view d).disk_faults (g.S.Disk.view d).disk_faults) (IsSome (g.S.Disk.view d).contents) (g.S.Disk.may_leave d) m c.args.self.now x c.or_starved-in-Refuse.result) (sym c.in-Refuse.is)
+    (record {
+      after = m;
+      answer = made_step _ m m (Refuse c.in-Refuse.refusal) c.tell_at.result c.or_starved-in-Refuse.result refl (record { log = refl; doubt = refl }) c.tell_at.ensures c.or_starved-in-Refuse.ensures;
+      stands = s;
+      limits = refl;
+    })

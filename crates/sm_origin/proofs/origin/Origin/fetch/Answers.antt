@@ -11,6 +11,8 @@ use Rattle.sm_origin.proofs.Places.{has_channel, place_within, kept_there}
 use Rattle.sm_origin.proofs.Steps.{told_row}
 use Rattle.sm_origin.proofs.Acts.{told_before, held_told, held_read, made_step, read_gives}
 use Rattle.sm_origin.proofs.Asked.{asked_is, absent_is, not_kept, kept_if, read_remembers, two_hundred, no_hit, same_cache}
+use Rattle.sm_origin.proofs.Replied.{made_given, made_absent, told_unread, told_damaged}
+use Rattle.sm_origin.specs.Replying.{wants as starves}
 use Rattle.sm_origin.proofs.origin.Origin.fetch.Goals as goal
 
 pub give_read-requires-clause-place : goal.give_read-requires-clause-place
@@ -69,6 +71,35 @@ returns-in-Found-clause-step g c = λ has_told m s.
           (held_told _ _ m.log c.args.self.now.cache.entries told s.cached);
     })
 
+pub returns-in-Found-clause-replied : goal.returns-in-Found-clause-replied
+returns-in-Found-clause-replied g c = λ m s.
+    let v = g.D.Disk.view in
+    let old = c.args.disk.now in
+    let new = c.fetch.new.disk in
+    let a = c.args.address.now in
+    let f = c.in-Found.fragment in
+    let place = c.in-Found.place in
+    let found = c.in-Found.ensures.found place f refl in
+    let log = found.1 m.log m.doubt s.stands in
+    let told = told_before (v old) (v new) (g.met.D.Disk.calls_told old) (g.met.D.Disk.calls_told new) c.fetch.ensures.recorded in
+    let channel = has_channel m.log a place s.stands.keeps.sound log.0 in
+    let given = c.give_read.ensures.gives s.stands.bodies s.stands.body m.log m.doubt s.stands.keeps channel.0 channel.1 in
+    record {
+      after = m;
+      answer = (
+        record { log = refl; doubt = refl },
+        made_given _ m.log a channel.0 place f c.give_read.result c.or_starved.result channel.1 log.0 found.0 (c.in-Found.ensures.valid place f refl) given c.or_starved.ensures,
+      );
+      stands = record {
+        archive = s.archive ∙ sym c.give_read.ensures.archive;
+        stands = subst (λ (x : Archive). Stands x m.log m.doubt (g.D.Disk.may_leave new)) (sym c.give_read.ensures.archive) (c.in-Found.ensures.stands m.log m.doubt s.stands);
+        cached = held_read c.args.self.now.cache c.give_read.new.self.cache place f c.give_read.result c.give_read.ensures.put c.give_read.ensures.none (IsSome (v new).contents) m.log
+            (c.in-Found.ensures.valid place f refl) a found.0 log.0 (λ t. log.1 (told t))
+            (held_told _ _ m.log c.args.self.now.cache.entries told s.cached);
+      };
+      limits = refl;
+    }
+
 pub returns-in-Found-clause-remembers : goal.returns-in-Found-clause-remembers
 returns-in-Found-clause-remembers g c =
     let m = c.requires.stands.0 in
@@ -121,6 +152,27 @@ returns-in-Absent-clause-step g c = λ has_told m s.
       cached = held_told _ _ m.log c.args.self.now.cache.entries told s.cached;
     })
 
+pub returns-in-Absent-clause-replied : goal.returns-in-Absent-clause-replied
+returns-in-Absent-clause-replied g c = λ m s.
+    let v = g.D.Disk.view in
+    let old = c.args.disk.now in
+    let new = c.fetch.new.disk in
+    let told = told_before (v old) (v new) (g.met.D.Disk.calls_told old) (g.met.D.Disk.calls_told new) c.fetch.ensures.recorded in
+    record {
+      after = m;
+      answer = (
+        record { log = refl; doubt = refl },
+        made_absent _ m.log c.args.address.now c.tell_missing.result c.or_starved-in-Absent.result ((c.in-Absent.ensures.absent m.log m.doubt s.stands).0 refl)
+            (c.tell_missing.ensures s.stands.bodies s.stands.body m.log m.doubt s.stands.keeps) c.or_starved-in-Absent.ensures,
+      );
+      stands = record {
+        archive = s.archive;
+        stands = c.in-Absent.ensures.stands m.log m.doubt s.stands;
+        cached = held_told _ _ m.log c.args.self.now.cache.entries told s.cached;
+      };
+      limits = refl;
+    }
+
 pub returns-in-Absent-clause-remembers : goal.returns-in-Absent-clause-remembers
 returns-in-Absent-clause-remembers g c =
     let m = c.requires.stands.0 in
@@ -170,6 +222,30 @@ returns-in-DiskFault-clause-step g c = λ has_told m s.
     not_absent : fetched.DiskFault ≡ fetched.Absent → ⊥
     not_absent e = cc
 
+pub returns-in-DiskFault-clause-replied : goal.returns-in-DiskFault-clause-replied
+returns-in-DiskFault-clause-replied g c = λ m s.
+    let v = g.D.Disk.view in
+    let old = c.args.disk.now in
+    let new = c.fetch.new.disk in
+    let told = told_before (v old) (v new) (g.met.D.Disk.calls_told old) (g.met.D.Disk.calls_told new) c.fetch.ensures.recorded in
+    record {
+      after = m;
+      answer = (
+        record { log = refl; doubt = refl },
+        told_unread _ m.log c.args.address.now c.refuse.result (λ none. absurd (not_absent ((c.in-DiskFault.ensures.absent m.log m.doubt s.stands).1 none)))
+            (c.in-DiskFault.ensures.fault refl) c.refuse.ensures,
+      );
+      stands = record {
+        archive = s.archive;
+        stands = c.in-DiskFault.ensures.stands m.log m.doubt s.stands;
+        cached = held_told _ _ m.log c.args.self.now.cache.entries told s.cached;
+      };
+      limits = refl;
+    }
+  where
+    not_absent : fetched.DiskFault ≡ fetched.Absent → ⊥
+    not_absent e = cc
+
 -- where what was read is none
 
 pub returns-in-Damaged-clause-stands : goal.returns-in-Damaged-clause-stands
@@ -190,6 +266,30 @@ returns-in-Damaged-clause-stands g c =
 
 pub returns-in-Damaged-clause-step : goal.returns-in-Damaged-clause-step
 returns-in-Damaged-clause-step g c = λ has_told m s. absurd (c.in-Damaged.ensures.damaged refl m.log m.doubt s.stands has_told)
+
+pub returns-in-Damaged-clause-replied : goal.returns-in-Damaged-clause-replied
+returns-in-Damaged-clause-replied g c = λ m s.
+    let v = g.D.Disk.view in
+    let old = c.args.disk.now in
+    let new = c.fetch.new.disk in
+    let told = told_before (v old) (v new) (g.met.D.Disk.calls_told old) (g.met.D.Disk.calls_told new) c.fetch.ensures.recorded in
+    record {
+      after = m;
+      answer = (
+        record { log = refl; doubt = refl },
+        told_damaged _ m.log c.args.address.now c.refuse-in-Damaged.result (λ none. absurd (not_absent ((c.in-Damaged.ensures.absent m.log m.doubt s.stands).1 none)))
+            c.refuse-in-Damaged.ensures,
+      );
+      stands = record {
+        archive = s.archive;
+        stands = c.in-Damaged.ensures.stands m.log m.doubt s.stands;
+        cached = held_told _ _ m.log c.args.self.now.cache.entries told s.cached;
+      };
+      limits = refl;
+    }
+  where
+    not_absent : fetched.Damaged ≡ fetched.Absent → ⊥
+    not_absent e = cc
 
 -- where memory is wanted
 
@@ -225,3 +325,23 @@ returns-in-NoMemory-clause-step g c = λ has_told m s.
       stands = c.in-NoMemory.ensures.stands m.log m.doubt s.stands;
       cached = held_told _ _ m.log c.args.self.now.cache.entries told s.cached;
     })
+
+pub returns-in-NoMemory-clause-replied : goal.returns-in-NoMemory-clause-replied
+returns-in-NoMemory-clause-replied g c = λ m s.
+    let v = g.D.Disk.view in
+    let old = c.args.disk.now in
+    let new = c.fetch.new.disk in
+    let told = told_before (v old) (v new) (g.met.D.Disk.calls_told old) (g.met.D.Disk.calls_told new) c.fetch.ensures.recorded in
+    record {
+      after = m;
+      answer = (
+        record { log = refl; doubt = refl },
+        starves c.starved.ensures,
+      );
+      stands = record {
+        archive = s.archive;
+        stands = c.in-NoMemory.ensures.stands m.log m.doubt s.stands;
+        cached = held_told _ _ m.log c.args.self.now.cache.entries told s.cached;
+      };
+      limits = refl;
+    }

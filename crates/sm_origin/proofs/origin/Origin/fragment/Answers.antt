@@ -10,6 +10,7 @@ use Rattle.sm_origin.proofs.Places.{has_channel, place_within, kept_there}
 use Rattle.sm_origin.proofs.Acts.{made_step, read_gives}
 use Rattle.sm_origin.proofs.Asked.{asked_is, two_hundred}
 use Rattle.sm_origin.proofs.Fronts.{absent_stays, front_held, hit_held, hit_remembers}
+use Rattle.sm_origin.proofs.Replied.{made_given}
 use Rattle.sm_origin.proofs.origin.Origin.fragment.Goals as goal
 
 pub give_kept-requires-clause-valid : goal.give_kept-requires-clause-valid
@@ -47,6 +48,14 @@ fetch-requires-clause-stands g c =
 pub returns-in-None-clause-step : goal.returns-in-None-clause-step
 returns-in-None-clause-step g c = λ has_told m s.
     c.fetch.ensures.step has_told m (record {
+      archive = s.archive;
+      stands = s.stands;
+      cached = front_held _ m.log c.args.address.now c.args.self.now.cache c.get.follows.lender-at-none c.get.follows.holds-at-none s.cached;
+    })
+
+pub returns-in-None-clause-replied : goal.returns-in-None-clause-replied
+returns-in-None-clause-replied g c = λ m s.
+    c.fetch.ensures.replied m (record {
       archive = s.archive;
       stands = s.stands;
       cached = front_held _ m.log c.args.address.now c.args.self.now.cache c.get.follows.lender-at-none c.get.follows.holds-at-none s.cached;
@@ -94,6 +103,27 @@ returns-in-Some-clause-step g c = λ has_told m s.
       stands = s.stands;
       cached = front_held _ m.log a c.args.self.now.cache c.get.follows.lender-at-none c.get.follows.holds-at-none s.cached;
     })
+
+pub returns-in-Some-clause-replied : goal.returns-in-Some-clause-replied
+returns-in-Some-clause-replied g c = λ m s.
+    let a = c.args.address.now in
+    let kept = c.in-Some.kept.now in
+    let h = hit_held _ m.log a c.args.self.now.cache kept (sym c.in-Some.ensures.value) s.cached in
+    let channel = has_channel m.log a kept.place s.stands.keeps.sound h.place in
+    let given = c.give_kept.ensures s.stands.bodies s.stands.body m.log m.doubt s.stands.keeps channel.0 channel.1 in
+    record {
+      after = m;
+      answer = (
+        record { log = refl; doubt = refl },
+        made_given _ m.log a channel.0 kept.place kept.fragment c.give_kept.result c.or_starved.result channel.1 h.place h.address h.valid given c.or_starved.ensures,
+      );
+      stands = record {
+        archive = s.archive;
+        stands = s.stands;
+        cached = front_held _ m.log a c.args.self.now.cache c.get.follows.lender-at-none c.get.follows.holds-at-none s.cached;
+      };
+      limits = refl;
+    }
 
 pub returns-in-Some-clause-remembers : goal.returns-in-Some-clause-remembers
 returns-in-Some-clause-remembers g c =

@@ -60,6 +60,32 @@ returns-in-Kept-clause-step g c = λ has_told m s.
     (c.keep.ensures.any_moment m.log m.doubt s.stands has_told)
     (put_or_same c.args.self.now.cache c.remember.new.self.cache place f c.remember.ensures.cache (IsSome (v new).contents) st.after.log c.requires.valid there.place_is (λ t. there.there) held)
 
+pub returns-in-Kept-clause-replied : goal.returns-in-Kept-clause-replied
+returns-in-Kept-clause-replied g c = λ m s.
+    let v = g.D.Disk.view in
+    let old = c.args.disk.now in
+    let new = c.keep.new.disk in
+    let f = c.args.fragment.now in
+    let place = c.in-Kept.place in
+    let failed = Rose (v old).disk_faults (v new).disk_faults in
+    let acted = Acted (v old) (v new) in
+    let step = subst (λ (r : Keeping). KeepStep acted (g.D.Disk.may_leave new) c.keep.new.self m.log m.doubt f r) c.in-Kept.is (c.keep.ensures.step m.log m.doubt s.stands) in
+    let fails : keeping.Kept place ≡ keeping.DiskFault → failed = λ is. c.keep.ensures.fault (c.in-Kept.is ∙ is) in
+    let st = fragment_step failed acted (g.D.Disk.may_leave new) m c.keep.new.self f (keeping.Kept place) c.silent.result fails step c.silent.ensures in
+    let there = kept_there_now c.kept_is_added.ensures.place c.kept_is_added.ensures.one failed acted (g.D.Disk.may_leave new) m c.keep.new.self f place c.silent.result fails step c.silent.ensures in
+    let told = told_before (v old) (v new) (g.met.D.Disk.calls_told old) (g.met.D.Disk.calls_told new) c.keep.ensures.recorded in
+    let held = held_after c.kept_is_added.ensures.place c.listed_times_stay.ensures.kept _ _ _ _ _ m c.keep.new.self _ _ told st c.args.self.now.cache.entries s.cached in
+    record {
+      after = st.after;
+      answer = st.step;
+      stands = record {
+        archive = st.archive ∙ sym c.remember.ensures.archive;
+        stands = subst (λ (a : Archive). Stands a st.after.log st.after.doubt (g.D.Disk.may_leave new)) (sym c.remember.ensures.archive) st.stands;
+        cached = put_or_same c.args.self.now.cache c.remember.new.self.cache place f c.remember.ensures.cache (IsSome (v new).contents) st.after.log c.requires.valid there.place_is (λ t. there.there) held;
+      };
+      limits = ap (λ (a : Archive). a.limits) st.archive ∙ (c.keep.ensures.limits ∙ ap (λ (a : Archive). a.limits) (sym s.archive));
+    }
+
 -- where it wasn't
 pub returns-in_default : goal.returns-in_default
 returns-in_default g c = record {
@@ -90,6 +116,23 @@ returns-in_default g c = record {
       (g.met.D.Disk.calls_told old) (g.met.D.Disk.calls_told new) (λ t x left. g.met.D.Disk.no_later new t x left) (λ x left. g.met.D.Disk.at_now new x left)
       c.an_image_fits.ensures refl st (c.keep.ensures.limits ∙ ap (λ (a : Archive). a.limits) (sym s.archive)) (c.keep.ensures.any_moment m.log m.doubt s.stands has_told)
       (held_after c.kept_is_added.ensures.place c.listed_times_stay.ensures.kept _ _ _ _ _ m c.keep.new.self _ _ told st c.args.self.now.cache.entries s.cached);
+  replied = λ m s.
+      let v = g.D.Disk.view in
+      let old = c.args.disk.now in
+      let new = c.keep.new.disk in
+      let st = fragment_step (Rose (v old).disk_faults (v new).disk_faults) (Acted (v old) (v new)) (g.D.Disk.may_leave new) m c.keep.new.self c.args.fragment.now c.keep.result
+      c.tell_kept.result c.keep.ensures.fault (c.keep.ensures.step m.log m.doubt s.stands) c.tell_kept.ensures in
+      let told = told_before (v old) (v new) (g.met.D.Disk.calls_told old) (g.met.D.Disk.calls_told new) c.keep.ensures.recorded in
+      record {
+        after = st.after;
+        answer = st.step;
+        stands = record {
+          archive = st.archive;
+          stands = st.stands;
+          cached = held_after c.kept_is_added.ensures.place c.listed_times_stay.ensures.kept _ _ _ _ _ m c.keep.new.self _ _ told st c.args.self.now.cache.entries s.cached;
+        };
+        limits = ap (λ (a : Archive). a.limits) st.archive ∙ (c.keep.ensures.limits ∙ ap (λ (a : Archive). a.limits) (sym s.archive));
+      };
   told = same_told (g.D.Disk.view c.args.disk.now) (g.D.Disk.view c.keep.new.disk) (g.met.D.Disk.calls_told c.args.disk.now) (g.met.D.Disk.calls_told c.keep.new.disk) c.keep.ensures.recorded;
   remembers = same_behind c.args.fragment.now c.tell_kept.result c.args.self.now.cache;
   no_fewer = c.keep.ensures.no_fewer;
