@@ -22,11 +22,11 @@ use Rattle.sm_serve.proofs.Stepping.{away_after, acted}
 away_idle : (n : ℕ) (f : Phase) → f ≡ idle → IsAway n f
 away_idle n f is = subst (λ (g : Phase). IsAway n g) (sym is) tt
 
-nothing_yet : (laws : WireLaws) (first : Machine) (begin n : ℕ) → Stood first [] [] (start first begin) n
+nothing_yet : (laws : WireLaws) (first : Machine) (begin faults n : ℕ) → Stood first [] [] (start first begin faults) n
 unfolding received replies
-nothing_yet laws first begin n =
-    let new = anew laws (HeldBy first [] []) (start first begin) [] [] refl refl in
-    stands_idle first [] [] (start first begin) n refl new.0 (λ among. new.1)
+nothing_yet laws first begin faults n =
+    let new = anew laws (HeldBy first [] []) (start first begin faults) [] [] refl refl in
+    stands_idle first [] [] (start first begin faults) n refl new.0 (λ among. new.1)
 
 module _ (first : Machine) (items : List Item) (ss : List Stepped) (n : ℕ) (es : List Item) (xs : List Stepped) (q : Point) where
   -- a move with an entry and no step, one with neither, and one with a step alone
@@ -50,7 +50,7 @@ module _ (first : Machine) (items : List Item) (ss : List Stepped) (n : ℕ) (es
 
 module _ (longer : (log more : List Entry) (claim : Claim) → HeldIn log claim → HeldIn (log ++ more) claim)
     (laws : WireLaws) (texts : TextsHold) where
-  module _ (first : Machine) (begin : ℕ) (items : List Item) (ss : List Stepped) (p : Point) (run : Run true first begin items ss p) (n : ℕ) (s : Stood first items ss p n) where
+  module _ (first : Machine) (begin faults : ℕ) (items : List Item) (ss : List Stepped) (p : Point) (run : Run true first begin faults items ss p) (n : ℕ) (s : Stood first items ss p n) where
     on : (xs : List Stepped) (q : Point) → Stays p xs q ⊎ StepsOn p xs q → Extends p.machine q.machine
     on xs q (inl (none, same)) = subst (λ (m : Machine). Extends p.machine m) (sym same) (itself p.machine)
     on xs q (inr (x, one, from, step, to)) = subst (λ (m : Machine). Extends p.machine m) (sym to) (steps_on p x from step)
@@ -58,7 +58,7 @@ module _ (longer : (log more : List Entry) (claim : Claim) → HeldIn log claim 
     module _ (es : List Item) (xs : List Stepped) (q : Point) where
       -- a move of another connection, or of none
       elsewhere : Stays p xs q ⊎ StepsOn p xs q → IsQuiet n items es → IsAway n p.phase → IsAway n q.phase → Stood first (items ++ es) (ss ++ xs) q n
-      elsewhere kind quiet was now = elsewhere_stood longer first items es ss xs p q n s (steps_grow first begin items ss p run xs q kind) (on xs q kind) quiet.0 quiet.1 quiet.2 was now
+      elsewhere kind quiet was now = elsewhere_stood longer first items es ss xs p q n s (steps_grow first begin faults items ss p run xs q kind) (on xs q kind) quiet.0 quiet.1 quiet.2 was now
 
       entry_elsewhere : (m : ℕ) (deal : Deal) (r : Point) → es ≡ at m deal → xs ≡ [] → q ≡ r → r.machine ≡ p.machine → IsQuiet n items (at m deal) → IsAway n p.phase → IsAway n r.phase
           → Stood first (items ++ es) (ss ++ xs) q n
@@ -98,7 +98,7 @@ module _ (longer : (log more : List Entry) (claim : Claim) → HeldIn log claim 
           let kind : Stays p (x ∷ []) q ⊎ StepsOn p (x ∷ []) q = inr (x, refl, step.before_is, (step.machine refl).step, ap (λ (r : Point). r.machine) is) in
           elim (cases_eq k n) [
             | inl same ↦ with_step first items ss n es xs q x _ e one is
-                (acted longer texts first items ss p n s k same act x step (steps_grow first begin items ss p run (x ∷ []) q kind) (steps_on p x step.before_is (step.machine refl).step) item more phase does)
+                (acted longer texts first items ss p n s k same act x step (steps_grow first begin faults items ss p run (x ∷ []) q kind) (steps_on p x step.before_is (step.machine refl).step) item more phase does)
             | inr other ↦ elsewhere (inr (x, one, step.before_is, (step.machine refl).step, ap (λ (r : Point). r.machine) is)) (subst (λ (l : List Item). IsQuiet n items l) (sym e) (quiet_none n items))
                 (subst (λ (f : Phase). IsAway n f) (sym phase) other) (subst (λ (r : Point). IsAway n r.phase) (sym is) (away_after n k (sent_of x.reply) _ more other))
           ]
@@ -128,12 +128,12 @@ module _ (longer : (log more : List Entry) (claim : Claim) → HeldIn log claim 
           elsewhere (inr (x, one, step.before_is, (step.machine refl).step, ap (λ (r : Point). r.machine) is)) (subst (λ (l : List Item). IsQuiet n items l) (sym e) (quiet_none n items)) (away_idle n p.phase phase)
           (subst (λ (r : Point). IsAway n r.phase) (sym is) tt)
 
-  pub all_stood : (first : Machine) (begin : ℕ) (items : List Item) (steps : List Stepped) (p : Point) → Run true first begin items steps p → (n : ℕ) → Stood first items steps p n
-  all_stood first begin [] [] p begins n = nothing_yet laws first begin n
-  all_stood first begin items steps q (goes_on was es items' ss xs steps' p q' run move now all) n =
+  pub all_stood : (first : Machine) (begin faults : ℕ) (items : List Item) (steps : List Stepped) (p : Point) → Run true first begin faults items steps p → (n : ℕ) → Stood first items steps p n
+  all_stood first begin faults [] [] p begins n = nothing_yet laws first begin faults n
+  all_stood first begin faults items steps q (goes_on was es items' ss xs steps' p q' run move now all) n =
       subst (λ (l : List Item). Stood first l steps q n) (sym now) (subst (λ (ys : List Stepped). Stood first (was ++ es) ys q n) (sym all)
-      (move_stood first begin was ss p run n (all_stood first begin was ss p run n) es xs q move))
+      (move_stood first begin faults was ss p run n (all_stood first begin faults was ss p run n) es xs q move))
 
-  pub connections_stand : (first : Machine) (begin : ℕ) (items : List Item) (steps : List Stepped) (point : Point) → Run true first begin items steps point → (n : ℕ)
+  pub connections_stand : (first : Machine) (begin faults : ℕ) (items : List Item) (steps : List Stepped) (point : Point) → Run true first begin faults items steps point → (n : ℕ)
       → Core (HeldBy first items steps) point.machine.log (received n items) (replies n items)
-  connections_stand first begin items steps point run n = (all_stood first begin items steps point run n).core
+  connections_stand first begin faults items steps point run n = (all_stood first begin faults items steps point run n).core

@@ -45,7 +45,7 @@ use Rattle.sm_serve.specs.Serving.{numbers_of, AreResting, Serves, Known, Turns,
 use Rattle.sm_site.proofs.Transcripts.{open_push, stays_live}
 use Rattle.sm_serve.proofs.Transcripts.{told_adds, events_are}
 use Rattle.sm_serve.proofs.Going.{Acted, stepped, run_as, link_move}
-use Rattle.sm_serve.proofs.Sending.{LinkCall, calls_here, contents_here, told_here}
+use Rattle.sm_serve.proofs.Sending.{LinkCall, calls_here, contents_here, disk_faults_here, told_here}
 use Rattle.sm_serve.proofs.Lives.{among_push, among_less, among_itself, rest_all}
 
 -- ---- a connection is live where it is open in the transcript
@@ -143,11 +143,13 @@ module _ {D : Type 0} (view W : D → View) (leave leave' : D → Image → Type
       let before : IsTrue (is_told (view e)) → h.point.ended ≤ (view d).moment =
       λ has. keeps.clock (told_here view W leave leave' left_at left' one_view one_disk one_past told d e call has) in (
         t.0,
-        λ q move machine ended failed.
+        λ q move machine ended failed disk_faults.
             link_move view leave left_at told h d e (at t.0 deal) q keeps move machine (λ has. (let b = before has in omega (arith, ended, b, above))) t.3 time same
             (calls_here view W leave leave' left_at left' one_view one_disk one_past told d e call) (contents_here view W leave leave' left_at left' one_view one_disk one_past told d e call)
             (λ has. omega (arith, ended, within))
-            (λ below. subst (λ (k : ℕ). k ≤ (view e).send_faults) (sym failed) (subst (λ (k : ℕ). h.point.failed ≤ k) (sym sends) (keeps.blamed (subst (λ (k : ℕ). k < 2 ^ 64 - 1) sends below)))),
+            (λ below. subst (λ (k : ℕ). h.found.send_faults + k ≤ (view e).send_faults) (sym failed)
+            (subst (λ (k : ℕ). h.found.send_faults + h.point.failed ≤ k) (sym sends) (keeps.blamed (subst (λ (k : ℕ). k < 2 ^ 64 - 1) sends below))))
+            disk_faults (disk_faults_here view W leave leave' left_at left' one_view one_disk one_past told d e call),
       )
 
   -- a call that takes no event
@@ -165,7 +167,7 @@ module _ {D : Type 0} (view W : D → View) (leave leave' : D → Image → Type
         later = h;
         serves = record {
           keeps = record {
-            run = run_as (is_told (view d)) (is_told (view e)) h.first h.begin h.items h.steps h.point (ap (λ (o : Option Image). is_some o) contents) keeps.run;
+            run = run_as (is_told (view d)) (is_told (view e)) h.first h.begin h.found.disk_faults h.items h.steps h.point (ap (λ (o : Option Image). is_some o) contents) keeps.run;
             told = ap (λ (v : View). v.transcript) (one_view e) ∙ still ∙ ap (λ (v : View). v.transcript) (sym (one_view d)) ∙ keeps.told;
             clock = λ has. (let c = keeps.clock (before has) in let l = time.later in omega (arith, c, l));
             current = λ has. keeps.current (before has);
@@ -177,9 +179,11 @@ module _ {D : Type 0} (view W : D → View) (leave leave' : D → Image → Type
                   inl (subst (λ (m : Machine). Fits m image) (sym (keeps.current has t (let c = keeps.clock has in omega (arith, c, after)))) (keeps.now image was))
               | inr before ↦ keeps.images t image from ((time.keeps t image before).0 left)
             ];
-            recorded = subst (λ (o : Option (List DiskCall)). IfSome o (λ cs. (before : List DiskCall) × (cs ≡ before ++ calls_of h.steps)))
+            recorded = subst (λ (o : Option (List DiskCall)). Both h.found.calls o (λ before now. now ≡ before ++ calls_of h.steps))
                 (sym (calls_here view W leave leave' left_at left' one_view one_disk one_past told d e call)) keeps.recorded;
-            blamed = λ below. subst (λ (k : ℕ). h.point.failed ≤ k) (sym sends) (keeps.blamed (subst (λ (k : ℕ). k < 2 ^ 64 - 1) sends below));
+            blamed = λ below. subst (λ (k : ℕ). h.found.send_faults + h.point.failed ≤ k) (sym sends) (keeps.blamed (subst (λ (k : ℕ). k < 2 ^ 64 - 1) sends below));
+            counted = keeps.counted ∙ sym (disk_faults_here view W leave leave' left_at left' one_view one_disk one_past told d e call);
+            still_told = ap (λ (o : Option Image). is_some o) contents ∙ keeps.still_told;
           };
           rest = record {
             stands = fewer h.point.machine state.origin d e serves.rest.stands contents (λ image left. (same image).0 left);
@@ -188,7 +192,7 @@ module _ {D : Type 0} (view W : D → View) (leave leave' : D → Image → Type
             resting = serves.rest.resting;
           };
         };
-        since = record { first = refl; begin = refl; base = refl; on = on_itself h };
+        since = record { first = refl; begin = refl; base = refl; found = refl; on = on_itself h };
         taken = sym (append-nil (deals_in h.items));
       }
 
@@ -224,7 +228,7 @@ taken_then : (xs ys a b c : List Deal) → AreTaken xs a b → AreTaken ys b c �
 taken_then [] ys a b c one two = subst (λ (ds : List Deal). AreTaken ys ds c) one two
 taken_then (x ∷ xs) ys a b c (rest, takes, one) two = (rest, takes, taken_then xs ys rest b c one two)
 
-scripts_then : (a b c : Option (List Deal)) (xs ys : List Deal) → Both a b (AreTaken xs) → Both b c (AreTaken ys) → Both a c (AreTaken (xs ++ ys))
+pub scripts_then : (a b c : Option (List Deal)) (xs ys : List Deal) → Both a b (AreTaken xs) → Both b c (AreTaken ys) → Both a c (AreTaken (xs ++ ys))
 scripts_then None None None xs ys one two = tt
 scripts_then None None (Some c) xs ys one two = absurd two
 scripts_then None (Some b) c xs ys one two = absurd one
@@ -232,11 +236,11 @@ scripts_then (Some a) None c xs ys one two = absurd one
 scripts_then (Some a) (Some b) None xs ys one two = absurd two
 scripts_then (Some a) (Some b) (Some c) xs ys one two = taken_then xs ys a b c one two
 
-script_stays : (s : Option (List Deal)) → Both s s (AreTaken [])
+pub script_stays : (s : Option (List Deal)) → Both s s (AreTaken [])
 script_stays None = tt
 script_stays (Some s) = refl
 
-script_took : (deal : Deal) (a b c : Option (List Deal)) → Both a b (Takes deal) → c ≡ b → Both a c (AreTaken (deal ∷ []))
+pub script_took : (deal : Deal) (a b c : Option (List Deal)) → Both a b (Takes deal) → c ≡ b → Both a c (AreTaken (deal ∷ []))
 script_took deal None None None took same = tt
 script_took deal None None (Some c) took same = absurd (cc)
 script_took deal None (Some b) c took same = absurd took
@@ -244,14 +248,14 @@ script_took deal (Some a) None c took same = absurd took
 script_took deal (Some a) (Some b) None took same = absurd (cc)
 script_took deal (Some a) (Some b) (Some c) took same = (b, took, cc)
 
-same_script : (a b : Option (List Deal)) → b ≡ a → Both a b (AreTaken [])
+pub same_script : (a b : Option (List Deal)) → b ≡ a → Both a b (AreTaken [])
 same_script a b same = subst (λ (o : Option (List Deal)). Both a o (AreTaken [])) (sym same) (script_stays a)
 
 module _ {D : Type 0} (view W : D → View) (leave : D → Image → Type 0) (left_at : D → ℕ → Image → Type 0) (one_view : (s : D) → view s ≡ W s) where
-  script_in : (d : D) → (view d).script ≡ (W d).script
+  pub script_in : (d : D) → (view d).script ≡ (W d).script
   script_in d = ap (λ (v : View). v.script) (one_view d)
 
-  pub turn_taken : (h : History) (n : ℕ) (deal : Deal) (state : State) (d mid e : D) → 1 ≡ n → Both (W d).script (W mid).script (Takes deal) → (view e).script ≡ (view mid).script
+  unfoldable pub turn_taken : (h : History) (n : ℕ) (deal : Deal) (state : State) (d mid e : D) → 1 ≡ n → Both (W d).script (W mid).script (Takes deal) → (view e).script ≡ (view mid).script
       → Turns view leave left_at h (deal ∷ []) state e → TurnsBy view leave left_at h n (view d).script state e
   turn_taken h n deal state d mid e one took same turns = record {
     deals = deal ∷ [];
@@ -261,7 +265,7 @@ module _ {D : Type 0} (view W : D → View) (leave : D → Image → Type 0) (le
         (script_took deal (W d).script (W mid).script (view e).script took (same ∙ script_in mid));
   }
 
-  pub turn_not_taken : (h : History) (state : State) (d e : D) → (W e).script ≡ (W d).script → Turns view leave left_at h [] state e → TurnsBy view leave left_at h 0 (view d).script state e
+  unfoldable pub turn_not_taken : (h : History) (state : State) (d e : D) → (W e).script ≡ (W d).script → Turns view leave left_at h [] state e → TurnsBy view leave left_at h 0 (view d).script state e
   turn_not_taken h state d e same turns = record {
     deals = [];
     many = refl;
@@ -270,7 +274,7 @@ module _ {D : Type 0} (view W : D → View) (leave : D → Image → Type 0) (le
   }
 
 module _ {D : Type 0} (view : D → View) (leave : D → Image → Type 0) (left_at : D → ℕ → Image → Type 0) where
-  pub turns_then : (h : History) (i j k : ℕ) (was : Option (List Deal)) (state : State) (d : D) (mid : State) (c : D) → j + i ≡ k → (one : TurnsBy view leave left_at h i was mid c)
+  unfoldable pub turns_then : (h : History) (i j k : ℕ) (was : Option (List Deal)) (state : State) (d : D) (mid : State) (c : D) → j + i ≡ k → (one : TurnsBy view leave left_at h i was mid c)
       → TurnsBy view leave left_at one.turns.later j (view c).script state d → TurnsBy view leave left_at h k was state d
   turns_then h i j k was state d mid c sum one two = record {
     deals = one.deals ++ two.deals;
@@ -282,6 +286,7 @@ module _ {D : Type 0} (view : D → View) (leave : D → Image → Type 0) (left
         first = two.turns.since.first ∙ one.turns.since.first;
         begin = two.turns.since.begin ∙ one.turns.since.begin;
         base = two.turns.since.base ∙ one.turns.since.base;
+        found = two.turns.since.found ∙ one.turns.since.found;
         on = on_then h one.turns.later two.turns.later one.turns.since.on two.turns.since.on;
       };
       taken = two.turns.taken ∙ ap (λ (ds : List Deal). ds ++ two.deals) one.turns.taken ∙ append_assoc (deals_in h.items) one.deals two.deals;
@@ -289,14 +294,14 @@ module _ {D : Type 0} (view : D → View) (leave : D → Image → Type 0) (left
     script_is = scripts_then was (view c).script (view d).script one.deals two.deals one.script_is two.script_is;
   }
 
-  pub turns_here : (h : History) (state : State) (d : D) → Serves view leave left_at h state d → TurnsBy view leave left_at h 0 (view d).script state d
+  unfoldable pub turns_here : (h : History) (state : State) (d : D) → Serves view leave left_at h state d → TurnsBy view leave left_at h 0 (view d).script state d
   turns_here h state d serves = record {
     deals = [];
     many = refl;
     turns = record {
       later = h;
       serves = serves;
-      since = record { first = refl; begin = refl; base = refl; on = on_itself h };
+      since = record { first = refl; begin = refl; base = refl; found = refl; on = on_itself h };
       taken = sym (append-nil (deals_in h.items));
     };
     script_is = script_stays (view d).script;
@@ -310,22 +315,24 @@ module _ {D : Type 0} (view : D → View) (leave : D → Image → Type 0) (left
       omega (arith, now, before, ap length all.turns.taken, length-append (deals_in h.items) all.deals, all.many)
 
   module _ (left_told : (s : D) (t : ℕ) (image : Image) → left_at s t image → IsSome (view s).contents)
-      (crashes : (first : Machine) (begin : ℕ) (items : List Item) (steps : List Stepped) (point : Point) → Run true first begin items steps point → (t : ℕ) (image : Image)
+      (crashes : (first : Machine) (begin faults : ℕ) (items : List Item) (steps : List Stepped) (point : Point) → Run true first begin faults items steps point → (t : ℕ) (image : Image)
       → FitsAt first steps t image
       → (log : List Entry) × IsStore log image × ((more : List Entry) × (log ≡ first.log ++ more)) × ((claim : Claim) → Shown items t claim → Holds log claim)) where
     survives : (h : History) (d : D) → Keeps view leave left_at h d → (t : ℕ) (image : Image) → h.begin ≤ t → left_at d t image → Survives h.first h.items t image
     survives h d keeps t image from left =
-        let run = run_as (is_told (view d)) true h.first h.begin h.items h.steps h.point (sym (left_told d t image left)) keeps.run in
-        let s = crashes h.first h.begin h.items h.steps h.point run t image (keeps.images t image from left) in
+        let run = run_as (is_told (view d)) true h.first h.begin h.found.disk_faults h.items h.steps h.point (sym (left_told d t image left)) keeps.run in
+        let s = crashes h.first h.begin h.found.disk_faults h.items h.steps h.point run t image (keeps.images t image from left) in
         record { log = s.0; store = s.1; more = s.2.0; extends = s.2.1; holds = s.3 }
 
     pub has_served : (h : History) (deals : List Deal) (turns : ℕ) (result : Outcome) (state : State) (d : D) → (all : Turns view leave left_at h deals state d)
-        → EndsAs turns result (view d).transcript (events_in h.items) (events_in all.later.items) → Served view leave left_at h result turns state d
+        → EndsAs turns result (view d).transcript (events_in h.items) (events_in all.later.items) deals → Served view leave left_at h result turns state d
     has_served h deals turns result state d all ends =
         let k = all.serves.keeps in
         record {
           later = all.later;
           since = all.since;
+          deals = deals;
+          taken = all.taken;
           ended = ends;
           run = k.run;
           awaits = all.serves.rest.phase_is;
@@ -333,13 +340,15 @@ module _ {D : Type 0} (view : D → View) (leave : D → Image → Type 0) (left
           stands = all.serves.rest.stands;
           recorded = k.recorded;
           blamed = k.blamed;
+          counted = k.counted;
+          still_told = k.still_told;
           crash = k.images;
           survives = survives all.later d k;
         }
 
-recorded_first : (o : Option (List DiskCall)) → IfSome o (λ cs. (before : List DiskCall) × (cs ≡ before ++ []))
+recorded_first : (o : Option (List DiskCall)) → Both o o (λ before now. now ≡ before ++ [])
 recorded_first None = tt
-recorded_first (Some cs) = (cs, sym (append-nil cs))
+recorded_first (Some cs) = sym (append-nil cs)
 
 nothing_live : (ls : List Live) → ls ≡ [] → numbers_of ls ≡ live []
 unfolding live
@@ -351,7 +360,7 @@ module _ {D : Type 0} (view : D → View) (leave : D → Image → Type 0) (left
   pub begun : (state : State) (d : D) → state.lives.items ≡ [] → Begins view leave left_at state d
   begun state d none m base stands told =
       let begin = (view d).moment in
-      let h : History = record { first = m; begin = begin; base = base; items = []; steps = []; point = start m begin } in (
+      let h : History = record { first = m; begin = begin; base = base; found = view d; items = []; steps = []; point = start m begin (view d).disk_faults } in (
         h,
         refl,
         refl,
@@ -371,9 +380,12 @@ module _ {D : Type 0} (view : D → View) (leave : D → Image → Type 0) (left
                 inl (fits m state.origin d image stands (at_now d image (subst (λ (k : ℕ). left_at d k image) now left)));
             recorded = recorded_first (view d).calls;
             blamed = λ below. omega arith;
+            counted = refl;
+            still_told = refl;
           };
           rest = record { stands = stands; phase_is = refl; numbers = nothing_live state.lives.items none; resting = subst (λ (ls : List Live). AreResting h ls) (sym none) tt };
         },
+        refl,
       )
 
 -- ---- one step without a connection
@@ -381,7 +393,7 @@ module _ {D : Type 0} (view : D → View) (leave : D → Image → Type 0) (left
 module _ {D : Type 0} (view : D → View) (leave : D → Image → Type 0) (left_at : D → ℕ → Image → Type 0) (h : History) (act : Act) (reply : Reply) (old new : State) (d e : D)
     (serves : Serves view leave left_at h old d) (lives : new.lives ≡ old.lives) (a : Acted view leave left_at h e None act reply new.origin) where
   abbrev behind_one : Point
-  behind_one = record { machine = a.x.after; counts = h.point.counts; phase = idle; ended = a.x.ends; failed = h.point.failed }
+  behind_one = record { machine = a.x.after; counts = h.point.counts; phase = idle; ended = a.x.ends; failed = h.point.failed; faults = a.x.faults_after }
 
   abbrev with_one : History
   with_one = stepped view leave left_at h a.x behind_one
@@ -389,7 +401,7 @@ module _ {D : Type 0} (view : D → View) (leave : D → Image → Type 0) (left
   module _ (move : Moves (is_told (view e)) h.items h.point [] (a.x ∷ []) behind_one) where
     serves_on : Serves view leave left_at with_one new e
     serves_on = record {
-      keeps = a.keeps behind_one move refl refl refl;
+      keeps = a.keeps behind_one move refl refl refl refl;
       rest = record {
         stands = a.stands;
         phase_is = refl;
@@ -399,14 +411,14 @@ module _ {D : Type 0} (view : D → View) (leave : D → Image → Type 0) (left
     }
 
     since_on : Since h with_one
-    since_on = record { first = refl; begin = refl; base = refl; on = on_stepped (is_told (view e)) h a.x behind_one move }
+    since_on = record { first = refl; begin = refl; base = refl; found = refl; on = on_stepped (is_told (view e)) h a.x behind_one move }
 
 -- a ladder
 pub declares : {D : Type 0} (view : D → View) (leave : D → Image → Type 0) (left_at : D → ℕ → Image → Type 0) (h : History) (channel : List Track) (result : Declared) (old new : State) (d e : D)
     → Serves view leave left_at h old d → new.lives ≡ old.lives → Acted view leave left_at h e None (Header channel) (reply_to_header result) new.origin
     → DeclaresIn view leave left_at h channel result new e
 declares view leave left_at h channel result old new d e serves lives a =
-    let q : Point = record { machine = a.x.after; counts = h.point.counts; phase = idle; ended = a.x.ends; failed = h.point.failed } in
+    let q : Point = record { machine = a.x.after; counts = h.point.counts; phase = idle; ended = a.x.ends; failed = h.point.failed; faults = a.x.faults_after } in
     let move : Moves (is_told (view e)) h.items h.point [] (a.x ∷ []) q = declared channel a.x serves.rest.phase_is a.conn_is a.is_step refl refl refl in
     record {
       later = stepped view leave left_at h a.x q;
@@ -425,7 +437,7 @@ pub recalls : {D : Type 0} (view : D → View) (leave : D → Image → Type 0) 
     → Serves view leave left_at h state d → Acted view leave left_at h e None (Ask address) (reply_to_fetched h.point.machine.log address result) state.origin
     → RecallsIn view leave left_at h address result state e
 recalls view leave left_at h address result state d e serves a =
-    let q : Point = record { machine = a.x.after; counts = h.point.counts; phase = idle; ended = a.x.ends; failed = h.point.failed } in
+    let q : Point = record { machine = a.x.after; counts = h.point.counts; phase = idle; ended = a.x.ends; failed = h.point.failed; faults = a.x.faults_after } in
     let reply = reply_to_fetched h.point.machine.log address result in
     let move : Moves (is_told (view e)) h.items h.point [] (a.x ∷ []) q = recalled address a.x serves.rest.phase_is a.conn_is a.is_step refl refl refl in
     record {

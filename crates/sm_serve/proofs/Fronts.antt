@@ -56,12 +56,12 @@ until_push t (x ∷ items) item = go (cases_lt t x.moment) (until_push t items i
     go (inr le) (inl (is, by)) = inl (ap (λ (b : Bool). if b then x ∷ until t (items ++ item ∷ []) else []) (le-leb x.moment t le) ∙ ap (λ (l : List Item). x ∷ l) is, (le, by))
     go (inr le) (inr is) = inr (ap (λ (l : List Item). if nat_le x.moment t then x ∷ l else []) is)
 
-record Front (first : Machine) (begin : ℕ) (items : List Item) (steps : List Stepped) (t : ℕ) : Type 0 where
+record Front (first : Machine) (begin faults : ℕ) (items : List Item) (steps : List Stepped) (t : ℕ) : Type 0 where
   entries : List Item
   entries_are : until t items ≡ entries
   earlier : List Stepped
   point : Point
-  run : Run true first begin entries earlier point
+  run : Run true first begin faults entries earlier point
   all_by : AllBy t entries
   extends : Extends (machine_at first earlier t) (machine_at first steps t)
 
@@ -69,26 +69,26 @@ record Front (first : Machine) (begin : ℕ) (items : List Item) (steps : List S
 pub steps_on : (p : Point) (x : Stepped) → x.before ≡ p.machine → Step (Rose x.faults x.faults_after) x.before x.act x.after x.reply → Extends p.machine x.after
 steps_on p x from step = subst (λ (m : Machine). Extends m x.after) from (step_adds (Rose x.faults x.faults_after) x.before x.after x.act x.reply step)
 
-pub steps_grow : (first : Machine) (begin : ℕ) (was : List Item) (ss : List Stepped) (p : Point) → Run true first begin was ss p → (xs : List Stepped) (q : Point) → Stays p xs q ⊎ StepsOn p xs q
+pub steps_grow : (first : Machine) (begin faults : ℕ) (was : List Item) (ss : List Stepped) (p : Point) → Run true first begin faults was ss p → (xs : List Stepped) (q : Point) → Stays p xs q ⊎ StepsOn p xs q
     → (t : ℕ) → Extends (machine_at first ss t) (machine_at first (ss ++ xs) t)
-steps_grow first begin was ss p run xs q (inl (none, same)) t =
+steps_grow first begin faults was ss p run xs q (inl (none, same)) t =
     subst (λ (ys : List Stepped). Extends (machine_at first ss t) (machine_at first ys t)) (sym (ap (λ (ys : List Stepped). ss ++ ys) none ∙ append-nil ss)) (itself (machine_at first ss t))
-steps_grow first begin was ss p run xs q (inr (x, one, from, step, to)) t =
+steps_grow first begin faults was ss p run xs q (inr (x, one, from, step, to)) t =
     let at : machine_at first (ss ++ xs) t ≡ (if nat_le x.ends t then x.after else machine_at first ss t) = ap (λ (ys : List Stepped). machine_at first (ss ++ ys) t) one ∙ machine_push first ss x t in
     ⊎_elim
     (λ (early : t < x.ends). subst (λ (n : Machine). Extends (machine_at first ss t) n) (sym (at ∙ not_reached x.after (machine_at first ss t) x.ends t early)) (itself (machine_at first ss t)))
     (λ (late : x.ends ≤ t). subst (λ (n : Machine). Extends (machine_at first ss t) n) (sym (at ∙ reached_by x.after (machine_at first ss t) x.ends t late))
-    (and_then (machine_at first ss t) p.machine x.after (below first begin was ss p run t) (steps_on p x from step)))
+    (and_then (machine_at first ss t) p.machine x.after (below first begin faults was ss p run t) (steps_on p x from step)))
     (cases_lt t x.ends)
 
-front : (first : Machine) (begin : ℕ) (items : List Item) (steps : List Stepped) (p : Point) → Run true first begin items steps p → (t : ℕ) → Front first begin items steps t
-front first begin [] [] p begins t = record { entries = []; entries_are = refl; earlier = []; point = _; run = begins; all_by = tt; extends = itself first }
-front first begin items steps q (goes_on was es items' ss xs steps' p q' run move now all) t = go (front first begin was ss p run t) (entries_of was p es xs q move)
+front : (first : Machine) (begin faults : ℕ) (items : List Item) (steps : List Stepped) (p : Point) → Run true first begin faults items steps p → (t : ℕ) → Front first begin faults items steps t
+front first begin faults [] [] p begins t = record { entries = []; entries_are = refl; earlier = []; point = _; run = begins; all_by = tt; extends = itself first }
+front first begin faults items steps q (goes_on was es items' ss xs steps' p q' run move now all) t = go (front first begin faults was ss p run t) (entries_of was p es xs q move)
   where
     longer : Extends (machine_at first ss t) (machine_at first steps t)
-    longer = subst (λ (ys : List Stepped). Extends (machine_at first ss t) (machine_at first ys t)) (sym all) (steps_grow first begin was ss p run xs q (kind_of was p es xs q move) t)
+    longer = subst (λ (ys : List Stepped). Extends (machine_at first ss t) (machine_at first ys t)) (sym all) (steps_grow first begin faults was ss p run xs q (kind_of was p es xs q move) t)
 
-    keeps : (f : Front first begin was ss t) → until t items ≡ until t was → Front first begin items steps t
+    keeps : (f : Front first begin faults was ss t) → until t items ≡ until t was → Front first begin faults items steps t
     keeps f same = record {
       entries = f.entries;
       entries_are = same ∙ f.entries_are;
@@ -99,7 +99,7 @@ front first begin items steps q (goes_on was es items' ss xs steps' p q' run mov
       extends = and_then (machine_at first f.earlier t) (machine_at first ss t) (machine_at first steps t) f.extends longer;
     }
 
-    go : Front first begin was ss t → Entries es → Front first begin items steps t
+    go : Front first begin faults was ss t → Entries es → Front first begin faults items steps t
     go f (inl none) = keeps f (ap (λ (l : List Item). until t l) (now ∙ ap (λ (l : List Item). was ++ l) none ∙ append-nil was))
     go f (inr (item, one)) = ⊎_elim
         (λ (whole : (until t (was ++ item ∷ []) ≡ was ++ item ∷ []) × AllBy t (was ++ item ∷ [])). let is : items ≡ was ++ item ∷ [] = now ∙ ap (λ (l : List Item). was ++ l) one in
@@ -117,13 +117,13 @@ front first begin items steps q (goes_on was es items' ss xs steps' p q' run mov
 
 -- what stands of each connection along each run gives the law
 pub runs_hold : ((log more : List Entry) (claim : Claim) → HeldIn log claim → HeldIn (log ++ more) claim) → WireLaws
-    → ((first : Machine) (begin : ℕ) (items : List Item) (steps : List Stepped) (point : Point) → Run true first begin items steps point → (n : ℕ)
+    → ((first : Machine) (begin faults : ℕ) (items : List Item) (steps : List Stepped) (point : Point) → Run true first begin faults items steps point → (n : ℕ)
     → Core (HeldBy first items steps) point.machine.log (received n items) (replies n items))
-    → (first : Machine) (begin : ℕ) (items : List Item) (steps : List Stepped) (point : Point) → Run true first begin items steps point
+    → (first : Machine) (begin faults : ℕ) (items : List Item) (steps : List Stepped) (point : Point) → Run true first begin faults items steps point
     → (t : ℕ) (claim : Claim) → Shown items t claim → HeldIn (machine_at first steps t).log claim
-runs_hold longer laws stand first begin items steps point run t claim shown =
-    let f = front first begin items steps point run t in
-    let core = stand first begin f.entries f.earlier f.point f.run shown.conn in
+runs_hold longer laws stand first begin faults items steps point run t claim shown =
+    let f = front first begin faults items steps point run t in
+    let core = stand first begin faults f.entries f.earlier f.point f.run shown.conn in
     let sent : slice_get (replies shown.conn f.entries) shown.index ≡ Some shown.part = ap (λ (l : List Item). slice_get (replies shown.conn l) shown.index) (sym f.entries_are) ∙ shown.replied in
     let held = core_shows laws (HeldBy first f.entries f.earlier) f.point.machine.log (received shown.conn f.entries) (replies shown.conn f.entries) core
     shown.given (subst (λ (l : List Item). IsWire (received shown.conn l) shown.given) f.entries_are shown.wire)

@@ -1,5 +1,5 @@
 -- How a run goes on, on a site.
-use Rattle.std.proofs.Common.{◌≡◌, ◌≢◌, ◌⊎◌, inl, inr, ⊎_elim, ℕ, ◌-◌, ◌<◌, ◌≤◌, ◌^◌, Bool, true, false, nat_le, if◌then◌else◌, List, [], ◌∷◌, ◌++◌, Option, Some, None, IfSome, IsSome, is_some, IsTrue, refl, sym, ◌∙◌, ap, subst, arith, append_assoc}
+use Rattle.std.proofs.Common.{◌≡◌, ◌≢◌, ◌⊎◌, inl, inr, ⊎_elim, ℕ, ◌+◌, ◌-◌, ◌<◌, ◌≤◌, ◌^◌, Bool, true, false, nat_le, if◌then◌else◌, List, [], ◌∷◌, ◌++◌, Option, Some, None, IsSome, is_some, IsTrue, refl, sym, ◌∙◌, ap, subst, arith, append_assoc}
 use Rattle.std.proofs.lemmas.List.{append-nil}
 use Rattle.std.proofs.lemmas.Bool.{cases_lt, cases_Bool}
 use Rattle.std.proofs.lemmas.Bool.Decides.{nat_tests}
@@ -12,6 +12,8 @@ use Rattle.sm_reply.specs.declared.reply.Reply.{Reply}
 use Rattle.sm_origin.specs.Machine.{Machine, SameLog, entry_of}
 use Rattle.sm_origin.specs.declared.origin.Origin.{Origin}
 use Rattle.sm_archive.specs.Store.{IsStore}
+use Rattle.sm_archive.specs.declared.archive.Archive.{Archive}
+use Rattle.sm_archive.specs.Stands as archive
 use Rattle.sm_origin.specs.Stores.{IsPartOf, Fits, FitsInside}
 use Rattle.sm_origin.specs.Acting.{ActGives}
 use Rattle.sm_site.specs.Clauses.{last_moment}
@@ -81,22 +83,27 @@ calls_push [] x = append-nil x.calls
 calls_push (y ∷ steps) x = ap (λ (cs : List DiskCall). y.calls ++ cs) (calls_push steps x) ∙ sym (append_assoc y.calls (calls_of steps) x.calls)
 
 -- a step adds its calls to the record
-record_grows : (a b : Option (List DiskCall)) (steps : List Stepped) (x : Stepped) → IfSome a (λ cs. (before : List DiskCall) × (cs ≡ before ++ calls_of steps)) → Both a b (λ before now. now ≡ before ++ x.calls)
-    → IfSome b (λ cs. (before : List DiskCall) × (cs ≡ before ++ calls_of (steps ++ x ∷ [])))
-record_grows None None steps x was told = tt
-record_grows None (Some cs) steps x was told = absurd told
-record_grows (Some cs) None steps x was told = tt
-record_grows (Some cs) (Some ds) steps x (before, is) told =
-    (before, told ∙ ap (λ (l : List DiskCall). l ++ x.calls) is ∙ append_assoc before (calls_of steps) x.calls ∙ ap (λ (l : List DiskCall). before ++ l) (sym (calls_push steps x)))
+record_grows : (found a b : Option (List DiskCall)) (steps : List Stepped) (x : Stepped) → Both found a (λ before now. now ≡ before ++ calls_of steps) → Both a b (λ before now. now ≡ before ++ x.calls)
+    → Both found b (λ before now. now ≡ before ++ calls_of (steps ++ x ∷ []))
+record_grows None None None steps x was told = tt
+record_grows found None (Some ds) steps x was told = absurd told
+record_grows found (Some cs) None steps x was told = absurd told
+record_grows None (Some cs) b steps x was told = absurd was
+record_grows (Some before) None b steps x was told = absurd was
+record_grows (Some before) (Some cs) (Some ds) steps x is told =
+    told ∙ ap (λ (l : List DiskCall). l ++ x.calls) is ∙ append_assoc before (calls_of steps) x.calls ∙ ap (λ (l : List DiskCall). before ++ l) (sym (calls_push steps x))
 
 -- the run, where contents are told as before
-pub run_as : (a b : Bool) (first : Machine) (begin : ℕ) (items : List Item) (steps : List Stepped) (p : Point) → b ≡ a → Run a first begin items steps p → Run b first begin items steps p
-run_as a b first begin items steps p same run = subst (λ (told : Bool). Run told first begin items steps p) (sym same) run
+pub run_as : (a b : Bool) (first : Machine) (begin faults : ℕ) (items : List Item) (steps : List Stepped) (p : Point) → b ≡ a → Run a first begin faults items steps p → Run b first begin faults items steps p
+run_as a b first begin faults items steps p same run = subst (λ (told : Bool). Run told first begin faults items steps p) (sym same) run
 
 -- a record that isn't told is no record
-none_recorded : (o : Option (List DiskCall)) (steps : List Stepped) → is_some o ≡ false → IfSome o (λ cs. (before : List DiskCall) × (cs ≡ before ++ calls_of steps))
-none_recorded None steps none = tt
-none_recorded (Some cs) steps none = absurd (cc)
+none_recorded : (found a b : Option (List DiskCall)) (steps all : List Stepped) → Both found a (λ before now. now ≡ before ++ calls_of steps) → is_some a ≡ false → is_some b ≡ false
+    → Both found b (λ before now. now ≡ before ++ calls_of all)
+none_recorded None None None steps all was one two = tt
+none_recorded (Some before) None b steps all was one two = absurd was
+none_recorded found (Some cs) b steps all was one two = absurd (cc)
+none_recorded found None (Some ds) steps all was one two = absurd (cc)
 
 module _ {D : Type 0} (view : D → View) (leave : D → Image → Type 0) (left_at : D → ℕ → Image → Type 0) where
   -- ---- no call
@@ -106,8 +113,8 @@ module _ {D : Type 0} (view : D → View) (leave : D → Image → Type 0) (left
 
   -- the run goes on without a call
   pub silent_move : (h : History) (d : D) (q : Point) → Keeps view leave left_at h d → Moves (is_told (view d)) h.items h.point [] [] q → q.machine ≡ h.point.machine → q.ended ≡ h.point.ended → q.failed ≡ h.point.failed
-      → Keeps view leave left_at (paused h q) d
-  silent_move h d q keeps move machine ended failed = record {
+      → q.faults ≡ h.point.faults → Keeps view leave left_at (paused h q) d
+  silent_move h d q keeps move machine ended failed faults = record {
     run = goes_on h.items [] h.items h.steps [] h.steps h.point q keeps.run move (sym (append-nil h.items)) (sym (append-nil h.steps));
     told = keeps.told;
     clock = λ has. subst (λ (e : ℕ). e ≤ (view d).moment) (sym ended) (keeps.clock has);
@@ -115,7 +122,9 @@ module _ {D : Type 0} (view : D → View) (leave : D → Image → Type 0) (left
     now = λ image left. subst (λ (m : Machine). Fits m image) (sym machine) (keeps.now image left);
     images = keeps.images;
     recorded = keeps.recorded;
-    blamed = λ below. subst (λ (n : ℕ). n ≤ (view d).send_faults) (sym failed) (keeps.blamed below);
+    blamed = λ below. subst (λ (n : ℕ). h.found.send_faults + n ≤ (view d).send_faults) (sym failed) (keeps.blamed below);
+    counted = faults ∙ keeps.counted;
+    still_told = keeps.still_told;
   }
 
   abbrev pub stepped : History → Stepped → Point → History
@@ -128,7 +137,7 @@ module _ {D : Type 0} (view : D → View) (leave : D → Image → Type 0) (left
     pub reply_is : x.reply ≡ reply
     pub is_step : IsStep (is_told (view e)) h.point act x
     pub keeps : (q : Point) → Moves (is_told (view e)) h.items h.point [] (x ∷ []) q → q.machine ≡ x.after → q.ended ≡ x.ends → q.failed ≡ h.point.failed
-        → Keeps view leave left_at (stepped h x q) e
+        → q.faults ≡ x.faults_after → Keeps view leave left_at (stepped h x q) e
     pub stands : StandsOn view leave x.after origin e
 
   module _ (told : (s : D) (t : ℕ) (image : Image) → left_at s t image → IsSome (view s).contents) where
@@ -137,12 +146,13 @@ module _ {D : Type 0} (view : D → View) (leave : D → Image → Type 0) (left
     pub link_move : (h : History) (d e : D) (es : List Item) (q : Point) → Keeps view leave left_at h d → Moves (is_told (view e)) h.items h.point es [] q → q.machine ≡ h.point.machine
         → (IsTrue (is_told (view e)) → h.point.ended ≤ q.ended) → (view e).transcript ≡ Some ((h.base ++ h.items) ++ es)
         → Elapses (view d) (view e) (left_at d) (left_at e) (leave d) (leave e) → SameOutcomes (leave d) (leave e) → (view e).calls ≡ (view d).calls → (view e).contents ≡ (view d).contents
-        → (IsTrue (is_told (view e)) → q.ended ≤ (view e).moment) → ((view e).send_faults < 2 ^ 64 - 1 → q.failed ≤ (view e).send_faults) → Keeps view leave left_at (moved h es q) e
-    link_move h d e es q keeps move machine later told_is time same calls contents clock blamed =
+        → (IsTrue (is_told (view e)) → q.ended ≤ (view e).moment) → ((view e).send_faults < 2 ^ 64 - 1 → h.found.send_faults + q.failed ≤ (view e).send_faults) → q.faults ≡ h.point.faults
+        → (view e).disk_faults ≡ (view d).disk_faults → Keeps view leave left_at (moved h es q) e
+    link_move h d e es q keeps move machine later told_is time same calls contents clock blamed faults same_faults =
         let as_told : is_told (view e) ≡ is_told (view d) = ap (λ (o : Option Image). is_some o) contents in
         record {
           run = goes_on h.items es (h.items ++ es) h.steps [] h.steps h.point q
-              (run_as (is_told (view d)) (is_told (view e)) h.first h.begin h.items h.steps h.point as_told keeps.run) move refl (sym (append-nil h.steps));
+              (run_as (is_told (view d)) (is_told (view e)) h.first h.begin h.found.disk_faults h.items h.steps h.point as_told keeps.run) move refl (sym (append-nil h.steps));
           told = told_is ∙ ap (λ (items : List Item). Some items) (append_assoc h.base h.items es);
           clock = clock;
           current = λ has t le. keeps.current (sym as_told ∙ has) t (let l = later has in omega (arith, le, l)) ∙ sym machine;
@@ -154,8 +164,10 @@ module _ {D : Type 0} (view : D → View) (leave : D → Image → Type 0) (left
                 inl (subst (λ (m : Machine). Fits m image) (sym (keeps.current has t (let c = keeps.clock has in omega arith))) (keeps.now image was))
             | inr before ↦ keeps.images t image from ((time.keeps t image before).0 left)
           ];
-          recorded = subst (λ (o : Option (List DiskCall)). IfSome o (λ cs. (before : List DiskCall) × (cs ≡ before ++ calls_of h.steps))) (sym calls) keeps.recorded;
+          recorded = subst (λ (o : Option (List DiskCall)). Both h.found.calls o (λ before now. now ≡ before ++ calls_of h.steps)) (sym calls) keeps.recorded;
           blamed = blamed;
+          counted = faults ∙ keeps.counted ∙ sym same_faults;
+          still_told = as_told ∙ keeps.still_told;
         }
 
     -- ---- a step
@@ -163,7 +175,7 @@ module _ {D : Type 0} (view : D → View) (leave : D → Image → Type 0) (left
     -- of a disk that tells its contents
     module _ (h : History) (d e : D) (origin : Origin) (act : Act) (reply : Reply) (conn : Option ℕ) (keeps : Keeps view leave left_at h d)
         (has : IsTrue (is_told (view d))) (as_told : is_told (view e) ≡ is_told (view d))
-        (acts : ActGives view leave left_at d e h.point.machine origin act reply) (link : SameLink (view d) (view e)) where
+        (acts : ActGives view leave left_at d e h.point.machine origin act reply) (link : SameLink (view d) (view e)) (no_fewer : (view d).disk_faults ≤ (view e).disk_faults) where
       abbrev the_step : Stepped
       the_step = record {
         conn = conn;
@@ -179,7 +191,18 @@ module _ {D : Type 0} (view : D → View) (leave : D → Image → Type 0) (left
       }
 
       on_machine : OnMachine h.point the_step
-      on_machine = record { step = acts.step; still = acts.still; limits = acts.limits; began = keeps.clock has; ends_is = refl }
+      on_machine = record {
+        step = acts.step;
+        still = acts.still;
+        limits = acts.limits;
+        archived = record {
+          bodies = acts.stands.stands.bodies;
+          body = acts.stands.stands.body;
+          keeps = subst (λ (a : Archive). archive.Keeps a acts.stands.stands.bodies acts.stands.stands.body acts.after.log acts.after.doubt) (sym acts.stands.archive) acts.stands.stands.keeps;
+        };
+        began = keeps.clock has;
+        ends_is = refl;
+      }
 
       ends_when : ((acts.calls ≡ []) × (the_step.ends ≡ h.point.ended) × ((view e).moment ≡ (view d).moment)) ⊎ ((view e).moment ≡ the_step.ends)
       ends_when = ⊎_elim
@@ -246,19 +269,22 @@ module _ {D : Type 0} (view : D → View) (leave : D → Image → Type 0) (left
         x = the_step;
         conn_is = refl;
         reply_is = refl;
-        is_step = record { act_is = refl; before_is = refl; machine = λ t. on_machine };
-        keeps = λ q move machine ended failed. record {
+        is_step = record { act_is = refl; before_is = refl; faults_is = sym keeps.counted; no_fewer = no_fewer; machine = λ t. on_machine };
+        keeps = λ q move machine ended failed faults. record {
           run = goes_on h.items [] h.items h.steps (the_step ∷ []) (h.steps ++ the_step ∷ []) h.point q
-              (run_as (is_told (view d)) (is_told (view e)) h.first h.begin h.items h.steps h.point as_told keeps.run) move (sym (append-nil h.items)) refl;
+              (run_as (is_told (view d)) (is_told (view e)) h.first h.begin h.found.disk_faults h.items h.steps h.point as_told keeps.run) move (sym (append-nil h.items)) refl;
           told = link.transcript ∙ keeps.told;
           clock = λ t. subst (λ (k : ℕ). k ≤ (view e).moment) (sym ended) ends_within;
           current = λ h' t le. after_at t (subst (λ (k : ℕ). k ≤ t) ended le) ∙ sym machine;
           now = λ image left. subst (λ (m : Machine). Fits m image) (sym machine) (acts.now image left);
           images = image_fits;
-          recorded = record_grows (view d).calls (view e).calls h.steps the_step keeps.recorded acts.noted;
+          recorded = record_grows h.found.calls (view d).calls (view e).calls h.steps the_step keeps.recorded acts.noted;
           blamed = λ below.
               let same = link.send_faults in
-              subst (λ (n : ℕ). n ≤ (view e).send_faults) (sym failed) (subst (λ (n : ℕ). h.point.failed ≤ n) (sym same) (keeps.blamed (subst (λ (n : ℕ). n < 2 ^ 64 - 1) same below)));
+              subst (λ (n : ℕ). h.found.send_faults + n ≤ (view e).send_faults) (sym failed)
+              (subst (λ (n : ℕ). h.found.send_faults + h.point.failed ≤ n) (sym same) (keeps.blamed (subst (λ (n : ℕ). n < 2 ^ 64 - 1) same below)));
+          counted = faults;
+          still_told = as_told ∙ keeps.still_told;
         };
         stands = acts.stands;
       }
@@ -267,7 +293,7 @@ module _ {D : Type 0} (view : D → View) (leave : D → Image → Type 0) (left
     module _ (h : History) (d e : D) (origin : Origin) (act : Act) (reply : Reply) (conn : Option ℕ) (keeps : Keeps view leave left_at h d)
         (none : is_told (view d) ≡ false) (as_told : is_told (view e) ≡ is_told (view d))
         (now_at : (s : D) (image : Image) → leave s image → left_at s (view s).moment image) (calls_told : (s : D) → is_some (view s).calls ≡ is_some (view s).contents)
-        (after : Machine) (stands : StandsOn view leave after origin e) (link : SameLink (view d) (view e)) where
+        (after : Machine) (stands : StandsOn view leave after origin e) (link : SameLink (view d) (view e)) (no_fewer : (view d).disk_faults ≤ (view e).disk_faults) where
       not_told : IsTrue (is_told (view e)) → ⊥
       not_told has = let both : true ≡ false = sym has ∙ as_told ∙ none in cc
 
@@ -290,19 +316,22 @@ module _ {D : Type 0} (view : D → View) (leave : D → Image → Type 0) (left
         x = blind_step;
         conn_is = refl;
         reply_is = refl;
-        is_step = record { act_is = refl; before_is = refl; machine = λ has. absurd (not_told has) };
-        keeps = λ q move machine ended failed. record {
+        is_step = record { act_is = refl; before_is = refl; faults_is = sym keeps.counted; no_fewer = no_fewer; machine = λ has. absurd (not_told has) };
+        keeps = λ q move machine ended failed faults. record {
           run = goes_on h.items [] h.items h.steps (blind_step ∷ []) (h.steps ++ blind_step ∷ []) h.point q
-              (run_as (is_told (view d)) (is_told (view e)) h.first h.begin h.items h.steps h.point as_told keeps.run) move (sym (append-nil h.items)) refl;
+              (run_as (is_told (view d)) (is_told (view e)) h.first h.begin h.found.disk_faults h.items h.steps h.point as_told keeps.run) move (sym (append-nil h.items)) refl;
           told = link.transcript ∙ keeps.told;
           clock = λ has. absurd (not_told has);
           current = λ has t le. absurd (not_told has);
           now = λ image left. absurd (not_told (told e (view e).moment image (now_at e image left)));
           images = λ t image from left. absurd (not_told (told e t image left));
-          recorded = none_recorded (view e).calls (h.steps ++ blind_step ∷ []) (calls_told e ∙ as_told ∙ none);
+          recorded = none_recorded h.found.calls (view d).calls (view e).calls h.steps (h.steps ++ blind_step ∷ []) keeps.recorded (calls_told d ∙ none) (calls_told e ∙ as_told ∙ none);
           blamed = λ below.
               let same = link.send_faults in
-              subst (λ (n : ℕ). n ≤ (view e).send_faults) (sym failed) (subst (λ (n : ℕ). h.point.failed ≤ n) (sym same) (keeps.blamed (subst (λ (n : ℕ). n < 2 ^ 64 - 1) same below)));
+              subst (λ (n : ℕ). h.found.send_faults + n ≤ (view e).send_faults) (sym failed)
+              (subst (λ (n : ℕ). h.found.send_faults + h.point.failed ≤ n) (sym same) (keeps.blamed (subst (λ (n : ℕ). n < 2 ^ 64 - 1) same below)));
+          counted = faults;
+          still_told = as_told ∙ keeps.still_told;
         };
         stands = stands;
       }
@@ -311,8 +340,8 @@ module _ {D : Type 0} (view : D → View) (leave : D → Image → Type 0) (left
     pub acted : (h : History) (d e : D) (origin : Origin) (act : Act) (reply : Reply) (conn : Option ℕ) → Keeps view leave left_at h d → is_told (view e) ≡ is_told (view d)
         → ((s : D) (image : Image) → leave s image → left_at s (view s).moment image) → ((s : D) → is_some (view s).calls ≡ is_some (view s).contents)
         → (IsSome (view d).contents → ActGives view leave left_at d e h.point.machine origin act reply) → (m : Machine) × StandsOn view leave m origin e → SameLink (view d) (view e)
-        → Acted h e conn act reply origin
-    acted h d e origin act reply conn keeps as_told now_at calls_told gives stands link = elim (cases_Bool (is_told (view d))) [
-      | inl has ↦ acted_told h d e origin act reply conn keeps has as_told (gives has) link
-      | inr none ↦ acted_untold h d e origin act reply conn keeps none as_told now_at calls_told stands.0 stands.1 link
+        → (view d).disk_faults ≤ (view e).disk_faults → Acted h e conn act reply origin
+    acted h d e origin act reply conn keeps as_told now_at calls_told gives stands link no_fewer = elim (cases_Bool (is_told (view d))) [
+      | inl has ↦ acted_told h d e origin act reply conn keeps has as_told (gives has) link no_fewer
+      | inr none ↦ acted_untold h d e origin act reply conn keeps none as_told now_at calls_told stands.0 stands.1 link no_fewer
     ]

@@ -47,9 +47,9 @@ pub not_reached : (m n : Machine) (e t : ℕ) → t < e → (if nat_le e t then 
 not_reached m n e t lt = grind (arith, nat_tests)
 
 -- the log at a moment is a front of the last one
-pub below : (first : Machine) (begin : ℕ) (items : List Item) (steps : List Stepped) (p : Point) → Run true first begin items steps p → (t : ℕ) → Extends (machine_at first steps t) p.machine
-below first begin [] [] p begins t = itself first
-below first begin items steps q (goes_on was es items' ss xs steps' p q' run move now all) t = go (below first begin was ss p run t) (kind_of was p es xs q move)
+pub below : (first : Machine) (begin faults : ℕ) (items : List Item) (steps : List Stepped) (p : Point) → Run true first begin faults items steps p → (t : ℕ) → Extends (machine_at first steps t) p.machine
+below first begin faults [] [] p begins t = itself first
+below first begin faults items steps q (goes_on was es items' ss xs steps' p q' run move now all) t = go (below first begin faults was ss p run t) (kind_of was p es xs q move)
   where
     go : Extends (machine_at first ss t) p.machine → Stays p xs q ⊎ StepsOn p xs q → Extends (machine_at first steps t) q.machine
     go before (inl (none, same)) =
@@ -65,9 +65,9 @@ below first begin items steps q (goes_on was es items' ss xs steps' p q' run mov
         (λ (late : x.ends ≤ t). subst (λ (m : Machine). Extends m x.after) (sym (at ∙ reached_by x.after (machine_at first ss t) x.ends t late)) (itself x.after))
         (cases_lt t x.ends))
 
-pub grows : (first : Machine) (begin : ℕ) (items : List Item) (steps : List Stepped) (p : Point) → Run true first begin items steps p → (t u : ℕ) → t ≤ u → Extends (machine_at first steps t) (machine_at first steps u)
-grows first begin [] [] p begins t u le = itself first
-grows first begin items steps q (goes_on was es items' ss xs steps' p q' run move now all) t u le = go (grows first begin was ss p run t u le) (kind_of was p es xs q move)
+pub grows : (first : Machine) (begin faults : ℕ) (items : List Item) (steps : List Stepped) (p : Point) → Run true first begin faults items steps p → (t u : ℕ) → t ≤ u → Extends (machine_at first steps t) (machine_at first steps u)
+grows first begin faults [] [] p begins t u le = itself first
+grows first begin faults items steps q (goes_on was es items' ss xs steps' p q' run move now all) t u le = go (grows first begin faults was ss p run t u le) (kind_of was p es xs q move)
   where
     go : Extends (machine_at first ss t) (machine_at first ss u) → Stays p xs q ⊎ StepsOn p xs q → Extends (machine_at first steps t) (machine_at first steps u)
     go before (inl (none, same)) =
@@ -83,14 +83,14 @@ grows first begin items steps q (goes_on was es items' ss xs steps' p q' run mov
         (λ (late : x.ends ≤ u). subst (λ (n : Machine). Extends (machine_at first steps t) n) (sym (ends u late))
         (⊎_elim
         (λ (inside : t < x.ends). subst (λ (m : Machine). Extends m x.after) (sym (open_ t inside))
-        (and_then (machine_at first ss t) p.machine x.after (below first begin was ss p run t) (subst (λ (m : Machine). Extends m x.after) from (step_adds (Rose x.faults x.faults_after) x.before x.after x.act x.reply step))))
+        (and_then (machine_at first ss t) p.machine x.after (below first begin faults was ss p run t) (subst (λ (m : Machine). Extends m x.after) from (step_adds (Rose x.faults x.faults_after) x.before x.after x.act x.reply step))))
         (λ (behind : x.ends ≤ t). subst (λ (m : Machine). Extends m x.after) (sym (ends t behind)) (itself x.after))
         (cases_lt t x.ends)))
         (cases_lt u x.ends)
 
-pub from_first : (first : Machine) (begin : ℕ) (items : List Item) (steps : List Stepped) (p : Point) → Run true first begin items steps p → (t : ℕ) → Extends first (machine_at first steps t)
-from_first first begin [] [] p begins t = itself first
-from_first first begin items steps q (goes_on was es items' ss xs steps' p q' run move now all) t = go (from_first first begin was ss p run t) (kind_of was p es xs q move)
+pub from_first : (first : Machine) (begin faults : ℕ) (items : List Item) (steps : List Stepped) (p : Point) → Run true first begin faults items steps p → (t : ℕ) → Extends first (machine_at first steps t)
+from_first first begin faults [] [] p begins t = itself first
+from_first first begin faults items steps q (goes_on was es items' ss xs steps' p q' run move now all) t = go (from_first first begin faults was ss p run t) (kind_of was p es xs q move)
   where
     go : Extends first (machine_at first ss t) → Stays p xs q ⊎ StepsOn p xs q → Extends first (machine_at first steps t)
     go before (inl (none, same)) =
@@ -103,5 +103,5 @@ from_first first begin items steps q (goes_on was es items' ss xs steps' p q' ru
         (λ (early : t < x.ends). subst (λ (n : Machine). Extends first n) (sym (at ∙ not_reached x.after (machine_at first ss t) x.ends t early)) before)
         (λ (late : x.ends ≤ t). subst (λ (n : Machine). Extends first n) (sym (at ∙ reached_by x.after (machine_at first ss t) x.ends t late))
         (and_then first (machine_at first ss t) x.after before
-        (and_then (machine_at first ss t) p.machine x.after (below first begin was ss p run t) (subst (λ (m : Machine). Extends m x.after) from (step_adds (Rose x.faults x.faults_after) x.before x.after x.act x.reply step)))))
+        (and_then (machine_at first ss t) p.machine x.after (below first begin faults was ss p run t) (subst (λ (m : Machine). Extends m x.after) from (step_adds (Rose x.faults x.faults_after) x.before x.after x.act x.reply step)))))
         (cases_lt t x.ends)

@@ -18,7 +18,7 @@ untold told items p es xs q (left m n phase e none is) = left m n phase e none i
 untold told items p es xs q (over m phase e none is) = over m phase e none is
 untold told items p es xs q (continues n more phase e none is) = continues n more phase e none is
 untold told items p es xs q (acts_on n item more act x phase does conn step e one is) =
-    acts_on n item more act x phase does conn (record { act_is = step.act_is; before_is = step.before_is; machine = λ has. absurd (cc) }) e one is
+    acts_on n item more act x phase does conn (record { act_is = step.act_is; before_is = step.before_is; faults_is = step.faults_is; no_fewer = step.no_fewer; machine = λ has. absurd (cc) }) e one is
 untold told items p es xs q (wants n more phase e none is) = wants n more phase e none is
 untold told items p es xs q (done n phase e none is) = done n phase e none is
 untold told items p es xs q (sent m n bytes close more phase after e none is) = sent m n bytes close more phase (λ has. absurd (cc)) e none is
@@ -26,9 +26,9 @@ untold told items p es xs q (failed m n k bytes close more phase after e none is
 untold told items p es xs q (unsent n bytes close more phase e none is) = unsent n bytes close more phase e none is
 untold told items p es xs q (shut m n phase e none is) = shut m n phase e none is
 untold told items p es xs q (declared header x phase conn step e one is) =
-    declared header x phase conn (record { act_is = step.act_is; before_is = step.before_is; machine = λ has. absurd (cc) }) e one is
+    declared header x phase conn (record { act_is = step.act_is; before_is = step.before_is; faults_is = step.faults_is; no_fewer = step.no_fewer; machine = λ has. absurd (cc) }) e one is
 untold told items p es xs q (recalled a x phase conn step e one is) =
-    recalled a x phase conn (record { act_is = step.act_is; before_is = step.before_is; machine = λ has. absurd (cc) }) e one is
+    recalled a x phase conn (record { act_is = step.act_is; before_is = step.before_is; faults_is = step.faults_is; no_fewer = step.no_fewer; machine = λ has. absurd (cc) }) e one is
 
 leads_here : (items : List Item) (steps : List Stepped) (p : Point) → LeadsTo items steps p items steps p
 leads_here items steps p = rests items steps p refl refl refl

@@ -38,9 +38,9 @@ record Leads (first : Machine) (steps : List Stepped) (p : Point) : Type 0 where
   pub linked : AreLinked first steps
   pub machine : p.machine ≡ last_of first steps
 
-leads : (first : Machine) (begin : ℕ) (items : List Item) (steps : List Stepped) (p : Point) → Run true first begin items steps p → Leads first steps p
-leads first begin [] [] p begins = record { linked = tt; machine = refl }
-leads first begin items steps q (goes_on was es items' ss xs steps' p q' run move now all) = go (leads first begin was ss p run) (kind_of was p es xs q move)
+leads : (first : Machine) (begin faults : ℕ) (items : List Item) (steps : List Stepped) (p : Point) → Run true first begin faults items steps p → Leads first steps p
+leads first begin faults [] [] p begins = record { linked = tt; machine = refl }
+leads first begin faults items steps q (goes_on was es items' ss xs steps' p q' run move now all) = go (leads first begin faults was ss p run) (kind_of was p es xs q move)
   where
     go : Leads first ss p → Stays p xs q ⊎ StepsOn p xs q → Leads first steps q
     go before (inl (none, same)) =
@@ -63,11 +63,11 @@ linked_behind : (m : Machine) (xs ys : List Stepped) → AreLinked m (xs ++ ys) 
 linked_behind m [] ys linked = linked
 linked_behind m (x ∷ xs) ys linked = linked_behind x.after xs ys linked.2
 
-pub grown : (h k : History) → Run true h.first h.begin h.items h.steps h.point → Run true k.first k.begin k.items k.steps k.point → Since h k
+pub grown : (h k : History) → Run true h.first h.begin h.found.disk_faults h.items h.steps h.point → Run true k.first k.begin k.found.disk_faults k.items k.steps k.point → Since h k
     → Extends h.point.machine k.point.machine
 grown h k run later since =
-    let one = leads h.first h.begin h.items h.steps h.point run in
-    let all = leads k.first k.begin k.items k.steps k.point later in
+    let one = leads h.first h.begin h.found.disk_faults h.items h.steps h.point run in
+    let all = leads k.first k.begin k.found.disk_faults k.items k.steps k.point later in
     let linked : AreLinked h.first (h.steps ++ since.on.further) =
     subst (λ (m : Machine). AreLinked m (h.steps ++ since.on.further)) since.first (subst (λ (ys : List Stepped). AreLinked k.first ys) since.on.steps all.linked) in
     let to : k.point.machine ≡ last_of (last_of h.first h.steps) since.on.further =

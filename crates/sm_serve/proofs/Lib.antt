@@ -10,6 +10,7 @@ pub mod Pieces
 pub mod Lives
 pub mod Taking
 pub mod Events
+pub mod Ending
 pub mod Adding
 pub mod Growing
 pub mod Later
@@ -24,3 +25,5 @@ pub mod Along
 pub mod Laws
 pub mod Replying
 pub mod Crashing
+pub mod Counting
+pub mod Saying

@@ -46,9 +46,9 @@ module _ {D : Type 0} (view : D → View) (leave : D → Image → Type 0) (left
       let phase : k.point.phase ≡ acting n [] = was.phase_is ∙ ap (acting n) none in
       record {
         later = paused view leave left_at k (in_phase k.point idle);
-        keeps = silent_move view leave left_at k d (in_phase k.point idle) was.keeps (done n phase refl refl refl) refl refl refl;
+        keeps = silent_move view leave left_at k d (in_phase k.point idle) was.keeps (done n phase refl refl refl) refl refl refl refl;
         stands = was.stands;
-        follows = follows_then n true h k (paused view leave left_at k (in_phase k.point idle)) was.follows (follows_itself n k (paused view leave left_at k (in_phase k.point idle)) refl refl refl refl
+        follows = follows_then n true h k (paused view leave left_at k (in_phase k.point idle)) was.follows (follows_itself n k (paused view leave left_at k (in_phase k.point idle)) refl refl refl refl refl
             (on_paused false k (in_phase k.point idle) (done n phase refl refl refl)) (λ j other. refl));
         phase_is = refl;
         counts_are = was.counts_are;
@@ -66,11 +66,11 @@ module _ {D : Type 0} (view : D → View) (leave : D → Image → Type 0) (left
       → (rests : Rests live (received n h.items)) → Gave conn (received n h.items ++ piece) (rests.parts ++ ps) → (items : List WireItem) → Left rests.place (ps ++ []) items
       → Keeps view leave left_at (moved h (at m (Came n piece)) (at_event h.point (acting n items) m)) d
   read_move h m n piece live conn ps d pending phase is_live rests gave items left =
-      pending (at_event h.point (acting n items) m) (came_move (is_told (view d)) h m n piece live conn ps phase is_live rests gave items left) refl refl refl
+      pending (at_event h.point (acting n items) m) (came_move (is_told (view d)) h m n piece live conn ps phase is_live rests gave items left) refl refl refl refl
 
   pub unread_move : (h : History) (m n : ℕ) (piece : List ℕ) (d : D) → Pending view leave left_at h m (Came n piece) d → h.point.phase ≡ idle → is_open n h.items ≡ true
       → Keeps view leave left_at (moved h (at m (Came n piece)) (at_event h.point (sending n NO_MEMORY.now true []) m)) d
-  unread_move h m n piece d pending phase is_live = pending (at_event h.point (sending n NO_MEMORY.now true []) m) (unread m n piece phase is_live refl refl refl) refl refl refl
+  unread_move h m n piece d pending phase is_live = pending (at_event h.point (sending n NO_MEMORY.now true []) m) (unread m n piece phase is_live refl refl refl) refl refl refl refl
 
   -- the connection rests behind the piece
   pub piece_gives : (h : History) (m n : ℕ) (piece : List ℕ) (old new : Live) (r : Bool) (ps : List PartItem) (items : List WireItem) (origin : Origin) (d : D) (rests : Rests old (received n h.items))

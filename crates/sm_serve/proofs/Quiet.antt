@@ -26,14 +26,14 @@ quiet_by n m items deal bytes parts opens =
     let item : Item = record { moment = m; deal = deal } in
     (received_push n items item ∙ bytes, replies_push n items item ∙ parts, λ now. opens (ap (λ (ns : List ℕ). is_among n ns) (sym (live_push items item)) ∙ now))
 
-began_less : (n k : ℕ) (ns : List ℕ) → (k ≡ n → ⊥) → is_among n (without k ns ++ k ∷ []) ≡ true → is_among n ns ≡ true
+pub began_less : (n k : ℕ) (ns : List ℕ) → (k ≡ n → ⊥) → is_among n (without k ns ++ k ∷ []) ≡ true → is_among n ns ≡ true
 began_less n k ns other now =
     elim (cases_Bool (is_among n ns)) [
       | inl among ↦ among
       | inr none ↦ let gone = among_push n k (without k ns) (among_less n k ns none) (λ e. other (sym e)) in absurd (cc)
     ]
 
-ended_less : (n k : ℕ) (ns : List ℕ) → is_among n (without k ns) ≡ true → is_among n ns ≡ true
+pub ended_less : (n k : ℕ) (ns : List ℕ) → is_among n (without k ns) ≡ true → is_among n ns ≡ true
 ended_less n k ns now =
     elim (cases_Bool (is_among n ns)) [
       | inl among ↦ among

@@ -31,12 +31,13 @@ reached view leave left_at h later n is_open e q origin keeps follows is machine
   counts_are = λ open_. ap (λ (p : Point). p.counts n) is ∙ ap (λ (f : ℕ → Counts). f n) counts;
 }
 
-pub follows_itself : (n : ℕ) (h k : History) → k.first ≡ h.first → k.begin ≡ h.begin → k.base ≡ h.base → k.items ≡ h.items → GoesOn h k → ((j : ℕ) → (j ≡ n → ⊥) → k.point.counts j ≡ h.point.counts j)
+pub follows_itself : (n : ℕ) (h k : History) → k.first ≡ h.first → k.begin ≡ h.begin → k.base ≡ h.base → k.found ≡ h.found → k.items ≡ h.items → GoesOn h k → ((j : ℕ) → (j ≡ n → ⊥) → k.point.counts j ≡ h.point.counts j)
     → Follows n true h k
-follows_itself n h k first begin base items on counts = record {
+follows_itself n h k first begin base found items on counts = record {
   first = first;
   begin = begin;
   base = base;
+  found = found;
   on = on;
   received = λ j. ap (received j) items;
   deals = ap deals_in items;
@@ -73,10 +74,10 @@ module _ {D : Type 0} (view : D → View) (leave : D → Image → Type 0) (left
     behind = stepped view leave left_at h acted.x point_of
 
     pub behind_keeps : Keeps view leave left_at behind e
-    behind_keeps = acted.keeps point_of (acts_on n item more act acted.x phase does acted.conn_is acted.is_step refl refl refl) refl refl refl
+    behind_keeps = acted.keeps point_of (acts_on n item more act acted.x phase does acted.conn_is acted.is_step refl refl refl) refl refl refl refl
 
     pub behind_follows : Follows n true h behind
-    behind_follows = follows_itself n h behind refl refl refl refl
+    behind_follows = follows_itself n h behind refl refl refl refl refl
         (on_stepped (is_told (view e)) h acted.x point_of (acts_on n item more act acted.x phase does acted.conn_is acted.is_step refl refl refl)) (λ j other. other_counts n j _ h.point.counts other)
 
     pub behind_counts : behind.point.counts n ≡ counts_after item reply.counted (h.point.counts n)
@@ -99,10 +100,10 @@ module _ {D : Type 0} (view : D → View) (leave : D → Image → Type 0) (left
   -- want of memory in place of what comes next
   pub starving : (h : History) (d : D) (n : ℕ) (more : List WireItem) → Keeps view leave left_at h d → h.point.phase ≡ acting n more
       → Keeps view leave left_at (paused view leave left_at h (in_phase h.point (sending n NO_MEMORY.now true []))) d
-  starving h d n more keeps phase = silent_move view leave left_at h d (in_phase h.point (sending n NO_MEMORY.now true [])) keeps (wants n more phase refl refl refl) refl refl refl
+  starving h d n more keeps phase = silent_move view leave left_at h d (in_phase h.point (sending n NO_MEMORY.now true [])) keeps (wants n more phase refl refl refl) refl refl refl refl
 
   pub paused_follows : (h : History) (n : ℕ) (phase : Phase) → Moves false h.items h.point [] [] (in_phase h.point phase) → Follows n true h (paused view leave left_at h (in_phase h.point phase))
-  paused_follows h n phase move = follows_itself n h (paused view leave left_at h (in_phase h.point phase)) refl refl refl refl (on_paused false h (in_phase h.point phase) move) (λ j other. refl)
+  paused_follows h n phase move = follows_itself n h (paused view leave left_at h (in_phase h.point phase)) refl refl refl refl refl (on_paused false h (in_phase h.point phase) move) (λ j other. refl)
 
   -- a run that reached a phase goes on from there
   pub goes_then : (h : History) (n : ℕ) (from phase : Phase) (counts all : Counts) (origin after : Origin) (d e : D) (is_open : Bool) → Reaches view leave left_at h n true from counts origin d
@@ -127,7 +128,7 @@ module _ {D : Type 0} (view : D → View) (leave : D → Image → Type 0) (left
     later = h;
     keeps = keeps;
     stands = stands;
-    follows = follows_itself n h h refl refl refl refl (on_itself h) (λ j other. refl);
+    follows = follows_itself n h h refl refl refl refl refl (on_itself h) (λ j other. refl);
     phase_is = at;
     counts_are = λ t. is;
   }
@@ -135,7 +136,7 @@ module _ {D : Type 0} (view : D → View) (leave : D → Image → Type 0) (left
   -- the head 100 is due
   pub continuing : (h : History) (d : D) (n : ℕ) (more : List WireItem) → Keeps view leave left_at h d → h.point.phase ≡ acting n (Continue ∷ more)
       → Keeps view leave left_at (paused view leave left_at h (in_phase h.point (sending n CONTINUE.now false more))) d
-  continuing h d n more keeps phase = silent_move view leave left_at h d (in_phase h.point (sending n CONTINUE.now false more)) keeps (continues n more phase refl refl refl) refl refl refl
+  continuing h d n more keeps phase = silent_move view leave left_at h d (in_phase h.point (sending n CONTINUE.now false more)) keeps (continues n more phase refl refl refl) refl refl refl refl
 
 -- what a run has reached without a move
 pub reached_here : {D : Type 0} (view : D → View) (leave : D → Image → Type 0) (left_at : D → ℕ → Image → Type 0) (h : History) (n : ℕ) (phase : Phase) (counts : Counts)
@@ -149,6 +150,7 @@ reached_here view leave left_at h n phase counts origin d keeps stands phase_is 
     first = refl;
     begin = refl;
     base = refl;
+    found = refl;
     on = on_itself h;
     received = λ j. refl;
     deals = refl;

@@ -19,6 +19,7 @@ follows_then n is_open h k l one two = record {
   first = two.first ∙ one.first;
   begin = two.begin ∙ one.begin;
   base = two.base ∙ one.base;
+  found = two.found ∙ one.found;
   on = on_then h k l one.on two.on;
   received = λ j. two.received j ∙ one.received j;
   deals = two.deals ∙ one.deals;
@@ -48,14 +49,17 @@ module _ {D : Type 0} (view W : D → View) (leave leave' : D → Image → Type
   pub contents_here : (d e : D) → LinkCall d e → (view e).contents ≡ (view d).contents
   contents_here d e call = ap (λ (v : View). v.contents) (one_view e) ∙ call.disk.contents ∙ ap (λ (v : View). v.contents) (sym (one_view d))
 
+  pub disk_faults_here : (d e : D) → LinkCall d e → (view e).disk_faults ≡ (view d).disk_faults
+  disk_faults_here d e call = ap (λ (v : View). v.disk_faults) (one_view e) ∙ call.disk.disk_faults ∙ ap (λ (v : View). v.disk_faults) (sym (one_view d))
+
   pub told_here : (d e : D) → LinkCall d e → IsTrue (is_told (view e)) → IsTrue (is_told (view d))
   told_here d e call has = sym (ap (λ (o : Option Image). is_some o) (contents_here d e call)) ∙ has
 
   added : (h : History) (d e : D) (deal : Deal) (q : Point) → Keeps view leave left_at h d → LinkCall d e → Adds deal (W d) (W e)
       → ((m : ℕ) → (IsTrue (is_told (view e)) → h.point.ended < m) → Moves (is_told (view e)) h.items h.point (at m deal) [] q)
-      → q.machine ≡ h.point.machine → q.ended ≡ h.point.ended → ((view e).send_faults < 2 ^ 64 - 1 → q.failed ≤ (view e).send_faults)
+      → q.machine ≡ h.point.machine → q.ended ≡ h.point.ended → q.faults ≡ h.point.faults → ((view e).send_faults < 2 ^ 64 - 1 → h.found.send_faults + q.failed ≤ (view e).send_faults)
       → (m : ℕ) × Keeps view leave left_at (moved h (at m deal) q) e × Moves (is_told (view e)) h.items h.point (at m deal) [] q
-  added h d e deal q keeps call adds move machine ended blamed =
+  added h d e deal q keeps call adds move machine ended faults blamed =
       let here = seen_here view W leave leave' left_at left' one_view one_disk one_past (Adds deal) d e adds in
       let t = told_adds (view d) (view e) (h.base ++ h.items) deal keeps.told here in
       let time = elapses_here view W leave leave' left_at left' one_view one_disk one_past d e call.time in
@@ -66,7 +70,7 @@ module _ {D : Type 0} (view W : D → View) (leave leave' : D → Image → Type
       let behind : IsTrue (is_told (view e)) → h.point.ended < m = λ has. (let c = keeps.clock (told_here d e call has) in omega (arith, c, above)) in (
         m,
         link_move view leave left_at told h d e (at m deal) q keeps (move m behind) machine (λ has. omega (arith, ended))
-            t.3 time same (calls_here d e call) (contents_here d e call) (λ has. (let b = behind has in omega (arith, ended, b, within))) blamed,
+            t.3 time same (calls_here d e call) (contents_here d e call) (λ has. (let b = behind has in omega (arith, ended, b, within))) blamed faults (disk_faults_here d e call),
         move m behind,
       )
 
@@ -76,6 +80,7 @@ module _ {D : Type 0} (view W : D → View) (leave leave' : D → Image → Type
     first = refl;
     begin = refl;
     base = refl;
+    found = refl;
     on = on_moved told_ h (at m (Sent n bytes fails)) q move;
     received = λ j. received_push j h.items (record { moment = m; deal = Sent n bytes fails });
     deals = deals_push h.items (record { moment = m; deal = Sent n bytes fails });
@@ -88,11 +93,11 @@ module _ {D : Type 0} (view W : D → View) (leave leave' : D → Image → Type
   sent_after h d e n bytes close more keeps call phase adds faults =
       let q = in_phase h.point (if close then shutting n else acting n more) in
       let same : (view e).send_faults ≡ (view d).send_faults = ap (λ (v : View). v.send_faults) (one_view e) ∙ faults ∙ ap (λ (v : View). v.send_faults) (sym (one_view d)) in
-      let a = added h d e (Sent n bytes false) q keeps call adds (λ m behind. sent m n bytes close more phase behind refl refl refl) refl refl
-      (λ below. subst (λ (k : ℕ). h.point.failed ≤ k) (sym same) (keeps.blamed (subst (λ (k : ℕ). k < 2 ^ 64 - 1) same below))) in
+      let a = added h d e (Sent n bytes false) q keeps call adds (λ m behind. sent m n bytes close more phase behind refl refl refl) refl refl refl
+      (λ below. subst (λ (k : ℕ). h.found.send_faults + h.point.failed ≤ k) (sym same) (keeps.blamed (subst (λ (k : ℕ). k < 2 ^ 64 - 1) same below))) in
       record { later = moved h (at a.0 (Sent n bytes false)) q; keeps = a.1; follows = follows_sent (is_told (view e)) h a.0 n bytes false q a.2 refl; point_is = refl }
 
-  blame : (d e : D) (h : History) → Keeps view leave left_at h d → Rose (W d).send_faults (W e).send_faults → (view e).send_faults < 2 ^ 64 - 1 → h.point.failed + 1 ≤ (view e).send_faults
+  blame : (d e : D) (h : History) → Keeps view leave left_at h d → Rose (W d).send_faults (W e).send_faults → (view e).send_faults < 2 ^ 64 - 1 → h.found.send_faults + (h.point.failed + 1) ≤ (view e).send_faults
   blame d e h keeps rose below =
       let rises : (view d).send_faults < (view e).send_faults = seen_here view W leave leave' left_at left' one_view one_disk one_past (λ v w. v.send_faults < w.send_faults) d e
       (rose.rose (λ last. absurd (let at : (view e).send_faults ≡ 2 ^ 64 - 1 = ap (λ (v : View). v.send_faults) (one_view e) ∙ last in omega (arith, at, below)))) in
@@ -103,7 +108,7 @@ module _ {D : Type 0} (view W : D → View) (leave leave' : D → Image → Type
       → Adds (Sent n (take k bytes) true) (W d) (W e) → Rose (W d).send_faults (W e).send_faults → After h n true e (behind_failure h.point (shutting n))
   failed_after h d e n k bytes close more keeps call phase adds rose =
       let q = behind_failure h.point (shutting n) in
-      let a = added h d e (Sent n (take k bytes) true) q keeps call adds (λ m behind. failed m n k bytes close more phase behind refl refl refl) refl refl
+      let a = added h d e (Sent n (take k bytes) true) q keeps call adds (λ m behind. failed m n k bytes close more phase behind refl refl refl) refl refl refl
       (λ below. blame d e h keeps rose below) in
       record { later = moved h (at a.0 (Sent n (take k bytes) true)) q; keeps = a.1; follows = follows_sent (is_told (view e)) h a.0 n (take k bytes) true q a.2 refl; point_is = refl }
 
@@ -116,7 +121,7 @@ module _ {D : Type 0} (view W : D → View) (leave leave' : D → Image → Type
       let told_is : (view e).transcript ≡ Some ((h.base ++ h.items) ++ []) = ap (λ (v : View). v.transcript) (one_view e) ∙ still ∙ ap (λ (v : View). v.transcript) (sym (one_view d)) ∙ keeps.told ∙ ap
       (λ (l : List Item). Some l) (sym (append-nil (h.base ++ h.items))) in
       let on = link_move view leave left_at told h d e [] q keeps (unsent n bytes close more phase refl refl refl) refl (λ has. omega arith) told_is time same (calls_here d e call) (contents_here d e call)
-      (λ has. (let c = keeps.clock (told_here d e call has) in let l = time.later in omega (arith, c, l))) (λ below. blame d e h keeps rose below) in
+      (λ has. (let c = keeps.clock (told_here d e call has) in let l = time.later in omega (arith, c, l))) (λ below. blame d e h keeps rose below) refl (disk_faults_here d e call) in
       record {
         later = moved h [] q;
         keeps = on;
@@ -124,6 +129,7 @@ module _ {D : Type 0} (view W : D → View) (leave leave' : D → Image → Type
           first = refl;
           begin = refl;
           base = refl;
+          found = refl;
           on = on_moved (is_told (view e)) h [] q (unsent n bytes close more phase refl refl refl);
           received = λ j. ap (received j) (append-nil h.items);
           deals = ap deals_in (append-nil h.items);
@@ -138,8 +144,8 @@ module _ {D : Type 0} (view W : D → View) (leave leave' : D → Image → Type
   shut_after h d e n keeps call phase adds faults =
       let q = in_phase h.point idle in
       let same : (view e).send_faults ≡ (view d).send_faults = ap (λ (v : View). v.send_faults) (one_view e) ∙ faults ∙ ap (λ (v : View). v.send_faults) (sym (one_view d)) in
-      let a = added h d e (Shut n) q keeps call adds (λ m behind. shut m n phase refl refl refl) refl refl
-      (λ below. subst (λ (k : ℕ). h.point.failed ≤ k) (sym same) (keeps.blamed (subst (λ (k : ℕ). k < 2 ^ 64 - 1) same below))) in
+      let a = added h d e (Shut n) q keeps call adds (λ m behind. shut m n phase refl refl refl) refl refl refl
+      (λ below. subst (λ (k : ℕ). h.found.send_faults + h.point.failed ≤ k) (sym same) (keeps.blamed (subst (λ (k : ℕ). k < 2 ^ 64 - 1) same below))) in
       record {
         later = moved h (at a.0 (Shut n)) q;
         keeps = a.1;
@@ -147,6 +153,7 @@ module _ {D : Type 0} (view W : D → View) (leave leave' : D → Image → Type
           first = refl;
           begin = refl;
           base = refl;
+          found = refl;
           on = on_moved (is_told (view e)) h (at a.0 (Shut n)) q a.2;
           received = λ j. received_push j h.items (record { moment = a.0; deal = Shut n });
           deals = deals_push h.items (record { moment = a.0; deal = Shut n });

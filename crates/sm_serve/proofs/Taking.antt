@@ -67,7 +67,7 @@ module _ {D : Type 0} (view : D → View) (leave : D → Image → Type 0) (left
                 (now_resting h k m n piece gives.from new r.follows number (gives.rests refl) (r.counts_are refl)) rest);
           };
         };
-        since = record { first = r.follows.first; begin = r.follows.begin; base = r.follows.base; on = on_behind false h k _ _ gives.move r.follows.on };
+        since = record { first = r.follows.first; begin = r.follows.begin; base = r.follows.base; found = r.follows.found; on = on_behind false h k _ _ gives.move r.follows.on };
         taken = r.follows.deals ∙ deals_push h.items _ ∙ ap (λ (l : ℕ). deals_in h.items ++ Came l piece ∷ []) same;
       }
 
@@ -89,7 +89,7 @@ module _ {D : Type 0} (view : D → View) (leave : D → Image → Type 0) (left
                 (rest_remove h k n (others_after h k m n piece gives.from false gives.from_counts r.follows) old i (distinct_numbers h old numbers) within is rest);
           };
         };
-        since = record { first = r.follows.first; begin = r.follows.begin; base = r.follows.base; on = on_behind false h k _ _ gives.move r.follows.on };
+        since = record { first = r.follows.first; begin = r.follows.begin; base = r.follows.base; found = r.follows.found; on = on_behind false h k _ _ gives.move r.follows.on };
         taken = r.follows.deals ∙ deals_push h.items _ ∙ ap (λ (l : ℕ). deals_in h.items ++ Came l piece ∷ []) same;
       }
 
@@ -103,7 +103,7 @@ module _ {D : Type 0} (view : D → View) (leave : D → Image → Type 0) (left
       record {
         later = k;
         serves = record {
-          keeps = pending q (passed m n piece rest.phase_is gone refl refl refl) refl refl refl;
+          keeps = pending q (passed m n piece rest.phase_is gone refl refl refl) refl refl refl refl;
           rest = record {
             stands = rest.stands;
             phase_is = refl;
@@ -111,7 +111,7 @@ module _ {D : Type 0} (view : D → View) (leave : D → Image → Type 0) (left
             resting = rest_others h k n (λ l other was. same_rest h k l (other_bytes l.number n m piece h other) refl was) state.lives.items none rest.resting;
           };
         };
-        since = record { first = refl; begin = refl; base = refl; on = on_moved false h (at m (Came n piece)) q (passed m n piece rest.phase_is gone refl refl refl) };
+        since = record { first = refl; begin = refl; base = refl; found = refl; on = on_moved false h (at m (Came n piece)) q (passed m n piece rest.phase_is gone refl refl refl) };
         taken = deals_push h.items _;
       }
 
@@ -150,7 +150,7 @@ module _ {D : Type 0} (view : D → View) (leave : D → Image → Type 0) (left
                 state.lives.items (subst (λ (ns : List ℕ). is_among n ns ≡ false) (sym numbers) none) rest;
           };
         };
-        since = record { first = r.follows.first; begin = r.follows.begin; base = r.follows.base; on = on_behind told h k _ _ move r.follows.on };
+        since = record { first = r.follows.first; begin = r.follows.begin; base = r.follows.base; found = r.follows.found; on = on_behind told h k _ _ move r.follows.on };
         taken = r.follows.deals ∙ deals_push h.items _;
       }
 
@@ -180,7 +180,7 @@ module _ {D : Type 0} (view : D → View) (leave : D → Image → Type 0) (left
             resting = subst (λ (ls : List Live). AreResting k ls) (sym lives) (rest_push k old new resting_old now);
           };
         };
-        since = record { first = r.follows.first; begin = r.follows.begin; base = r.follows.base; on = on_behind told h k _ _ move r.follows.on };
+        since = record { first = r.follows.first; begin = r.follows.begin; base = r.follows.base; found = r.follows.found; on = on_behind told h k _ _ move r.follows.on };
         taken = r.follows.deals ∙ deals_push h.items _;
       }
 
@@ -197,7 +197,7 @@ module _ {D : Type 0} (view : D → View) (leave : D → Image → Type 0) (left
       record {
         later = k;
         serves = record {
-          keeps = pending q (left m n rest.phase_is refl refl refl) refl refl refl;
+          keeps = pending q (left m n rest.phase_is refl refl refl) refl refl refl refl;
           rest = record {
             stands = subst (λ (o : Origin). StandsOn view leave h.point.machine o d) (sym forgets.origin) rest.stands;
             phase_is = refl;
@@ -205,7 +205,7 @@ module _ {D : Type 0} (view : D → View) (leave : D → Image → Type 0) (left
             resting = forgets.resting h k (λ l other was. same_rest h k l (left_bytes l.number n m h) refl was) distinct rest.resting;
           };
         };
-        since = record { first = refl; begin = refl; base = refl; on = on_moved false h (at m (Left n)) q (left m n rest.phase_is refl refl refl) };
+        since = record { first = refl; begin = refl; base = refl; found = refl; on = on_moved false h (at m (Left n)) q (left m n rest.phase_is refl refl refl) };
         taken = deals_push h.items _;
       }
 
@@ -216,7 +216,7 @@ module _ {D : Type 0} (view : D → View) (leave : D → Image → Type 0) (left
       record {
         later = k;
         serves = record {
-          keeps = pending q (over m rest.phase_is refl refl refl) refl refl refl;
+          keeps = pending q (over m rest.phase_is refl refl refl) refl refl refl refl;
           rest = record {
             stands = rest.stands;
             phase_is = refl;
@@ -224,6 +224,6 @@ module _ {D : Type 0} (view : D → View) (leave : D → Image → Type 0) (left
             resting = rest_all h k (λ l was. same_rest h k l (received_push l.number h.items (record { moment = m; deal = Over })) refl was) state.lives.items rest.resting;
           };
         };
-        since = record { first = refl; begin = refl; base = refl; on = on_moved false h (at m Over) q (over m rest.phase_is refl refl refl) };
+        since = record { first = refl; begin = refl; base = refl; found = refl; on = on_moved false h (at m Over) q (over m rest.phase_is refl refl refl) };
         taken = deals_push h.items _;
       }

@@ -9,3 +9,5 @@ pub mod Giving
 pub mod Serving
 pub mod Shown
 pub mod Surviving
+pub mod Faultless
+pub mod Sent

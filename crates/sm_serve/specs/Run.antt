@@ -16,6 +16,7 @@ use Rattle.sm_wire.specs.Wire.{IsWire}
 use Rattle.sm_reply.specs.declared.reply.Counted.{Counted}
 use Rattle.sm_reply.specs.declared.reply.Counted.TheVariants as counted
 use Rattle.sm_reply.specs.declared.reply.Reply.{Reply}
+use Rattle.sm_archive.specs.Stands as archive
 use Rattle.sm_origin.specs.Machine.{Machine, SameLog, Step}
 use Rattle.sm_serve.specs.declared.texts.TheConstants.{TOO_MANY}
 use Rattle.sm_serve.specs.Connections.{received, live, is_among}
@@ -96,6 +97,8 @@ pub record Point : Type 0 where
   pub ended : ℕ
   -- how many sends failed
   pub failed : ℕ
+  -- the disk's count of faults
+  pub faults : ℕ
 
 abbrev pub set_counts : ℕ → Counts → (ℕ → Counts) → ℕ → Counts
 set_counts n new counts k = if k == n then new else counts k
@@ -114,18 +117,28 @@ pub record Stepped : Type 0 where
   pub faults_after : ℕ
   pub ends : ℕ
 
+-- the archive is one of the log and the doubt: it has used what their records take
+pub record IsArchived (m : Machine) : Type 0 where
+  pub bodies : List (List ℕ)
+  pub body : Option (List ℕ)
+  pub keeps : archive.Keeps m.archive bodies body m.log m.doubt
+
 -- A step of the machine, from a point on. It ends with its last disk call, or else with what came before it.
 pub record OnMachine (p : Point) (x : Stepped) : Type 0 where
   pub step : Step (Rose x.faults x.faults_after) x.before x.act x.after x.reply
   pub still : x.calls ≡ [] → SameLog x.before x.after
   pub limits : x.after.archive.limits ≡ x.before.archive.limits
+  pub archived : IsArchived x.after
   pub began : p.ended ≤ x.began
   pub ends_is : x.ends ≡ last_moment p.ended x.calls
 
--- One step, from a point on. Of a disk that doesn't tell its contents nothing is said of logs and moments.
+-- One step, from a point on. It begins with the disk's count of faults at the point, which doesn't fall. Of a disk that doesn't tell its
+-- contents nothing is said of logs and moments.
 pub record IsStep (told : Bool) (p : Point) (act : Act) (x : Stepped) : Type 0 where
   pub act_is : x.act ≡ act
   pub before_is : x.before ≡ p.machine
+  pub faults_is : x.faults ≡ p.faults
+  pub no_fewer : x.faults ≤ x.faults_after
   pub machine : IsTrue told → OnMachine p x
 
 abbrev pub phase_after : ℕ → Option (List ℕ) → Bool → List WireItem → Phase
@@ -151,13 +164,14 @@ behind_step p n item items x = record {
   phase = phase_after n (sent_of x.reply) (x.reply.close || closes item) items;
   ended = x.ends;
   failed = p.failed;
+  faults = x.faults_after;
 }
 
 -- What happens next, behind the entries so far: further entries es of the transcript, further steps xs, and the point q.
 pub data Moves (told : Bool) (items : List Item) (p : Point) (es : List Item) (xs : List Stepped) (q : Point) : Type 0 where
   -- a connection begins, with no bytes and counts 0
   opened : (m n : ℕ) → p.phase ≡ idle → length (live items) < 64 → es ≡ at m (Began n) → xs ≡ []
-      → q ≡ record { machine = p.machine; counts = set_counts n no_counts p.counts; phase = acting n []; ended = m; failed = p.failed }
+      → q ≡ record { machine = p.machine; counts = set_counts n no_counts p.counts; phase = acting n []; ended = m; failed = p.failed; faults = p.faults }
       → Moves told items p es xs q
   -- where 64 are live, it gets the refusal and is closed
   crowded : (m n : ℕ) → p.phase ≡ idle → 64 ≤ length (live items) → es ≡ at m (Began n) → xs ≡ []
@@ -201,20 +215,22 @@ pub data Moves (told : Bool) (items : List Item) (p : Point) (es : List Item) (x
   shut : (m n : ℕ) → p.phase ≡ shutting n → es ≡ at m (Shut n) → xs ≡ [] → q ≡ in_phase p idle → Moves told items p es xs q
   -- a ladder is one step, without a connection
   declared : (header : List Track) (x : Stepped) → p.phase ≡ idle → x.conn ≡ None → IsStep told p (acts.Header header) x → es ≡ [] → xs ≡ x ∷ []
-      → q ≡ record { machine = x.after; counts = p.counts; phase = idle; ended = x.ends; failed = p.failed } → Moves told items p es xs q
+      → q ≡ record { machine = x.after; counts = p.counts; phase = idle; ended = x.ends; failed = p.failed; faults = x.faults_after }
+      → Moves told items p es xs q
   -- a fragment is read back for players, by one step, without a connection; its reply is not sent
   recalled : (a : Address) (x : Stepped) → p.phase ≡ idle → x.conn ≡ None → IsStep told p (acts.Fragment a) x → es ≡ [] → xs ≡ x ∷ []
-      → q ≡ record { machine = x.after; counts = p.counts; phase = idle; ended = x.ends; failed = p.failed } → Moves told items p es xs q
+      → q ≡ record { machine = x.after; counts = p.counts; phase = idle; ended = x.ends; failed = p.failed; faults = x.faults_after }
+      → Moves told items p es xs q
 
--- where a run begins
-abbrev pub start : Machine → ℕ → Point
-start m begin = record { machine = m; counts = λ n. no_counts; phase = idle; ended = begin; failed = 0 }
+-- where a run begins, at a moment and with a count of the disk's faults
+abbrev pub start : Machine → ℕ → ℕ → Point
+start m begin faults = record { machine = m; counts = λ n. no_counts; phase = idle; ended = begin; failed = 0; faults = faults }
 
--- From a machine at a moment, the entries and steps lead to a point. The disk tells its contents, or not.
-pub data Run (told : Bool) (first : Machine) (begin : ℕ) : List Item → List Stepped → Point → Type 0 where
-  begins : Run told first begin [] [] (start first begin)
-  goes_on : (items es now : List Item) (steps xs all : List Stepped) (p q : Point) → Run told first begin items steps p → Moves told items p es xs q
-      → now ≡ items ++ es → all ≡ steps ++ xs → Run told first begin now all q
+-- From a machine at a moment, and a count of the disk's faults, the entries and steps lead to a point. The disk tells its contents, or not.
+pub data Run (told : Bool) (first : Machine) (begin faults : ℕ) : List Item → List Stepped → Point → Type 0 where
+  begins : Run told first begin faults [] [] (start first begin faults)
+  goes_on : (items es now : List Item) (steps xs all : List Stepped) (p q : Point) → Run told first begin faults items steps p
+      → Moves told items p es xs q → now ≡ items ++ es → all ≡ steps ++ xs → Run told first begin faults now all q
 
 -- From one point of a run by moves to a later one, behind further entries and steps. Whether the disk tells its contents is left open.
 pub data LeadsTo (items : List Item) (steps : List Stepped) (p : Point) : List Item → List Stepped → Point → Type 0 where

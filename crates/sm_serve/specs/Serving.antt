@@ -1,7 +1,7 @@
 -- The loop between two events.
-use Rattle.std.specs.Prelude.{◌≡◌, ◌⊎◌, ◌+◌, ◌<◌, ◌≤◌, ◌-◌, ◌^◌, ℕ, true, false, List, [], ◌∷◌, ◌++◌, length, map, Option, Some, None, IsSome, IfSome, IsTrue}
+use Rattle.std.specs.Prelude.{◌≡◌, ◌≢◌, ◌⊎◌, ◌+◌, ◌<◌, ◌≤◌, ◌-◌, ◌^◌, ℕ, true, false, List, [], ◌∷◌, ◌++◌, length, map, Option, Some, None, IsSome, IfSome, IsTrue}
 use Rattle.sm_site.specs.Image.{Image}
-use Rattle.sm_site.specs.Meanings.{View, Deal, Item, DiskCall, IsLive}
+use Rattle.sm_site.specs.Meanings.{View, Deal, Item, IsLive}
 use Rattle.sm_site.specs.Meanings.Deal.{Over}
 use Rattle.sm_site.specs.Clauses.{Both}
 use Rattle.sm_site.specs.Scripts.{Takes}
@@ -56,6 +56,7 @@ pub record Since (h k : History) : Type 0 where
   pub first : k.first ≡ h.first
   pub begin : k.begin ≡ h.begin
   pub base : k.base ≡ h.base
+  pub found : k.found ≡ h.found
   pub on : GoesOn h k
 
 -- the run goes on by these events
@@ -95,12 +96,23 @@ IsNew Ended h = Unit {0}
 abbrev pub IsOver : Option (List Item) → Type 0
 IsOver told = IfSome told (λ items. (before : List Item) × (m : ℕ) × (items ≡ before ++ at m Over))
 
--- Done is answered after as many events as were asked, or where one more came, which said that nothing more comes.
-abbrev pub EndsAs : ℕ → Outcome → Option (List Item) → ℕ → ℕ → Type 0
-EndsAs turns (served.Done taken behind short) told before now =
-    ((taken ≡ turns) × (now ≡ taken + before)) ⊎ ((taken < turns) × (now ≡ taken + 1 + before) × IsOver told)
-EndsAs turns served.LinkFault told before now = Unit {0}
-EndsAs turns served.NoMemory told before now = Unit {0}
+-- none of these events says that nothing more comes
+abbrev pub NoneIsOver : List Deal → Type 0
+NoneIsOver [] = Unit {0}
+NoneIsOver (deal ∷ deals) = (deal ≢ Over) × NoneIsOver deals
+
+-- the last of them says it, and no other
+abbrev pub LastIsOver : List Deal → Type 0
+LastIsOver deals = (before : List Deal) × (deals ≡ before ++ Over ∷ []) × NoneIsOver before
+
+-- Done is answered after as many events as were asked, or where one more came, which said that nothing more comes. No other event of those
+-- that were taken says so. Another end comes before that, after fewer events.
+abbrev pub EndsAs : ℕ → Outcome → Option (List Item) → ℕ → ℕ → List Deal → Type 0
+EndsAs turns (served.Done taken behind short) told before now deals =
+    ((taken ≡ turns) × (now ≡ taken + before) × NoneIsOver deals)
+    ⊎ ((taken < turns) × (now ≡ taken + 1 + before) × IsOver told × LastIsOver deals)
+EndsAs turns served.LinkFault told before now deals = (now < turns + before) × NoneIsOver deals
+EndsAs turns served.NoMemory told before now deals = (now < turns + before) × NoneIsOver deals
 
 -- no turn is counted as one behind which less was shown than is kept
 abbrev pub CountsNone : Outcome → Type 0
@@ -116,21 +128,26 @@ pub record Served {D : Type 0} (view : D → View) (leave : D → Image → Type
     (state : State) (d : D) : Type 0 where
   pub later : History
   pub since : Since h later
-  pub ended : EndsAs turns result (view d).transcript (events_in h.items) (events_in later.items)
-  pub run : Run (is_told (view d)) later.first later.begin later.items later.steps later.point
+  -- the events that were taken
+  pub deals : List Deal
+  pub taken : deals_in later.items ≡ deals_in h.items ++ deals
+  pub ended : EndsAs turns result (view d).transcript (events_in h.items) (events_in later.items) deals
+  pub run : Run (is_told (view d)) later.first later.begin later.found.disk_faults later.items later.steps later.point
   pub awaits : later.point.phase ≡ idle
   pub told : (view d).transcript ≡ Some (later.base ++ later.items)
   pub stands : StandsOn view leave later.point.machine state.origin d
-  pub recorded : IfSome (view d).calls (λ cs. (before : List DiskCall) × (cs ≡ before ++ calls_of later.steps))
-  pub blamed : (view d).send_faults < 2 ^ 64 - 1 → later.point.failed ≤ (view d).send_faults
+  pub recorded : Both later.found.calls (view d).calls (λ before now. now ≡ before ++ calls_of later.steps)
+  pub blamed : (view d).send_faults < 2 ^ 64 - 1 → later.found.send_faults + later.point.failed ≤ (view d).send_faults
+  pub counted : later.point.faults ≡ (view d).disk_faults
+  pub still_told : is_told (view d) ≡ is_told later.found
   pub crash : (t : ℕ) (image : Image) → later.begin ≤ t → left_at d t image → FitsAt later.first later.steps t image
   pub survives : (t : ℕ) (image : Image) → later.begin ≤ t → left_at d t image → Survives later.first later.items t image
 
--- A new state is where a run begins, whatever the machine that its origin stands for and the transcript before it.
+-- A new state is where a run begins, whatever the machine that its origin stands for and the transcript before it. The site is as it is found.
 abbrev pub Begins : {D : Type 0} (view : D → View) (leave : D → Image → Type 0) (left_at : D → ℕ → Image → Type 0) → State → D → Type 0
 Begins view leave left_at state d = (m : Machine) (base : List Item) → StandsOn view leave m state.origin d → (view d).transcript ≡ Some base
     → (h : History) × (h.first ≡ m) × (h.begin ≡ (view d).moment) × (h.base ≡ base) × (h.items ≡ []) × (h.steps ≡ [])
-    × Serves view leave left_at h state d
+    × Serves view leave left_at h state d × (h.found ≡ view d)
 
 -- how many events a turn took
 abbrev pub taken_by : Turned → ℕ
@@ -138,6 +155,13 @@ taken_by turned.Went = 1
 taken_by turned.Ended = 1
 taken_by turned.LinkFault = 0
 taken_by turned.NoMemory = 0
+
+-- what a turn took: one event, which says that nothing more comes exactly where the turn says Ended, or none
+abbrev pub HasTaken : Turned → List Deal → Type 0
+HasTaken turned.Went deals = (deal : Deal) × (deals ≡ deal ∷ []) × (deal ≢ Over)
+HasTaken turned.Ended deals = deals ≡ Over ∷ []
+HasTaken turned.LinkFault deals = deals ≡ []
+HasTaken turned.NoMemory deals = deals ≡ []
 
 -- A ladder is one step more, without a connection and without an entry.
 pub record DeclaresIn {D : Type 0} (view : D → View) (leave : D → Image → Type 0) (left_at : D → ℕ → Image → Type 0) (h : History) (channel : List Track)

@@ -1,7 +1,8 @@
 -- A run so far, on a site.
-use Rattle.std.specs.Prelude.{◌≡◌, ◌≢◌, ℕ, ◌-◌, ◌<◌, ◌≤◌, ◌^◌, Bool, List, [], ◌∷◌, ◌++◌, Option, Some, None, IfSome, IsSome, is_some, if◌then◌else◌, IsTrue}
+use Rattle.std.specs.Prelude.{◌≡◌, ◌≢◌, ℕ, ◌+◌, ◌-◌, ◌<◌, ◌≤◌, ◌^◌, Bool, List, [], ◌∷◌, ◌++◌, Option, Some, None, IsSome, is_some, if◌then◌else◌, IsTrue}
 use Rattle.sm_site.specs.Image.{Image}
 use Rattle.sm_site.specs.Meanings.{View, Item, Deal, DiskCall}
+use Rattle.sm_site.specs.Clauses.{Both}
 use Rattle.sm_wire.specs.declared.item.WireItem.{WireItem}
 use Rattle.sm_origin.specs.declared.origin.Origin.{Origin}
 use Rattle.sm_reply.specs.declared.reply.Counted.{Counted}
@@ -12,11 +13,12 @@ use Rattle.sm_serve.specs.Connections.{received, live, without, deals_in}
 use Rattle.sm_serve.specs.Run.{Counts, counts_after, Phase, Point, Stepped, Moves, at, Run, LeadsTo}
 use Rattle.sm_serve.specs.Moments.{machine_at, FitsAt}
 
--- the machine found at the start and its moment, the transcript before it, and what has happened since
+-- the machine found at the start and its moment, the transcript before it, what the site told then, and what has happened since
 pub record History : Type 0 where
   pub first : Machine
   pub begin : ℕ
   pub base : List Item
+  pub found : View
   pub items : List Item
   pub steps : List Stepped
   pub point : Point
@@ -36,16 +38,20 @@ is_told v = is_some v.contents
 
 -- The site tells this run. What a crash may leave, now and at each moment since the start, fits it.
 pub record Keeps {D : Type 0} (view : D → View) (leave : D → Image → Type 0) (left_at : D → ℕ → Image → Type 0) (h : History) (d : D) : Type 0 where
-  pub run : Run (is_told (view d)) h.first h.begin h.items h.steps h.point
+  pub run : Run (is_told (view d)) h.first h.begin h.found.disk_faults h.items h.steps h.point
   pub told : (view d).transcript ≡ Some (h.base ++ h.items)
   pub clock : IsTrue (is_told (view d)) → h.point.ended ≤ (view d).moment
   pub current : IsTrue (is_told (view d)) → (t : ℕ) → h.point.ended ≤ t → machine_at h.first h.steps t ≡ h.point.machine
   pub now : (image : Image) → leave d image → Fits h.point.machine image
   pub images : (t : ℕ) (image : Image) → h.begin ≤ t → left_at d t image → FitsAt h.first h.steps t image
-  -- the record of disk calls, where it is told, is that of the steps, behind what was there before
-  pub recorded : IfSome (view d).calls (λ cs. (before : List DiskCall) × (cs ≡ before ++ calls_of h.steps))
-  -- each send that failed was counted
-  pub blamed : (view d).send_faults < 2 ^ 64 - 1 → h.point.failed ≤ (view d).send_faults
+  -- the record of disk calls, where it is told, is what it was at the start and behind that those of the steps
+  pub recorded : Both h.found.calls (view d).calls (λ before now. now ≡ before ++ calls_of h.steps)
+  -- each send that failed since was counted
+  pub blamed : (view d).send_faults < 2 ^ 64 - 1 → h.found.send_faults + h.point.failed ≤ (view d).send_faults
+  -- the disk's count of faults is the run's
+  pub counted : h.point.faults ≡ (view d).disk_faults
+  -- the disk tells its contents where it did at the start
+  pub still_told : is_told (view d) ≡ is_told h.found
 
 -- the history with further entries, at a point
 abbrev pub moved : History → List Item → Point → History
@@ -56,7 +62,7 @@ abbrev pub Pending : {D : Type 0} (view : D → View) (leave : D → Image → T
     → Type 0
 Pending view leave left_at h m deal d =
     (q : Point) → Moves (is_told (view d)) h.items h.point (at m deal) [] q → q.machine ≡ h.point.machine → q.ended ≡ m → q.failed ≡ h.point.failed
-    → Keeps view leave left_at (moved h (at m deal) q) d
+    → q.faults ≡ h.point.faults → Keeps view leave left_at (moved h (at m deal) q) d
 
 -- A later history goes on from an earlier one: its entries and its steps begin with those of that one, and moves lead from its point on.
 pub record GoesOn (h k : History) : Type 0 where
@@ -71,6 +77,7 @@ pub record Follows (n : ℕ) (is_open : Bool) (h k : History) : Type 0 where
   pub first : k.first ≡ h.first
   pub begin : k.begin ≡ h.begin
   pub base : k.base ≡ h.base
+  pub found : k.found ≡ h.found
   pub on : GoesOn h k
   pub received : (j : ℕ) → received j k.items ≡ received j h.items
   pub deals : deals_in k.items ≡ deals_in h.items

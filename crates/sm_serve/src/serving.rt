@@ -1,5 +1,5 @@
 //! The loop.
-ghost use Rattle.std.specs.Prelude.{◌≡◌, ◌≢◌, ◌↔◌, ◌⊎◌, ◌∷◌, ◌++◌, IsTrue, [], ℕ, true, false, Some, IfSome, IfNone, OnOk, OnErr, is_some, length, ◌<◌, ◌≤◌, slice_index};
+ghost use Rattle.std.specs.Prelude.{◌≡◌, ◌≢◌, ◌↔◌, ◌⊎◌, ◌∷◌, ◌++◌, IsTrue, [], ℕ, true, false, Some, IfSome, IfNone, IsSome, OnOk, OnErr, is_some, length, ◌<◌, ◌≤◌, slice_index};
 ghost use Rattle.sm_site.specs.Meanings.{IsLive};
 ghost use Rattle.sm_site.specs.Meanings.Deal.{Began, Came, Over};
 ghost use Rattle.sm_site.specs.Event.{deal_of};
@@ -10,7 +10,7 @@ ghost use Rattle.sm_serve.specs.Connections.{is_among, live};
 ghost use Rattle.sm_serve.specs.Standing.{History, StandsOn, Pending};
 ghost use Rattle.sm_serve.specs.Resting.{IsNewborn};
 ghost use Rattle.sm_serve.specs.Serving.{IsAtRest, Turns, TurnsBy, Serves, Known, CountsNone, numbers_of, Forgets, MayHandle, IsNew};
-ghost use Rattle.sm_serve.specs.Serving.{Served as HasServed, taken_by};
+ghost use Rattle.sm_serve.specs.Serving.{Served as HasServed, taken_by, HasTaken};
 
 use crate::item::starve;
 use crate::outcome::{Served, Turn};
@@ -155,11 +155,13 @@ pub fn turn<S: Site>(site: &mut S, state: &mut State) -> Turn
     // Wherever a run had come, it goes on: from the same machine at the start, over the entries since, and what a crash may leave at
     // each moment since fits it. What it took is what came next in the script, where one is told.
     ensures runs { (h : History) → Serves S.Disk.view S.Disk.may_leave S.Disk.left_at h state.old site.old
-        → TurnsBy S.Disk.view S.Disk.may_leave S.Disk.left_at h (taken_by result) (S.Disk.view site.old).script state.new site.new }
+        → (turns : TurnsBy S.Disk.view S.Disk.may_leave S.Disk.left_at h (taken_by result) (S.Disk.view site.old).script state.new site.new)
+        × HasTaken result turns.deals }
     ensures stands { (m : Machine) × StandsOn S.Disk.view S.Disk.may_leave m state.new.origin site.new }
     ensures told { is_some (S.Disk.view site.new).transcript ≡ is_some (S.Disk.view site.old).transcript }
-    // Exactly where the event says so.
+    // Exactly where the event says so; whether it does is told by the transcript.
     ensures ended { result ≡ Turn.Ended → Adds Over (S.Link.view site.old) (S.Link.view site.new) }
+    ensures over { IsSome (S.Disk.view site.old).transcript → Adds Over (S.Link.view site.old) (S.Link.view site.new) → result ≡ Turn.Ended }
     ensures link_faults { (S.Disk.view site.old).link_faults ≤ (S.Disk.view site.new).link_faults }
     ensures link_fault { result ≡ Turn.LinkFault → Rose (S.Disk.view site.old).link_faults (S.Disk.view site.new).link_faults }
     ensures chosen { (S.Disk.view site.new).chosen ≡ (S.Disk.view site.old).chosen }

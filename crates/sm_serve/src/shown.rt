@@ -21,8 +21,8 @@ use sm_wire::law::wire_of_front;
 /// What a run has shown by a moment is held by the log of the last of its steps that had ended by then, where that is a log of real
 /// entries. The disk tells its contents.
 pub fn what_was_shown_is_held()
-    ensures { (first : Machine) (begin : ℕ) (items : List Item) (steps : List Stepped) (point : Point) → Run true first begin items steps point
-        → (t : ℕ) (claim : Claim) → Shown items t claim → IsReal (machine_at first steps t).log → Holds (machine_at first steps t).log claim }
+    ensures { (first : Machine) (begin faults : ℕ) (items : List Item) (steps : List Stepped) (point : Point)
+        → Run true first begin faults items steps point → (t : ℕ) (claim : Claim) → Shown items t claim → IsReal (machine_at first steps t).log → Holds (machine_at first steps t).log claim }
 {
     too_many_is_told();
     part_shows_its_status();
@@ -38,8 +38,8 @@ pub fn what_was_shown_is_held()
 /// What a run has shown by a moment is held by the store that a crash at that moment leaves, whose log begins with the one found at the
 /// start. The disk tells its contents.
 pub fn crashes_hold_what_was_shown()
-    ensures { (first : Machine) (begin : ℕ) (items : List Item) (steps : List Stepped) (point : Point) → Run true first begin items steps point
-        → (t : ℕ) (image : Image) → FitsAt first steps t image
+    ensures { (first : Machine) (begin faults : ℕ) (items : List Item) (steps : List Stepped) (point : Point)
+        → Run true first begin faults items steps point → (t : ℕ) (image : Image) → FitsAt first steps t image
         → (log : List Entry) × IsStore log image × ((more : List Entry) × (log ≡ first.log ++ more))
         × ((claim : Claim) → Shown items t claim → Holds log claim) }
 {

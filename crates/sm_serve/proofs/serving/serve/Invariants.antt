@@ -2,7 +2,7 @@ use Rattle.std.proofs.Common.{◌≡◌, ◌≤◌, is_some}
 use Rattle.sm_origin.specs.Machine.{Machine}
 use Rattle.sm_serve.specs.Standing.{StandsOn}
 use Rattle.sm_serve.specs.Standing.{History}
-use Rattle.sm_serve.specs.Serving.{Serves, TurnsBy}
+use Rattle.sm_serve.specs.Serving.{Serves, TurnsBy, NoneIsOver}
 use Rattle.sm_serve.proofs.serving.serve.Given as goal
 
 abbrev pub invariant-loop-taken : goal.invariant-loop-taken
@@ -11,5 +11,6 @@ invariant-loop-taken g l = record {
   told : is_some (g.S.Disk.view l.site).transcript ≡ is_some (g.S.Disk.view l.fn.site).transcript;
   chosen : (g.S.Disk.view l.site).chosen ≡ (g.S.Disk.view l.fn.site).chosen;
   link_faults : (g.S.Disk.view l.fn.site).link_faults ≤ (g.S.Disk.view l.site).link_faults;
-  goes_on : (h : History) → Serves g.S.Disk.view g.S.Disk.may_leave g.S.Disk.left_at h l.fn.state l.fn.site → TurnsBy g.S.Disk.view g.S.Disk.may_leave g.S.Disk.left_at h l.taken (g.S.Disk.view l.fn.site).script l.state l.site;
+  goes_on : (h : History) → Serves g.S.Disk.view g.S.Disk.may_leave g.S.Disk.left_at h l.fn.state l.fn.site
+      → (turns : TurnsBy g.S.Disk.view g.S.Disk.may_leave g.S.Disk.left_at h l.taken (g.S.Disk.view l.fn.site).script l.state l.site) × NoneIsOver turns.deals;
 }

@@ -13,6 +13,7 @@ use Rattle.sm_serve.specs.Serving.{taken_by, IsAtRest}
 use Rattle.sm_serve.proofs.Transcripts.{adds_told, told_here, chosen_here}
 use Rattle.sm_serve.proofs.Sending.{LinkCall, contents_here}
 use Rattle.sm_serve.proofs.Events.{pend, still_serves, turn_taken, turn_not_taken, may_handle, is_new}
+use Rattle.sm_serve.proofs.Ending.{has_taken, over_is_told}
 use Rattle.sm_serve.proofs.serving.turn.Goals as goal
 
 took : (r : Turned) → (r ≡ LinkFault → ⊥) → (r ≡ NoMemory → ⊥) → taken_by r ≡ 1
@@ -31,6 +32,7 @@ handle-requires-clause-may g c =
     c.requires.known adds (told_here g.S.Disk.view W g.met.S.Site.one_view d e (adds_told (W d) (W e) (deal_of c.in-Ok.event) adds))
 
 pub returns-in-Ok-clause-runs : goal.returns-in-Ok-clause-runs
+unfolding turn_taken
 returns-in-Ok-clause-runs g c h serves =
     let W = g.S.Link.view in
     let d = c.args.site.now in
@@ -49,11 +51,13 @@ returns-in-Ok-clause-runs g c h serves =
       phase_is = serves.rest.phase_is;
       numbers = serves.rest.numbers;
       resting = serves.rest.resting;
-    } in
-    turn_taken g.S.Disk.view g.S.Link.view g.S.Disk.may_leave g.S.Disk.left_at g.met.S.Site.one_view h (taken_by c.handle.result) (deal_of c.in-Ok.event) c.handle.new.state d e c.handle.new.site
-    (sym (took c.handle.result c.handle.ensures.no_fault c.handle.ensures.no_want)) c.in-Ok.ensures.script c.handle.ensures.script
-    (c.handle.ensures.goes_on h p.0 p.1 rest (is_new g.S.Disk.view g.S.Link.view g.S.Disk.may_leave g.S.Link.may_leave g.S.Disk.left_at g.S.Link.left_at g.met.S.Site.one_view g.met.S.Site.one_disk g.met.S.Site.one_past g.met.S.Disk.told
-    c.in-Ok.event h d serves.keeps.told next))
+    } in (
+      turn_taken g.S.Disk.view g.S.Link.view g.S.Disk.may_leave g.S.Disk.left_at g.met.S.Site.one_view h (taken_by c.handle.result) (deal_of c.in-Ok.event) c.handle.new.state d e c.handle.new.site
+          (sym (took c.handle.result c.handle.ensures.no_fault c.handle.ensures.no_want)) c.in-Ok.ensures.script c.handle.ensures.script
+          (c.handle.ensures.goes_on h p.0 p.1 rest (is_new g.S.Disk.view g.S.Link.view g.S.Disk.may_leave g.S.Link.may_leave g.S.Disk.left_at g.S.Link.left_at g.met.S.Site.one_view g.met.S.Site.one_disk g.met.S.Site.one_past g.met.S.Disk.told
+          c.in-Ok.event h d serves.keeps.told next)),
+      has_taken c.handle.result c.in-Ok.event c.handle.ensures.no_fault c.handle.ensures.no_want c.handle.ensures.ended,
+    )
 
 pub returns-in-Ok-clause-link_fault : goal.returns-in-Ok-clause-link_fault
 returns-in-Ok-clause-link_fault g c is = absurd (c.handle.ensures.no_fault is)
@@ -62,20 +66,26 @@ pub returns-in-Ok-clause-none_taken : goal.returns-in-Ok-clause-none_taken
 returns-in-Ok-clause-none_taken g c is = absurd (⊎_elim c.handle.ensures.no_fault c.handle.ensures.no_want is)
 
 pub returns-in-Err-Failed-clause-runs : goal.returns-in-Err-Failed-clause-runs
+unfolding turn_not_taken
 returns-in-Err-Failed-clause-runs g c h serves =
     let call : LinkCall g.S.Disk.view g.S.Link.view g.S.Disk.may_leave g.S.Link.may_leave g.S.Disk.left_at g.S.Link.left_at g.met.S.Site.one_view g.met.S.Site.one_disk g.met.S.Site.one_past g.met.S.Disk.told c.args.site.now
-    c.next.new.self = record { time = c.next.ensures.time; same = c.next.ensures.crash; disk = c.next.ensures.disk } in
-    turn_not_taken g.S.Disk.view g.S.Link.view g.S.Disk.may_leave g.S.Disk.left_at g.met.S.Site.one_view h c.args.state.now c.args.site.now c.next.new.self c.in-Err-Failed.ensures.still_to_come
-    (still_serves g.S.Disk.view g.S.Link.view g.S.Disk.may_leave g.S.Link.may_leave g.S.Disk.left_at g.S.Link.left_at g.met.S.Site.one_view g.met.S.Site.one_disk g.met.S.Site.one_past g.met.S.Disk.told
-    c.fewer_images_stand.ensures h c.args.state.now c.args.site.now c.next.new.self serves call c.in-Err-Failed.ensures.not_taken c.next.ensures.send_faults)
+    c.next.new.self = record { time = c.next.ensures.time; same = c.next.ensures.crash; disk = c.next.ensures.disk } in (
+      turn_not_taken g.S.Disk.view g.S.Link.view g.S.Disk.may_leave g.S.Disk.left_at g.met.S.Site.one_view h c.args.state.now c.args.site.now c.next.new.self c.in-Err-Failed.ensures.still_to_come
+          (still_serves g.S.Disk.view g.S.Link.view g.S.Disk.may_leave g.S.Link.may_leave g.S.Disk.left_at g.S.Link.left_at g.met.S.Site.one_view g.met.S.Site.one_disk g.met.S.Site.one_past g.met.S.Disk.told
+          c.fewer_images_stand.ensures h c.args.state.now c.args.site.now c.next.new.self serves call c.in-Err-Failed.ensures.not_taken c.next.ensures.send_faults),
+      refl,
+    )
 
 pub returns-in-Err-NoMemory-clause-runs : goal.returns-in-Err-NoMemory-clause-runs
+unfolding turn_not_taken
 returns-in-Err-NoMemory-clause-runs g c h serves =
     let call : LinkCall g.S.Disk.view g.S.Link.view g.S.Disk.may_leave g.S.Link.may_leave g.S.Disk.left_at g.S.Link.left_at g.met.S.Site.one_view g.met.S.Site.one_disk g.met.S.Site.one_past g.met.S.Disk.told c.args.site.now
-    c.next.new.self = record { time = c.next.ensures.time; same = c.next.ensures.crash; disk = c.next.ensures.disk } in
-    turn_not_taken g.S.Disk.view g.S.Link.view g.S.Disk.may_leave g.S.Disk.left_at g.met.S.Site.one_view h c.args.state.now c.args.site.now c.next.new.self c.in-Err-NoMemory.ensures.still_to_come
-    (still_serves g.S.Disk.view g.S.Link.view g.S.Disk.may_leave g.S.Link.may_leave g.S.Disk.left_at g.S.Link.left_at g.met.S.Site.one_view g.met.S.Site.one_disk g.met.S.Site.one_past g.met.S.Disk.told
-    c.fewer_images_stand.ensures h c.args.state.now c.args.site.now c.next.new.self serves call c.in-Err-NoMemory.ensures.not_taken c.next.ensures.send_faults)
+    c.next.new.self = record { time = c.next.ensures.time; same = c.next.ensures.crash; disk = c.next.ensures.disk } in (
+      turn_not_taken g.S.Disk.view g.S.Link.view g.S.Disk.may_leave g.S.Disk.left_at g.met.S.Site.one_view h c.args.state.now c.args.site.now c.next.new.self c.in-Err-NoMemory.ensures.still_to_come
+          (still_serves g.S.Disk.view g.S.Link.view g.S.Disk.may_leave g.S.Link.may_leave g.S.Disk.left_at g.S.Link.left_at g.met.S.Site.one_view g.met.S.Site.one_disk g.met.S.Site.one_past g.met.S.Disk.told
+          c.fewer_images_stand.ensures h c.args.state.now c.args.site.now c.next.new.self serves call c.in-Err-NoMemory.ensures.not_taken c.next.ensures.send_faults),
+      refl,
+    )
 
 pub returns-in-Ok-clause-ended : goal.returns-in-Ok-clause-ended
 returns-in-Ok-clause-ended g c is =
@@ -84,6 +94,27 @@ returns-in-Ok-clause-ended g c is =
     let here = c.handle.ensures.still over in
     let adds : Adds (deal_of c.in-Ok.event) (W c.args.site.now) (W c.next.new.self) = c.in-Ok.ensures.taken in
     subst (λ (s : _). Adds Over (W c.args.site.now) (W s)) (sym here) (subst (λ (e : Event). Adds (deal_of e) (W c.args.site.now) (W c.next.new.self)) over adds)
+
+pub returns-in-Ok-clause-over : goal.returns-in-Ok-clause-over
+returns-in-Ok-clause-over g c some adds =
+    let k = c.requires.known some in
+    let t = returns-in-Ok-clause-runs g c k.0 k.1 in
+    over_is_told g.S.Disk.view g.S.Link.view g.S.Disk.may_leave g.S.Disk.left_at g.met.S.Site.one_view c.handle.result k.0 (taken_by c.handle.result) (g.S.Disk.view c.args.site.now).script
+    c.args.state.now c.handle.new.state c.args.site.now c.handle.new.site k.1 t.0 t.1 adds
+
+pub returns-in-Err-Failed-clause-over : goal.returns-in-Err-Failed-clause-over
+returns-in-Err-Failed-clause-over g c some adds =
+    let k = c.requires.known some in
+    let t = returns-in-Err-Failed-clause-runs g c k.0 k.1 in
+    over_is_told g.S.Disk.view g.S.Link.view g.S.Disk.may_leave g.S.Disk.left_at g.met.S.Site.one_view LinkFault k.0 0 (g.S.Disk.view c.args.site.now).script
+    c.args.state.now c.args.state.now c.args.site.now c.next.new.self k.1 t.0 t.1 adds
+
+pub returns-in-Err-NoMemory-clause-over : goal.returns-in-Err-NoMemory-clause-over
+returns-in-Err-NoMemory-clause-over g c some adds =
+    let k = c.requires.known some in
+    let t = returns-in-Err-NoMemory-clause-runs g c k.0 k.1 in
+    over_is_told g.S.Disk.view g.S.Link.view g.S.Disk.may_leave g.S.Disk.left_at g.met.S.Site.one_view NoMemory k.0 0 (g.S.Disk.view c.args.site.now).script
+    c.args.state.now c.args.state.now c.args.site.now c.next.new.self k.1 t.0 t.1 adds
 
 pub handle-requires-clause-stands : goal.handle-requires-clause-stands
 handle-requires-clause-stands g c =
