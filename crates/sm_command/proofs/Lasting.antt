@@ -1,5 +1,5 @@
 -- What a crash leaves at the moments of a command.
-use Rattle.std.proofs.Common.{⊎_elim, inl, ◌≡◌, ◌≤◌, ◌<◌, ◌++◌, ℕ, List, [], ◌∷◌, Option, Some, None, IsSome, refl, sym, ◌∙◌, ap, subst, arith}
+use Rattle.std.proofs.Common.{⊎_elim, inl, ◌≡◌, ◌≤◌, ℕ, List, [], Option, Some, None, IsSome, refl, sym, ◌∙◌, ap, subst, arith}
 use Rattle.std.specs.Prelude.{IfSome, slice_get}
 use Rattle.std.proofs.lemmas.List.{append-nil}
 use Rattle.std.proofs.lemmas.Bool.{cases_lt}
@@ -15,7 +15,7 @@ use Rattle.sm_origin.specs.Opening.{HasOneStore}
 use Rattle.sm_origin.specs.Shown.{Claim}
 use Rattle.sm_origin.specs.Stores.{Fits}
 use Rattle.sm_serve.specs.Shown.{Shown, replies}
-use Rattle.sm_command.specs.Lasting.{AtEachMoment, Outlasts}
+use Rattle.sm_command.specs.Lasting.{AtEachMoment, NoFewer, Outlasts}
 
 -- ---- one part, and then another
 
@@ -44,6 +44,13 @@ module _ {D : Type 0} (view : D → View) (left_at : D → ℕ → Image → Typ
     keeps = time.keeps;
     each = λ t c after left. ⊎_elim (λ o. o) (λ n. (same c).0 n) (time.within t c after left);
   }
+
+-- a call of the disk alone behind another call
+pub counts_then : (a b c : View) → NoFewer a b → b.disk_faults ≤ c.disk_faults → c.link_faults ≡ b.link_faults → NoFewer a c
+counts_then a b c first disk_yet link_is =
+    let disk = first.disk in
+    let link = first.link in
+    record { disk = omega (arith, disk, disk_yet); link = omega (arith, link, link_is) }
 
 -- ---- one store
 

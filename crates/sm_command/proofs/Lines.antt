@@ -22,7 +22,8 @@ use Rattle.sm_command.specs.declared.fault.StoreFault.TheVariants as fault
 use Rattle.sm_command.specs.Choosing.{WhyUnchosen}
 use Rattle.sm_command.specs.Opening.{IsOpened}
 use Rattle.sm_command.specs.Serving.{WhyUnopened}
-use Rattle.sm_command.specs.Listing.{kept_line, line_at, line_in, lines_from, lines_of, WhyUnlisted, WhyUnput}
+use Rattle.sm_command.specs.Lasting.{NoFewer, Untouched}
+use Rattle.sm_command.specs.Listing.{kept_line, line_at, line_in, lines_from, lines_of, UnlistedBy, WhyUnlisted, WhyUnput}
 
 -- ---- lines
 
@@ -132,7 +133,7 @@ unput_later a b c fault.Full le told h = h
 unput_later a b c fault.Damaged le told h = λ some. h (told ∙ some)
 unput_later a b c fault.NoMemory le told h = tt
 
-pub unlisted : (a b c : View) (why : StoreFault) → a.disk_faults ≤ b.disk_faults → is_some b.contents ≡ is_some a.contents → WhyUnput b c why → WhyUnlisted a c why
+pub unlisted : (a b c : View) (why : StoreFault) → a.disk_faults ≤ b.disk_faults → is_some b.contents ≡ is_some a.contents → WhyUnput b c why → UnlistedBy a c why
 unlisted a b c fault.DiskFault le told h = rose_later a.disk_faults b.disk_faults c.disk_faults le h
 unlisted a b c fault.LinkFault le told h = absurd h
 unlisted a b c (fault.NotAStore at) le told h = absurd h
@@ -144,7 +145,7 @@ unlisted a b c fault.Full le told h = h
 unlisted a b c fault.Damaged le told h = λ some. h (told ∙ some)
 unlisted a b c fault.NoMemory le told h = tt
 
-pub unlisted_later : (a b c : View) (why : StoreFault) → b.contents ≡ a.contents → a.disk_faults ≤ b.disk_faults → a.link_faults ≤ b.link_faults → WhyUnlisted b c why → WhyUnlisted a c why
+pub unlisted_later : (a b c : View) (why : StoreFault) → b.contents ≡ a.contents → a.disk_faults ≤ b.disk_faults → a.link_faults ≤ b.link_faults → UnlistedBy b c why → UnlistedBy a c why
 unlisted_later a b c fault.DiskFault same disk link h = rose_later a.disk_faults b.disk_faults c.disk_faults disk h
 unlisted_later a b c fault.LinkFault same disk link h = rose_later a.link_faults b.link_faults c.link_faults link h
 unlisted_later a b c (fault.NotAStore at) same disk link h = subst (λ (x : Option Image). IfSome x (NotAStore at)) same h
@@ -156,7 +157,7 @@ unlisted_later a b c fault.Full same disk link h = h
 unlisted_later a b c fault.Damaged same disk link h = λ some. h (ap (λ (x : Option Image). is_some x) same ∙ some)
 unlisted_later a b c fault.NoMemory same disk link h = tt
 
-pub unlisted_chosen : (a b : View) (why : StoreFault) → WhyUnchosen a b why → WhyUnlisted a b why
+pub unlisted_chosen : (a b : View) (why : StoreFault) → WhyUnchosen a b why → UnlistedBy a b why
 unlisted_chosen a b fault.DiskFault h = h
 unlisted_chosen a b fault.LinkFault h = h
 unlisted_chosen a b (fault.NotAStore at) h = absurd h
@@ -168,7 +169,7 @@ unlisted_chosen a b fault.Full h = h
 unlisted_chosen a b fault.Damaged h = absurd h
 unlisted_chosen a b fault.NoMemory h = h
 
-pub unlisted_unopened : (a b : View) (why : StoreFault) → WhyUnopened a b why → WhyUnlisted a b why
+pub unlisted_unopened : (a b : View) (why : StoreFault) → WhyUnopened a b why → UnlistedBy a b why
 unlisted_unopened a b fault.DiskFault h = h
 unlisted_unopened a b fault.LinkFault h = h
 unlisted_unopened a b (fault.NotAStore at) h = h
@@ -179,9 +180,6 @@ unlisted_unopened a b (fault.Refused cause) h = h
 unlisted_unopened a b fault.Full h = h
 unlisted_unopened a b fault.Damaged h = absurd h
 unlisted_unopened a b fault.NoMemory h = h
-
-pub error_is : (why other : StoreFault) → (let r : Result (List ℕ) StoreFault = Err why in r) ≡ Err other → why ≡ other
-error_is why other e = cc
 
 -- neither a place nor the choice of a site says that the files are no store
 pub put_is_placed : (a b : View) (r : Result (List ℕ) StoreFault) → IfErr r (λ why. WhyUnput a b why) → (at : ℕ) → IsErrOf r (fault.NotAStore at) → ⊥
@@ -205,11 +203,26 @@ list_of view leave old mid archive (Ok text) o told lines = listed (view old).co
 list_of view leave old mid archive (Err why) o told lines = tt
 
 pub why_of : (a b c : View) (r : Result (List ℕ) StoreFault) → a.disk_faults ≤ b.disk_faults → is_some b.contents ≡ is_some a.contents
-    → IfErr r (λ why. WhyUnput b c why) → IfErr r (λ why. WhyUnlisted a c why)
+    → IfErr r (λ why. WhyUnput b c why) → IfErr r (λ why. UnlistedBy a c why)
 why_of a b c (Ok text) le told h = tt
 why_of a b c (Err why) le told h = unlisted a b c why le told h
 
-pub why_later : (a b c : View) (r : Result (List ℕ) StoreFault) → b.contents ≡ a.contents → a.disk_faults ≤ b.disk_faults → a.link_faults ≤ b.link_faults
-    → IfErr r (λ why. WhyUnlisted b c why) → IfErr r (λ why. WhyUnlisted a c why)
-why_later a b c (Ok text) same disk link h = tt
-why_later a b c (Err why) same disk link h = unlisted_later a b c why same disk link h
+-- the site was chosen, and what it found there couldn't be listed
+pub why_unlisted : {D : Type 0} (view : D → View) (leave : D → Image → Type 0) (left_at : D → ℕ → Image → Type 0) (old mid new : D) (r : Result (List ℕ) StoreFault)
+    → (view mid).contents ≡ (view old).contents → NoFewer (view old) (view mid) → IfErr r (λ why. UnlistedBy (view mid) (view new) why) → NoFewer (view old) (view new)
+    → ((at : ℕ) → IsErrOf r (fault.NotAStore at) → Untouched view leave left_at old new) → IfErr r (λ why. WhyUnlisted view leave left_at old new why)
+why_unlisted view leave left_at old mid new (Ok text) same few h counts untouched = tt
+why_unlisted view leave left_at old mid new (Err why) same few h counts untouched = record {
+  cause = unlisted_later (view old) (view mid) (view new) why same few.disk few.link h;
+  no_fewer = counts;
+  untouched = λ at is. untouched at (ap (λ (x : StoreFault). let r : Result (List ℕ) StoreFault = Err x in r) is);
+}
+
+-- no site was chosen
+pub why_unchosen : {D : Type 0} (view : D → View) (leave : D → Image → Type 0) (left_at : D → ℕ → Image → Type 0) (old new : D) (why : StoreFault)
+    → WhyUnchosen (view old) (view new) why → NoFewer (view old) (view new) → WhyUnlisted view leave left_at old new why
+why_unchosen view leave left_at old new why h counts = record {
+  cause = unlisted_chosen (view old) (view new) why h;
+  no_fewer = counts;
+  untouched = λ at is. absurd (chosen_is_placed (view old) (view new) why h at is);
+}

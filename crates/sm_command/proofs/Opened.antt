@@ -1,7 +1,7 @@
 -- How a store comes to be opened as an archive.
-use Rattle.std.proofs.Common.{inl, inr, ◌≡◌, ◌⊎◌, ⊎_elim, ◌≤◌, ℕ, List, [], ◌∷◌, ◌++◌, Option, Some, None, Result, Ok, Err, refl, sym, ap, subst, ◌∙◌, arith}
+use Rattle.std.proofs.Common.{inl, inr, ◌≡◌, ◌⊎◌, ◌≤◌, ℕ, List, [], ◌∷◌, ◌++◌, Option, Some, None, Result, Ok, Err, refl, sym, ap, subst, ◌∙◌}
 use Rattle.std.proofs.lemmas.List.{append-nil}
-use Rattle.std.specs.Prelude.{IfSome, IsSome, IfErr, IsErrOf, OnOk, is_some}
+use Rattle.std.specs.Prelude.{IfSome, IsSome, OnOk, is_some}
 use Rattle.sm_model.specs.declared.entry.Entry.{Entry}
 use Rattle.sm_model.specs.declared.entry.Entry.TheVariants.{Declare}
 use Rattle.sm_model.specs.declared.track.Track.{Track}
@@ -20,8 +20,8 @@ use Rattle.sm_archive.specs.Store.{IsStore, Spell}
 use Rattle.sm_origin.specs.Opening.{HasOneStore}
 use Rattle.sm_command.specs.declared.fault.StoreFault.{StoreFault}
 use Rattle.sm_command.specs.declared.fault.StoreFault.TheVariants as fault
-use Rattle.sm_command.specs.Opening.{Agrees, BeginsWith, IsDeclared, IsOpened, Tries, WhyUndeclared, standard}
-use Rattle.sm_command.specs.Serving.{Input, NotRead, WhyUnopened, WhyUnread, outcome_of}
+use Rattle.sm_command.specs.Opening.{Agrees, BeginsWith, IsDeclared, IsOpened, Tries, WhyUndeclared}
+use Rattle.sm_command.specs.Serving.{Input, NotRead, outcome_of, standard}
 use Rattle.sm_command.proofs.Lasting.{log_is}
 
 -- what opening found
@@ -77,27 +77,27 @@ taken acted outcomes new log channel answer r step is =
     subst (λ (x : Result (Unit {0}) StoreFault). OnOk x ((after : List Entry) × Stands new after None outcomes)) (sym is) (by_answer acted outcomes new log channel answer step)
 
 module _ {D : Type 0} (view : D → View) (leave : D → Image → Type 0) where
-  pub tries : (told told' : Option (List ℕ)) (before archive : Archive) (old mid new : D) (r : Result (Unit {0}) StoreFault) → (o : IsOpened view leave before old mid)
-      → (view old).disk_faults ≤ (view mid).disk_faults → Agrees view leave told told' o.log archive mid new r → Tries view leave told told' archive old new r
-  tries told told' before archive old mid new r o le agrees = record { before = before; opened = mid; found = o; no_fewer = le; agrees = agrees }
+  -- what declaring a ladder to an archive came to
+  abbrev Came : Input → Input → List Entry → Archive → D → D → Result (Unit {0}) StoreFault → Type 0
+  Came input input' log archive mid new r = Agrees view leave input.told input'.told log archive mid new r ⊎ (NotRead input input' r × (new ≡ mid))
+
+  pub tries : (input input' : Input) (before archive : Archive) (old mid new : D) (r : Result (Unit {0}) StoreFault) → (o : IsOpened view leave before old mid)
+      → (view old).disk_faults ≤ (view mid).disk_faults → Came input input' o.log archive mid new r → Tries view leave input input' archive old new r
+  tries input input' before archive old mid new r o le came = record { before = before; opened = mid; found = o; no_fewer = le; agrees = came }
 
   pub declared_as : (input input' : Input) (before archive : Archive) (old mid new : D) → (o : IsOpened view leave before old mid) → (view old).disk_faults ≤ (view mid).disk_faults
-      → Agrees view leave input.told input'.told o.log archive mid new (Ok tt) ⊎ NotRead input input' (Ok tt) → ((log : List Entry) × Stands archive log None (leave new))
-      → archive.limits ≡ before.limits → IsDeclared view leave input.told input'.told archive old new
-  declared_as input input' before archive old mid new o le (inl agrees) stands same = record {
-    tries = tries input.told input'.told before archive old mid new (Ok tt) o le agrees;
+      → Came input input' o.log archive mid new (Ok tt) → ((log : List Entry) × Stands archive log None (leave new))
+      → archive.limits ≡ before.limits → IsDeclared view leave input input' archive old new
+  declared_as input input' before archive old mid new o le came stands same = record {
+    tries = tries input input' before archive old mid new (Ok tt) o le came;
     log = stands.0;
     stands = stands.1;
     limits_are = same ∙ o.limits_are;
   }
-  declared_as input input' before archive old mid new o le (inr bad) stands same = absurd bad
 
   pub undeclared : (input input' : Input) (before archive : Archive) (old mid new : D) (why : StoreFault) → (o : IsOpened view leave before old mid)
-      → (view old).disk_faults ≤ (view mid).disk_faults
-      → Agrees view leave input.told input'.told o.log archive mid new (Err why) ⊎ NotRead input input' (Err why) → WhyUndeclared view leave input input' old new why
-  undeclared input input' before archive old mid new why o le (inl agrees) =
-      inr (inr (archive, tries input.told input'.told before archive old mid new (Err why) o le agrees))
-  undeclared input input' before archive old mid new why o le (inr unread) = inr (inl unread)
+      → (view old).disk_faults ≤ (view mid).disk_faults → Came input input' o.log archive mid new (Err why) → WhyUndeclared view leave input input' old new why
+  undeclared input input' before archive old mid new why o le came = inr (archive, tries input input' before archive old mid new (Err why) o le came)
 
 -- neither an input that isn't read nor a channel that is refused says that the files are no store
 no_place : (answer : Declared) (at : ℕ) → (let r : Result (Unit {0}) StoreFault = Err (fault.NotAStore at) in r) ≡ outcome_of answer → ⊥
@@ -109,16 +109,16 @@ no_place declared.DiskFault at e = cc
 no_place declared.NoMemory at e = cc
 
 pub never_placed : {D : Type 0} (view : D → View) (leave : D → Image → Type 0) (input input' : Input) (log : List Entry) (archive : Archive) (old new : D) (why : StoreFault)
-    → Agrees view leave input.told input'.told log archive old new (Err why) ⊎ NotRead input input' (Err why) → (at : ℕ)
+    → Agrees view leave input.told input'.told log archive old new (Err why) ⊎ (NotRead input input' (Err why) × (new ≡ old)) → (at : ℕ)
     → (let r : Result Archive StoreFault = Err why in r) ≡ Err (fault.NotAStore at) → ⊥
-never_placed view leave input input' log archive old new why h at is = by_cause (subst (λ (w : StoreFault). Agrees view leave input.told input'.told log archive old new (Err w) ⊎ NotRead input input' (Err w)) same h)
+never_placed view leave input input' log archive old new why h at is = by_cause (subst (λ (w : StoreFault). Agrees view leave input.told input'.told log archive old new (Err w) ⊎ (NotRead input input' (Err w) × (new ≡ old))) same h)
   where
     same : why ≡ fault.NotAStore at
     same = cc
 
-    by_cause : Agrees view leave input.told input'.told log archive old new (Err (fault.NotAStore at)) ⊎ NotRead input input' (Err (fault.NotAStore at)) → ⊥
+    by_cause : Agrees view leave input.told input'.told log archive old new (Err (fault.NotAStore at)) ⊎ (NotRead input input' (Err (fault.NotAStore at)) × (new ≡ old)) → ⊥
     by_cause (inl agrees) = no_place agrees.answer at agrees.comes_to
-    by_cause (inr unread) = unread
+    by_cause (inr unread) = unread.0
 
 module _ {D : Type 0} (view : D → View) (leave : D → Image → Type 0) (left_at : D → ℕ → Image → Type 0) (pass : (d : D) → IfSome (view d).contents (leave d))
     (one_list : (xs ys : List (List ℕ)) (image : Image) → HasStore xs image → HasStore ys image → xs ≡ ys)

@@ -1,15 +1,16 @@
 -- How a store comes to be served.
 use Rattle.std.proofs.Common.{inl, inr, ◌≡◌, ℕ, Bool, true, false, List, [], ◌∷◌, ◌++◌, Option, Some, None, Result, Ok, Err, ◌≤◌, refl, sym, ap, subst, ◌∙◌, arith}
 use Rattle.std.proofs.lemmas.List.{append-nil}
-use Rattle.std.specs.Prelude.{IfSome, IsSome, IfOk, IfErr, IsErrOf, ◌⊎◌}
+use Rattle.std.specs.Prelude.{IfSome, IsSome, IfOk, IfErr, IsErrOf, OnErr}
 use Rattle.sm_model.specs.declared.entry.Entry.{Entry}
 use Rattle.sm_model.specs.declared.track.Track.{Track}
-use Rattle.sm_site.specs.Clauses.{Rose}
+use Rattle.sm_site.specs.Clauses.{Both, Rose}
 use Rattle.sm_site.specs.Image.{Image}
 use Rattle.sm_site.specs.Meanings.{View, Item, DiskCall}
 use Rattle.sm_seglog.specs.Stores.{HasStore}
 use Rattle.sm_archive.specs.declared.answers.Declared.{Declared}
 use Rattle.sm_archive.specs.declared.answers.Declared.TheVariants as declared
+use Rattle.sm_archive.specs.declared.archive.Archive.{Archive}
 use Rattle.sm_archive.specs.Store.{IsStore, Spell}
 use Rattle.sm_origin.specs.Machine.{Machine}
 use Rattle.sm_origin.specs.Opening.{HasOneStore}
@@ -32,16 +33,19 @@ use Rattle.sm_serve.proofs.Lasting.{on_itself, on_then}
 use Rattle.sm_command.specs.declared.fault.StoreFault.{StoreFault}
 use Rattle.sm_command.specs.declared.fault.StoreFault.TheVariants as fault
 use Rattle.sm_command.specs.Choosing.{WhyUnchosen}
-use Rattle.sm_command.specs.Lasting.{AtEachMoment, Outlasts}
-use Rattle.sm_command.specs.Serving.{Input, Found, DeclaresTo, GoesUnseen, HasRun, IsBegun, PrepareMeans, ReadsLadder, RunLasts, RunsFrom, StopsFrom, TriesLadder, WhyUnopened, WhyUnread, WhyUnready, outcome_of}
+use Rattle.sm_command.specs.Lasting.{AtEachMoment, Lasts, NoFewer, Untouched}
+use Rattle.sm_command.specs.Serving.{Input, Found, DeclaresTo, GoesUnseen, HasRun, IsBegun, PrepareMeans, ReadsLadder, RunLasts, RunsFrom, StopsFrom, WhyUnopened, WhyUnready, LadderMeans, outcome_of, standard}
 use Rattle.sm_command.proofs.Lasting.{fits_found, log_is, store_since}
 
 pub found : {D : Type 0} (view : D → View) (leave : D → Image → Type 0) (state : State) (old new : D)
     → ((m : Machine) × (m.doubt ≡ None) × StandsOn view leave m state.origin new)
     → IfSome (view old).contents (λ c. (m : Machine) × IsStore m.log c × (m.doubt ≡ None) × StandsOn view leave m state.origin new)
-    → Found view leave state old new
-found {D} view leave state old new some told = by_contents (view old).contents refl told
+    → state.origin.archive.limits ≡ standard → Found view leave state old new
+found {D} view leave state old new some told limits_are = by_contents (view old).contents refl told
   where
+    under : (m : Machine) → StandsOn view leave m state.origin new → m.archive.limits ≡ standard
+    under m stands = ap (λ (a : Archive). a.limits) stands.archive ∙ limits_are
+
     by_contents : (c : Option Image) → (view old).contents ≡ c
         → IfSome c (λ c. (m : Machine) × IsStore m.log c × (m.doubt ≡ None) × StandsOn view leave m state.origin new) → Found view leave state old new
     by_contents None e h = record {
@@ -49,19 +53,18 @@ found {D} view leave state old new some told = by_contents (view old).contents r
       settled = some.1;
       store = subst (λ (x : Option Image). IfSome x (IsStore some.0.log)) (sym e) tt;
       stands = some.2;
+      limits_are = under some.0 some.2;
     }
     by_contents (Some c) e h = record {
       machine = h.0;
       settled = h.2;
       store = subst (λ (x : Option Image). IfSome x (IsStore h.0.log)) (sym e) h.1;
       stands = h.3;
+      limits_are = under h.0 h.3;
     }
 
 pub stated_is : (why other : StoreFault) → (let r : Result State StoreFault = Err why in r) ≡ Err other → why ≡ other
 stated_is why other e = cc
-
-pub error_as : (why : StoreFault) (at : ℕ) → (let r : Result Outcome StoreFault = Err why in r) ≡ Err (fault.NotAStore at) → (let r : Result State StoreFault = Err why in r) ≡ Err (fault.NotAStore at)
-error_as why at e = let same : why ≡ fault.NotAStore at = cc in ap (λ (x : StoreFault). let r : Result State StoreFault = Err x in r) same
 
 pub unopened_chosen : (a b : View) (why : StoreFault) → WhyUnchosen a b why → WhyUnopened a b why
 unopened_chosen a b fault.DiskFault h = h
@@ -89,7 +92,7 @@ pub record IsPrepared {D : Type 0} (view : D → View) (leave : D → Image → 
   pub channel : Option (List Track)
   pub input : ReadsLadder ladder told told' channel
   pub begun : (b : History) → Serves view leave left_at b state d → b.items ≡ [] → b.steps ≡ []
-      → (h : History) × (h.begin ≡ b.begin) × IsBegun b.first channel b.base h × Serves view leave left_at h state' d'
+      → (h : History) × (h.begin ≡ b.begin) × IsBegun b.found.disk_faults b.first channel b.base h × Serves view leave left_at h state' d'
 
 with_ladder : {D : Type 0} (view : D → View) (leave : D → Image → Type 0) (left_at : D → ℕ → Image → Type 0) (told told' : Option (List ℕ)) (state : State) (d : D) (state' : State) (d' : D)
     → DeclaresTo view leave left_at told told' state d state' d' (Ok tt) → IsPrepared view leave left_at true told told' state d state' d'
@@ -101,6 +104,7 @@ with_ladder view leave left_at told told' state d state' d' declares = record {
         k.later,
         k.since.begin,
         record {
+          counted = (let same = ap (λ (v : View). v.disk_faults) k.since.found in omega (arith, same));
           first = k.since.first;
           base_is = k.since.base;
           items = k.same ∙ none;
@@ -115,13 +119,13 @@ without : {D : Type 0} (view : D → View) (leave : D → Image → Type 0) (lef
 without view leave left_at told state d = record {
   channel = None;
   input = refl;
-  begun = λ b serves none no_step. (b, refl, record { first = refl; base_is = refl; items = none; steps = no_step }, serves);
+  begun = λ b serves none no_step. (b, refl, record { counted = omega arith; first = refl; base_is = refl; items = none; steps = no_step }, serves);
 }
 
 pub prepared : {D : Type 0} (view : D → View) (leave : D → Image → Type 0) (left_at : D → ℕ → Image → Type 0) (ladder : Bool) (input input' : Input) (state : State) (d : D) (state' : State)
     (d' : D) → PrepareMeans view leave left_at ladder input input' state d state' d' (Ok tt) → IsPrepared view leave left_at ladder input.told input'.told state d state' d'
 prepared view leave left_at true input input' state d state' d' (inl declares) = with_ladder view leave left_at input.told input'.told state d state' d' declares
-prepared view leave left_at true input input' state d state' d' (inr bad) = absurd bad
+prepared view leave left_at true input input' state d state' d' (inr none) = absurd none.why
 prepared {D} view leave left_at false input input' state d state' d' same =
     subst (λ (x : D). IsPrepared view leave left_at false input.told input'.told state d state' x) (sym same.site_is) (
     subst (λ (s : State). IsPrepared view leave left_at false input.told input'.told state d s d) (sym same.state_is) (
@@ -131,8 +135,7 @@ prepared {D} view leave left_at false input input' state d state' d' same =
 
 pub stops : {D : Type 0} (view : D → View) (leave : D → Image → Type 0) (left_at : D → ℕ → Image → Type 0) (ladder : Bool) (input input' : Input) (state : State) (d : D) (state' : State)
     (d' : D) (why : StoreFault) → PrepareMeans view leave left_at ladder input input' state d state' d' (Err why) → StopsFrom view leave left_at ladder input input' state d d' why
-stops view leave left_at true input input' state d state' d' why (inl declares) = (refl, inr (state', declares))
-stops view leave left_at true input input' state d state' d' why (inr unread) = (refl, inl unread)
+stops view leave left_at true input input' state d state' d' why means = (refl, (state', means))
 stops view leave left_at false input input' state d state' d' why same = let bad = same.done in absurd cc
 
 -- ---- serving
@@ -184,15 +187,18 @@ pub ladder_is_placed : {D : Type 0} (view : D → View) (leave : D → Image →
 ladder_is_placed view leave left_at ladder input input' state d d' r h at is =
     by_cause (subst (λ (x : Result Outcome StoreFault). IfErr x (λ why. StopsFrom view leave left_at ladder input input' state d d' why)) is h)
   where
+    by_means : (after : State) → LadderMeans view leave left_at input input' state d after d' (Err (fault.NotAStore at)) → ⊥
+    by_means after (inl declares) = no_place declares.0 at declares.1
+    by_means after (inr none) = none.why
+
     by_cause : StopsFrom view leave left_at ladder input input' state d d' (fault.NotAStore at) → ⊥
-    by_cause (asked, inl unread) = unread
-    by_cause (asked, inr declares) = no_place declares.1.0 at declares.1.1
+    by_cause (asked, stop) = by_means stop.0 stop.1
 
 -- ---- a run that went on
 
 pub unseen_itself : {D : Type 0} (view : D → View) (leave : D → Image → Type 0) (left_at : D → ℕ → Image → Type 0) (h : History) (state : State) (d : D) → Serves view leave left_at h state d
     → GoesUnseen view leave left_at h state d
-unseen_itself view leave left_at h state d serves = record { later = h; serves = serves; since = record { first = refl; begin = refl; base = refl; on = on_itself h }; same = refl }
+unseen_itself view leave left_at h state d serves = record { later = h; serves = serves; since = record { first = refl; begin = refl; base = refl; found = refl; on = on_itself h }; same = refl }
 
 pub unseen_declared : {D : Type 0} (view : D → View) (leave : D → Image → Type 0) (left_at : D → ℕ → Image → Type 0) (h : History) (channel : List Track) (answer : Declared) (state : State) (d : D)
     → DeclaresIn view leave left_at h channel answer state d → GoesUnseen view leave left_at h state d
@@ -202,14 +208,14 @@ pub served_lasts : {D : Type 0} (view : D → View) (leave : D → Image → Typ
     → (u : GoesUnseen view leave left_at h state d) → Served view leave left_at u.later end turns after e → RunLasts view left_at h e
 served_lasts view leave left_at h state d end turns after e u s = record {
   later = s.later;
-  since = record { first = s.since.first ∙ u.since.first; begin = s.since.begin ∙ u.since.begin; base = s.since.base ∙ u.since.base; on = on_then h u.later s.later u.since.on s.since.on };
+  since = record { first = s.since.first ∙ u.since.first; begin = s.since.begin ∙ u.since.begin; base = s.since.base ∙ u.since.base; found = s.since.found ∙ u.since.found; on = on_then h u.later s.later u.since.on s.since.on };
   told = s.told;
   survives = s.survives;
 }
 
 -- where no event was waited for, what a crash leaves is what the run up to then leaves
 pub stopped_lasts : {D : Type 0} (view : D → View) (leave : D → Image → Type 0) (left_at : D → ℕ → Image → Type 0) → ((s : D) (t : ℕ) (image : Image) → left_at s t image → IsSome (view s).contents)
-    → ((first : Machine) (begin : ℕ) (items : List Item) (steps : List Stepped) (point : Point) → Run true first begin items steps point → (t : ℕ) (image : Image) → FitsAt first steps t image
+    → ((first : Machine) (begin faults : ℕ) (items : List Item) (steps : List Stepped) (point : Point) → Run true first begin faults items steps point → (t : ℕ) (image : Image) → FitsAt first steps t image
     → (log : List Entry) × IsStore log image × ((more : List Entry) × (log ≡ first.log ++ more)) × ((claim : Claim) → Shown items t claim → Holds log claim))
     → (h : History) (state : State) (d : D) → GoesUnseen view leave left_at h state d → RunLasts view left_at h d
 stopped_lasts view leave left_at left_told crashes h state d u =
@@ -220,16 +226,16 @@ stopped_lasts view leave left_at left_told crashes h state d u =
       since = u.since;
       told = keeps.told;
       survives = λ t image from left.
-          let run = subst (λ (b : Bool). Run b k.first k.begin k.items k.steps k.point) (left_told d t image left) keeps.run in
-          let s = crashes k.first k.begin k.items k.steps k.point run t image (keeps.images t image from left) in
+          let run = subst (λ (b : Bool). Run b k.first k.begin k.found.disk_faults k.items k.steps k.point) (left_told d t image left) keeps.run in
+          let s = crashes k.first k.begin k.found.disk_faults k.items k.steps k.point run t image (keeps.images t image from left) in
           record { log = s.0; store = s.1; more = s.2.0; extends = s.2.1; holds = s.3 };
     }
 
 -- ---- the whole
 
-recorded_first : (o : Option (List DiskCall)) → IfSome o (λ cs. (before : List DiskCall) × (cs ≡ before ++ []))
+recorded_first : (o : Option (List DiskCall)) → Both o o (λ before now. now ≡ before ++ [])
 recorded_first None = tt
-recorded_first (Some cs) = (cs, sym (append-nil cs))
+recorded_first (Some cs) = sym (append-nil cs)
 
 none_live : live [] ≡ []
 unfolding live
@@ -239,9 +245,9 @@ no_lives : (ls : List Live) → numbers_of ls ≡ [] → ls ≡ []
 no_lives [] e = refl
 no_lives (l ∷ ls) e = absurd (cc)
 
--- a run that begins when the call did
-abbrev pub early : Machine → ℕ → List Item → History
-early m begin base = record { first = m; begin = begin; base = base; items = []; steps = []; point = start m begin }
+-- a run that begins when the call did, on a site that was found so
+abbrev pub early : Machine → ℕ → List Item → View → History
+early m begin base found = record { first = m; begin = begin; base = base; found = found; items = []; steps = []; point = start m begin found.disk_faults }
 
 module _ {D : Type 0} (view : D → View) (leave : D → Image → Type 0) (left_at : D → ℕ → Image → Type 0) (pass : (d : D) → IfSome (view d).contents (leave d))
     (at_now : (d : D) (c : Image) → left_at d (view d).moment c → leave d c) (now_at : (d : D) (c : Image) → leave d c → left_at d (view d).moment c)
@@ -252,7 +258,7 @@ module _ {D : Type 0} (view : D → View) (leave : D → Image → Type 0) (left
 
   pub serves_early : (state : State) (old mid : D) (f : Found view leave state old mid) → (view mid).transcript ≡ (view old).transcript → Begins view leave left_at state mid
       → IsSome (view old).contents → (log : List Entry) → HasOneStore log (leave old) → AtEachMoment view left_at old mid (IsStore log) → (base : List Item) → (view old).transcript ≡ Some base
-      → Serves view leave left_at (early f.machine (view old).moment base) state mid
+      → Serves view leave left_at (early f.machine (view old).moment base (view mid)) state mid
   serves_early state old mid f same begin some log one all base told =
       let m = f.machine in
       let b = begin m base f.stands (same ∙ told) in
@@ -269,21 +275,23 @@ module _ {D : Type 0} (view : D → View) (leave : D → Image → Type 0) (left
           images = λ t image from left. inl (fits t image from left);
           recorded = recorded_first (view mid).calls;
           blamed = λ below. omega arith;
+          counted = refl;
+          still_told = refl;
         };
         rest = record {
           stands = f.stands;
           phase_is = refl;
           numbers = numbers;
-          resting = subst (λ (ls : List Live). AreResting (early m (view old).moment base) ls) (sym (no_lives state.lives.items (numbers ∙ none_live))) tt;
+          resting = subst (λ (ls : List Live). AreResting (early m (view old).moment base (view mid)) ls) (sym (no_lives state.lives.items (numbers ∙ none_live))) tt;
         };
       }
 
   -- a call that opened the store and ran from it
   pub opened_lasts : (state : State) (old mid new : D) (f : Found view leave state old mid) → (view mid).transcript ≡ (view old).transcript → Begins view leave left_at state mid
       → ((log : List Entry) → HasOneStore log (leave old) → AtEachMoment view left_at old mid (IsStore log)) → ((h : History) → Serves view leave left_at h state mid → RunLasts view left_at h new)
-      → IsSome (view old).contents → (log : List Entry) → HasOneStore log (leave old) → (base : List Item) → (view old).transcript ≡ Some base → Outlasts view left_at log base old new
+      → Lasts view leave left_at old new
   opened_lasts state old mid new f same begin all lasts some log one base told =
-      let l = lasts (early f.machine (view old).moment base) (serves_early state old mid f same begin some log one (all log one) base told) in
+      let l = lasts (early f.machine (view old).moment base (view mid)) (serves_early state old mid f same begin some log one (all log one) base told) in
       let is : l.later.first.log ≡ log = ap (λ (m : Machine). m.log) l.since.first ∙ found_is state old mid f some log one in
       record {
         items = l.later.items;
@@ -295,30 +303,59 @@ module _ {D : Type 0} (view : D → View) (leave : D → Image → Type 0) (left
 
   pub has_run : (ladder : Bool) (told told' : Option (List ℕ)) (turns : ℕ) (state : State) (old mid new : D) (r : Result Outcome StoreFault) → Found view leave state old mid
       → Begins view leave left_at state mid → ((log : List Entry) → HasOneStore log (leave old) → AtEachMoment view left_at old mid (IsStore log))
-      → (view mid).transcript ≡ (view old).transcript → (view old).link_faults ≤ (view mid).link_faults
+      → (view mid).transcript ≡ (view old).transcript → NoFewer (view old) (view mid)
       → IfOk r (λ end. RunsFrom view leave left_at ladder told told' turns state mid new end) → IfOk r (λ end. HasRun view leave left_at ladder told told' turns old new end)
   has_run ladder told told' turns state old mid new (Err why) f begin all same le runs = tt
   has_run ladder told told' turns state old mid new (Ok end) f begin all same le runs = record {
     machine = f.machine;
     settled = f.settled;
     store = f.store;
+    limits_are = f.limits_are;
     channel = runs.channel;
     input = runs.input;
-    blamed = λ is. later_rose (view old).link_faults (view mid).link_faults (view new).link_faults le (runs.blamed is);
+    blamed = λ is. later_rose (view old).link_faults (view mid).link_faults (view new).link_faults le.link (runs.blamed is);
     run = λ base e.
         let b = begin f.machine base f.stands (same ∙ e) in
         let h = runs.run b.0 b.6 b.4 b.5 in
-        (h.0, record { first = h.2.first ∙ b.1; base_is = h.2.base_is ∙ b.3; items = h.2.items; steps = h.2.steps }, h.3);
-    whole = λ some log one base e. runs.run (early f.machine (view old).moment base) (serves_early state old mid f same begin some log one (all log one) base e) refl refl;
+        (h.0, record { counted = (let more = h.2.counted in let same = ap (λ (v : View). v.disk_faults) b.7 in let few = le.disk in omega (arith, more, same, few)); first = h.2.first ∙ b.1; base_is = h.2.base_is ∙ b.3; items = h.2.items; steps = h.2.steps }, h.3);
+    whole = λ some log one base e.
+        let h = runs.run (early f.machine (view old).moment base (view mid)) (serves_early state old mid f same begin some log one (all log one) base e) refl refl in
+        let more = h.2.counted in
+        let few = le.disk in
+        (h.0, h.1, record { counted = omega (arith, more, few); first = h.2.first; base_is = h.2.base_is; items = h.2.items; steps = h.2.steps }, h.3);
   }
 
+more_counts : (a b c : View) → NoFewer a b → NoFewer b c → NoFewer a c
+more_counts a b c first second =
+    let disk = first.disk in
+    let disk_yet = second.disk in
+    let link = first.link in
+    let link_yet = second.link in
+    record { disk = omega (arith, disk, disk_yet); link = omega (arith, link, link_yet) }
+
+-- behind the opening nothing was served
 pub why_stopped : {D : Type 0} (view : D → View) (leave : D → Image → Type 0) (left_at : D → ℕ → Image → Type 0) (ladder : Bool) (input input' : Input) (state : State) (old mid new : D)
-    (r : Result Outcome StoreFault) → Found view leave state old mid → (view old).disk_faults ≤ (view mid).disk_faults → Begins view leave left_at state mid
-    → IfErr r (λ why. StopsFrom view leave left_at ladder input input' state mid new why) → IfErr r (λ why. WhyUnready view leave left_at ladder input input' old new why)
-why_stopped view leave left_at ladder input input' state old mid new (Ok end) f le begin h = tt
-why_stopped view leave left_at ladder input input' state old mid new (Err why) f le begin h = inr (h.0, by_cause h.1)
-  where
-    by_cause : (WhyUnread input input' why ⊎ ((after : State) × DeclaresTo view leave left_at input.told input'.told state mid after new (Err why)))
-        → WhyUnread input input' why ⊎ TriesLadder view leave left_at input.told input'.told old new (Err why)
-    by_cause (inl unread) = inl unread
-    by_cause (inr declares) = inr (record { state = state; opened = mid; found = f; no_fewer = le; begins = begin; after = declares.0; declares = declares.1 })
+    (r : Result Outcome StoreFault) → Found view leave state old mid → NoFewer (view old) (view mid) → (view mid).transcript ≡ (view old).transcript → Begins view leave left_at state mid
+    → IfErr r (λ why. StopsFrom view leave left_at ladder input input' state mid new why) → OnErr r ((view new).transcript ≡ (view mid).transcript) → OnErr r (NoFewer (view mid) (view new))
+    → input.faults ≤ input'.faults → IfErr r (λ why. WhyUnready view leave left_at ladder input input' old new why)
+why_stopped view leave left_at ladder input input' state old mid new (Ok end) f few silent begin h still counts counted = tt
+why_stopped view leave left_at ladder input input' state old mid new (Err why) f few silent begin h still counts counted = record {
+  cause = inr (h.0, record { state = state; opened = mid; found = f; no_fewer = few; silent = silent; begins = begin; after = h.1.0; means = h.1.1 });
+  silent = still ∙ silent;
+  no_fewer = more_counts (view old) (view mid) (view new) few counts;
+  counted = counted;
+  untouched = λ at is. absurd (ladder_is_placed view leave left_at ladder input input' state mid new (Err why) h at (ap (λ (x : StoreFault). let r : Result Outcome StoreFault = Err x in r) is));
+}
+
+-- no store was opened
+pub why_unopened : {D : Type 0} (view : D → View) (leave : D → Image → Type 0) (left_at : D → ℕ → Image → Type 0) (ladder : Bool) (input : Input) (old new : D) (why : StoreFault)
+    → WhyUnopened (view old) (view new) why → (view new).transcript ≡ (view old).transcript → NoFewer (view old) (view new)
+    → ((at : ℕ) → (let r : Result State StoreFault = Err why in r) ≡ Err (fault.NotAStore at) → Untouched view leave left_at old new)
+    → WhyUnready view leave left_at ladder input input old new why
+why_unopened view leave left_at ladder input old new why cause silent few untouched = record {
+  cause = inl (cause, refl);
+  silent = silent;
+  no_fewer = few;
+  counted = omega arith;
+  untouched = λ at is. untouched at (ap (λ (x : StoreFault). let r : Result State StoreFault = Err x in r) is);
+}

@@ -1,5 +1,5 @@
 -- What a site is chosen with, and why it was not chosen.
-use Rattle.std.specs.Prelude.{◌≡◌, ◌⊎◌, ℕ, None, Some, Result, Ok, Err}
+use Rattle.std.specs.Prelude.{◌≡◌, ◌⊎◌, None, Some, Result, Ok, Err}
 use Rattle.sm_site.specs.Clauses.{Rose}
 use Rattle.sm_site.specs.Meanings.{Chosen, View}
 use Rattle.sm_command.specs.declared.fault.StoreFault.{StoreFault}

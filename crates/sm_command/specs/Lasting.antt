@@ -1,9 +1,10 @@
 -- What a crash leaves at the moments of a command on a store.
-use Rattle.std.specs.Prelude.{◌≡◌, ◌≤◌, ◌<◌, ◌↔◌, ◌++◌, ℕ, List, Some}
+use Rattle.std.specs.Prelude.{◌≡◌, ◌≤◌, ◌<◌, ◌↔◌, ◌++◌, ℕ, List, Some, IsSome}
 use Rattle.sm_model.specs.declared.entry.Entry.{Entry}
 use Rattle.sm_site.specs.Image.{Image}
 use Rattle.sm_site.specs.Meanings.{View, Item}
 use Rattle.sm_archive.specs.Store.{IsStore}
+use Rattle.sm_origin.specs.Opening.{HasOneStore}
 use Rattle.sm_origin.specs.Shown.{Claim, Holds}
 use Rattle.sm_serve.specs.Shown.{Shown}
 
@@ -12,6 +13,16 @@ pub record AtEachMoment {D : Type 0} (view : D → View) (left_at : D → ℕ �
   pub later : (view old).moment ≤ (view new).moment
   pub keeps : (t : ℕ) (image : Image) → t ≤ (view old).moment → left_at new t image ↔ left_at old t image
   pub each : (t : ℕ) (image : Image) → (view old).moment < t → left_at new t image → P image
+
+-- The files weren't written: the contents stay, and at no moment of the call a crash leaves what it couldn't leave before.
+pub record Untouched {D : Type 0} (view : D → View) (leave : D → Image → Type 0) (left_at : D → ℕ → Image → Type 0) (old new : D) : Type 0 where
+  pub contents : (view new).contents ≡ (view old).contents
+  pub each : AtEachMoment view left_at old new (leave old)
+
+-- no count of faults of the disk or of the link fell
+pub record NoFewer (old new : View) : Type 0 where
+  pub disk : old.disk_faults ≤ new.disk_faults
+  pub link : old.link_faults ≤ new.link_faults
 
 -- The image is a store. Its log begins with this one, and holds whatever the entries had shown by the moment.
 pub record Outlives (log : List Entry) (items : List Item) (t : ℕ) (image : Image) : Type 0 where
@@ -26,3 +37,9 @@ pub record Outlasts {D : Type 0} (view : D → View) (left_at : D → ℕ → Im
   pub items : List Item
   pub told : (view new).transcript ≡ Some (base ++ items)
   pub survives : (t : ℕ) (image : Image) → (view old).moment ≤ t → left_at new t image → Outlives log items t image
+
+-- On a disk that tells its contents, where each image that a crash might have left was one store, that store outlasts the call.
+abbrev pub Lasts : {D : Type 0} (view : D → View) (leave : D → Image → Type 0) (left_at : D → ℕ → Image → Type 0) → D → D → Type 0
+Lasts view leave left_at old new =
+    IsSome (view old).contents → (log : List Entry) → HasOneStore log (leave old) → (base : List Item) → (view old).transcript ≡ Some base
+    → Outlasts view left_at log base old new

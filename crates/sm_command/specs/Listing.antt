@@ -6,10 +6,12 @@ use Rattle.sm_model.specs.declared.entry.Entry.TheVariants.{Declare, Keep}
 use Rattle.sm_model.specs.declared.fragment.Fragment.{Fragment}
 use Rattle.sm_model.specs.Entries.{address_of}
 use Rattle.sm_site.specs.Clauses.{Rose}
+use Rattle.sm_site.specs.Image.{Image}
 use Rattle.sm_site.specs.Meanings.{View}
 use Rattle.sm_archive.specs.Opening.{NotAStore}
 use Rattle.sm_command.specs.declared.fault.StoreFault.{StoreFault}
 use Rattle.sm_command.specs.declared.fault.StoreFault.TheVariants as fault
+use Rattle.sm_command.specs.Lasting.{NoFewer, Untouched}
 
 -- the place in the log, the name of the stream and the bitrate
 abbrev pub place_text : ℕ → Fragment → List ℕ
@@ -43,18 +45,24 @@ abbrev pub AddressIs : List Entry → ℕ → Option Address → Type 0
 AddressIs log place None = (f : Fragment) → slice_get log place ≡ Some (Keep f) → ⊥
 AddressIs log place (Some address) = (f : Fragment) × (slice_get log place ≡ Some (Keep f)) × (address ≡ address_of f)
 
--- Why nothing was listed. An entry is never damaged on a disk that tells its contents.
-abbrev pub WhyUnlisted : View → View → StoreFault → Type 0
-WhyUnlisted old new fault.DiskFault = Rose old.disk_faults new.disk_faults
-WhyUnlisted old new fault.LinkFault = Rose old.link_faults new.link_faults
-WhyUnlisted old new (fault.NotAStore at) = IfSome old.contents (NotAStore at)
-WhyUnlisted old new fault.Unread = ⊥
-WhyUnlisted old new fault.LongLadder = ⊥
-WhyUnlisted old new (fault.BadLadder at) = ⊥
-WhyUnlisted old new (fault.Refused cause) = ⊥
-WhyUnlisted old new fault.Full = ⊥
-WhyUnlisted old new fault.Damaged = IsSome old.contents → ⊥
-WhyUnlisted old new fault.NoMemory = Unit {0}
+-- What may have kept a list from being made. An entry is never damaged on a disk that tells its contents.
+abbrev pub UnlistedBy : View → View → StoreFault → Type 0
+UnlistedBy old new fault.DiskFault = Rose old.disk_faults new.disk_faults
+UnlistedBy old new fault.LinkFault = Rose old.link_faults new.link_faults
+UnlistedBy old new (fault.NotAStore at) = IfSome old.contents (NotAStore at)
+UnlistedBy old new fault.Unread = ⊥
+UnlistedBy old new fault.LongLadder = ⊥
+UnlistedBy old new (fault.BadLadder at) = ⊥
+UnlistedBy old new (fault.Refused cause) = ⊥
+UnlistedBy old new fault.Full = ⊥
+UnlistedBy old new fault.Damaged = IsSome old.contents → ⊥
+UnlistedBy old new fault.NoMemory = Unit {0}
+
+-- Why nothing was listed. What is no store wasn't written.
+pub record WhyUnlisted {D : Type 0} (view : D → View) (leave : D → Image → Type 0) (left_at : D → ℕ → Image → Type 0) (old new : D) (why : StoreFault) : Type 0 where
+  pub cause : UnlistedBy (view old) (view new) why
+  pub no_fewer : NoFewer (view old) (view new)
+  pub untouched : (at : ℕ) → why ≡ fault.NotAStore at → Untouched view leave left_at old new
 
 -- why a place was not put into the list
 abbrev pub WhyUnput : View → View → StoreFault → Type 0

@@ -1,5 +1,5 @@
 -- What opening a store as an archive comes to.
-use Rattle.std.specs.Prelude.{◌≡◌, ◌≤◌, ◌⊎◌, ◌++◌, ℕ, List, Option, None, Some, IfSome, Result, Ok, Err}
+use Rattle.std.specs.Prelude.{◌≡◌, ◌≤◌, ◌⊎◌, ◌++◌, ℕ, List, Option, None, IfSome, Result, Ok, Err}
 use Rattle.sm_model.specs.declared.entry.Entry.{Entry}
 use Rattle.sm_model.specs.declared.track.Track.{Track}
 use Rattle.sm_site.specs.Clauses.{Acted, Rose}
@@ -8,15 +8,11 @@ use Rattle.sm_site.specs.Meanings.{View}
 use Rattle.sm_archive.specs.declared.answers.Declared.{Declared}
 use Rattle.sm_archive.specs.declared.answers.Declared.TheVariants as declared
 use Rattle.sm_archive.specs.declared.archive.Archive.{Archive}
-use Rattle.sm_archive.specs.declared.limits.Limits.{Limits}
 use Rattle.sm_archive.specs.Declaring.{DeclareStep}
 use Rattle.sm_archive.specs.Stands.{Stands}
 use Rattle.sm_archive.specs.Store.{IsStore}
 use Rattle.sm_command.specs.declared.fault.StoreFault.{StoreFault}
-use Rattle.sm_command.specs.Serving.{Input, IsLadderInput, WhyUnopened, WhyUnread, outcome_of}
-
-abbrev pub standard : Limits
-standard = record { store_bytes = 68719476736; entries = 1000000; times = 262144 }
+use Rattle.sm_command.specs.Serving.{Input, IsLadderInput, NotRead, WhyUnopened, outcome_of, standard}
 
 -- the archive stands for a log without a doubt, which is the store's where the disk tells its contents, under the standard limits
 pub record IsOpened {D : Type 0} (view : D → View) (leave : D → Image → Type 0) (archive : Archive) (old new : D) : Type 0 where
@@ -40,24 +36,23 @@ pub record Agrees {D : Type 0} (view : D → View) (leave : D → Image → Type
   -- a disk that failed counted it
   pub fault : answer ≡ declared.DiskFault → Rose (view old).disk_faults (view new).disk_faults
 
--- a store was opened, and a channel was declared to it
-pub record Tries {D : Type 0} (view : D → View) (leave : D → Image → Type 0) (told told' : Option (List ℕ)) (archive : Archive) (old new : D)
+-- a store was opened, and a channel was declared to it, or no ladder was read
+pub record Tries {D : Type 0} (view : D → View) (leave : D → Image → Type 0) (input input' : Input) (archive : Archive) (old new : D)
     (result : Result (Unit {0}) StoreFault) : Type 0 where
   pub before : Archive
   pub opened : D
   pub found : IsOpened view leave before old opened
   pub no_fewer : (view old).disk_faults ≤ (view opened).disk_faults
-  pub agrees : Agrees view leave told told' found.log archive opened new result
+  pub agrees : Agrees view leave input.told input'.told found.log archive opened new result ⊎ (NotRead input input' result × (new ≡ opened))
 
 -- The archive has a channel with the tracks of the ladder that the input is: one that it had, or that one, which was declared.
-pub record IsDeclared {D : Type 0} (view : D → View) (leave : D → Image → Type 0) (told told' : Option (List ℕ)) (archive : Archive) (old new : D) : Type 0 where
-  pub tries : Tries view leave told told' archive old new (Ok tt)
+pub record IsDeclared {D : Type 0} (view : D → View) (leave : D → Image → Type 0) (input input' : Input) (archive : Archive) (old new : D) : Type 0 where
+  pub tries : Tries view leave input input' archive old new (Ok tt)
   pub log : List Entry
   pub stands : Stands archive log None (leave new)
   pub limits_are : archive.limits ≡ standard
 
--- why no archive was opened, or none that has the channel of the input
+-- why no archive was opened, in which case the input wasn't read, or none that has the channel of the input
 abbrev pub WhyUndeclared : {D : Type 0} (view : D → View) (leave : D → Image → Type 0) → Input → Input → D → D → StoreFault → Type 0
 WhyUndeclared view leave input input' old new why =
-    WhyUnopened (view old) (view new) why
-    ⊎ (WhyUnread input input' why ⊎ ((archive : Archive) × Tries view leave input.told input'.told archive old new (Err why)))
+    (WhyUnopened (view old) (view new) why × (input' ≡ input)) ⊎ ((archive : Archive) × Tries view leave input input' archive old new (Err why))

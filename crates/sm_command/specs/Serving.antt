@@ -2,7 +2,7 @@
 use Rattle.std.specs.Prelude.{◌≡◌, ◌⊎◌, ◌<◌, ◌≤◌, ◌+◌, ◌++◌, ℕ, Bool, true, false, IsTrue, List, [], ◌∷◌, length, Option, Some, None, IfSome, IsSome, Result, Ok, Err}
 use Rattle.std.specs.Io.KnownBytes.{Consumes, IsAtEnd}
 use Rattle.sm_ends.specs.Faults.{Rose}
-use Rattle.sm_ends.specs.Moves.{TakesCount}
+use Rattle.sm_ends.specs.Moves.{TakesAtMost, TakesCount}
 use Rattle.sm_model.specs.declared.entry.Entry.{Entry}
 use Rattle.sm_model.specs.declared.track.Track.{Track}
 use Rattle.sm_model.specs.declared.act.Act.TheVariants.{Header}
@@ -12,6 +12,7 @@ use Rattle.sm_site.specs.Image.{Image}
 use Rattle.sm_site.specs.Meanings.{View, Item}
 use Rattle.sm_archive.specs.declared.answers.Declared.{Declared}
 use Rattle.sm_archive.specs.declared.answers.Declared.TheVariants as declared
+use Rattle.sm_archive.specs.declared.limits.Limits.{Limits}
 use Rattle.sm_archive.specs.Store.{IsStore}
 use Rattle.sm_archive.specs.Opening as opening
 use Rattle.sm_origin.specs.Machine.{Machine}
@@ -27,6 +28,7 @@ use Rattle.sm_serve.specs.Serving.{Begins, Serves, Since, DeclaresIn, Served}
 use Rattle.sm_serve.specs.Surviving.{Survives}
 use Rattle.sm_command.specs.declared.fault.StoreFault.{StoreFault}
 use Rattle.sm_command.specs.declared.fault.StoreFault.TheVariants as fault
+use Rattle.sm_command.specs.Lasting.{NoFewer, Untouched}
 
 -- an input before a call and after it: what it tells, and its count of faults
 pub record Input : Type 0 where
@@ -53,18 +55,18 @@ ReadsLadder false old new (Some channel) = ⊥
 ReadsLadder true old new None = ⊥
 ReadsLadder true old new (Some channel) = IsLadderInput old new (Ok channel)
 
--- why no ladder was read
+-- why no ladder was read, and how much of the input was taken
 abbrev pub WhyUnread : Input → Input → StoreFault → Type 0
 WhyUnread old new fault.DiskFault = ⊥
 WhyUnread old new fault.LinkFault = ⊥
 WhyUnread old new (fault.NotAStore at) = ⊥
-WhyUnread old new fault.Unread = Rose old.faults new.faults
+WhyUnread old new fault.Unread = Rose old.faults new.faults × TakesAtMost old.told new.told ladder_limit
 WhyUnread old new fault.LongLadder = IfSome old.told (λ text. ladder_limit < length text) × TakesCount old.told new.told (ladder_limit + 1)
 WhyUnread old new (fault.BadLadder at) = IsLadderInput old.told new.told (Err at)
 WhyUnread old new (fault.Refused cause) = ⊥
 WhyUnread old new fault.Full = ⊥
 WhyUnread old new fault.Damaged = ⊥
-WhyUnread old new fault.NoMemory = Unit {0}
+WhyUnread old new fault.NoMemory = TakesAtMost old.told new.told ladder_limit
 
 -- what an answer to a ladder comes to
 abbrev pub outcome_of : Declared → Result (Unit {0}) StoreFault
@@ -104,12 +106,18 @@ abbrev pub NotRead : Input → Input → Result (Unit {0}) StoreFault → Type 0
 NotRead old new (Ok x) = ⊥
 NotRead old new (Err why) = WhyUnread old new why
 
+-- no ladder was read, and nothing was done
+pub record ReadsNone {D : Type 0} (input input' : Input) (state : State) (d : D) (state' : State) (d' : D) (result : Result (Unit {0}) StoreFault) : Type 0 where
+  pub why : NotRead input input' result
+  pub state_is : state' ≡ state
+  pub site_is : d' ≡ d
+
 -- a ladder was read and declared, or none was read
 abbrev pub LadderMeans : {D : Type 0} (view : D → View) (leave : D → Image → Type 0) (left_at : D → ℕ → Image → Type 0) → Input → Input → State
     → D → State → D
     → Result (Unit {0}) StoreFault → Type 0
 LadderMeans view leave left_at input input' state d state' d' result =
-    DeclaresTo view leave left_at input.told input'.told state d state' d' result ⊎ NotRead input input' result
+    DeclaresTo view leave left_at input.told input'.told state d state' d' result ⊎ ReadsNone input input' state d state' d' result
 
 -- without a ladder nothing is done
 pub record IsSame {D : Type 0} (input input' : Input) (state : State) (d : D) (state' : State) (d' : D) (result : Result (Unit {0}) StoreFault) : Type 0 where
@@ -126,12 +134,17 @@ PrepareMeans view leave left_at false input input' state d state' d' result = Is
 
 -- ---- the start
 
--- the state stands for a log without a doubt, which is the store's where the disk tells its contents
+-- 64 GiB, a million entries, and 262,144 times of each stream
+abbrev pub standard : Limits
+standard = record { store_bytes = 68719476736; entries = 1000000; times = 262144 }
+
+-- the state stands for a log without a doubt, which is the store's where the disk tells its contents, under the standard limits
 pub record Found {D : Type 0} (view : D → View) (leave : D → Image → Type 0) (state : State) (old new : D) : Type 0 where
   pub machine : Machine
   pub settled : machine.doubt ≡ None
   pub store : IfSome (view old).contents (IsStore machine.log)
   pub stands : StandsOn view leave machine state.origin new
+  pub limits_are : machine.archive.limits ≡ standard
 
 -- why no store was opened
 abbrev pub WhyUnopened : View → View → StoreFault → Type 0
@@ -146,24 +159,33 @@ WhyUnopened old new fault.Full = ⊥
 WhyUnopened old new fault.Damaged = ⊥
 WhyUnopened old new fault.NoMemory = Unit {0}
 
--- the store was opened, the ladder was declared to what was found, and this is what it comes to
-pub record TriesLadder {D : Type 0} (view : D → View) (leave : D → Image → Type 0) (left_at : D → ℕ → Image → Type 0) (told told' : Option (List ℕ))
-    (old new : D)
+-- The store was opened, and nothing was shown by that. Then the ladder was read and declared to what was found, or wasn't read, and this
+-- is what it comes to.
+pub record TriesLadder {D : Type 0} (view : D → View) (leave : D → Image → Type 0) (left_at : D → ℕ → Image → Type 0) (input input' : Input) (old new : D)
     (result : Result (Unit {0}) StoreFault) : Type 0 where
   pub state : State
   pub opened : D
   pub found : Found view leave state old opened
-  pub no_fewer : (view old).disk_faults ≤ (view opened).disk_faults
+  pub no_fewer : NoFewer (view old) (view opened)
+  pub silent : (view opened).transcript ≡ (view old).transcript
   pub begins : Begins view leave left_at state opened
   pub after : State
-  pub declares : DeclaresTo view leave left_at told told' state opened after new result
+  pub means : LadderMeans view leave left_at input input' state opened after new result
 
--- Why nothing was served. Beside want of memory: what failed counted it, or this was answered to the ladder, if one was asked for.
-abbrev pub WhyUnready : {D : Type 0} (view : D → View) (leave : D → Image → Type 0) (left_at : D → ℕ → Image → Type 0) → Bool → Input → Input
+-- Why no event was waited for: no store was opened, and the input wasn't read; or one was, and this came of the ladder that was asked for.
+abbrev pub UnreadyBy : {D : Type 0} (view : D → View) (leave : D → Image → Type 0) (left_at : D → ℕ → Image → Type 0) → Bool → Input → Input
     → D → D → StoreFault → Type 0
-WhyUnready view leave left_at ladder input input' old new why =
-    WhyUnopened (view old) (view new) why
-    ⊎ (IsTrue ladder × (WhyUnread input input' why ⊎ TriesLadder view leave left_at input.told input'.told old new (Err why)))
+UnreadyBy view leave left_at ladder input input' old new why =
+    (WhyUnopened (view old) (view new) why × (input' ≡ input)) ⊎ (IsTrue ladder × TriesLadder view leave left_at input input' old new (Err why))
+
+-- Why nothing was served. Nothing was taken from the link and nothing was sent, and what is no store wasn't written.
+pub record WhyUnready {D : Type 0} (view : D → View) (leave : D → Image → Type 0) (left_at : D → ℕ → Image → Type 0) (ladder : Bool) (input input' : Input)
+    (old new : D) (why : StoreFault) : Type 0 where
+  pub cause : UnreadyBy view leave left_at ladder input input' old new why
+  pub silent : (view new).transcript ≡ (view old).transcript
+  pub no_fewer : NoFewer (view old) (view new)
+  pub counted : input.faults ≤ input'.faults
+  pub untouched : (at : ℕ) → why ≡ fault.NotAStore at → Untouched view leave left_at old new
 
 -- ---- the run
 
@@ -172,8 +194,9 @@ abbrev pub LadderSteps : Option (List Track) → List Stepped → Type 0
 LadderSteps None steps = steps ≡ []
 LadderSteps (Some channel) steps = (step : Stepped) × (steps ≡ step ∷ []) × (step.conn ≡ None) × (step.act ≡ Header channel) × (step.reply ≡ silent Neither)
 
--- a run that began with this machine, behind these entries, and has the ladder's step alone
-pub record IsBegun (machine : Machine) (channel : Option (List Track)) (base : List Item) (h : History) : Type 0 where
+-- a run that began with this machine, behind these entries and no fewer faults of the disk, and has the ladder's step alone
+pub record IsBegun (faults : ℕ) (machine : Machine) (channel : Option (List Track)) (base : List Item) (h : History) : Type 0 where
+  pub counted : faults ≤ h.found.disk_faults
   pub first : h.first ≡ machine
   pub base_is : h.base ≡ base
   pub items : h.items ≡ []
@@ -187,7 +210,7 @@ pub record RunsFrom {D : Type 0} (view : D → View) (leave : D → Image → Ty
   pub input : ReadsLadder ladder told told' channel
   pub blamed : end ≡ served.LinkFault → site.Rose (view d).link_faults (view d').link_faults
   pub run : (b : History) → Serves view leave left_at b state d → b.items ≡ [] → b.steps ≡ []
-      → (h : History) × (h.begin ≡ b.begin) × IsBegun b.first channel b.base h × ((after : State) × Served view leave left_at h end turns after d')
+      → (h : History) × (h.begin ≡ b.begin) × IsBegun b.found.disk_faults b.first channel b.base h × ((after : State) × Served view leave left_at h end turns after d')
 
 -- However it ended, a run that had come to the state went on; whatever a crash may leave at a moment since its start survives.
 pub record RunLasts {D : Type 0} (view : D → View) (left_at : D → ℕ → Image → Type 0) (h : History) (d : D) : Type 0 where
@@ -200,9 +223,9 @@ pub record RunLasts {D : Type 0} (view : D → View) (left_at : D → ℕ → Im
 abbrev pub StopsFrom : {D : Type 0} (view : D → View) (leave : D → Image → Type 0) (left_at : D → ℕ → Image → Type 0) → Bool → Input → Input
     → State → D → D → StoreFault → Type 0
 StopsFrom view leave left_at ladder input input' state d d' why =
-    IsTrue ladder × (WhyUnread input input' why ⊎ ((after : State) × DeclaresTo view leave left_at input.told input'.told state d after d' (Err why)))
+    IsTrue ladder × ((after : State) × LadderMeans view leave left_at input input' state d after d' (Err why))
 
--- The loop ran from the log that was found, with the ladder's step in front, to the end that it tells; where the transcript is told, that
+-- The loop ran from the log that was found, under the standard limits, with the ladder's step in front, to the end that it tells; where the transcript is told, that
 -- is its run, and what a crash may leave at each moment fits it.
 pub record HasRun {D : Type 0} (view : D → View) (leave : D → Image → Type 0) (left_at : D → ℕ → Image → Type 0) (ladder : Bool)
     (told told' : Option (List ℕ)) (turns : ℕ) (old new : D)
@@ -210,12 +233,13 @@ pub record HasRun {D : Type 0} (view : D → View) (leave : D → Image → Type
   pub machine : Machine
   pub settled : machine.doubt ≡ None
   pub store : IfSome (view old).contents (IsStore machine.log)
+  pub limits_are : machine.archive.limits ≡ standard
   pub channel : Option (List Track)
   pub input : ReadsLadder ladder told told' channel
   -- a link that failed counted it
   pub blamed : end ≡ served.LinkFault → site.Rose (view old).link_faults (view new).link_faults
   pub run : (base : List Item) → (view old).transcript ≡ Some base
-      → (h : History) × IsBegun machine channel base h × ((state : State) × Served view leave left_at h end turns state new)
+      → (h : History) × IsBegun (view old).disk_faults machine channel base h × ((state : State) × Served view leave left_at h end turns state new)
   -- Where each image that a crash might leave was one store, it is a run of the whole call: its moments begin with the call's.
   pub whole : IsSome (view old).contents → (log : List Entry) → HasOneStore log (leave old) → (base : List Item) → (view old).transcript ≡ Some base
-      → (h : History) × (h.begin ≡ (view old).moment) × IsBegun machine channel base h × ((state : State) × Served view leave left_at h end turns state new)
+      → (h : History) × (h.begin ≡ (view old).moment) × IsBegun (view old).disk_faults machine channel base h × ((state : State) × Served view leave left_at h end turns state new)

@@ -8,8 +8,8 @@ ghost use Rattle.sm_archive.specs.Store.{IsStore};
 ghost use Rattle.sm_origin.specs.Opening.{HasOneStore};
 ghost use Rattle.sm_command.specs.declared.fault.StoreFault.TheVariants as fault;
 ghost use Rattle.sm_command.specs.Choosing.{IsChosen};
-ghost use Rattle.sm_command.specs.Lasting.{AtEachMoment};
-ghost use Rattle.sm_command.specs.Listing.{kept_line, line_in, place_text, span_text, lines_of, AddressIs, WhyUnlisted, WhyUnput};
+ghost use Rattle.sm_command.specs.Lasting.{AtEachMoment, Lasts, NoFewer};
+ghost use Rattle.sm_command.specs.Listing.{kept_line, line_in, place_text, span_text, lines_of, AddressIs, UnlistedBy, WhyUnlisted, WhyUnput};
 
 use crate::StoreFault;
 use crate::choosing::choose;
@@ -127,6 +127,7 @@ fn lines<D: Disk>(alloc: Global, disk: &mut D, archive: &Archive) -> Result<Byte
         → text ≡ lines_of log) }
     ensures why { IfErr result (λ why. WhyUnput (D.view disk.old) (D.view disk.new) why) }
     ensures any_moment { Throughout D.view D.left_at disk.old disk.new (λ t c. D.may_leave disk.old c) }
+    ensures no_fewer { (D.view disk.old).disk_faults ≤ (D.view disk.new).disk_faults }
     ensures link { SameLink (D.view disk.old) (D.view disk.new) }
 {
     let mut text = String::new(alloc);
@@ -143,7 +144,8 @@ fn lines<D: Disk>(alloc: Global, disk: &mut D, archive: &Archive) -> Result<Byte
 // The list of a store whose folder was chosen.
 fn list_disk<D: Disk>(alloc: Global, disk: &mut D) -> Result<Bytes, StoreFault>
     ensures listed { IfOk result (λ text. IfSome (D.view disk.old).contents (λ c. (log : List Entry) × IsStore log c × (text ≡ lines_of log))) }
-    ensures why { IfErr result (λ why. WhyUnlisted (D.view disk.old) (D.view disk.new) why) }
+    ensures why { IfErr result (λ why. UnlistedBy (D.view disk.old) (D.view disk.new) why) }
+    ensures no_fewer { (D.view disk.old).disk_faults ≤ (D.view disk.new).disk_faults }
     ensures any_moment { (log : List Entry) → HasOneStore log (D.may_leave disk.old)
         → Throughout D.view D.left_at disk.old disk.new (λ t c. IsStore log c) }
     ensures untouched { (at : ℕ) → IsErrOf result (fault.NotAStore at) → ((D.view disk.new).contents ≡ (D.view disk.old).contents)
@@ -163,13 +165,13 @@ pub fn list_store<S: Site>(alloc: Global, site: &mut S, store: String) -> Result
     // No other folder is chosen, none is made, and no port is chosen.
     ensures chosen { IsChosen result (record { store = string_bytes store; make = false; port = 0; bind = None; journal = None }) (S.Disk.view site.new) }
     ensures listed { IfOk result (λ text. IfSome (S.Disk.view site.old).contents (λ c. (log : List Entry) × IsStore log c × (text ≡ lines_of log))) }
-    ensures why { IfErr result (λ why. WhyUnlisted (S.Disk.view site.old) (S.Disk.view site.new) why) }
+    ensures why { IfErr result (λ why. WhyUnlisted S.Disk.view S.Disk.may_leave S.Disk.left_at site.old site.new why) }
+    ensures no_fewer { NoFewer (S.Disk.view site.old) (S.Disk.view site.new) }
     // Where each image that a crash might have left was one store, a crash leaves that store at each moment.
     ensures any_moment { (log : List Entry) → HasOneStore log (S.Disk.may_leave site.old)
         → AtEachMoment S.Disk.view S.Disk.left_at site.old site.new (IsStore log) }
-    // What is no store isn't written: the contents stay, and at no moment a crash leaves what it couldn't leave before.
-    ensures untouched { (at : ℕ) → IsErrOf result (fault.NotAStore at) → ((S.Disk.view site.new).contents ≡ (S.Disk.view site.old).contents)
-        × AtEachMoment S.Disk.view S.Disk.left_at site.old site.new (S.Disk.may_leave site.old) }
+    // So the store that was there outlasts the call.
+    ensures lasts { Lasts S.Disk.view S.Disk.may_leave S.Disk.left_at site.old site.new }
     // Nothing is taken from the link, and nothing is sent.
     ensures transcript { (S.Disk.view site.new).transcript ≡ (S.Disk.view site.old).transcript }
     ensures send_faults { (S.Disk.view site.new).send_faults ≡ (S.Disk.view site.old).send_faults }

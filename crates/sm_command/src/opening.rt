@@ -76,8 +76,8 @@ fn declare_input<I: Source, D: Disk>(
     requires stands { (log : List Entry) × Stands archive.old log None (D.may_leave disk.old) }
     ensures means { (log : List Entry) → Stands archive.old log None (D.may_leave disk.old)
         → Agrees D.view D.may_leave (I.left input.old) (I.left input.new) log archive.new disk.old disk.new result
-        ⊎ NotRead (record { told = I.left input.old; faults = I.faults input.old })
-        (record { told = I.left input.new; faults = I.faults input.new }) result }
+        ⊎ (NotRead (record { told = I.left input.old; faults = I.faults input.old })
+        (record { told = I.left input.new; faults = I.faults input.new }) result × (disk.new ≡ disk.old)) }
     ensures stands { OnOk result ((log : List Entry) × Stands archive.new log None (D.may_leave disk.new)) }
     ensures any_moment { (log : List Entry) → Stands archive.old log None (D.may_leave disk.old) → IsSome (D.view disk.old).contents
         → Throughout D.view D.left_at disk.old disk.new (λ t c. BeginsWith log c) }
@@ -98,7 +98,9 @@ pub fn open_declared<I: Source, D: Disk>(
     input: &mut I,
     disk: &mut D,
 ) -> Result<Archive, StoreFault>
-    ensures declared { IfOk result (λ archive. IsDeclared D.view D.may_leave (I.left input.old) (I.left input.new) archive disk.old disk.new) }
+    ensures declared { IfOk result (λ archive. IsDeclared D.view D.may_leave
+        (record { told = I.left input.old; faults = I.faults input.old })
+        (record { told = I.left input.new; faults = I.faults input.new }) archive disk.old disk.new) }
     ensures why { IfErr result (λ why. WhyUndeclared D.view D.may_leave
         (record { told = I.left input.old; faults = I.faults input.old })
         (record { told = I.left input.new; faults = I.faults input.new }) disk.old disk.new why) }

@@ -1,14 +1,10 @@
 //! Serving a store.
-ghost use Rattle.std.specs.Prelude.{◌≡◌, ℕ, List, Some, IsSome, IfOk, IfErr, IsErrOf};
-ghost use Rattle.sm_model.specs.declared.entry.Entry.{Entry};
-ghost use Rattle.sm_site.specs.Meanings.{Item};
+ghost use Rattle.std.specs.Prelude.{◌≡◌, ◌≤◌, IfOk, IfErr, OnErr};
 ghost use Rattle.sm_origin.specs.Machine.{Machine};
-ghost use Rattle.sm_origin.specs.Opening.{HasOneStore};
 ghost use Rattle.sm_serve.specs.Serving.{Begins, Serves, CountsNone};
 ghost use Rattle.sm_serve.specs.Standing.{History, StandsOn};
-ghost use Rattle.sm_command.specs.declared.fault.StoreFault.TheVariants as fault;
 ghost use Rattle.sm_command.specs.Choosing.{IsChosen};
-ghost use Rattle.sm_command.specs.Lasting.{AtEachMoment, Outlasts};
+ghost use Rattle.sm_command.specs.Lasting.{Lasts, NoFewer};
 ghost use Rattle.sm_command.specs.Serving.{HasRun, RunLasts, RunsFrom, StopsFrom, WhyUnready};
 
 use crate::StoreFault;
@@ -37,6 +33,9 @@ fn serve_state<I: Source, S: Site>(
     ensures why { IfErr result (λ why. StopsFrom S.Disk.view S.Disk.may_leave S.Disk.left_at ladder
         (record { told = I.left input.old; faults = I.faults input.old })
         (record { told = I.left input.new; faults = I.faults input.new }) state.old site.old site.new why) }
+    ensures silent { OnErr result ((S.Disk.view site.new).transcript ≡ (S.Disk.view site.old).transcript) }
+    ensures no_fewer { OnErr result (NoFewer (S.Disk.view site.old) (S.Disk.view site.new)) }
+    ensures counted { I.faults input.old ≤ I.faults input.new }
     ensures counts { IfOk result CountsNone }
     ensures chosen { (S.Disk.view site.new).chosen ≡ (S.Disk.view site.old).chosen }
     ensures lasts { (h : History) → Serves S.Disk.view S.Disk.may_leave S.Disk.left_at h state.old site.old
@@ -70,12 +69,8 @@ pub fn serve_store<I: Source, S: Site>(
     ensures counts { IfOk result CountsNone }
     // However it ends, on a disk that tells its contents: where each image that a crash might have left was one store, what a crash may leave
     // at any moment since the call began is a store whose log begins with that one, and holds what the call had shown by then.
-    ensures any_moment { IsSome (S.Disk.view site.old).contents → (log : List Entry) → HasOneStore log (S.Disk.may_leave site.old)
-        → (base : List Item) → (S.Disk.view site.old).transcript ≡ Some base
-        → Outlasts S.Disk.view S.Disk.left_at log base site.old site.new }
-    // What is no store isn't written: the contents stay, and at no moment a crash leaves what it couldn't leave before.
-    ensures untouched { (at : ℕ) → IsErrOf result (fault.NotAStore at) → ((S.Disk.view site.new).contents ≡ (S.Disk.view site.old).contents)
-        × AtEachMoment S.Disk.view S.Disk.left_at site.old site.new (S.Disk.may_leave site.old) }
+    ensures any_moment { Lasts S.Disk.view S.Disk.may_leave S.Disk.left_at site.old site.new }
+    ensures counted { I.faults input.old ≤ I.faults input.new }
 {
     bodies_have_one_log();
     stores_have_one_reading();

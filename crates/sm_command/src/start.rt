@@ -10,7 +10,7 @@ ghost use Rattle.sm_serve.specs.Serving.{Begins, Serves};
 ghost use Rattle.sm_serve.specs.Standing.{History, StandsOn};
 ghost use Rattle.sm_command.specs.declared.fault.StoreFault.TheVariants as fault;
 ghost use Rattle.sm_command.specs.Choosing.{IsChosen};
-ghost use Rattle.sm_command.specs.Lasting.{AtEachMoment};
+ghost use Rattle.sm_command.specs.Lasting.{AtEachMoment, Untouched};
 ghost use Rattle.sm_command.specs.Serving.{Found, IsLadderInput, DeclaresTo, GoesUnseen, LadderMeans, PrepareMeans, WhyUnopened, WhyUnread, outcome_of};
 
 use crate::StoreFault;
@@ -61,8 +61,8 @@ pub(crate) fn open_state<S: Site>(
     // Where every image was one store, it stays that at each moment.
     ensures any_moment { (log : List Entry) → HasOneStore log (S.Disk.may_leave site.old)
         → AtEachMoment S.Disk.view S.Disk.left_at site.old site.new (IsStore log) }
-    ensures untouched { (at : ℕ) → IsErrOf result (fault.NotAStore at) → ((S.Disk.view site.new).contents ≡ (S.Disk.view site.old).contents)
-        × AtEachMoment S.Disk.view S.Disk.left_at site.old site.new (S.Disk.may_leave site.old) }
+    ensures untouched { (at : ℕ) → IsErrOf result (fault.NotAStore at)
+        → Untouched S.Disk.view S.Disk.may_leave S.Disk.left_at site.old site.new }
     ensures transcript { (S.Disk.view site.new).transcript ≡ (S.Disk.view site.old).transcript }
     ensures why { IfErr result (λ why. WhyUnopened (S.Disk.view site.old) (S.Disk.view site.new) why) }
     ensures disk_faults { (S.Disk.view site.old).disk_faults ≤ (S.Disk.view site.new).disk_faults }
@@ -80,6 +80,7 @@ pub(crate) fn ladder_of<I: Source>(alloc: Global, input: &mut I) -> Result<Chann
     ensures valid { IfOk result IsChannel }
     ensures why { IfErr result (λ why. WhyUnread (record { told = I.left input.old; faults = I.faults input.old })
         (record { told = I.left input.new; faults = I.faults input.new }) why) }
+    ensures counted { I.faults input.old ≤ I.faults input.new }
 {
     let text = match read_input(alloc, input, LADDER) {
         Ok(text) => text,
@@ -117,6 +118,7 @@ fn declare<S: Site>(site: &mut S, state: &mut State, channel: &Channel) -> Resul
         → GoesUnseen S.Disk.view S.Disk.may_leave S.Disk.left_at h state.new site.new }
     ensures stands { (m : Machine) × StandsOn S.Disk.view S.Disk.may_leave m state.new.origin site.new }
     ensures transcript { (S.Disk.view site.new).transcript ≡ (S.Disk.view site.old).transcript }
+    ensures disk_faults { (S.Disk.view site.old).disk_faults ≤ (S.Disk.view site.new).disk_faults }
     ensures link_faults { (S.Disk.view site.new).link_faults ≡ (S.Disk.view site.old).link_faults }
     ensures chosen { (S.Disk.view site.new).chosen ≡ (S.Disk.view site.old).chosen }
 {
@@ -138,7 +140,9 @@ fn declare_ladder<I: Source, S: Site>(
         → GoesUnseen S.Disk.view S.Disk.may_leave S.Disk.left_at h state.new site.new }
     ensures stands { (m : Machine) × StandsOn S.Disk.view S.Disk.may_leave m state.new.origin site.new }
     ensures transcript { (S.Disk.view site.new).transcript ≡ (S.Disk.view site.old).transcript }
+    ensures disk_faults { (S.Disk.view site.old).disk_faults ≤ (S.Disk.view site.new).disk_faults }
     ensures link_faults { (S.Disk.view site.new).link_faults ≡ (S.Disk.view site.old).link_faults }
+    ensures counted { I.faults input.old ≤ I.faults input.new }
     ensures chosen { (S.Disk.view site.new).chosen ≡ (S.Disk.view site.old).chosen }
 {
     match ladder_of(alloc, input) {
@@ -162,7 +166,9 @@ pub(crate) fn prepare<I: Source, S: Site>(
         → GoesUnseen S.Disk.view S.Disk.may_leave S.Disk.left_at h state.new site.new }
     ensures stands { (m : Machine) × StandsOn S.Disk.view S.Disk.may_leave m state.new.origin site.new }
     ensures transcript { (S.Disk.view site.new).transcript ≡ (S.Disk.view site.old).transcript }
+    ensures disk_faults { (S.Disk.view site.old).disk_faults ≤ (S.Disk.view site.new).disk_faults }
     ensures link_faults { (S.Disk.view site.new).link_faults ≡ (S.Disk.view site.old).link_faults }
+    ensures counted { I.faults input.old ≤ I.faults input.new }
     ensures chosen { (S.Disk.view site.new).chosen ≡ (S.Disk.view site.old).chosen }
 {
     if ladder {

@@ -1,9 +1,9 @@
-use Rattle.std.proofs.Common.{◌≡◌, Err, ◌∙◌}
+use Rattle.std.proofs.Common.{◌∙◌}
 use Rattle.sm_archive.specs.Store.{IsStore}
-use Rattle.sm_command.specs.declared.fault.StoreFault.{StoreFault}
+use Rattle.sm_command.specs.Lasting.{NoFewer}
 use Rattle.sm_command.proofs.Chosen.{chosen_still}
-use Rattle.sm_command.proofs.Lasting.{at_each, one_by_one, one_here, one_still, weaker}
-use Rattle.sm_command.proofs.Lines.{chosen_is_placed, error_is, unlisted_chosen}
+use Rattle.sm_command.proofs.Lasting.{at_each, counts_then, one_by_one, one_here, one_still, silent_lasts, weaker}
+use Rattle.sm_command.proofs.Lines.{why_unchosen, why_unlisted}
 use Rattle.sm_command.proofs.listing.list_store.Goals as goal
 
 pub returns-in-Ok-clause-any_moment : goal.returns-in-Ok-clause-any_moment
@@ -18,22 +18,49 @@ pub returns-in-Err-clause-any_moment : goal.returns-in-Err-clause-any_moment
 returns-in-Err-clause-any_moment g c log one =
     weaker g.S.Disk.view g.S.Disk.left_at c.args.site.now c.choose.new.site _ (IsStore log) c.choose.ensures.any_moment (one_here log _ one)
 
-pub returns-in-Ok-clause-untouched : goal.returns-in-Ok-clause-untouched
-returns-in-Ok-clause-untouched g c at is =
+pub returns-in-Ok-clause-lasts : goal.returns-in-Ok-clause-lasts
+returns-in-Ok-clause-lasts g c some log one base told =
     let V = g.S.Disk.view in
     let L = g.S.Disk.left_at in
-    let u = c.list_disk.ensures.untouched at is in (
-      u.0 ∙ c.choose.ensures.contents,
-      one_by_one V L c.args.site.now c.choose.new.site c.list_disk.new.disk (g.S.Disk.may_leave c.args.site.now) c.choose.ensures.any_moment
-          (at_each V L c.choose.new.site c.list_disk.new.disk _ (g.S.Disk.may_leave c.args.site.now) u.2 (λ t image left. (c.choose.ensures.crash image).0 left)),
-    )
+    silent_lasts V g.S.Disk.may_leave L g.met.S.Disk.at_now log base c.args.site.now c.list_disk.new.disk one
+    (one_by_one V L c.args.site.now c.choose.new.site c.list_disk.new.disk (IsStore log)
+    (weaker V L c.args.site.now c.choose.new.site _ (IsStore log) c.choose.ensures.any_moment (one_here log _ one))
+    (at_each V L c.choose.new.site c.list_disk.new.disk _ (IsStore log) (c.list_disk.ensures.any_moment log (one_still log _ _ c.choose.ensures.crash one)) (λ t image is. is)))
+    (c.list_disk.ensures.link.transcript ∙ c.choose.ensures.transcript ∙ told)
 
-pub returns-in-Err-clause-untouched : goal.returns-in-Err-clause-untouched
-returns-in-Err-clause-untouched g c at is =
-    absurd (chosen_is_placed (g.S.Disk.view c.args.site.now) (g.S.Disk.view c.choose.new.site) c.in-Err.fault c.in-Err.ensures.why at (error_is c.in-Err.fault _ is))
+pub returns-in-Err-clause-lasts : goal.returns-in-Err-clause-lasts
+returns-in-Err-clause-lasts g c some log one base told =
+    silent_lasts g.S.Disk.view g.S.Disk.may_leave g.S.Disk.left_at g.met.S.Disk.at_now log base c.args.site.now c.choose.new.site one
+    (weaker g.S.Disk.view g.S.Disk.left_at c.args.site.now c.choose.new.site _ (IsStore log) c.choose.ensures.any_moment (one_here log _ one))
+    (c.choose.ensures.transcript ∙ told)
+
+pub returns-in-Ok-clause-no_fewer : goal.returns-in-Ok-clause-no_fewer
+returns-in-Ok-clause-no_fewer g c =
+    counts_then (g.S.Disk.view c.args.site.now) (g.S.Disk.view c.choose.new.site) (g.S.Disk.view c.list_disk.new.disk)
+    (record { disk = c.choose.ensures.disk_faults; link = c.choose.ensures.link_faults }) c.list_disk.ensures.no_fewer c.list_disk.ensures.link.link_faults
+
+pub returns-in-Err-clause-no_fewer : goal.returns-in-Err-clause-no_fewer
+returns-in-Err-clause-no_fewer g c = record { disk = c.choose.ensures.disk_faults; link = c.choose.ensures.link_faults }
+
+pub returns-in-Ok-clause-why : goal.returns-in-Ok-clause-why
+returns-in-Ok-clause-why g c =
+    let V = g.S.Disk.view in
+    let L = g.S.Disk.left_at in
+    let chosen : NoFewer (V c.args.site.now) (V c.choose.new.site) = record { disk = c.choose.ensures.disk_faults; link = c.choose.ensures.link_faults } in
+    why_unlisted V g.S.Disk.may_leave L c.args.site.now c.choose.new.site c.list_disk.new.disk c.list_disk.result c.choose.ensures.contents chosen c.list_disk.ensures.why
+    (counts_then (V c.args.site.now) (V c.choose.new.site) (V c.list_disk.new.disk) chosen c.list_disk.ensures.no_fewer c.list_disk.ensures.link.link_faults)
+    (λ at is.
+    let u = c.list_disk.ensures.untouched at is in
+    record {
+      contents = u.0 ∙ c.choose.ensures.contents;
+      each = one_by_one V L c.args.site.now c.choose.new.site c.list_disk.new.disk (g.S.Disk.may_leave c.args.site.now) c.choose.ensures.any_moment
+          (at_each V L c.choose.new.site c.list_disk.new.disk _ (g.S.Disk.may_leave c.args.site.now) u.2 (λ t image left. (c.choose.ensures.crash image).0 left));
+    })
 
 pub returns-in-Err-clause-why : goal.returns-in-Err-clause-why
-returns-in-Err-clause-why g c = unlisted_chosen (g.S.Disk.view c.args.site.now) (g.S.Disk.view c.choose.new.site) c.in-Err.fault c.in-Err.ensures.why
+returns-in-Err-clause-why g c =
+    why_unchosen g.S.Disk.view g.S.Disk.may_leave g.S.Disk.left_at c.args.site.now c.choose.new.site c.in-Err.fault c.in-Err.ensures.why
+    (record { disk = c.choose.ensures.disk_faults; link = c.choose.ensures.link_faults })
 
 pub returns-in-Ok-clause-chosen : goal.returns-in-Ok-clause-chosen
 returns-in-Ok-clause-chosen g c =

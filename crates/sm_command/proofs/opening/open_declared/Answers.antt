@@ -1,4 +1,3 @@
-use Rattle.std.proofs.Common.{inl}
 use Rattle.sm_command.proofs.Opened.{begins_all, begins_so, declared_as, never_placed, undeclared}
 use Rattle.sm_command.specs.Opening.{BeginsWith}
 use Rattle.sm_command.specs.Serving.{Input}

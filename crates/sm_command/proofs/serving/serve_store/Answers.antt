@@ -1,19 +1,25 @@
 use Rattle.std.proofs.Common.{◌∙◌}
 use Rattle.sm_command.proofs.Chosen.{chosen_still}
 use Rattle.sm_command.proofs.Lasting.{silent_lasts}
-use Rattle.sm_command.proofs.Starting.{has_run, error_as, ladder_is_placed, opened_lasts, why_stopped}
+use Rattle.sm_command.proofs.Starting.{has_run, opened_lasts, why_stopped, why_unopened}
 use Rattle.sm_command.proofs.serving.serve_store.Goals as goal
 
 pub returns-in-Ok-clause-run : goal.returns-in-Ok-clause-run
 returns-in-Ok-clause-run g c =
     has_run g.S.Disk.view g.S.Disk.may_leave g.S.Disk.left_at g.met.S.Disk.contents_pass g.met.S.Disk.at_now g.met.S.Disk.now_at c.stores_have_one_reading.ensures.one_list c.bodies_have_one_log.ensures
     c.args.ladder _ _ c.args.turns c.in-Ok.state c.args.site.now c.open_state.new.site c.serve_state.new.site c.serve_state.result
-    c.in-Ok.ensures.found c.in-Ok.ensures.begins c.in-Ok.ensures.any_moment c.in-Ok.ensures.transcript c.in-Ok.ensures.link_faults c.serve_state.ensures.run
+    c.in-Ok.ensures.found c.in-Ok.ensures.begins c.in-Ok.ensures.any_moment c.in-Ok.ensures.transcript (record { disk = c.in-Ok.ensures.disk_faults; link = c.in-Ok.ensures.link_faults }) c.serve_state.ensures.run
 
 pub returns-in-Ok-clause-why : goal.returns-in-Ok-clause-why
 returns-in-Ok-clause-why g c =
     why_stopped g.S.Disk.view g.S.Disk.may_leave g.S.Disk.left_at c.args.ladder _ _ c.in-Ok.state c.args.site.now c.open_state.new.site c.serve_state.new.site c.serve_state.result
-    c.in-Ok.ensures.found c.in-Ok.ensures.disk_faults c.in-Ok.ensures.begins c.serve_state.ensures.why
+    c.in-Ok.ensures.found (record { disk = c.in-Ok.ensures.disk_faults; link = c.in-Ok.ensures.link_faults }) c.in-Ok.ensures.transcript c.in-Ok.ensures.begins
+    c.serve_state.ensures.why c.serve_state.ensures.silent c.serve_state.ensures.no_fewer c.serve_state.ensures.counted
+
+pub returns-in-Err-clause-why : goal.returns-in-Err-clause-why
+returns-in-Err-clause-why g c =
+    why_unopened g.S.Disk.view g.S.Disk.may_leave g.S.Disk.left_at c.args.ladder _ c.args.site.now c.open_state.new.site c.in-Err.fault
+    c.in-Err.ensures.why c.in-Err.ensures.transcript (record { disk = c.in-Err.ensures.disk_faults; link = c.in-Err.ensures.link_faults }) c.in-Err.ensures.untouched
 
 pub returns-in-Ok-clause-any_moment : goal.returns-in-Ok-clause-any_moment
 returns-in-Ok-clause-any_moment g c =
@@ -23,13 +29,6 @@ returns-in-Ok-clause-any_moment g c =
 pub returns-in-Err-clause-any_moment : goal.returns-in-Err-clause-any_moment
 returns-in-Err-clause-any_moment g c some log one base told =
     silent_lasts g.S.Disk.view g.S.Disk.may_leave g.S.Disk.left_at g.met.S.Disk.at_now log base c.args.site.now c.open_state.new.site one (c.in-Err.ensures.any_moment log one) (c.in-Err.ensures.transcript ∙ told)
-
-pub returns-in-Ok-clause-untouched : goal.returns-in-Ok-clause-untouched
-returns-in-Ok-clause-untouched g c at is =
-    absurd (ladder_is_placed g.S.Disk.view g.S.Disk.may_leave g.S.Disk.left_at c.args.ladder _ _ c.in-Ok.state c.open_state.new.site c.serve_state.new.site c.serve_state.result c.serve_state.ensures.why at is)
-
-pub returns-in-Err-clause-untouched : goal.returns-in-Err-clause-untouched
-returns-in-Err-clause-untouched g c at is = c.in-Err.ensures.untouched at (error_as c.in-Err.fault at is)
 
 pub returns-in-Ok-clause-chosen : goal.returns-in-Ok-clause-chosen
 returns-in-Ok-clause-chosen g c =

@@ -22,11 +22,12 @@ pub returns-in-Ok-clause-untouched : goal.returns-in-Ok-clause-untouched
 returns-in-Ok-clause-untouched g c at is =
     let V = g.S.Disk.view in
     let L = g.S.Disk.left_at in
-    let u = c.start.ensures.untouched at is in (
-      u.0 ∙ c.choose.ensures.contents,
-      one_by_one V L c.args.site.now c.choose.new.site c.start.new.site (g.S.Disk.may_leave c.args.site.now) c.choose.ensures.any_moment
-          (at_each V L c.choose.new.site c.start.new.site _ (g.S.Disk.may_leave c.args.site.now) u.2 (λ t image left. (c.choose.ensures.crash image).0 left)),
-    )
+    let u = c.start.ensures.untouched at is in
+    record {
+      contents = u.0 ∙ c.choose.ensures.contents;
+      each = one_by_one V L c.args.site.now c.choose.new.site c.start.new.site (g.S.Disk.may_leave c.args.site.now) c.choose.ensures.any_moment
+          (at_each V L c.choose.new.site c.start.new.site _ (g.S.Disk.may_leave c.args.site.now) u.2 (λ t image left. (c.choose.ensures.crash image).0 left));
+    }
 
 pub returns-in-Err-clause-untouched : goal.returns-in-Err-clause-untouched
 returns-in-Err-clause-untouched g c at is =
