@@ -39,9 +39,9 @@ record Chained (first : Machine) (steps : List Stepped) (m : Machine) : Type 0 w
   last : m ≡ behind first steps
   chain : Chain first steps
 
-chained : (first : Machine) (begin : ℕ) (items : List Item) (steps : List Stepped) (p : Point) → Run true first begin items steps p → Chained first steps p.machine
-chained first begin [] [] p begins = record { last = refl; chain = tt }
-chained first begin items steps q (goes_on was es items' ss xs steps' p q' run move now all) = go (chained first begin was ss p run) (kind_of was p es xs q move)
+chained : (first : Machine) (begin faults : ℕ) (items : List Item) (steps : List Stepped) (p : Point) → Run true first begin faults items steps p → Chained first steps p.machine
+chained first begin faults [] [] p begins = record { last = refl; chain = tt }
+chained first begin faults items steps q (goes_on was es items' ss xs steps' p q' run move now all) = go (chained first begin faults was ss p run) (kind_of was p es xs q move)
   where
     go : Chained first ss p.machine → Stays p xs q ⊎ StepsOn p xs q → Chained first steps q.machine
     go before (inl (none, same)) =
@@ -57,11 +57,11 @@ chained first begin items steps q (goes_on was es items' ss xs steps' p q' run m
           chain = chain_push first ss x before.chain (subst (λ (m : Machine). Extends m x.after) before.last adds);
         })
 
-pub later_extends : (first : Machine) (begin began : ℕ) (items now : List Item) (steps more all : List Stepped) (p q : Point)
-    → Run true first begin items steps p → Run true first began now all q → all ≡ steps ++ more → Extends p.machine q.machine
-later_extends first begin began items now steps more all p q run later is =
-    let one = chained first begin items steps p run in
-    let two = chained first began now all q later in
+pub later_extends : (first : Machine) (begin faults began counted : ℕ) (items now : List Item) (steps more all : List Stepped) (p q : Point)
+    → Run true first begin faults items steps p → Run true first began counted now all q → all ≡ steps ++ more → Extends p.machine q.machine
+later_extends first begin faults began counted items now steps more all p q run later is =
+    let one = chained first begin faults items steps p run in
+    let two = chained first began counted now all q later in
     let front : Extends (behind first steps) (behind first (steps ++ more)) = chain_front first steps more (subst (Chain first) is two.chain) in
     subst (λ (m : Machine). Extends m q.machine) (sym one.last)
     (subst (λ (m : Machine). Extends (behind first steps) m) (sym (two.last ∙ ap (behind first) is)) front)

@@ -1,5 +1,5 @@
 -- What a client of a rehearsal reads where the store only keeps what encoder A pushed.
-use Rattle.std.proofs.Common.{◌≡◌, ℕ, zero, suc, ◌+◌, ◌<◌, ◌≤◌, ◌^◌, ◌⊎◌, inl, inr, Bool, true, false, if◌then◌else◌, List, [], ◌∷◌, ◌++◌, filter, length, Option, Some, None, refl, sym, ap, ◌∙◌, subst, arith, append-nil, length-append}
+use Rattle.std.proofs.Common.{◌≡◌, ℕ, zero, suc, ◌+◌, ◌<◌, ◌≤◌, ◌^◌, ◌⊎◌, inl, inr, Bool, true, false, if◌then◌else◌, List, [], ◌∷◌, ◌++◌, filter, length, Option, Some, None, refl, sym, ap, subst, arith, length-append}
 use Rattle.std.specs.Prelude.{codes, nat_lt, min, slice_index, IsTrue, ◌==◌}
 use Rattle.std.specs.List.{All, AllByRecursion}
 use Rattle.std.specs.Str.Lossy.{utf8_valid_len}
@@ -18,9 +18,10 @@ use Rattle.sm_log.specs.Logs.{channel_of, adds_from, adds_of, listed_by, IsSound
 use Rattle.sm_fetch.specs.declared.dial.Exchange.{Exchange}
 use Rattle.sm_fetch.specs.Origins.{AnsweredFrom}
 use Rattle.sm_client.specs.Served.{IsMoment, AnsweredBy, IsStream, IsPlace, Serves}
-use Rattle.sm_world.specs.Clients.{place, plan_of}
+use Rattle.sm_world.specs.Clients.{plan_of}
+use Rattle.sm_world.specs.Deeds.{place}
 use Rattle.sm_world.specs.Encoders.{channel, video, audio, log_of, entries_after}
-use Rattle.sm_world.proofs.Numbers.{length_log}
+use Rattle.sm_world.proofs.Numbers.{length_log, same_log}
 
 -- ---- the place and the channel
 
@@ -154,14 +155,6 @@ moment (suc n) some few sound = record {
   channel_is = refl;
   few = λ s. omega (arith, by_short (channel_of (log_of (suc n))) (adds_of (log_of (suc n))) s, adds_short 0 (log_of (suc n)), length_log (suc n), few);
 }
-
--- a log that is no longer than it was is the same
-no_more : (log more : List Entry) → length (log ++ more) ≤ length log → more ≡ []
-no_more log [] short = refl
-no_more log (e ∷ more) short = absurd (let len = length-append log (e ∷ more) in omega (arith, len, short))
-
-pub same_log : (log more : List Entry) → length (log ++ more) ≤ length log → log ++ more ≡ log
-same_log log more short = ap (λ (l : List Entry). log ++ l) (no_more log more short) ∙ append-nil log
 
 grown : (log last : List Entry) (xs : List Exchange) → AnsweredFrom log xs last → length log ≤ length last
 grown log last [] (more, is) = let len = length-append log more in let same = ap (λ (l : List Entry). length l) is in omega (arith, len, same)

@@ -1,8 +1,8 @@
 -- What playing a stream leaves of an origin in memory.
-use Rattle.std.proofs.Common.{◌≡◌, ◌≢◌, ℕ, ◌+◌, ◌-◌, ◌*◌, ◌/◌, ◌<◌, ◌≤◌, ◌⊎◌, inl, inr, List, [], ◌∷◌, ◌++◌, length, drop, Option, Some, None, refl, sym, ap, ◌∙◌, subst, arith, append-nil, length-append}
+use Rattle.std.proofs.Common.{◌≡◌, ◌≢◌, ℕ, ◌+◌, ◌-◌, ◌*◌, ◌/◌, ◌<◌, ◌≤◌, ◌⊎◌, inl, inr, zero, suc, List, [], ◌∷◌, ◌++◌, length, take, drop, Option, Some, None, refl, sym, ap, ◌∙◌, subst, arith, append-nil, length-append}
 use Rattle.std.specs.Prelude.{codes}
 use Rattle.std.proofs.Math.Seq.{drop-append_seam}
-use Rattle.std.proofs.lemmas.List.{length-map}
+use Rattle.std.proofs.lemmas.List.{length-map, length-drop, append_cancel_left}
 use Rattle.sm_model.specs.declared.entry.Entry.{Entry}
 use Rattle.sm_site.specs.Image.{Image}
 use Rattle.sm_site.specs.Meanings.{View}
@@ -22,22 +22,32 @@ use Rattle.sm_client.specs.Asks.{exchange_of, exchanges, turn_after}
 use Rattle.sm_client.specs.Plays.{Part, IsPart, PlaysAll, count_of, all_exchanges, written_of}
 use Rattle.sm_client.specs.Served.{AreIn, PartsIn, Serves, PlaysServed, PlayedServed}
 use Rattle.sm_serve.specs.declared.state.State.{State}
-use Rattle.sm_world.specs.Clients.{plan_of, AreDue, IsClient, HasPlayed}
-use Rattle.sm_world.specs.Dialing.{Dialing}
+use Rattle.sm_world.specs.Clients.{plan_of, AreDue, HaveCome, IsClient, HasPlayed}
+use Rattle.sm_world.specs.Dialing.{Dialing, next_number}
 use Rattle.sm_world.specs.Encoders.{channel, entries_after, log_of}
 use Rattle.sm_world.specs.Later.{IsLater}
 use Rattle.sm_world.specs.LaterLaws.{continues_later}
 use Rattle.sm_world.specs.Numbered.{AreByNumber}
 use Rattle.sm_world.specs.Saying.{StandsAt}
 use Rattle.sm_world.specs.Worlds.{World, Stands}
-use Rattle.sm_world.proofs.Numbers.{Lists, are_due, length_log, all_rounds}
-use Rattle.sm_world.proofs.ClientsKept.{same_log, serves_client}
+use Rattle.sm_world.proofs.Numbers.{Lists, are_due, length_log, all_rounds, same_log}
+use Rattle.sm_world.proofs.ClientsKept.{serves_client}
 
 -- the log of a world is sound, wherever it stands
 sound_world : {D : Type 0} (view : D → View) (leave : D → Image → Type 0) (left_at : D → ℕ → Image → Type 0) (w : World) (state : Option State) (d : D)
     → Stands view leave left_at w state d → IsSound w.log
 sound_world view leave left_at w None d stands = stands.one.sound
 sound_world view leave left_at w (Some state) d stands = subst IsSound stands.log_is stands.serves.rest.stands.stands.keeps.sound
+
+-- all that is behind a place
+pub take_rest : (n : ℕ) (xs : List Exchange) → take (length xs - n) (drop n xs) ≡ drop n xs
+take_rest n xs = take_all (length xs - n) (drop n xs) (let len = length-drop n xs in omega (arith, len))
+  where
+    take_all : (k : ℕ) (ys : List Exchange) → length ys ≤ k → take k ys ≡ ys
+    take_all zero [] few = refl
+    take_all zero (y ∷ ys) few = absurd (omega (arith, few))
+    take_all (suc k) [] few = refl
+    take_all (suc k) (y ∷ ys) few = ap (λ (l : List Exchange). y ∷ l) (take_all k ys (omega (arith, few)))
 
 -- ---- one stream
 
@@ -80,7 +90,7 @@ pub record Plays {P : Type 0} (m : Meaning P) (p : P) (name : List ℕ) (count :
 
 module _ {P : Type 0} (m : Meaning P) (p : P) (name : List ℕ) (count most : ℕ) (old new : MemorySite × Dialing) (lost cut : List ℕ) (tracks : TracksState) (report : Report)
     (which : (name ≡ codes "video") ⊎ (name ≡ codes "audio")) (few : count ≤ 2000) (within : (count + 1) * 9 ≤ most) (five : Lists 5 most lost) (seven : Lists 7 most cut)
-    (plays : Plays m p name count (renumbered old lost cut) new tracks report) (numbered : AreByNumber new.1.lost new.1.cut 1 (drop new.1.since new.1.made))
+    (plays : Plays m p name count (renumbered old lost cut) new tracks report) (come : HaveCome 1 (drop (length old.1.made) new.1.made))
     (ended : 0 < count → report.end ≡ Done) (whole : report.played ≡ count) where
   one : OnePart m (plan_of name count) name (settle m p [] []) (λ k. Some []) (λ k. Some (held_at tracks.tracks k)) plays.served.plays.parts report.end
   one = one_part m (plan_of name count) name (settle m p [] []) (λ k. Some []) (λ k. Some (held_at tracks.tracks k)) plays.served.plays.parts report.end plays.served.plays.plays
@@ -104,15 +114,21 @@ module _ {P : Type 0} (m : Meaning P) (p : P) (name : List ℕ) (count most : �
       let same : length more ≡ length (one.part.made ++ one.part.last) = length-map (one.part.made ++ one.part.last) exchange_of in
       let some = one.plays.few in omega (arith, len, same, some)
 
-  due : AreDue 1 more
-  due =
-      let since : drop new.1.since new.1.made ≡ more =
-      ap (λ (n : ℕ). drop n new.1.made) plays.later.since ∙ ap (λ (l : List Exchange). drop (length old.1.made) l) made ∙ drop-append_seam old.1.made more
-      in
-      let by : AreByNumber lost cut 1 more =
-      subst (λ (l : List ℕ). AreByNumber l cut 1 more) plays.later.lost (subst (λ (l : List ℕ). AreByNumber new.1.lost l 1 more) plays.later.cut
-      (subst (AreByNumber new.1.lost new.1.cut 1) since numbered))
-      in are_due lost cut most 1 more five seven (omega arith) (omega (arith, length_more, within)) by
+  same_more : plays.later.exchanges.more ≡ more
+  same_more = append_cancel_left old.1.made plays.later.exchanges.more more (sym plays.later.exchanges.made ∙ made)
+
+  due : (w : World) → Stands site_view site_may_leave site_left_at w old.1.state old.0 → w.log ≡ log_of count
+      → ((now : World) → Stands site_view site_may_leave site_left_at now new.1.state new.0 → length now.log ≡ entries_after count)
+      → AreDue (log_of count) 1 more
+  due w stands is after =
+      let on = plays.later.exchanges.on (omega arith) (log_of count) (record { world = w; stands = stands; log_is = is }) in
+      let len : length on.0 ≡ entries_after count = ap (λ (l : List Entry). length l) (sym on.1.log_is) ∙ after on.1.world on.1.stands in
+      let one : next_number (renumbered old lost cut).1 ≡ 1 = omega arith in
+      let by : AreByNumber lost cut 1 (log_of count) more on.0 =
+      subst (λ (n : ℕ). AreByNumber lost cut n (log_of count) more on.0) one
+      (subst (λ (xs : List Exchange). AreByNumber lost cut (next_number (renumbered old lost cut).1) (log_of count) xs on.0) same_more on.2)
+      in are_due lost cut most 1 (log_of count) on.0 more five seven (omega arith) (omega (arith, length_more, within)) (let was = length_log count in omega (arith, was, len))
+      (subst (HaveCome 1) (ap (drop (length old.1.made)) made ∙ drop-append_seam old.1.made more) come) by
 
   all_written : length written ≡ count
   all_written =
@@ -143,7 +159,7 @@ module _ {P : Type 0} (m : Meaning P) (p : P) (name : List ℕ) (count most : �
     part = one.part;
     plays = one.plays;
     made = refl;
-    due = due;
+    due = due w stands is after;
     done = λ some. one.end_is ∙ ended some;
     whole = λ some. all_written;
     gapless = λ some. all_rounds count _ written some all_written (kept w stands is after some) one.plays.gapless;

@@ -14,7 +14,7 @@ use Rattle.httparse.specs.Grammar.{is_token_byte, is_value_byte, AllPass, trim_o
 use Rattle.httparse.specs.Ascii.{crlf_bytes}
 use Rattle.httparse.proofs.GrammarLemmas.{request_prefix_free}
 use Rattle.sm_model.specs.declared.cause.Cause.{Cause}
-use Rattle.sm_model.specs.declared.cause.Cause.TheVariants.{HeadTooLarge, Method as NoMethod}
+use Rattle.sm_model.specs.declared.cause.Cause.TheVariants.{Method as NoMethod}
 use Rattle.sm_model.specs.declared.framing.Framing.TheVariants as framing
 use Rattle.sm_model.specs.declared.target.Target.{Target}
 use Rattle.sm_addr.specs.Targets.{target_of}
@@ -22,6 +22,7 @@ use Rattle.sm_head.specs.declared.asked.Asked.{Asked}
 use Rattle.sm_head.specs.declared.asked.Verb.TheVariants.{Get}
 use Rattle.sm_head.specs.Heads.{IsHopeless}
 use Rattle.sm_head.specs.Judged.{judged, is_push}
+use Rattle.sm_world.specs.Replying.{IsRefusable}
 use Rattle.sm_head.specs.Requests.{window, IsRefused}
 use Rattle.sm_conn.specs.Parts.{PartItem, got, bad, Mode, in_head, in_body, closed, opening, behind_head, Reads, waiting, refused, whole, body, stopped, failed, shut, IsParts}
 use Rattle.sm_wire.specs.declared.item.WireItem.{WireItem}
@@ -134,10 +135,6 @@ not_hopeless text front h end reads is hopeless =
     sym is ∙ ap (λ (b : List ℕ). b ++ end) (sym (take-append-drop 8192 front)) ∙ append_assoc (take 8192 front) (drop 8192 front) end
     ∙ ap (λ (b : List ℕ). b ++ (drop 8192 front ++ end)) (hopeless.splits ∙ sym (append_assoc hopeless.front (10 ∷ []) hopeless.rest)) ∙ append_assoc line hopeless.rest (drop 8192 front ++ end) in
     hopeless.never more h [] (subst (λ (b : List ℕ). ReadsRequest b h []) whole reads)
-
--- why it may be refused
-abbrev pub IsRefusable : List ℕ → Cause → Type 0
-IsRefusable named cause = ((cause ≡ NoMethod) × (is_push (target_of named) ≡ true)) ⊎ ((cause ≡ HeadTooLarge) × (7000 < length named))
 
 refusable : (named : List ℕ) (cause : Cause) → judgement (target_of named) ≡ Err cause → (cause ≡ NoMethod) × (is_push (target_of named) ≡ true)
 unfolding judgement

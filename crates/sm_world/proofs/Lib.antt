@@ -11,6 +11,8 @@ mod Logs
 mod Numbering
 mod ReadBack
 mod Staging
+mod Bodies
+mod Heading
 mod Empty
 pub mod ManifestSize
 pub mod GetText

@@ -1,53 +1,89 @@
--- Exchanges that are answered by their numbers, with one more.
-use Rattle.std.proofs.Common.{◌≡◌, ◌⊎◌, ⊎_elim, ℕ, zero, suc, ◌+◌, ◌-◌, ◌≤◌, Bool, true, false, List, [], ◌∷◌, ◌++◌, Some, length, drop, refl, sym, subst, arith}
-use Rattle.std.proofs.lemmas.List.{length-append, length-drop, length-take}
+-- An exchange that is answered by its number.
+use Rattle.std.proofs.Common.{◌≡◌, ◌⊎◌, ⊎_elim, ℕ, ◌≤◌, Bool, true, false, List, [], ◌∷◌, ◌++◌, Some, length, refl, ap, ◌∙◌, subst, arith, append_assoc}
+use Rattle.std.proofs.lemmas.List.{length-append, length-take}
+use Rattle.sm_model.specs.declared.entry.Entry.{Entry}
 use Rattle.sm_fetch.specs.declared.dial.Answer.{Answer}
 use Rattle.sm_fetch.specs.declared.dial.Answer.TheVariants as answers
 use Rattle.sm_fetch.specs.declared.dial.Exchange.{Exchange}
 use Rattle.sm_fetch.specs.Exchanges.{logged, IsWithin}
 use Rattle.sm_site.specs.Faults.{is_listed}
+use Rattle.sm_site.specs.Image.{Image}
+use Rattle.sm_site.specs.Meanings.{View}
 use Rattle.sm_world.specs.Answering.{answer_for, halved}
-use Rattle.sm_world.specs.Numbered.{IsByNumber, AreByNumber}
+use Rattle.sm_world.specs.Dialing.{Dialing, next_number}
+use Rattle.sm_world.specs.Later.{HasMade, IsLater}
+use Rattle.sm_world.specs.LaterLaws.{made_not}
+use Rattle.sm_world.specs.Saying.{IsSaid, SaysOn}
+use Rattle.sm_world.specs.Worlds.{GoesOn}
 use Rattle.sm_world.specs.declared.acted.Acted.{Acted}
 use Rattle.sm_world.specs.declared.acted.Acted.TheVariants as acted
 
-are_push : (lost cut : List ℕ) (n : ℕ) (xs : List Exchange) (x : Exchange) → AreByNumber lost cut n xs → IsByNumber lost cut (n + length xs) x
-    → AreByNumber lost cut n (xs ++ x ∷ [])
-are_push lost cut n [] x all one = (let same : n + 0 ≡ n = omega arith in subst (λ (k : ℕ). IsByNumber lost cut k x) same one, tt)
-are_push lost cut n (y ∷ ys) x all one = (
-  all.0,
-  are_push lost cut (n + 1) ys x all.1 (let same : n + suc (length ys) ≡ (n + 1) + length ys = omega arith in subst (λ (k : ℕ). IsByNumber lost cut k x) same one),
-)
+-- the answer where the exchange has this number
+abbrev pub by_number : Dialing → ℕ → Acted → Answer
+by_number s limit came = answer_for (is_listed (next_number s) s.lost) (is_listed (next_number s) s.cut) limit came
 
-drop_push : (n : ℕ) (xs : List Exchange) (x : Exchange) → n ≤ length xs → drop n (xs ++ x ∷ []) ≡ drop n xs ++ x ∷ []
-drop_push zero xs x within = refl
-drop_push (suc n) [] x within = absurd (omega (arith, within))
-drop_push (suc n) (y ∷ ys) x within = drop_push n ys x (omega (arith, within))
+module _ {D : Type 0} (view : D → View) (leave : D → Image → Type 0) (left_at : D → ℕ → Image → Type 0) (d e : D × Dialing) (request : List ℕ) (limit : ℕ) (came : Acted)
+    (says : SaysOn view leave left_at d.1.state d.0 request came e.1.state e.0) where
+  one_more : (answer : Answer) → e.1.made ≡ d.1.made ++ (record { request = request; limit = limit; answer = answer }) ∷ [] → answer ≡ by_number d.1 limit came → HasMade view leave left_at d e
+  one_more answer is by = record {
+    more = x ∷ [];
+    made = is;
+    on = λ within log at.
+        let s = says at.world at.stands in
+        let same : s.now.log ≡ (log ++ s.until) ++ s.since = s.log_is ∙ ap (λ (l : List Entry). (l ++ s.until) ++ s.since) at.log_is in (
+          (log ++ s.until) ++ s.since,
+          record { world = s.now; stands = s.stands; log_is = same },
+          (
+            s.until,
+            record { came = came; said = subst (λ (l : List Entry). IsSaid (l ++ s.until) request came) at.log_is s.said; answer = by },
+            (s.since, refl),
+          ),
+        );
+  }
+    where
+      x : Exchange
+      x = record { request = request; limit = limit; answer = answer }
 
-module _ (lost cut : List ℕ) (since : ℕ) (made : List Exchange) (within : since ≤ length made) (all : AreByNumber lost cut 1 (drop since made)) where
-  abbrev Numbered : List Exchange → Type 0
-  Numbered xs = (since ≤ length xs) × AreByNumber lost cut 1 (drop since xs)
+  none_more : e.1.made ≡ d.1.made → HasMade view leave left_at d e
+  none_more is = made_not view leave left_at d e is (λ log at.
+      let s = says at.world at.stands in
+      let same : s.now.log ≡ log ++ (s.until ++ s.since) =
+      s.log_is ∙ ap (λ (l : List Entry). (l ++ s.until) ++ s.since) at.log_is ∙ append_assoc log s.until s.since
+      in (s.until ++ s.since, record { world = s.now; stands = s.stands; log_is = same }))
 
-  one_more : (x : Exchange) → IsByNumber lost cut (length made - since + 1) x → Numbered (made ++ x ∷ [])
-  one_more x one = (
-    (let len = length-append made (x ∷ []) in omega (arith, len, within)),
-    subst (AreByNumber lost cut 1) (sym (drop_push since made x within))
-        (are_push lost cut 1 (drop since made) x all (let len = length-drop since made in
-        let same : length made - since + 1 ≡ 1 + length (drop since made) = omega (arith, len) in subst (λ (k : ℕ). IsByNumber lost cut k x) same one)),
-  )
+  made : (result : Answer) → Some e.1.made ≡ logged (Some d.1.made) request limit result → (result ≡ answers.NoMemory) ⊎ (result ≡ by_number d.1 limit came)
+      → HasMade view leave left_at d e
+  made (answers.Bytes bytes) log by =
+      one_more (answers.Bytes bytes) (cc) (⊎_elim (λ wants. absurd (cc)) (λ same. same) by)
+  made answers.Lost log by = one_more answers.Lost (cc) (⊎_elim (λ wants. absurd (cc)) (λ same. same) by)
+  made answers.NoMemory log by = none_more (cc)
 
-  pub numbered : (made' : List Exchange) (request : List ℕ) (limit : ℕ) (result : Answer) (came : Acted) → Some made' ≡ logged (Some made) request limit result
-      → (result ≡ answers.NoMemory) ⊎ (result ≡ answer_for (is_listed (length made - since + 1) lost) (is_listed (length made - since + 1) cut) limit came)
-      → (since ≤ length made') × AreByNumber lost cut 1 (drop since made')
-  numbered made' request limit (answers.Bytes bytes) came log by =
-      let x : Exchange = record { request = request; limit = limit; answer = answers.Bytes bytes } in
-      let is : made' ≡ made ++ x ∷ [] = cc in
-      subst Numbered (sym is) (one_more x (record { came = came; answer = ⊎_elim (λ wants. absurd (cc)) (λ same. same) by }))
-  numbered made' request limit answers.Lost came log by =
-      let x : Exchange = record { request = request; limit = limit; answer = answers.Lost } in
-      let is : made' ≡ made ++ x ∷ [] = cc in
-      subst Numbered (sym is) (one_more x (record { came = came; answer = ⊎_elim (λ wants. absurd (cc)) (λ same. same) by }))
-  numbered made' request limit answers.NoMemory came log by = let is : made' ≡ made = cc in subst Numbered (sym is) (within, all)
+  pub later_exchange : (result : Answer) → Some e.1.made ≡ logged (Some d.1.made) request limit result → (result ≡ answers.NoMemory) ⊎ (result ≡ by_number d.1 limit came)
+      → e.1.limits ≡ d.1.limits → e.1.lost ≡ d.1.lost → e.1.cut ≡ d.1.cut → e.1.since ≡ d.1.since → e.1.crashes ≡ d.1.crashes
+      → GoesOn view leave left_at d.1.state d.0 e.1.state e.0 → IsLater view leave left_at d e
+  later_exchange result log by limits lost cut since crashes goes = record {
+    limits = limits;
+    lost = lost;
+    cut = cut;
+    since = since;
+    crashes = crashes;
+    exchanges = made result log by;
+    goes_on = goes;
+  }
+
+-- more were told, and they are counted from where they were
+pub since_within : (since : ℕ) (made made' : List Exchange) (request : List ℕ) (limit : ℕ) (result : Answer) → since ≤ length made → Some made' ≡ logged (Some made) request limit result
+    → since ≤ length made'
+since_within since made made' request limit (answers.Bytes bytes) within log =
+    let x : Exchange = record { request = request; limit = limit; answer = answers.Bytes bytes } in
+    let is : made' ≡ made ++ x ∷ [] = cc in
+    let len = ap (λ (l : List Exchange). length l) is ∙ length-append made (x ∷ []) in omega (arith, len, within)
+since_within since made made' request limit answers.Lost within log =
+    let x : Exchange = record { request = request; limit = limit; answer = answers.Lost } in
+    let is : made' ≡ made ++ x ∷ [] = cc in
+    let len = ap (λ (l : List Exchange). length l) is ∙ length-append made (x ∷ []) in omega (arith, len, within)
+since_within since made made' request limit answers.NoMemory within log =
+    let is : made' ≡ made = cc in let len = ap (λ (l : List Exchange). length l) is in omega (arith, len, within)
 
 pub answer_within : (lost cut : Bool) (limit : ℕ) (came : Acted) → IsWithin limit (answer_for lost cut limit came)
 answer_within lost cut limit acted.Unopened = omega arith
@@ -55,7 +91,3 @@ answer_within lost cut limit acted.Broken = omega arith
 answer_within lost cut limit acted.NoMemory = omega arith
 answer_within true cut limit (acted.Sent bytes) = omega arith
 answer_within false cut limit (acted.Sent bytes) = let len = length-take limit (halved cut bytes) in omega (arith, len)
-
-pub none_numbered : (lost cut : List ℕ) (made : List Exchange) → made ≡ [] → AreByNumber lost cut 1 (drop 0 made)
-none_numbered lost cut [] is = tt
-none_numbered lost cut (x ∷ xs) is = absurd (cc)

@@ -1,5 +1,5 @@
 -- What the exchanges of a client of a rehearsal and its fragments come to.
-use Rattle.std.proofs.Common.{◌≡◌, ℕ, zero, suc, ◌+◌, ◌*◌, ◌%◌, ◌==◌, ◌<◌, ◌≤◌, ⊎_elim, Bool, true, false, List, [], ◌∷◌, ◌++◌, length, refl, sym, ap, ◌∙◌, subst, arith}
+use Rattle.std.proofs.Common.{◌≡◌, ℕ, zero, suc, ◌+◌, ◌*◌, ◌%◌, ◌==◌, ◌<◌, ◌≤◌, ⊎_elim, Bool, true, false, List, [], ◌∷◌, ◌++◌, length, refl, sym, ap, ◌∙◌, subst, arith, append-nil}
 use Rattle.std.specs.Prelude.{Contains, ◌||◌}
 use Rattle.std.proofs.Math.Bool.{or-false}
 use Rattle.std.proofs.lemmas.Bool.{ne_eqb, eq-eqb}
@@ -7,6 +7,7 @@ use Rattle.std.proofs.lemmas.Bool.Decides.{eqb_tells}
 use Rattle.std.proofs.lemmas.List.{length-append}
 use Rattle.std.proofs.lemmas.List.Elements.{Contains-append_cases}
 use Rattle.std.proofs.lemmas.List.Folds.{list_any-append}
+use Rattle.sm_model.specs.declared.entry.Entry.{Entry}
 use Rattle.sm_model.specs.declared.entry.Entry.TheVariants.{Keep}
 use Rattle.sm_model.specs.declared.fragment.Fragment.{Fragment}
 use Rattle.sm_fetch.specs.declared.dial.Exchange.{Exchange}
@@ -15,9 +16,12 @@ use Rattle.sm_client.specs.Plays.{Gapless}
 use Rattle.sm_client.specs.Served.{AreIn}
 use Rattle.sm_client.specs.Stands.{Piece}
 use Rattle.sm_world.specs.Answering.{answer_for}
-use Rattle.sm_world.specs.Clients.{AreDue}
+use Rattle.sm_world.specs.Clients.{AreDue, CameBy, DueBy, HaveCome}
+use Rattle.sm_world.specs.declared.acted.Acted.{Acted}
+use Rattle.sm_world.specs.declared.acted.Acted.TheVariants as acted
 use Rattle.sm_world.specs.Encoders.{of_encoder_a, keeps, log_of, entries_after}
 use Rattle.sm_world.specs.Numbered.{AreByNumber}
+use Rattle.sm_world.specs.Saying.{IsSaid}
 use Rattle.sm_world.proofs.Sources.{in_none}
 
 -- ---- multiples
@@ -59,21 +63,48 @@ no_multiples of (x ∷ xs) is = absurd (cc)
 
 -- ---- what is lost and cut
 
+-- a log that is no longer than it was is the same
+no_more : (log more : List Entry) → length (log ++ more) ≤ length log → more ≡ []
+no_more log [] short = refl
+no_more log (e ∷ more) short = absurd (let len = length-append log (e ∷ more) in omega (arith, len, short))
+
+pub same_log : (log more : List Entry) → length (log ++ more) ≤ length log → log ++ more ≡ log
+same_log log more short = ap (λ (l : List Entry). log ++ l) (no_more log more short) ∙ append-nil log
+
+by_grown : (lost cut : List ℕ) (number : ℕ) (log later : List Entry) (xs : List Exchange) → AreByNumber lost cut number log xs later → length log ≤ length later
+by_grown lost cut number log later [] (more, is) = let len = length-append log more in let same = ap (λ (l : List Entry). length l) is in omega (arith, len, same)
+by_grown lost cut number log later (x ∷ xs) (more, by, rest) = let len = length-append log more in omega (arith, len, by_grown lost cut (number + 1) (log ++ more) later xs rest)
+
 -- such a list has the multiples of this number up to that one
 abbrev pub Lists : ℕ → ℕ → List ℕ → Type 0
 Lists of most xs = (n : ℕ) → 0 < n → n ≤ most → is_listed n xs ≡ (n % of == 0)
 
-pub are_due : (lost cut : List ℕ) (most number : ℕ) (xs : List Exchange) → Lists 5 most lost → Lists 7 most cut → 0 < number → number + length xs ≤ most + 1
-    → AreByNumber lost cut number xs → AreDue number xs
-are_due lost cut most number [] five seven some few by = tt
-are_due lost cut most number (x ∷ xs) five seven some few by = (
-  record {
-    came = by.0.came;
-    answer = by.0.answer ∙ ap (λ (b : Bool). answer_for b (is_listed number cut) x.limit by.0.came) (five number some (omega (arith, few)))
-        ∙ ap (λ (b : Bool). answer_for (number % 5 == 0) b x.limit by.0.came) (seven number some (omega (arith, few)));
-  },
-  are_due lost cut most (number + 1) xs five seven (omega arith) (omega (arith, few)) by.1,
-)
+due_by : (log : List Entry) (x : Exchange) (came : Acted) (lost cut : Bool) → x.answer ≡ answer_for lost cut x.limit came → CameBy lost x.answer → IsSaid log x.request came → DueBy lost cut log x
+due_by log x came true cut is due said = due
+due_by log x acted.Unopened false cut is due said = absurd (subst (CameBy false) is due)
+due_by log x acted.Broken false cut is due said = absurd (subst (CameBy false) is due)
+due_by log x acted.NoMemory false cut is due said = absurd (subst (CameBy false) is due)
+due_by log x (acted.Sent bytes) false cut is due said = record {
+  went = bytes;
+  said = said;
+  answer = is;
+  some = λ none. (subst (CameBy false) none due) refl;
+}
+
+pub are_due : (lost cut : List ℕ) (most number : ℕ) (log later : List Entry) (xs : List Exchange) → Lists 5 most lost → Lists 7 most cut → 0 < number → number + length xs ≤ most + 1
+    → length later ≤ length log → HaveCome number xs → AreByNumber lost cut number log xs later → AreDue log number xs
+are_due lost cut most number log later [] five seven some few short come by = tt
+are_due lost cut most number log later (x ∷ xs) five seven some few short come (more, by, rest) =
+    let long = by_grown lost cut (number + 1) (log ++ more) later xs rest in
+    let same : log ++ more ≡ log = same_log log more (omega (arith, long, short)) in
+    let answer : x.answer ≡ answer_for (number % 5 == 0) (number % 7 == 0) x.limit by.came =
+    by.answer ∙ ap (λ (b : Bool). answer_for b (is_listed number cut) x.limit by.came) (five number some (omega (arith, few)))
+    ∙ ap (λ (b : Bool). answer_for (number % 5 == 0) b x.limit by.came) (seven number some (omega (arith, few)))
+    in (
+      due_by log x by.came (number % 5 == 0) (number % 7 == 0) answer come.0 (subst (λ (l : List Entry). IsSaid l x.request by.came) same by.said),
+      are_due lost cut most (number + 1) log later xs five seven (omega arith) (omega (arith, few)) short come.1
+          (subst (λ (l : List Entry). AreByNumber lost cut (number + 1) l xs later) same rest),
+    )
 
 -- ---- the log
 

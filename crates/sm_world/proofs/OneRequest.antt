@@ -28,9 +28,10 @@ use Rattle.sm_serve.proofs.Quiet.{bytes_came, not_live}
 use Rattle.sm_serve.proofs.Stepping.{away_after}
 use Rattle.sm_serve.proofs.Transcripts.{live_push}
 use Rattle.sm_fetch.specs.Requests.{get_text}
-use Rattle.sm_fetch.specs.Origins.{MayBeAsked, IsOriginReply, IsOfOrigin}
+use Rattle.sm_fetch.specs.Origins.{MayBeAsked}
+use Rattle.sm_world.specs.Replying.{IsReplyTo, IsReplyFront}
 use Rattle.sm_world.proofs.GetText.{IsAsked, IsFew, front_gives, few_behind}
-use Rattle.sm_world.proofs.OriginReplies.{no_memory_is_reply, too_many_is_reply, asked_is_reply, refused_is_reply}
+use Rattle.sm_world.proofs.OriginReplies.{no_memory_replies, too_many_replies, asked_is_reply, refused_is_reply}
 use Rattle.sm_world.proofs.Fronts.{begun, begun_by, begun_both, began_one, deals_both, still_out, AreFirst, first_of_first, came_by_then, begins_once, among_after}
 
 -- ---- steps
@@ -54,10 +55,10 @@ acts_last [] ys all = all
 acts_last (x ∷ xs) ys all = acts_last xs ys all.1
 
 -- each step of a run is one of the machine
-pub run_acts : (first : Machine) (begin : ℕ) (items : List Item) (steps : List Stepped) (p : Point) → Run true first begin items steps p → AreActs steps
-run_acts first begin [] [] p begins = tt
-run_acts first begin items steps q (goes_on was es items' ss xs steps' p q' run move now all) =
-    subst (λ (ys : List Stepped). AreActs ys) (sym all) (acts_both ss xs (run_acts first begin was ss p run) (of_kind (kind_of was p es xs q move)))
+pub run_acts : (first : Machine) (begin faults : ℕ) (items : List Item) (steps : List Stepped) (p : Point) → Run true first begin faults items steps p → AreActs steps
+run_acts first begin faults [] [] p begins = tt
+run_acts first begin faults items steps q (goes_on was es items' ss xs steps' p q' run move now all) =
+    subst (λ (ys : List Stepped). AreActs ys) (sym all) (acts_both ss xs (run_acts first begin faults was ss p run) (of_kind (kind_of was p es xs q move)))
   where
     of_kind : Stays p xs q ⊎ StepsOn p xs q → AreActs xs
     of_kind (inl (none, same)) = subst (λ (ys : List Stepped). AreActs ys) (sym none) tt
@@ -105,7 +106,7 @@ module _ (conn : ℕ) (request : List ℕ) (first : List Entry) (base : List Ite
     pub until : List Entry
     pub since : List Entry
     pub log_is : log ≡ (first ++ until) ++ since
-    pub says : (e : Asks request) → IsReal (first ++ until) → IsOfOrigin (first ++ until) e.named text
+    pub says : (e : Asks request) → IsReal (first ++ until) → IsReplyFront (first ++ until) e.named text
 
   good_later : (log more : List Entry) (text : List ℕ) → Good log text → Good (log ++ more) text
   good_later log more text good = record {
@@ -126,7 +127,7 @@ module _ (conn : ℕ) (request : List ℕ) (first : List Entry) (base : List Ite
   }
 
   -- a text that is a reply whatever the log
-  good_now : (log : List Entry) (text : List ℕ) → ((more : List Entry) × (log ≡ first ++ more)) → ((e : Asks request) → (l : List Entry) → IsOriginReply l e.named text) → Good log text
+  good_now : (log : List Entry) (text : List ℕ) → ((more : List Entry) × (log ≡ first ++ more)) → ((e : Asks request) → (l : List Entry) → IsReplyTo l e.named text) → Good log text
   good_now log text (more, is) reply = record {
     until = more;
     since = [];
@@ -206,10 +207,10 @@ module _ (conn : ℕ) (request : List ℕ) (first : List Entry) (base : List Ite
     no_entry none = ap (sent_on conn) none
 
     ready_no_memory : Good p.machine.log NO_MEMORY.now
-    ready_no_memory = good_now p.machine.log NO_MEMORY.now s.grown (λ e l. no_memory_is_reply l e.named)
+    ready_no_memory = good_now p.machine.log NO_MEMORY.now s.grown (λ e l. no_memory_replies l e.named)
 
     ready_too_many : Good p.machine.log TOO_MANY.now
-    ready_too_many = good_now p.machine.log TOO_MANY.now s.grown (λ e l. too_many_is_reply l e.named)
+    ready_too_many = good_now p.machine.log TOO_MANY.now s.grown (λ e l. too_many_replies l e.named)
 
     one_deal : (m n : ℕ) → deals_in (at m (Began n)) ≡ Began n ∷ []
     unfolding deals_in
@@ -325,7 +326,7 @@ module _ (conn : ℕ) (request : List ℕ) (first : List Entry) (base : List Ite
         closes_now : (named : List ℕ) → IsAsked named item → (x.reply.close || closes item) ≡ true
         closes_now named is = ap (λ (b : Bool). x.reply.close || b) (closing named item is) ∙ or_true x.reply.close
 
-        replies : (named : List ℕ) → IsAsked named item → (bytes : List ℕ) → sent_of x.reply ≡ Some bytes → IsReal x.before.log → IsOriginReply x.before.log named bytes
+        replies : (named : List ℕ) → IsAsked named item → (bytes : List ℕ) → sent_of x.reply ≡ Some bytes → IsReal x.before.log → IsReplyTo x.before.log named bytes
         replies named (inl get) bytes some real =
             let which : act_of_target (target_of named) ≡ x.act = (let both : Some (act_of_target (target_of named)) ≡ Some act = sym (ap (act_of (p.counts n)) get) ∙ does in cc) in
             asked_is_reply (Rose x.faults x.faults_after) named x.before x.after x.reply bytes real
@@ -347,7 +348,7 @@ module _ (conn : ℕ) (request : List ℕ) (first : List Entry) (base : List Ite
             since = on.0;
             log_is = on.1 ∙ ap (λ (l : List Entry). l ++ on.0) s.grown.1;
             says = λ y real.
-                let reply = subst (λ (l : List Entry). IsOriginReply l y.named bytes) was
+                let reply = subst (λ (l : List Entry). IsReplyTo l y.named bytes) was
                 (replies y.named (asked y.named (waits y same).1) bytes some (subst (λ (l : List Entry). IsReal l) (sym was) real)) in
                 (bytes, [], reply, sym (append-nil bytes));
           },
@@ -474,7 +475,7 @@ module _ (conn : ℕ) (request : List ℕ) (first : List Entry) (base : List Ite
         since = [];
         log_is = stands.grown.1 ∙ sym (append-nil (first ++ stands.grown.0));
         says = λ e real.
-            subst (λ (t : List ℕ). IsOfOrigin (first ++ stands.grown.0) e.named t) (sym silent_) (NO_MEMORY.now, NO_MEMORY.now, no_memory_is_reply (first ++ stands.grown.0) e.named, refl);
+            subst (λ (t : List ℕ). IsReplyFront (first ++ stands.grown.0) e.named t) (sym silent_) (NO_MEMORY.now, NO_MEMORY.now, no_memory_replies (first ++ stands.grown.0) e.named, refl);
       }
       go (inr (good, over_)) = good
 

@@ -1,10 +1,9 @@
 -- What an origin sends in answer to a GET is a reply of it.
-use Rattle.std.proofs.Common.{◌≡◌, inl, inr, ℕ, suc, ◌+◌, ◌<◌, ◌≤◌, ◌^◌, Bool, true, false, if◌then◌else◌, List, [], ◌∷◌, ◌++◌, length, Option, Some, None, refl, sym, ◌∙◌, ap, subst, arith, length-append}
+use Rattle.std.proofs.Common.{◌≡◌, ◌⊎◌, inl, inr, ℕ, suc, ◌+◌, ◌<◌, ◌≤◌, ◌^◌, Bool, true, false, if◌then◌else◌, List, [], ◌∷◌, ◌++◌, length, Option, Some, None, refl, sym, ◌∙◌, ap, subst, arith, length-append}
 use Rattle.std.specs.Prelude.{codes}
 use Rattle.std.specs.Fmt.{digits}
-use Rattle.std.specs.List.{Contains, position}
+use Rattle.std.specs.List.{position}
 use Rattle.std.proofs.lemmas.List.Quantifiers.{position-Some}
-use Rattle.std.proofs.lemmas.List.Elements.{Contains-append_right}
 use Rattle.http.specs.StatusCode.{IsStatusCode}
 use Rattle.sm_model.specs.declared.act.Act.{Act}
 use Rattle.sm_model.specs.declared.act.Act.TheVariants as acts
@@ -23,7 +22,7 @@ use Rattle.sm_model.specs.Fragments.{IsValid}
 use Rattle.sm_model.specs.FragText.{frag_text, moof, mdat, ahead_len}
 use Rattle.sm_model.proofs.TextLengths.{moof-len, mdat-len}
 use Rattle.sm_log.specs.Logs.{channel_of, adds_of, is_kept_at, kept_from, kept_at, listed_by, listed_in, ahead_in, IsSound}
-use Rattle.sm_log.proofs.ListedKept.{channel_sound, spans_sound, ahead_short, ahead_wide, kept_valid, kept_address}
+use Rattle.sm_log.proofs.ListedKept.{channel_sound, spans_sound, ahead_short, ahead_wide, kept_valid}
 use Rattle.sm_manout.specs.ManifestText.{manifest}
 use Rattle.sm_addr.specs.Targets.{target_of}
 use Rattle.sm_head.specs.declared.reply.Content.TheVariants.{Xml, Mp4, Plain}
@@ -39,7 +38,7 @@ use Rattle.sm_origin.proofs.Real.{channel_writable, kept_samples}
 use Rattle.sm_serve.specs.declared.texts.TheConstants.{TOO_MANY}
 use Rattle.sm_serve.specs.Run.{act_of_target, sent_of}
 use Rattle.sm_fetch.specs.Origins.{IsKeptText, IsUnwell, IsOriginReply}
-use Rattle.sm_world.proofs.GetText.{IsRefusable}
+use Rattle.sm_world.specs.Replying.{given, IsRefusable, Replaces, IsReplyTo}
 use Rattle.sm_world.proofs.ManifestSize.{few_listed, manifest_size}
 
 -- ---- what is kept stands within the log
@@ -326,14 +325,99 @@ module _ (failed : Type 0) (named : List ℕ) (m n : Machine) (act : Act) (none 
   step_replies r (wants same is) = wants_memory m.log named r is
   step_replies r (untold meant by close is) = wants_memory m.log named r is
 
--- what is sent in answer to a GET of a target is a reply of the log that was asked
+-- ---- the reply itself
+
+manifest_sent : (log : List Entry) (o : Option (List Track)) → sent_of (manifest_reply o log) ≡ Some (manifest_reply o log).bytes
+manifest_sent log None = refl
+manifest_sent log (Some channel) = refl
+
+kept_sent : (log : List Entry) (a : Address) (channel : List Track) (o : Option (ℕ × Fragment)) → sent_of (kept_reply channel log a o) ≡ Some (kept_reply channel log a o).bytes
+kept_sent log a channel None = refl
+kept_sent log a channel (Some kept) = refl
+
+fragment_sent : (log : List Entry) (a : Address) (o : Option (List Track)) → sent_of (fragment_reply o log a) ≡ Some (fragment_reply o log a).bytes
+fragment_sent log a None = refl
+fragment_sent log a (Some channel) = kept_sent log a channel (kept_at log a)
+
+target_sent : (log : List Entry) (t : Target) → sent_of (reply_of log (act_of_target t)) ≡ Some (reply_of log (act_of_target t)).bytes
+target_sent log targets.Manifest = manifest_sent log (channel_of log)
+target_sent log (targets.Fragment a) = fragment_sent log a (channel_of log)
+target_sent log (targets.Streams name) = refl
+target_sent log targets.Unknown = refl
+
+same_sent : (r s : Reply) (text bytes : List ℕ) → r ≡ s → sent_of s ≡ Some text → sent_of r ≡ Some bytes → bytes ≡ text
+same_sent r s text bytes is sends some = let e : Some bytes ≡ Some text = sym some ∙ ap sent_of is ∙ sends in cc
+
+asks_for : (t : Target) (a : Address) → act_of_target t ≡ acts.Fragment a → t ≡ targets.Fragment a
+asks_for targets.Manifest a is = absurd (cc)
+asks_for (targets.Fragment b) a is = let same : b ≡ a = cc in ap (λ (x : Address). targets.Fragment x) same
+asks_for (targets.Streams name) a is = absurd (cc)
+asks_for targets.Unknown a is = absurd (cc)
+
+abbrev Says : List Entry → List ℕ → List ℕ → Type 0
+Says log named bytes = (bytes ≡ given log named) ⊎ Replaces log named bytes
+
+module _ (failed : Type 0) (named : List ℕ) (m n : Machine) (r : Reply) (bytes : List ℕ) (some : sent_of r ≡ Some bytes) where
+  wants_said : r ≡ no_memory → Says m.log named bytes
+  wants_said is = inr (inl (same_sent r no_memory NO_MEMORY.now bytes is refl some))
+
+  row_said : Row failed m (act_of_target (target_of named)) n r → Says m.log named bytes
+  row_said (answered e same is) =
+      inl (same_sent r (reply_of m.log (act_of_target (target_of named))) (given m.log named) bytes is (target_sent m.log (target_of named)) some)
+  row_said (unread a place f asks kept same fault is) = inr (inr (inr (inl (record {
+    address = a;
+    place = place;
+    fragment = f;
+    asks = asks_for (target_of named) a asks;
+    kept = kept;
+    reply_is = same_sent r (unplaced cause.DiskFault) (unplaced cause.DiskFault).bytes bytes is refl some;
+  }))))
+  row_said (unsettled e d entry doubt same fault is) = absurd (let bad : None ≡ Some e = sym (adds_none (target_of named)) ∙ entry in cc)
+  row_said (wrote e mid entry clear by) = absurd (let bad : None ≡ Some e = sym (adds_none (target_of named)) ∙ entry in cc)
+
+  said : Step failed m (act_of_target (target_of named)) n r → Says m.log named bytes
+  said (row by) = row_said by
+  said (wants same is) = wants_said is
+  said (untold meant by close is) = wants_said is
+
+  -- a refusal, or want of memory for it
+  unplaced_sent : (c : Cause) → IsRefusable named c → sent_of (unplaced c) ≡ Some (unplaced c).bytes
+  unplaced_sent c (inl (method, push)) = ap sent_of (ap unplaced method) ∙ ap (λ (k : Cause). Some (unplaced k).bytes) (sym method)
+  unplaced_sent c (inr (large, long)) = ap sent_of (ap unplaced large) ∙ ap (λ (k : Cause). Some (unplaced k).bytes) (sym large)
+
+  refusal_said : (c : Cause) → IsRefusable named c → r ≡ unplaced c → Says m.log named bytes
+  refusal_said c may is = inr (inr (inr (inr (c, may, same_sent r (unplaced c) (unplaced c).bytes bytes is (unplaced_sent c may) some))))
+
+  refused_row : (c : Cause) → IsRefusable named c → Row failed m (acts.Refuse (record { at = 0; cause = c })) n r → Says m.log named bytes
+  refused_row c may (answered e same is) = refusal_said c may is
+  refused_row c may (unread a place f asks kept same fault is) = absurd (cc)
+  refused_row c may (unsettled e d entry doubt same fault is) = absurd (let bad : None ≡ Some e = entry in cc)
+  refused_row c may (wrote e mid entry clear by) = absurd (let bad : None ≡ Some e = entry in cc)
+
+  refused_said : (c : Cause) → IsRefusable named c → Step failed m (acts.Refuse (record { at = 0; cause = c })) n r → Says m.log named bytes
+  refused_said c may (row by) = refused_row c may by
+  refused_said c may (wants same is) = wants_said is
+  refused_said c may (untold meant by close is) = wants_said is
+
+-- what is sent in answer to a GET of a target is the reply of the log that was asked
 pub asked_is_reply : (failed : Type 0) (named : List ℕ) (m n : Machine) (r : Reply) (bytes : List ℕ) → IsReal m.log → Step failed m (act_of_target (target_of named)) n r → sent_of r ≡ Some bytes
-    → IsOriginReply m.log named bytes
-asked_is_reply failed named m n r bytes real step some =
-    step_replies failed named m n (act_of_target (target_of named)) (adds_none (target_of named)) (λ s is. target_replies m.log named real (target_of named) refl s is) r step bytes some
+    → IsReplyTo m.log named bytes
+asked_is_reply failed named m n r bytes real step some = (
+  said failed named m n r bytes some step,
+  step_replies failed named m n (act_of_target (target_of named)) (adds_none (target_of named)) (λ s is. target_replies m.log named real (target_of named) refl s is) r step bytes some,
+)
 
 -- and so is what is sent in place of one whose head is refused
 pub refused_is_reply : (failed : Type 0) (named : List ℕ) (m n : Machine) (c : Cause) (r : Reply) (bytes : List ℕ) → IsRefusable named c → Step failed m (acts.Refuse (record { at = 0; cause = c })) n r
-    → sent_of r ≡ Some bytes → IsOriginReply m.log named bytes
-refused_is_reply failed named m n c r bytes may step some =
-    step_replies failed named m n (acts.Refuse (record { at = 0; cause = c })) refl (λ s is. refusal_is_reply m.log named c s may is) r step bytes some
+    → sent_of r ≡ Some bytes → IsReplyTo m.log named bytes
+refused_is_reply failed named m n c r bytes may step some = (
+  refused_said failed named m n r bytes some c may step,
+  step_replies failed named m n (acts.Refuse (record { at = 0; cause = c })) refl (λ s is. refusal_is_reply m.log named c s may is) r step bytes some,
+)
+
+-- texts that stand ready
+pub no_memory_replies : (log : List Entry) (named : List ℕ) → IsReplyTo log named NO_MEMORY.now
+no_memory_replies log named = (inr (inl refl), no_memory_is_reply log named)
+
+pub too_many_replies : (log : List Entry) (named : List ℕ) → IsReplyTo log named TOO_MANY.now
+too_many_replies log named = (inr (inr (inl refl)), too_many_is_reply log named)

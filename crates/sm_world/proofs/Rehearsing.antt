@@ -1,25 +1,29 @@
 -- What a rehearsal comes to.
 use Rattle.std.proofs.Common.{◌≡◌, ℕ, ◌+◌, ◌*◌, ◌≤◌, ◌<◌, false, List, [], ◌∷◌, ◌++◌, Option, Some, length, refl, sym, ◌∙◌, ap, subst, arith}
-use Rattle.std.specs.Prelude.{option_to_list}
+use Rattle.std.specs.Prelude.{option_to_list, codes, map}
 use Rattle.std.proofs.lemmas.List.{length-append}
 use Rattle.sm_fetch.specs.declared.dial.Exchange.{Exchange}
 use Rattle.sm_client.specs.Turns.{Meaning}
 use Rattle.sm_site.specs.declared.memory.MemorySite.{MemorySite}
 use Rattle.sm_site.specs.Memory.{faults_of}
-use Rattle.sm_world.specs.Clients.{HavePlayed}
+use Rattle.sm_world.specs.Clients.{CrashedBehind, HavePlayed}
+use Rattle.sm_fetch.specs.declared.place.Place.{Place}
+use Rattle.sm_world.specs.Deeds.{AreDone, deeds_in, place, requests_of}
 use Rattle.sm_world.specs.Dialing.{Dialing}
 use Rattle.sm_world.specs.Encoders.{entries_after}
+use Rattle.sm_world.specs.Header.{header_text}
 use Rattle.sm_world.specs.Rehearsed.{Rehearsed}
 use Rattle.sm_world.specs.Rounds as rounds
 use Rattle.sm_world.specs.Stages.{Begins, HasEntries, HasPushed}
 use Rattle.sm_world.specs.Told.{Tell}
 use Rattle.sm_world.specs.declared.clients.Clients.{Clients}
 use Rattle.sm_world.specs.declared.stage.Stage.{Stage}
-use Rattle.sm_world.proofs.Staging.{few_crashes}
+use Rattle.std.proofs.lemmas.List.{append_cancel_left}
+use Rattle.sm_world.proofs.Staging.{asked_by, few_crashes}
 
 module _ {P : Type 0} (m : Meaning P) (number size : ℕ) (policies : List P) (first second third : P) (old new : Stage) (d : MemorySite × Dialing) (c : Clients) (n : ℕ)
     (are : policies ≡ first ∷ second ∷ third ∷ []) (few : size ≤ 2000) (begins : Begins old)
-    (pushed : HasPushed old new (rounds.crashes size number) (rounds.refusals size number) (9 * size)) (has : 0 < size → HasEntries new.dial (entries_after size))
+    (pushed : HasPushed old new (deeds_in old.header size number) (rounds.crashes size number) (rounds.refusals size number) (9 * size)) (has : 0 < size → HasEntries new.dial (entries_after size))
     (played : HavePlayed m first second third size new.dial d c) (fed : (faults_of d.0).starved ≡ false) (counted : n ≡ d.1.crashes) where
   crashed : n ≡ 1 + rounds.crashes size number
   crashed =
@@ -28,6 +32,18 @@ module _ {P : Type 0} (m : Meaning P) (number size : ℕ) (policies : List P) (f
       let a = pushed.crashed (omega (arith, most, few, none)) in
       let b = played.crashes (omega (arith, a, most, few, none)) in
       omega (arith, a, b, none, counted)
+
+  done : AreDone place (codes "a") (deeds_in header_text size number) old.dial new.dial
+  done =
+      subst (λ (p : Place). AreDone p (codes "a") (deeds_in header_text size number) old.dial new.dial) begins.place
+      (subst (λ (i : List ℕ). AreDone old.place i (deeds_in header_text size number) old.dial new.dial) begins.id
+      (subst (λ (h : List ℕ). AreDone old.place old.id (deeds_in h size number) old.dial new.dial) begins.header pushed.done))
+
+  asked : map (λ (x : Exchange). x.request) pushed.more ≡ requests_of place (codes "a") (deeds_in header_text size number)
+  asked =
+      let x = asked_by place (codes "a") (deeds_in header_text size number) old.dial new.dial done in
+      let same : pushed.more ≡ x.more = append_cancel_left old.dial.1.made pushed.more x.more (sym pushed.made ∙ x.made) in
+      ap (λ (l : List Exchange). map (λ (x : Exchange). x.request) l) same ∙ x.asked
 
   pub rehearsed : Rehearsed m number size policies (record {
     summary = record {
@@ -64,6 +80,16 @@ module _ {P : Type 0} (m : Meaning P) (number size : ℕ) (policies : List P) (f
         twos = played.twos;
         threes = played.threes;
         made = played.made ∙ ap (λ (l : List Exchange). ((l ++ played.ones) ++ played.twos) ++ played.threes) made;
+        asked = asked;
+        start = old.dial;
+        pushed = new.dial;
+        before = begins.world;
+        stood = begins.stands;
+        empty = begins.log;
+        none_made = begins.made;
+        done = done;
+        pushed_made = made;
+        crash = subst (λ (l : List Exchange). CrashedBehind new.dial d (l ++ played.ones)) made played.crash;
         tell = subst (λ (k : ℕ). Tell pushed.more k new.refused) known (subst (Tell pushed.more pushed.known) (sym refused) pushed.tell);
         one = y.0;
         two = y.1;

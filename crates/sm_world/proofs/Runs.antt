@@ -101,9 +101,9 @@ came_pushed items m n bytes given more among wire f there = record {
 
 module _ (first : Machine) (items : List Item) (p : Point) (es : List Item) (xs : List Stepped) (q : Point) (s : Stood first items p) where
   -- where no step was made
-  silent : (phase : Phase) (counts : ℕ → Counts) (ended failed_ : ℕ) → q ≡ record { machine = p.machine; counts = counts; phase = phase; ended = ended; failed = failed_ } → Awaits (items ++ es) phase
+  silent : (phase : Phase) (counts : ℕ → Counts) (ended failed_ faults : ℕ) → q ≡ record { machine = p.machine; counts = counts; phase = phase; ended = ended; failed = failed_; faults = faults } → Awaits (items ++ es) phase
       → Stood first (items ++ es) q
-  silent phase counts ended failed_ is awaits =
+  silent phase counts ended failed_ faults is awaits =
       subst (Stood first (items ++ es)) (sym is) (record { comes = comes_later items es first p.machine s.comes; awaits = awaits })
 
   left_of : (n : ℕ) (todo : List WireItem) → p.phase ≡ acting n todo → AllPushed items todo
@@ -113,44 +113,44 @@ module _ (first : Machine) (items : List Item) (p : Point) (es : List Item) (xs 
   left_sending n bytes close todo phase = subst (Awaits items) phase s.awaits
 
   -- where one was made
-  acted : (act : Act) (x : Stepped) (phase : Phase) (counts : ℕ → Counts) (ended failed_ : ℕ) → IsStep true p act x → Pushes items (entry_of x.act)
-      → q ≡ record { machine = x.after; counts = counts; phase = phase; ended = ended; failed = failed_ } → Awaits (items ++ es) phase → Stood first (items ++ es) q
-  acted act x phase counts ended failed_ step pushes is awaits =
+  acted : (act : Act) (x : Stepped) (phase : Phase) (counts : ℕ → Counts) (ended failed_ faults : ℕ) → IsStep true p act x → Pushes items (entry_of x.act)
+      → q ≡ record { machine = x.after; counts = counts; phase = phase; ended = ended; failed = failed_; faults = faults } → Awaits (items ++ es) phase → Stood first (items ++ es) q
+  acted act x phase counts ended failed_ faults step pushes is awaits =
       let before : Comes items first x.before = subst (Comes items first) (sym step.before_is) s.comes in
       let after = step_comes items first (Rose x.faults x.faults_after) x.before x.after x.act x.reply pushes (step.machine refl).step before in
       subst (Stood first (items ++ es)) (sym is) (record { comes = comes_later items es first x.after after; awaits = awaits })
 
   stands_on : Moves true items p es xs q → Stood first (items ++ es) q
-  stands_on (opened m n phase few e none is) = silent _ _ _ _ is (nothing_left (items ++ es))
-  stands_on (crowded m n phase many e none is) = silent _ _ _ _ is (nothing_left (items ++ es))
+  stands_on (opened m n phase few e none is) = silent _ _ _ _ _ is (nothing_left (items ++ es))
+  stands_on (crowded m n phase many e none is) = silent _ _ _ _ _ is (nothing_left (items ++ es))
   stands_on (came m n bytes given more phase among e none one two is) =
-      silent _ _ _ _ is (subst (λ (ys : List Item). AllPushed (items ++ ys) more) (sym e) (came_pushed items m n bytes given more among two))
-  stands_on (unread m n bytes phase among e none is) = silent _ _ _ _ is (nothing_left (items ++ es))
-  stands_on (passed m n bytes phase among e none is) = silent _ _ _ _ is tt
-  stands_on (left m n phase e none is) = silent _ _ _ _ is tt
-  stands_on (over m phase e none is) = silent _ _ _ _ is tt
+      silent _ _ _ _ _ is (subst (λ (ys : List Item). AllPushed (items ++ ys) more) (sym e) (came_pushed items m n bytes given more among two))
+  stands_on (unread m n bytes phase among e none is) = silent _ _ _ _ _ is (nothing_left (items ++ es))
+  stands_on (passed m n bytes phase among e none is) = silent _ _ _ _ _ is tt
+  stands_on (left m n phase e none is) = silent _ _ _ _ _ is tt
+  stands_on (over m phase e none is) = silent _ _ _ _ _ is tt
   stands_on (continues n more phase e none is) =
-      silent _ _ _ _ is (all_later items es more (all_but_first items item.Continue more (left_of n (item.Continue ∷ more) phase)))
+      silent _ _ _ _ _ is (all_later items es more (all_but_first items item.Continue more (left_of n (item.Continue ∷ more) phase)))
   stands_on (acts_on n x more act step phase does conn is_step e one is) =
       let all = left_of n (x ∷ more) phase in
-      acted act step _ _ _ _ is_step (adds items (p.counts n) x more act step.act all does is_step.act_is) is
+      acted act step _ _ _ _ _ is_step (adds items (p.counts n) x more act step.act all does is_step.act_is) is
       (behind_item (items ++ es) n (sent_of step.reply) (step.reply.close || closes x) more (all_later items es more (all_but_first items x more all)))
-  stands_on (wants n more phase e none is) = silent _ _ _ _ is (nothing_left (items ++ es))
-  stands_on (done n phase e none is) = silent _ _ _ _ is tt
+  stands_on (wants n more phase e none is) = silent _ _ _ _ _ is (nothing_left (items ++ es))
+  stands_on (done n phase e none is) = silent _ _ _ _ _ is tt
   stands_on (sent m n bytes close more phase after e none is) =
-      silent _ _ _ _ is (behind_sent (items ++ es) n close more (all_later items es more (left_sending n bytes close more phase)))
-  stands_on (failed m n k bytes close more phase after e none is) = silent _ _ _ _ is tt
-  stands_on (unsent n bytes close more phase e none is) = silent _ _ _ _ is tt
-  stands_on (shut m n phase e none is) = silent _ _ _ _ is tt
+      silent _ _ _ _ _ is (behind_sent (items ++ es) n close more (all_later items es more (left_sending n bytes close more phase)))
+  stands_on (failed m n k bytes close more phase after e none is) = silent _ _ _ _ _ is tt
+  stands_on (unsent n bytes close more phase e none is) = silent _ _ _ _ _ is tt
+  stands_on (shut m n phase e none is) = silent _ _ _ _ _ is tt
   stands_on (declared header step phase conn is_step e one is) =
-      acted _ step _ _ _ _ is_step (λ f some. absurd (let bad : Some (Declare header) ≡ Some (Keep f) = sym (ap entry_of is_step.act_is) ∙ some in cc)) is tt
+      acted _ step _ _ _ _ _ is_step (λ f some. absurd (let bad : Some (Declare header) ≡ Some (Keep f) = sym (ap entry_of is_step.act_is) ∙ some in cc)) is tt
   stands_on (recalled a step phase conn is_step e one is) =
-      acted _ step _ _ _ _ is_step (λ f some. absurd (let bad : None ≡ Some (Keep f) = sym (ap entry_of is_step.act_is) ∙ some in cc)) is tt
+      acted _ step _ _ _ _ _ is_step (λ f some. absurd (let bad : None ≡ Some (Keep f) = sym (ap entry_of is_step.act_is) ∙ some in cc)) is tt
 
-pub stood : (first : Machine) (begin : ℕ) (items : List Item) (steps : List Stepped) (p : Point) → first.doubt ≡ None → Run true first begin items steps p → Stood first items p
-stood first begin [] [] p none begins = record {
+pub stood : (first : Machine) (begin faults : ℕ) (items : List Item) (steps : List Stepped) (p : Point) → first.doubt ≡ None → Run true first begin faults items steps p → Stood first items p
+stood first begin faults [] [] p none begins = record {
   comes = record { more = []; log_is = sym (append-nil first.log); pushed = λ f there. absurd (in_none (Keep f) there); doubted = no_entry [] first.doubt none };
   awaits = tt;
 }
-stood first begin items steps q none (goes_on was es items' ss xs steps' p q' run move now all) =
-    subst (λ (is : List Item). Stood first is q) (sym now) (stands_on first was p es xs q (stood first begin was ss p none run) move)
+stood first begin faults items steps q none (goes_on was es items' ss xs steps' p q' run move now all) =
+    subst (λ (is : List Item). Stood first is q) (sym now) (stands_on first was p es xs q (stood first begin faults was ss p none run) move)

@@ -29,6 +29,7 @@ use Rattle.sm_world.specs.declared.acted.Acted.{Acted}
 use Rattle.sm_world.specs.declared.acted.Acted.TheVariants as acted
 use Rattle.sm_world.specs.Answering.{HasSent, halved, answer_for}
 use Rattle.sm_world.specs.Bringing.{Brings}
+use Rattle.sm_world.specs.Replying.{IsReplyFront}
 use Rattle.sm_world.specs.Saying.{StandsAt, IsSaid, Says, SaysOn}
 use Rattle.sm_world.specs.Worlds.{World, IsOpen, Stands, Grows}
 use Rattle.sm_world.proofs.Fronts.{AreFirst, begun, deals_both, none_above, taken_of}
@@ -147,11 +148,11 @@ module _ {D : Type 0} (view : D → View) (leave : D → Image → Type 0) (left
           let none : begun conn script.0 ≡ 0 = none_above conn from script.0 (at_some (view c).script (λ deals. numbers_after from deals ≤ conn) script.0 script.1 above) in
           subst (λ (ds : List Deal). AreFirst conn request ds) (sym deals_are) (taken_of conn request events script.0 t.1.deals taken.0 brings none taken.1)
 
-      run : Run true k.first k.begin k.items k.steps k.point
-      run = run_as (is_told (view e)) true k.first k.begin k.items k.steps k.point (sym after) t.1.turns.serves.keeps.run
+      run : Run true k.first k.begin k.found.disk_faults k.items k.steps k.point
+      run = run_as (is_told (view e)) true k.first k.begin k.found.disk_faults k.items k.steps k.point (sym after) t.1.turns.serves.keeps.run
 
       good : Good conn request first h.items k.point.machine.log (sent_on conn k.items)
-      good = spoken conn request first h.items k.items k.point.machine.log k.point.phase path.0 (path.2 comes (run_acts k.first k.begin k.items k.steps k.point run))
+      good = spoken conn request first h.items k.items k.point.machine.log k.point.phase path.0 (path.2 comes (run_acts k.first k.begin k.found.disk_faults k.items k.steps k.point run))
 
       real : IsReal (first ++ good.until)
       real =
@@ -168,7 +169,7 @@ module _ {D : Type 0} (view : D → View) (leave : D → Image → Type 0) (left
       said acted.Broken is = tt
       said acted.NoMemory is = tt
       said (acted.Sent bytes) is = λ host port named may text.
-          subst (λ (b : List ℕ). IsOfOrigin (first ++ good.until) named b) (sym (sent_is bytes is))
+          subst (λ (b : List ℕ). IsReplyFront (first ++ good.until) named b) (sym (sent_is bytes is))
           (good.says (record { host = host; port = port; named = named; may = may; text = text }) real)
 
 -- ---- what is answered
@@ -191,7 +192,8 @@ answer_from log request lost cut limit acted.Unopened said = tt
 answer_from log request lost cut limit acted.Broken said = tt
 answer_from log request lost cut limit acted.NoMemory said = tt
 answer_from log request true cut limit (acted.Sent bytes) said = tt
-answer_from log request false cut limit (acted.Sent bytes) said = bytes_answered log request bytes cut limit said
+answer_from log request false cut limit (acted.Sent bytes) said =
+    bytes_answered log request bytes cut limit (λ host port named may text. (let s = said host port named may text in (s.0, s.1, s.2.1, s.3)))
 
 either_from : (log : List Entry) (request : List ℕ) (answer result : Answer) → (result ≡ answers.NoMemory) ⊎ (result ≡ answer) → FromOrigin log request answer → FromOrigin log request result
 either_from log request answer result (inl wants) from = subst (λ (a : Answer). FromOrigin log request a) (sym wants) tt

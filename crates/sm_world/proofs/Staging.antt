@@ -1,6 +1,6 @@
 -- What pushes leave, one after another.
 use Rattle.std.proofs.Common.{◌≡◌, ◌≢◌, ℕ, zero, suc, ◌+◌, ◌-◌, ◌*◌, ◌≤◌, ◌<◌, ◌^◌, Bool, true, false, if◌then◌else◌, List, [], ◌∷◌, ◌++◌, Some, Result, Ok, Err, refl, sym, ◌∙◌, ap, subst, arith, append_assoc, append-nil}
-use Rattle.std.specs.Prelude.{OnOk}
+use Rattle.std.specs.Prelude.{OnOk, map}
 use Rattle.sm_fetch.specs.declared.dial.Answer.{Answer}
 use Rattle.sm_fetch.specs.declared.dial.Answer.TheVariants as answers
 use Rattle.sm_fetch.specs.declared.dial.Exchange.{Exchange}
@@ -12,6 +12,11 @@ use Rattle.sm_fetch.specs.Fetched.{PushedBody}
 use Rattle.sm_fetch.specs.Spelt.{SpellsPush}
 use Rattle.sm_reply.specs.Replies.{counts_line}
 use Rattle.sm_site.specs.Memory.{site_view, site_may_leave, site_left_at}
+use Rattle.sm_site.specs.declared.memory.MemorySite.{MemorySite}
+use Rattle.sm_fetch.specs.Requests.{push_request, push_limit}
+use Rattle.sm_world.specs.Deeds.{Deed, IsDone, AreDone, chance_by, deeds_in, of_b, requests_of, round_of}
+use Rattle.sm_world.specs.Deeds.Deed.{Pushes, Stops, Crashes}
+use Rattle.sm_world.specs.Dialing.{Dialing}
 use Rattle.sm_world.specs.Later.{IsLater}
 use Rattle.sm_world.specs.LaterLaws.{continues_later, continues_same, continues_then}
 use Rattle.sm_world.specs.Rounds.{behind, crashes, is_crash, is_refused, kind_at, kind_by, refusals, state_at, state_by}
@@ -44,6 +49,43 @@ tell_both (x ∷ xs) ys k r k' r' a b = (
   ),
 )
 
+-- ---- what was done
+
+pub done_one : (place : Place) (id : List ℕ) (deed : Deed) (a b : MemorySite × Dialing) → IsDone place id deed a b → AreDone place id (deed ∷ []) a b
+done_one place id deed a b done = (b, done, refl)
+
+pub done_both : (place : Place) (id : List ℕ) (ds es : List Deed) (a b c : MemorySite × Dialing) → AreDone place id ds a b → AreDone place id es b c
+    → AreDone place id (ds ++ es) a c
+done_both place id [] es a b c same more = subst (λ (d : MemorySite × Dialing). AreDone place id es d c) same more
+done_both place id (d ∷ ds) es a b c (mid, done, rest) more = (mid, done, done_both place id ds es mid b c rest more)
+
+-- the exchanges are the pushes among it
+pub record Asked (place : Place) (id : List ℕ) (deeds : List Deed) (a b : MemorySite × Dialing) : Type 0 where
+  pub more : List Exchange
+  pub made : b.1.made ≡ a.1.made ++ more
+  pub asked : map (λ (x : Exchange). x.request) more ≡ requests_of place id deeds
+
+pub asked_by : (place : Place) (id : List ℕ) (deeds : List Deed) (a b : MemorySite × Dialing) → AreDone place id deeds a b → Asked place id deeds a b
+asked_by place id [] a b same = record {
+  more = [];
+  made = ap (λ (d : MemorySite × Dialing). d.1.made) same ∙ sym (append-nil a.1.made);
+  asked = refl;
+}
+asked_by place id (Pushes body ∷ deeds) a b (mid, done, rest) =
+    let r = asked_by place id deeds mid b rest in
+    let x : Exchange = record { request = push_request place id body; limit = push_limit; answer = done.answer } in
+    record {
+      more = x ∷ r.more;
+      made = r.made ∙ ap (λ (l : List Exchange). l ++ r.more) done.made ∙ append_assoc a.1.made (x ∷ []) r.more;
+      asked = ap (λ (l : List (List ℕ)). push_request place id body ∷ l) r.asked;
+    }
+asked_by place id (Stops calls ∷ deeds) a b (mid, done, rest) =
+    let r = asked_by place id deeds mid b rest in
+    record { more = r.more; made = r.made ∙ ap (λ (s : Dialing). s.made ++ r.more) done.dialing; asked = r.asked }
+asked_by place id (Crashes choice ∷ deeds) a b (mid, done, rest) =
+    let r = asked_by place id deeds mid b rest in
+    record { more = r.more; made = r.made ∙ ap (λ (s : Dialing). s.made ++ r.more) done.dialing; asked = r.asked }
+
 -- ---- one push
 
 said_something : (fragments : ℕ) (came : Pushed) (t : Told) → Says fragments came t → came ≢ pushed.NoMemory
@@ -63,15 +105,22 @@ one_more made made' request limit (answers.Bytes bytes) came log spells somethin
 one_more made made' request limit answers.Lost came log spells something = cc
 one_more made made' request limit answers.NoMemory came log spells something = absurd (something spells)
 
-module _ (old new : Stage) where
-  pub has_pushed : (place : Place) (id body : List ℕ) (came : Pushed) (t : Told) (fragments : ℕ) → PushedBody place id body (Some old.dial.1.made) (Some new.dial.1.made) came
+module _ (old new : Stage) (place : new.place ≡ old.place) (id : new.id ≡ old.id) (header : new.header ≡ old.header) where
+  pub has_pushed : (body : List ℕ) (came : Pushed) (t : Told) (fragments : ℕ) → PushedBody old.place old.id body (Some old.dial.1.made) (Some new.dial.1.made) came
       → Says fragments came t → fragments ≤ 3 → new.known ≡ old.known + known_by t → new.refused ≡ old.refused + refused_by t
-      → IsLater site_view site_may_leave site_left_at old.dial new.dial → HasPushed old new 0 (refused_by t) 3
-  has_pushed place id body came t fragments p says few known refused later =
-      let x : Exchange = record { request = _; limit = _; answer = p.answer } in
+      → IsLater site_view site_may_leave site_left_at old.dial new.dial → HasPushed old new (Pushes body ∷ []) 0 (refused_by t) 3
+  has_pushed body came t fragments p says few known refused later =
+      let x : Exchange = record { request = push_request old.place old.id body; limit = push_limit; answer = p.answer } in
+      let made : new.dial.1.made ≡ old.dial.1.made ++ x ∷ [] =
+      one_more old.dial.1.made new.dial.1.made _ _ p.answer came p.log p.spells (said_something fragments came t says)
+      in
       record {
+        place = place;
+        id = id;
+        header = header;
+        done = done_one old.place old.id (Pushes body) old.dial new.dial (record { answer = p.answer; made = made; later = later });
         more = x ∷ [];
-        made = one_more old.dial.1.made new.dial.1.made _ _ p.answer came p.log p.spells (said_something fragments came t says);
+        made = made;
         known = known_by t;
         tell = tell_one x t (record { fragments = fragments; came = came; spells = p.spells; says = says });
         known_is = known;
@@ -82,9 +131,13 @@ module _ (old new : Stage) where
       }
 
   -- no push, but perhaps crashes
-  pub quiet : (crashes : ℕ) → new.dial.1.made ≡ old.dial.1.made → new.known ≡ old.known → new.refused ≡ old.refused
-      → (old.dial.1.crashes + crashes < 2 ^ 62 → new.dial.1.crashes ≡ old.dial.1.crashes + crashes) → StaysOn old.dial new.dial → HasPushed old new crashes 0 0
-  quiet crashes made known refused crashed stays = record {
+  pub quiet : (deed : Deed) (crashes : ℕ) → IsDone old.place old.id deed old.dial new.dial → new.dial.1.made ≡ old.dial.1.made → new.known ≡ old.known → new.refused ≡ old.refused
+      → (old.dial.1.crashes + crashes < 2 ^ 62 → new.dial.1.crashes ≡ old.dial.1.crashes + crashes) → StaysOn old.dial new.dial → HasPushed old new (deed ∷ []) crashes 0 0
+  quiet deed crashes done made known refused crashed stays = record {
+    place = place;
+    id = id;
+    header = header;
+    done = done_one old.place old.id deed old.dial new.dial done;
     more = [];
     made = made ∙ sym (append-nil old.dial.1.made);
     known = 0;
@@ -98,8 +151,13 @@ module _ (old new : Stage) where
 
 -- ---- one after another
 
-pub pushed_then : (a b c : Stage) (n n' r r' m m' : ℕ) → HasPushed a b n r m → HasPushed b c n' r' m' → HasPushed a c (n + n') (r + r') (m + m')
-pushed_then a b c n n' r r' m m' x y = record {
+pub pushed_then : (a b c : Stage) (ds es : List Deed) (n n' r r' m m' : ℕ) → HasPushed a b ds n r m → HasPushed b c es n' r' m' → HasPushed a c (ds ++ es) (n + n') (r + r') (m + m')
+pushed_then a b c ds es n n' r r' m m' x y = record {
+  place = y.place ∙ x.place;
+  id = y.id ∙ x.id;
+  header = y.header ∙ x.header;
+  done = done_both a.place a.id ds es a.dial b.dial c.dial x.done
+      (subst (λ (p : Place). AreDone p a.id es b.dial c.dial) x.place (subst (λ (i : List ℕ). AreDone b.place i es b.dial c.dial) x.id y.done));
   more = x.more ++ y.more;
   made = y.made ∙ ap (λ (l : List Exchange). l ++ y.more) x.made ∙ append_assoc a.dial.1.made x.more y.more;
   known = x.known + y.known;
@@ -115,8 +173,12 @@ pushed_then a b c n n' r r' m m' x y = record {
 }
 
 -- as many, in other words; and as many known at most
-pub pushed_as : (a b : Stage) (n n' r r' m m' : ℕ) → n ≡ n' → r ≡ r' → m ≤ m' → HasPushed a b n r m → HasPushed a b n' r' m'
-pushed_as a b n n' r r' m m' crashes refusals most x = record {
+pub pushed_as : (a b : Stage) (ds es : List Deed) (n n' r r' m m' : ℕ) → ds ≡ es → n ≡ n' → r ≡ r' → m ≤ m' → HasPushed a b ds n r m → HasPushed a b es n' r' m'
+pushed_as a b ds es n n' r r' m m' deeds crashes refusals most x = record {
+  place = x.place;
+  id = x.id;
+  header = x.header;
+  done = subst (λ (l : List Deed). AreDone a.place a.id l a.dial b.dial) deeds x.done;
   more = x.more;
   made = x.made;
   known = x.known;
@@ -129,8 +191,12 @@ pushed_as a b n n' r r' m m' crashes refusals most x = record {
 }
 
 -- nothing was done
-pub pushed_not : (a : Stage) → HasPushed a a 0 0 3
+pub pushed_not : (a : Stage) → HasPushed a a [] 0 0 3
 pushed_not a = record {
+  place = refl;
+  id = refl;
+  header = refl;
+  done = refl;
   more = [];
   made = sym (append-nil a.dial.1.made);
   known = 0;
@@ -142,29 +208,51 @@ pushed_not a = record {
   stays_on = continues_same site_view site_may_leave site_left_at a.dial;
 }
 
+pub on_ok : {A E : Type 0} (r : Result A E) (P Q : Type 0) → (P → Q) → OnOk r P → OnOk r Q
+on_ok (Ok a) P Q so holds = so holds
+on_ok (Err e) P Q so holds = tt
+
+-- what encoder B pushes, by what was drawn
+pub pushed_by_b : {A E : Type 0} (a b : Stage) (r : Result A E) (body want : List ℕ) (kind k : Kind) (i n : ℕ) → body ≡ want → kind ≡ k → of_b k a.header i ≡ Pushes want ∷ []
+    → (if is_refused k then 1 else 0) ≡ n → OnOk r (HasPushed a b (Pushes body ∷ []) 0 n 3)
+    → OnOk r (HasPushed a b (of_b kind a.header i) 0 (if is_refused kind then 1 else 0) 3)
+pushed_by_b a b r body want kind k i n is drawn deeds refused pushed =
+    on_ok r _ _
+    (λ p. pushed_as a b (Pushes body ∷ []) (of_b kind a.header i) 0 0 n (if is_refused kind then 1 else 0) 3 3
+    (ap (λ (l : List ℕ). Pushes l ∷ []) is ∙ sym deeds ∙ sym (ap (λ (j : Kind). of_b j a.header i) drawn)) refl
+    (sym refused ∙ sym (ap (λ (j : Kind). if is_refused j then 1 else 0) drawn)) (omega arith) p)
+    pushed
+
+pub silent_b : (a : Stage) (kind k : Kind) (i n : ℕ) → n ≡ 0 → kind ≡ k → of_b k a.header i ≡ [] → (if is_refused k then 1 else 0) ≡ n
+    → HasPushed a a (of_b kind a.header i) 0 (if is_refused kind then 1 else 0) 3
+silent_b a kind k i n none drawn deeds refused =
+    pushed_as a a [] (of_b kind a.header i) 0 0 0 (if is_refused kind then 1 else 0) 3 3 (sym deeds ∙ sym (ap (λ (j : Kind). of_b j a.header i) drawn)) refl
+    (sym none ∙ sym refused ∙ sym (ap (λ (j : Kind). if is_refused j then 1 else 0) drawn)) (omega arith) (pushed_not a)
+
 -- ---- rounds
 
 counted : (b : Bool) (n : ℕ) → n + (if b then 1 else 0) ≡ (if b then n + 1 else n)
 counted true n = refl
 counted false n = omega arith
 
-pub round_more : (a b c : Stage) (i x y : ℕ) → y ≡ state_at i x → HasPushed a b (crashes i x) (refusals i x) (9 * i)
-    → HasPushed b c (if is_crash (kind_by y) then 1 else 0) (if is_refused (kind_by y) then 1 else 0) 9
-    → HasPushed a c (crashes (suc i) x) (refusals (suc i) x) (9 * suc i)
+pub round_more : (a b c : Stage) (i x y : ℕ) → y ≡ state_at i x → HasPushed a b (deeds_in a.header i x) (crashes i x) (refusals i x) (9 * i)
+    → HasPushed b c (round_of (kind_by y) b.header i (chance_by y)) (if is_crash (kind_by y) then 1 else 0) (if is_refused (kind_by y) then 1 else 0) 9
+    → HasPushed a c (deeds_in a.header (suc i) x) (crashes (suc i) x) (refusals (suc i) x) (9 * suc i)
 round_more a b c i x y is before round =
     let k : kind_by y ≡ kind_at i x = ap kind_by is in
     let crashed : (if is_crash (kind_by y) then 1 else 0) ≡ (if is_crash (kind_at i x) then 1 else 0) = ap (λ (k : Kind). if is_crash k then 1 else 0) k in
     let refused : (if is_refused (kind_by y) then 1 else 0) ≡ (if is_refused (kind_at i x) then 1 else 0) = ap (λ (k : Kind). if is_refused k then 1 else 0) k in
-    pushed_as a c _ _ _ _ _ _ (ap (λ (n : ℕ). crashes i x + n) crashed ∙ counted (is_crash (kind_at i x)) (crashes i x))
+    let deeds : round_of (kind_by y) b.header i (chance_by y) ≡ round_of (kind_at i x) a.header i (chance_by (state_at i x)) =
+    ap (λ (z : ℕ). round_of (kind_by z) b.header i (chance_by z)) is ∙ ap (λ (h : List ℕ). round_of (kind_at i x) h i (chance_by (state_at i x))) before.header
+    in
+    pushed_as a c (deeds_in a.header i x ++ round_of (kind_by y) b.header i (chance_by y)) (deeds_in a.header (suc i) x) _ _ _ _ _ _
+    (ap (λ (l : List Deed). deeds_in a.header i x ++ l) deeds)
+    (ap (λ (n : ℕ). crashes i x + n) crashed ∙ counted (is_crash (kind_at i x)) (crashes i x))
     (ap (λ (n : ℕ). refusals i x + n) refused ∙ counted (is_refused (kind_at i x)) (refusals i x)) (omega arith)
-    (pushed_then a b c _ _ _ _ _ _ before round)
+    (pushed_then a b c (deeds_in a.header i x) (round_of (kind_by y) b.header i (chance_by y)) _ _ _ _ _ _ before round)
 
 pub state_more : (i x y z : ℕ) → y ≡ state_at i x → z ≡ behind (kind_by y) (state_by y) → z ≡ state_at (suc i) x
 state_more i x y z is next = next ∙ ap (λ (n : ℕ). behind (kind_by n) (state_by n)) is
-
-pub on_ok : {A E : Type 0} (r : Result A E) (P Q : Type 0) → (P → Q) → OnOk r P → OnOk r Q
-on_ok (Ok a) P Q so holds = so holds
-on_ok (Err e) P Q so holds = tt
 
 at_most : (b : Bool) (n i : ℕ) → n ≤ i → (if b then n + 1 else n) ≤ suc i
 at_most true n i below = omega (arith, below)

@@ -1,5 +1,5 @@
 -- How a dial stands behind its calls.
-use Rattle.std.proofs.Common.{◌≡◌, ◌⊎◌, inl, inr, ⊎_elim, ◌↔◌, ℕ, ◌≤◌, ◌<◌, ◌^◌, ◌-◌, true, List, [], ◌∷◌, ◌++◌, Option, None, Some, is_some, refl, sym, ◌∙◌, ap, subst, append_assoc, arith}
+use Rattle.std.proofs.Common.{◌≡◌, ◌⊎◌, inl, inr, ⊎_elim, ◌↔◌, ℕ, ◌+◌, ◌≤◌, ◌<◌, ◌^◌, ◌-◌, true, List, [], ◌∷◌, ◌++◌, Option, None, Some, is_some, refl, sym, ◌∙◌, ap, subst, append_assoc, arith}
 use Rattle.std.specs.Prelude.{IfSome, IsSome, IsTrue}
 use Rattle.std.specs.List.{Contains}
 use Rattle.std.proofs.lemmas.List.{append-nil}
@@ -8,7 +8,7 @@ use Rattle.sm_model.specs.declared.entry.Entry.{Entry}
 use Rattle.sm_model.specs.declared.entry.Entry.TheVariants.{Keep}
 use Rattle.sm_model.specs.declared.fragment.Fragment.{Fragment}
 use Rattle.sm_site.specs.Image.{Image}
-use Rattle.sm_site.specs.Clauses.{NoMore, SameOutcomes, Settled}
+use Rattle.sm_site.specs.Clauses.{Both, NoMore, SameOutcomes, Settled}
 use Rattle.sm_site.specs.Meanings.{View, Item, DiskCall}
 use Rattle.sm_site.specs.Sites.{SameBut}
 use Rattle.sm_seglog.specs.Stores.{HasStore}
@@ -70,11 +70,11 @@ module _ {D : Type 0} (view : D → View) (leave : D → Image → Type 0) (left
       h : History
       h = o.run
 
-      run : Run true h.first h.begin h.items h.steps h.point
-      run = run_as (is_told (view d)) true h.first h.begin h.items h.steps h.point (sym told) o.serves.keeps.run
+      run : Run true h.first h.begin h.found.disk_faults h.items h.steps h.point
+      run = run_as (is_told (view d)) true h.first h.begin h.found.disk_faults h.items h.steps h.point (sym told) o.serves.keeps.run
 
       s : Comes h.items h.first h.point.machine
-      s = (stood h.first h.begin h.items h.steps h.point o.settled run).comes
+      s = (stood h.first h.begin h.found.disk_faults h.items h.steps h.point o.settled run).comes
 
       Source : Fragment → Type 0
       Source f = IsPushedIn w.past f ⊎ IsPushed (h.base ++ h.items) f
@@ -111,14 +111,16 @@ module _ {D : Type 0} (view : D → View) (leave : D → Image → Type 0) (left
       run = h;
       serves = record {
         keeps = record {
-          run = run_as (is_told (view d)) (is_told (view e)) h.first h.begin h.items h.steps h.point (ap (λ (i : Option Image). is_some i) same.contents) k.run;
+          run = run_as (is_told (view d)) (is_told (view e)) h.first h.begin h.found.disk_faults h.items h.steps h.point (ap (λ (i : Option Image). is_some i) same.contents) k.run;
           told = same.transcript ∙ k.told;
           clock = λ has. subst (λ (m : ℕ). h.point.ended ≤ m) (sym same.moment) (k.clock (was has));
           current = λ has. k.current (was has);
           now = λ image left. k.now image ((outcomes image).0 left);
           images = λ t image from left. k.images t image from ((past t image).0 left);
-          recorded = subst (λ (i : Option (List DiskCall)). IfSome i (λ cs. (before : List DiskCall) × (cs ≡ before ++ calls_of h.steps))) (sym same.calls) k.recorded;
-          blamed = λ below. subst (λ (n : ℕ). h.point.failed ≤ n) (sym same.send_faults) (k.blamed (subst (λ (n : ℕ). n < 2 ^ 64 - 1) same.send_faults below));
+          recorded = subst (λ (i : Option (List DiskCall)). Both h.found.calls i (λ before now. now ≡ before ++ calls_of h.steps)) (sym same.calls) k.recorded;
+          blamed = λ below. subst (λ (n : ℕ). h.found.send_faults + h.point.failed ≤ n) (sym same.send_faults) (k.blamed (subst (λ (n : ℕ). n < 2 ^ 64 - 1) same.send_faults below));
+          counted = k.counted ∙ sym same.disk_faults;
+          still_told = ap (λ (i : Option Image). is_some i) same.contents ∙ k.still_told;
         };
         rest = record {
           stands = fewer h.point.machine state.origin d e o.serves.rest.stands same.contents (λ image left. (outcomes image).0 left);
@@ -172,7 +174,7 @@ module _ {D : Type 0} (view : D → View) (leave : D → Image → Type 0) (left
         m : (m : Machine) × IsStore m.log c.0 × (m.doubt ≡ None) × StandsOn view leave m new.origin e
         m = at_some (view d).contents (λ c. (m : Machine) × IsStore m.log c × (m.doubt ≡ None) × StandsOn view leave m new.origin e) c.0 c.1 found
 
-        b : (h : History) × (h.first ≡ m.0) × (h.begin ≡ (view e).moment) × (h.base ≡ closed.items) × (h.items ≡ []) × (h.steps ≡ []) × Serves view leave left_at h new e
+        b : (h : History) × (h.first ≡ m.0) × (h.begin ≡ (view e).moment) × (h.base ≡ closed.items) × (h.items ≡ []) × (h.steps ≡ []) × Serves view leave left_at h new e × (h.found ≡ view e)
         b = begins m.0 closed.items m.3 (same ∙ closed.told)
 
         h : History
@@ -217,15 +219,15 @@ module _ {D : Type 0} (view : D → View) (leave : D → Image → Type 0) (left
       now : World
       now = record { first = w.first; past = w.past; log = k.point.machine.log }
 
-      run : Run true h.first h.begin h.items h.steps h.point
-      run = run_as (is_told (view d)) true h.first h.begin h.items h.steps h.point (sym told) o.serves.keeps.run
+      run : Run true h.first h.begin h.found.disk_faults h.items h.steps h.point
+      run = run_as (is_told (view d)) true h.first h.begin h.found.disk_faults h.items h.steps h.point (sym told) o.serves.keeps.run
 
-      later : Run true h.first k.begin k.items k.steps k.point
-      later = subst (λ (m : Machine). Run true m k.begin k.items k.steps k.point) since.first
-          (run_as (is_told (view e)) true k.first k.begin k.items k.steps k.point (sym after) t.1.turns.serves.keeps.run)
+      later : Run true h.first k.begin k.found.disk_faults k.items k.steps k.point
+      later = subst (λ (m : Machine). Run true m k.begin k.found.disk_faults k.items k.steps k.point) since.first
+          (run_as (is_told (view e)) true k.first k.begin k.found.disk_faults k.items k.steps k.point (sym after) t.1.turns.serves.keeps.run)
 
       grown : Extends h.point.machine k.point.machine
-      grown = later_extends h.first h.begin k.begin h.items k.items h.steps since.on.further k.steps h.point k.point run later since.on.steps
+      grown = later_extends h.first h.begin h.found.disk_faults k.begin k.found.disk_faults h.items k.items h.steps since.on.further k.steps h.point k.point run later since.on.steps
 
   pub serves_on : (w : World) (state : State) (d : D) (new : State) (e : D) → IsSome (view d).contents → IsSome (view e).contents
       → ((h : History) → Serves view leave left_at h state d → (n : ℕ) × TurnsBy view leave left_at h n (view d).script new e)

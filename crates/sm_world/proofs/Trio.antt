@@ -8,10 +8,11 @@ use Rattle.sm_client.specs.Turns.{Meaning}
 use Rattle.sm_serve.specs.declared.state.State.{State}
 use Rattle.sm_site.specs.declared.memory.MemorySite.{MemorySite}
 use Rattle.sm_site.specs.Memory.{site_view, site_may_leave, site_left_at}
-use Rattle.sm_world.specs.Answering.{one_more}
 use Rattle.sm_world.specs.Clients.{HasPlayed, HasPlayedFirst, HavePlayed}
+use Rattle.sm_world.specs.Deeds.{IsCrash}
 use Rattle.sm_world.specs.Dialing.{Dialing}
 use Rattle.sm_world.specs.Encoders.{entries_after, log_of}
+use Rattle.sm_world.specs.LaterLaws.{continues_then}
 use Rattle.sm_world.specs.Stages.{HasEntries}
 use Rattle.sm_world.specs.Worlds.{World, IsClosed, Stands, Crashes}
 use Rattle.sm_world.specs.declared.client.Client.{Client}
@@ -45,17 +46,17 @@ module _ {P : Type 0} (m : Meaning P) (count : ℕ) where
   pub played_first : (p : P) (old d e f : MemorySite × Dialing) (c : Client) → HasPlayed m p (codes "video") count old d c → HasEntries d (entries_after count)
       → ((w : World) → Stands site_view site_may_leave site_left_at w d.1.state d.0
       → (now : World) × Stands site_view site_may_leave site_left_at now e.1.state e.0 × Crashes (site_view d.0).transcript w now)
-      → e.1 ≡ record d.1 { state = None; crashes = one_more d.1.crashes } → f.1 ≡ e.1
+      → IsCrash 0 d e → f.1 ≡ e.1
       → ((w : World) → IsClosed site_view site_may_leave w e.0 → IsClosed site_view site_may_leave w f.0)
       → ((w : World) → IsClosed site_view site_may_leave w e.0 → w.log ≡ log_of count)
       → HasPlayedFirst m p count old f c
-  played_first p old d e f c played entries crash dialing same stays kept = record {
+  played_first p old d e f c played entries crash by same stays kept = record {
     more = played.more;
-    made = ap (λ (x : Dialing). x.made) same ∙ ap (λ (x : Dialing). x.made) dialing ∙ played.made;
+    made = ap (λ (x : Dialing). x.made) same ∙ ap (λ (x : Dialing). x.made) by.dialing ∙ played.made;
     client = λ has w stands. (
         let x = played.stays_on w stands in
         let y = crash x.0 x.1 in
-        let none : e.1.state ≡ None = ap (λ (z : Dialing). z.state) dialing in
+        let none : e.1.state ≡ None = ap (λ (z : Dialing). z.state) by.dialing in
         let still : f.1.state ≡ None = ap (λ (z : Dialing). z.state) same ∙ none in
         let closed : IsClosed site_view site_may_leave y.0 e.0 = subst (λ (o : Option State). Stands site_view site_may_leave site_left_at y.0 o e.0) none y.1 in
         let all = kept y.0 closed in
@@ -72,9 +73,25 @@ module _ {P : Type 0} (m : Meaning P) (count : ℕ) where
     lost = played.lost;
     cut = played.cut;
     played = played.played;
+    crash = record {
+      before = d;
+      behind = e;
+      from = played.stays_on;
+      when = played.made;
+      crash = by;
+      on = λ w stands.
+          let none : e.1.state ≡ None = ap (λ (z : Dialing). z.state) by.dialing in
+          let still : f.1.state ≡ None = ap (λ (z : Dialing). z.state) same ∙ none in
+          let closed : IsClosed site_view site_may_leave w e.0 = subst (λ (o : Option State). Stands site_view site_may_leave site_left_at w o e.0) none stands in (
+            w,
+            subst (λ (o : Option State). Stands site_view site_may_leave site_left_at w o f.0) (sym still) (stays w closed),
+            refl,
+            ([], sym (append-nil w.log)),
+          );
+    };
     crashes = λ low.
         (let a = played.crashes in
-        let b = ap (λ (x : Dialing). x.crashes) dialing in
+        let b = ap (λ (x : Dialing). x.crashes) by.dialing in
         let g = ap (λ (x : Dialing). x.crashes) same in
         omega (arith, a, b, g, low));
   }
@@ -107,5 +124,14 @@ module _ {P : Type 0} (m : Meaning P) (count : ℕ) where
     lost = (let a = first.lost in let b = second.lost in let c = third.lost in omega (arith, a, b, c));
     cut = (let a = first.cut in let b = second.cut in let c = third.cut in omega (arith, a, b, c));
     played = (let a = first.played in let b = second.played in let c = third.played in omega (arith, a, b, c));
+    crash = record {
+      before = first.crash.before;
+      behind = first.crash.behind;
+      from = first.crash.from;
+      when = first.crash.when;
+      crash = first.crash.crash;
+      on = continues_then site_view site_may_leave site_left_at first.crash.behind d f first.crash.on
+          (continues_then site_view site_may_leave site_left_at d e f second.stays_on third.stays_on);
+    };
     crashes = λ low. (let a = first.crashes low in let b = second.crashes in let c = third.crashes in omega (arith, a, b, c));
   }

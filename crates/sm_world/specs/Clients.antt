@@ -1,27 +1,28 @@
 -- The clients of a rehearsal.
-use Rattle.std.specs.Prelude.{◌≡◌, ◌==◌, ◌+◌, ◌-◌, ◌*◌, ◌/◌, ◌%◌, ◌^◌, ◌<◌, ◌≤◌, ℕ, List, [], ◌∷◌, ◌++◌, length, codes, None, Some}
+use Rattle.std.specs.Prelude.{◌≡◌, ◌≢◌, ◌==◌, ◌+◌, ◌-◌, ◌*◌, ◌/◌, ◌%◌, ◌^◌, ◌<◌, ◌≤◌, ℕ, List, [], ◌∷◌, ◌++◌, length, take, codes, Bool, true, false, None, Some}
 use Rattle.sm_fetch.specs.declared.dial.Exchange.{Exchange}
-use Rattle.sm_fetch.specs.declared.place.Place.{Place}
 use Rattle.sm_ends.specs.TracksHeld.{TracksState, held_at}
+use Rattle.sm_model.specs.declared.entry.Entry.{Entry}
 use Rattle.sm_client.specs.declared.plan.Plan.{Plan}
 use Rattle.sm_client.specs.declared.report.End.TheVariants.{Done}
 use Rattle.sm_client.specs.Turns.{Meaning, settle}
 use Rattle.sm_client.specs.Asks.{exchanges}
 use Rattle.sm_client.specs.Plays.{Part, IsPart, Gapless, written_of}
 use Rattle.sm_client.specs.Served.{AreIn}
-use Rattle.sm_world.specs.Answering.{answer_for}
+use Rattle.sm_fetch.specs.declared.dial.Answer.{Answer}
+use Rattle.sm_fetch.specs.declared.dial.Answer.TheVariants as answers
+use Rattle.sm_world.specs.Answering.{halved}
 use Rattle.sm_site.specs.declared.memory.MemorySite.{MemorySite}
 use Rattle.sm_site.specs.Memory.{site_view, site_may_leave, site_left_at}
+use Rattle.sm_world.specs.Deeds.{IsCrash, place}
 use Rattle.sm_world.specs.Dialing.{Dialing}
 use Rattle.sm_world.specs.Encoders.{entries_after, log_of}
+use Rattle.sm_world.specs.Saying.{IsSaid}
 use Rattle.sm_world.specs.Stages.{HasEntries, StaysOn}
 use Rattle.sm_world.specs.Worlds.{World, Stands}
 use Rattle.sm_world.specs.declared.client.Client.{Client}
 use Rattle.sm_world.specs.declared.clients.Clients.{Clients}
-use Rattle.sm_world.specs.declared.acted.Acted.{Acted}
-
-abbrev pub place : Place
-place = record { host = codes "rehearsal"; port = 80; path = codes "live" }
+use Rattle.sm_world.specs.declared.acted.Acted.TheVariants as acted
 
 -- so many fragments of a stream, from the first that is listed
 abbrev pub plan_of : List ℕ → ℕ → Plan
@@ -29,14 +30,37 @@ plan_of name count = record { place = place; streams = name ∷ []; from = None;
 
 -- ---- what is lost and cut
 
--- Of the exchanges of a client, numbered from 1, a multiple of five is lost, and of another multiple of seven the first half comes.
-pub record IsDue (number : ℕ) (x : Exchange) : Type 0 where
-  pub came : Acted
-  pub answer : x.answer ≡ answer_for (number % 5 == 0) (number % 7 == 0) x.limit came
+-- Of what an origin with this log replied these bytes went out, and they came up to the limit, or the first half of them, rounded down; and
+-- something came.
+pub record Comes (log : List Entry) (cut : Bool) (x : Exchange) : Type 0 where
+  pub went : List ℕ
+  pub said : IsSaid log x.request (acted.Sent went)
+  pub answer : x.answer ≡ answers.Bytes (take x.limit (halved cut went))
+  pub some : x.answer ≢ answers.Bytes []
 
-abbrev pub AreDue : ℕ → List Exchange → Type 0
-AreDue number [] = Unit {0}
-AreDue number (x ∷ xs) = IsDue number x × AreDue (number + 1) xs
+abbrev pub DueBy : Bool → Bool → List Entry → Exchange → Type 0
+DueBy true cut log x = x.answer ≡ answers.Lost
+DueBy false cut log x = Comes log cut x
+
+-- Of the exchanges of a client, numbered from 1, a multiple of five is lost, and another multiple of seven is cut. All others come.
+abbrev pub IsDue : List Entry → ℕ → Exchange → Type 0
+IsDue log number x = DueBy (number % 5 == 0) (number % 7 == 0) log x
+
+abbrev pub AreDue : List Entry → ℕ → List Exchange → Type 0
+AreDue log number [] = Unit {0}
+AreDue log number (x ∷ xs) = IsDue log number x × AreDue log (number + 1) xs
+
+-- an answer is lost, or some bytes came
+abbrev pub CameBy : Bool → Answer → Type 0
+CameBy true answer = answer ≡ answers.Lost
+CameBy false (answers.Bytes bytes) = bytes ≢ []
+CameBy false answers.Lost = ⊥
+CameBy false answers.NoMemory = ⊥
+
+-- from this number on the multiples of five are lost, and no others
+abbrev pub HaveCome : ℕ → List Exchange → Type 0
+HaveCome number [] = Unit {0}
+HaveCome number (x ∷ xs) = CameBy (number % 5 == 0) x.answer × HaveCome (number + 1) xs
 
 -- how many of them these are
 abbrev pub lost_among : List Exchange → ℕ
@@ -47,13 +71,14 @@ cut_among xs = length xs / 7 - length xs / 35
 
 -- ---- a client
 
--- These are the exchanges of a client that played a stream with one policy into the first of these tracks: so many fragments, each from
--- where the one before it ended, the first at 0, and each of them kept by the store. Where none is wanted it only asked for a manifest.
+-- These are the exchanges of a client that played a stream with one policy into the first of these tracks, of an origin that keeps what encoder
+-- A pushed: so many fragments, each from where the one before it ended, the first at 0, and each of them kept by the store. Where none is wanted
+-- it only asked for a manifest.
 pub record IsClient {P : Type 0} (m : Meaning P) (p : P) (name : List ℕ) (count : ℕ) (xs : List Exchange) (tracks : TracksState) : Type 0 where
   pub part : Part
   pub plays : IsPart m (plan_of name count) name 0 (settle m p [] []) (Some []) (Some (held_at tracks.tracks 0)) part
   pub made : xs ≡ exchanges (part.made ++ part.last)
-  pub due : AreDue 1 xs
+  pub due : AreDue (log_of count) 1 xs
   pub done : 0 < count → part.end ≡ Done
   pub whole : 0 < count → length (written_of (plan_of name count) name part) ≡ count
   pub gapless : 0 < count → Gapless 0 (written_of (plan_of name count) name part)
@@ -74,6 +99,15 @@ pub record HasPlayed {P : Type 0} (m : Meaning P) (p : P) (name : List ℕ) (cou
   pub crashes : new.1.crashes ≡ old.1.crashes
   pub stays_on : StaysOn old new
 
+-- On the way from one to the other the site crashed, with choice 0, where these exchanges had been told.
+pub record CrashedBehind (old new : MemorySite × Dialing) (made : List Exchange) : Type 0 where
+  pub before : MemorySite × Dialing
+  pub behind : MemorySite × Dialing
+  pub from : StaysOn old before
+  pub when : before.1.made ≡ made
+  pub crash : IsCrash 0 before behind
+  pub on : StaysOn behind new
+
 -- The first client, behind which the site crashed: the store keeps all that encoder A pushed, if it had as many entries before.
 pub record HasPlayedFirst {P : Type 0} (m : Meaning P) (p : P) (count : ℕ) (old new : MemorySite × Dialing) (c : Client) : Type 0 where
   pub more : List Exchange
@@ -85,6 +119,7 @@ pub record HasPlayedFirst {P : Type 0} (m : Meaning P) (p : P) (count : ℕ) (ol
   pub lost : c.lost ≡ lost_among more
   pub cut : c.cut ≡ cut_among more
   pub played : c.played ≡ count
+  pub crash : CrashedBehind old new (old.1.made ++ more)
   pub crashes : old.1.crashes + 1 < 2 ^ 62 → new.1.crashes ≡ old.1.crashes + 1
 
 -- The three clients, and one crash.
@@ -101,4 +136,5 @@ pub record HavePlayed {P : Type 0} (m : Meaning P) (p q r : P) (count : ℕ) (ol
   pub lost : c.first.lost + c.second.lost + c.third.lost ≡ lost_among ones + lost_among twos + lost_among threes
   pub cut : c.first.cut + c.second.cut + c.third.cut ≡ cut_among ones + cut_among twos + cut_among threes
   pub played : c.first.played + c.second.played + c.third.played ≡ 3 * count
+  pub crash : CrashedBehind old new (old.1.made ++ ones)
   pub crashes : old.1.crashes + 1 < 2 ^ 62 → new.1.crashes ≡ old.1.crashes + 1

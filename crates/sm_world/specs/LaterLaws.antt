@@ -1,10 +1,13 @@
 -- What the laws of a dial on a site stand on: what becomes of it over one call after another.
-use Rattle.std.proofs.Common.{ℕ, List, [], ◌++◌, refl, sym, ◌∙◌, ap, append_assoc, append-nil}
+use Rattle.std.proofs.Common.{◌≡◌, ℕ, ◌+◌, ◌≤◌, List, [], ◌∷◌, ◌++◌, length, refl, sym, ◌∙◌, ap, subst, arith, append_assoc, append-nil, length-append}
 use Rattle.sm_model.specs.declared.entry.Entry.{Entry}
 use Rattle.sm_site.specs.Image.{Image}
 use Rattle.sm_site.specs.Meanings.{View}
-use Rattle.sm_world.specs.Dialing.{Dialing}
-use Rattle.sm_world.specs.Later.{IsLater, Continues}
+use Rattle.sm_fetch.specs.declared.dial.Exchange.{Exchange}
+use Rattle.sm_world.specs.Dialing.{Dialing, next_number}
+use Rattle.sm_world.specs.Later.{HasMade, IsLater, Continues}
+use Rattle.sm_world.specs.Numbered.{IsByNumber, AreByNumber}
+use Rattle.sm_world.specs.Saying.{StandsAt}
 use Rattle.sm_world.specs.Worlds.{World, Grows}
 
 grows_not : (w : World) → Grows w w
@@ -18,9 +21,74 @@ grows_then u v w a b = record {
   log = b.log ∙ ap (λ (l : List Entry). l ++ b.more) a.log ∙ append_assoc u.log a.more b.more;
 }
 
+-- ---- exchanges by their numbers
+
+module _ (lost cut : List ℕ) where
+  -- from an earlier log
+  by_before : (n : ℕ) (log more : List Entry) (xs : List Exchange) (later : List Entry) → AreByNumber lost cut n (log ++ more) xs later
+      → AreByNumber lost cut n log xs later
+  by_before n log more [] later (on, is) = (more ++ on, is ∙ append_assoc log more on)
+  by_before n log more (x ∷ xs) later (on, by, rest) =
+      let same = append_assoc log more on in (
+        more ++ on,
+        subst (λ (l : List Entry). IsByNumber lost cut n l x) same by,
+        subst (λ (l : List Entry). AreByNumber lost cut (n + 1) l xs later) same rest,
+      )
+
+  pub by_both : (n m : ℕ) (log mid : List Entry) (xs ys : List Exchange) (later : List Entry) → m ≡ n + length xs → AreByNumber lost cut n log xs mid
+      → AreByNumber lost cut m mid ys later → AreByNumber lost cut n log (xs ++ ys) later
+  by_both n m log mid [] ys later is (more, same) then =
+      by_before n log more ys later (subst (λ (l : List Entry). AreByNumber lost cut n l ys later) same
+      (subst (λ (k : ℕ). AreByNumber lost cut k mid ys later) (let e : m ≡ n = omega (arith, is) in e) then))
+  by_both n m log mid (x ∷ xs) ys later is (more, by, rest) then =
+      (more, by, by_both (n + 1) m (log ++ more) mid xs ys later (omega (arith, is)) rest then)
+
 module _ {D : Type 0} (view : D → View) (leave : D → Image → Type 0) (left_at : D → ℕ → Image → Type 0) where
+  pub made_not : (d e : D × Dialing) → e.1.made ≡ d.1.made
+      → ((log : List Entry) → StandsAt view leave left_at d.1.state d.0 log
+      → (more : List Entry) × StandsAt view leave left_at e.1.state e.0 (log ++ more)) → HasMade view leave left_at d e
+  made_not d e same on = record {
+    more = [];
+    made = same ∙ sym (append-nil d.1.made);
+    on = λ within log at. (let x = on log at in (log ++ x.0, x.1, (x.0, refl)));
+  }
+
+  made_then : (d e f : D × Dialing) → e.1.lost ≡ d.1.lost → e.1.cut ≡ d.1.cut → e.1.since ≡ d.1.since → HasMade view leave left_at d e
+      → HasMade view leave left_at e f → HasMade view leave left_at d f
+  made_then d e f lost cut since a b = record {
+    more = a.more ++ b.more;
+    made = b.made ∙ ap (λ (l : List Exchange). l ++ b.more) a.made ∙ append_assoc d.1.made a.more b.more;
+    on = λ within log at. on within log at;
+  }
+    where
+      long : length e.1.made ≡ length d.1.made + length a.more
+      long = ap (λ (l : List Exchange). length l) a.made ∙ length-append d.1.made a.more
+
+      on : d.1.since ≤ length d.1.made → (log : List Entry) → StandsAt view leave left_at d.1.state d.0 log
+          → (later : List Entry) × StandsAt view leave left_at f.1.state f.0 later
+          × AreByNumber d.1.lost d.1.cut (next_number d.1) log (a.more ++ b.more) later
+      on within log at =
+          let x = a.on within log at in
+          let y = b.on (omega (arith, long, since, within)) x.0 x.1 in
+          let then : AreByNumber d.1.lost d.1.cut (next_number e.1) x.0 b.more y.0 =
+          subst (λ (l : List ℕ). AreByNumber l d.1.cut (next_number e.1) x.0 b.more y.0) lost
+          (subst (λ (l : List ℕ). AreByNumber e.1.lost l (next_number e.1) x.0 b.more y.0) cut y.2)
+          in (
+            y.0,
+            y.1,
+            by_both d.1.lost d.1.cut (next_number d.1) (next_number e.1) log x.0 a.more b.more y.0 (omega (arith, long, since, within)) x.2 then,
+          )
+
   pub is_later_same : (d : D × Dialing) → IsLater view leave left_at d d
-  is_later_same d = record { limits = refl; lost = refl; cut = refl; since = refl; crashes = refl; goes_on = λ w stands. (w, stands, grows_not w) }
+  is_later_same d = record {
+    limits = refl;
+    lost = refl;
+    cut = refl;
+    since = refl;
+    crashes = refl;
+    exchanges = made_not d d refl (λ log at. ([], subst (λ (l : List Entry). StandsAt view leave left_at d.1.state d.0 l) (sym (append-nil log)) at));
+    goes_on = λ w stands. (w, stands, grows_not w);
+  }
 
   pub is_later_then : (d e f : D × Dialing) → IsLater view leave left_at d e → IsLater view leave left_at e f → IsLater view leave left_at d f
   is_later_then d e f a b = record {
@@ -29,6 +97,7 @@ module _ {D : Type 0} (view : D → View) (leave : D → Image → Type 0) (left
     cut = b.cut ∙ a.cut;
     since = b.since ∙ a.since;
     crashes = b.crashes ∙ a.crashes;
+    exchanges = made_then d e f a.lost a.cut a.since a.exchanges b.exchanges;
     goes_on = λ w stands. (let x = a.goes_on w stands in let y = b.goes_on x.0 x.1 in (y.0, y.1, grows_then w x.0 y.0 x.2 y.2));
   }
 

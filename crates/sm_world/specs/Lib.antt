@@ -7,9 +7,12 @@ pub mod Worlds
 pub mod Later
 pub mod Rounds
 pub mod Encoders
+pub mod Header
+pub mod Deeds
 pub mod Told
 pub mod Stages
 pub mod Clients
 pub mod Rehearsed
 pub mod LaterLaws
+pub mod Replying
 pub mod Saying

@@ -1,18 +1,23 @@
 -- A rehearsal that was held.
-use Rattle.std.specs.Prelude.{◌≡◌, ◌+◌, ◌*◌, ℕ, List, [], ◌∷◌, ◌++◌, codes, false}
+use Rattle.std.specs.Prelude.{◌≡◌, ◌+◌, ◌*◌, ℕ, List, [], ◌∷◌, ◌++◌, map, codes, false}
 use Rattle.sm_fetch.specs.declared.dial.Exchange.{Exchange}
 use Rattle.sm_client.specs.Turns.{Meaning}
 use Rattle.sm_site.specs.Memory.{site_view, site_may_leave, site_left_at, faults_of}
-use Rattle.sm_world.specs.Clients.{IsClient, lost_among, cut_among}
+use Rattle.sm_site.specs.declared.memory.MemorySite.{MemorySite}
+use Rattle.sm_world.specs.Clients.{CrashedBehind, IsClient, lost_among, cut_among}
+use Rattle.sm_world.specs.Deeds.{AreDone, deeds_in, place, requests_of}
+use Rattle.sm_world.specs.Dialing.{Dialing}
 use Rattle.sm_world.specs.Encoders.{log_of}
+use Rattle.sm_world.specs.Header.{header_text}
 use Rattle.sm_world.specs.Rounds.{crashes, refusals}
 use Rattle.sm_world.specs.Told.{Tell}
 use Rattle.sm_world.specs.Worlds.{World, Stands}
 use Rattle.sm_world.specs.declared.rehearsal.Rehearsal.{Rehearsal}
 
--- The store began empty and keeps the channel and all that encoder A pushed, in order. The exchanges of the dial are the pushes of both
--- encoders and then those of the three clients, one for each policy. The numbers are those of the store, of what the pushes were
--- answered, of the rounds that were drawn, and of the clients' exchanges and fragments.
+-- The store began empty and keeps the channel and all that encoder A pushed, in order. What was drawn for the rounds was done to it, and
+-- nothing else: the exchanges of the dial are the pushes of both encoders and then those of the three clients, one for each policy; and the site
+-- crashed behind the first client. The numbers are those of the store, of what the pushes were answered, of the rounds that were drawn, and of the
+-- clients' exchanges and fragments.
 pub record Rehearsed {P : Type 0} (m : Meaning P) (number size : ℕ) (policies : List P) (r : Rehearsal) : Type 0 where
   pub world : World
   pub stands : Stands site_view site_may_leave site_left_at world r.dial.1.state r.dial.0
@@ -27,6 +32,16 @@ pub record Rehearsed {P : Type 0} (m : Meaning P) (number size : ℕ) (policies 
   pub twos : List Exchange
   pub threes : List Exchange
   pub made : r.dial.1.made ≡ ((pushes ++ ones) ++ twos) ++ threes
+  pub asked : map (λ (x : Exchange). x.request) pushes ≡ requests_of place (codes "a") (deeds_in header_text size number)
+  pub start : MemorySite × Dialing
+  pub pushed : MemorySite × Dialing
+  pub before : World
+  pub stood : Stands site_view site_may_leave site_left_at before start.1.state start.0
+  pub empty : before.log ≡ []
+  pub none_made : start.1.made ≡ []
+  pub done : AreDone place (codes "a") (deeds_in header_text size number) start pushed
+  pub pushed_made : pushed.1.made ≡ pushes
+  pub crash : CrashedBehind pushed r.dial (pushes ++ ones)
   pub tell : Tell pushes r.summary.known r.summary.refused
   pub one : IsClient m first (codes "video") size ones r.first
   pub two : IsClient m second (codes "video") size twos r.second

@@ -4,8 +4,9 @@ use Rattle.sm_model.specs.declared.entry.Entry.{Entry}
 use Rattle.sm_site.specs.Image.{Image}
 use Rattle.sm_site.specs.Meanings.{View}
 use Rattle.sm_serve.specs.declared.state.State.{State}
-use Rattle.sm_fetch.specs.declared.dial.Answer.TheVariants as answers
-use Rattle.sm_fetch.specs.Origins.{FromOrigin}
+use Rattle.sm_fetch.specs.Origins.{MayBeAsked}
+use Rattle.sm_fetch.specs.Requests.{get_text}
+use Rattle.sm_world.specs.Replying.{IsReplyFront}
 use Rattle.sm_world.specs.declared.acted.Acted.{Acted}
 use Rattle.sm_world.specs.declared.acted.Acted.TheVariants as acted
 use Rattle.sm_world.specs.Worlds.{World, Stands, Grows}
@@ -17,12 +18,13 @@ pub record StandsAt {D : Type 0} (view : D → View) (leave : D → Image → Ty
   pub stands : Stands view leave left_at world state d
   pub log_is : world.log ≡ log
 
--- what went out in answer to a GET is the origin's reply, or a front of it
+-- what went out in answer to the GET of a target of any place is the reply of this log, or a front of it
 abbrev pub IsSaid : List Entry → List ℕ → Acted → Type 0
 IsSaid log request acted.Unopened = Unit {0}
 IsSaid log request acted.Broken = Unit {0}
 IsSaid log request acted.NoMemory = Unit {0}
-IsSaid log request (acted.Sent bytes) = FromOrigin log request (answers.Bytes bytes)
+IsSaid log request (acted.Sent bytes) =
+    (host : List ℕ) (port : ℕ) (named : List ℕ) → MayBeAsked host port named → request ≡ get_text host port named → IsReplyFront log named bytes
 
 -- The world went on, and what came of the request was said of its log at some moment of that.
 pub record Says {D : Type 0} (view : D → View) (leave : D → Image → Type 0) (left_at : D → ℕ → Image → Type 0) (w : World) (request : List ℕ)

@@ -1,9 +1,11 @@
 -- What pushes leave of an origin in memory.
-use Rattle.std.specs.Prelude.{◌≡◌, ◌≤◌, ◌<◌, ◌+◌, ◌^◌, ℕ, List, [], ◌++◌, length}
+use Rattle.std.specs.Prelude.{◌≡◌, ◌≤◌, ◌<◌, ◌+◌, ◌^◌, ℕ, List, [], ◌++◌, length, codes}
 use Rattle.sm_fetch.specs.declared.dial.Exchange.{Exchange}
 use Rattle.sm_site.specs.declared.memory.MemorySite.{MemorySite}
 use Rattle.sm_site.specs.Memory.{site_view, site_may_leave, site_left_at}
+use Rattle.sm_world.specs.Deeds.{Deed, AreDone, place}
 use Rattle.sm_world.specs.Dialing.{Dialing}
+use Rattle.sm_world.specs.Header.{header_text}
 use Rattle.sm_world.specs.Later.{Continues}
 use Rattle.sm_world.specs.Told.{Tell}
 use Rattle.sm_world.specs.Worlds.{World, Stands}
@@ -13,9 +15,13 @@ use Rattle.sm_world.specs.declared.stage.Stage.{Stage}
 abbrev pub StaysOn : MemorySite × Dialing → MemorySite × Dialing → Type 0
 StaysOn old new = Continues site_view site_may_leave site_left_at old new
 
--- Further exchanges are pushes. So many were refused, at most so many of their fragments were known, and the site crashed so often; and what
--- their answers say is counted.
-pub record HasPushed (old new : Stage) (crashes refusals most : ℕ) : Type 0 where
+-- This was done to the origin, and further exchanges are its pushes. So many were refused, at most so many of their fragments were known, and
+-- the site crashed so often; and what their answers say is counted.
+pub record HasPushed (old new : Stage) (deeds : List Deed) (crashes refusals most : ℕ) : Type 0 where
+  pub place : new.place ≡ old.place
+  pub id : new.id ≡ old.id
+  pub header : new.header ≡ old.header
+  pub done : AreDone old.place old.id deeds old.dial new.dial
   pub more : List Exchange
   pub made : new.dial.1.made ≡ old.dial.1.made ++ more
   pub known : ℕ
@@ -32,6 +38,9 @@ pub record Begins (s : Stage) : Type 0 where
   pub stands : Stands site_view site_may_leave site_left_at world s.dial.1.state s.dial.0
   pub first : world.first ≡ []
   pub log : world.log ≡ []
+  pub place : s.place ≡ place
+  pub id : s.id ≡ codes "a"
+  pub header : s.header ≡ header_text
   pub made : s.dial.1.made ≡ []
   pub crashes : s.dial.1.crashes ≡ 0
   pub known : s.known ≡ 0

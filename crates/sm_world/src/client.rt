@@ -1,13 +1,14 @@
 //! A client of a rehearsal.
-ghost use Rattle.std.specs.Prelude.{◌≡◌, ◌≤◌, ◌<◌, ◌⊎◌, ◌^◌, ◌%◌, ◌==◌, ℕ, IfOk, codes};
+ghost use Rattle.std.specs.Prelude.{◌≡◌, ◌≤◌, ◌<◌, ◌⊎◌, ◌^◌, ◌%◌, ◌==◌, ℕ, IfOk, IsTrue, codes, false};
 ghost use Rattle.sm_site.specs.Faults.{is_listed};
-ghost use Rattle.sm_world.specs.Clients.{HasPlayed, place, plan_of};
+ghost use Rattle.sm_world.specs.Clients.{CameBy, HasPlayed, HaveCome, plan_of};
+ghost use Rattle.sm_world.specs.Deeds.{place};
 
 use crate::OriginDial;
 use crate::header::name;
 use sm_client::{End, Names, Plan, play};
 use sm_ends::{Calls, MemoryTracks};
-use sm_fetch::Place;
+use sm_fetch::{Answer, Exchange, Place};
 use sm_model::{Bytes, NoMemory};
 use sm_policy::Policy;
 use sm_site::{MemorySite, Numbers};
@@ -58,6 +59,51 @@ fn multiples(alloc: Global, of: u64, most: u64) -> Result<Numbers, NoMemory>
     Ok(Numbers::from_vec(numbers))
 }
 
+fn is_lost(answer: &Answer) -> bool
+    ensures { IsTrue result → answer.now ≡ Answer.Lost }
+{
+    match answer {
+        Answer::Lost => true,
+        Answer::Bytes(_) | Answer::NoMemory => false,
+    }
+}
+
+fn has_bytes(answer: &Answer) -> bool
+    ensures { IsTrue result → CameBy false answer.now }
+{
+    match answer {
+        Answer::Bytes(bytes) => !bytes.as_slice().is_empty(),
+        Answer::Lost | Answer::NoMemory => false,
+    }
+}
+
+// Whether an answer is lost, or some bytes came, as is due.
+fn is_due(lost: bool, answer: &Answer) -> bool
+    ensures { IsTrue result → CameBy lost answer.now }
+{
+    if lost {
+        is_lost(answer)
+    } else {
+        has_bytes(answer)
+    }
+}
+
+// Whether of these exchanges, numbered from 1, those that are to be lost were lost, and no others.
+fn have_come(exchanges: &[Exchange]) -> bool
+    ensures { IsTrue result → HaveCome 1 exchanges.now }
+{
+    let mut rest = exchanges;
+    let mut number = 1;
+    while let [first, more @ ..] = rest {
+        if !is_due(number % LOST == 0, &first.answer) {
+            return false;
+        }
+        rest = more;
+        number += 1;
+    }
+    true
+}
+
 fn plan(alloc: Global, stream: &[u8], count: u64) -> Result<Plan, NoMemory>
     ensures { IfOk result (λ p. p ≡ plan_of stream.now count) }
 {
@@ -91,7 +137,6 @@ pub(crate) fn play_stream(
     let plan = plan(alloc, stream, count)?;
     let mut tracks = MemoryTracks::new(alloc, Calls::from_vec(Vec::new(alloc)));
     let report = play(alloc, dial, &mut tracks, vec![in alloc; policy]?, &plan);
-    dial.numbered();
     match report.end {
         End::Done => {}
         _ => {
@@ -103,7 +148,11 @@ pub(crate) fn play_stream(
     if report.played != count {
         return Err(NoMemory);
     }
-    let made = (dial.exchanges().len() - before) as u64;
+    let more = &dial.exchanges()[before..];
+    if !have_come(more) {
+        return Err(NoMemory);
+    }
+    let made = more.len() as u64;
     Ok(Client {
         tracks,
         lost: made / LOST,

@@ -64,7 +64,7 @@ fn play_first(
     ensures { IfOk result (HasPlayedFirst (record { pick = pick_after; retired = retired_after }) policy size dial.old dial.new) }
 {
     let client = client(alloc, dial, policy, b"video", size)?;
-    dial.crash(0);
+    dial.crash_by(0);
     if !dial.reads_back(size)? {
         return Err(NoMemory);
     }

@@ -1,11 +1,10 @@
 //! An origin on a site.
-ghost use Rattle.std.specs.Prelude.{◌≡◌, ◌≤◌, ◌<◌, ◌^◌, [], List, None, IfSome, drop, length};
+ghost use Rattle.std.specs.Prelude.{◌≡◌, ◌≤◌, ◌<◌, ◌^◌, [], List, None, IfSome, length};
 ghost use Rattle.sm_model.specs.declared.entry.Entry.{Entry};
 ghost use Rattle.sm_site.specs.Clauses.{SameOutcomes, Settled};
 ghost use Rattle.sm_archive.specs.Store.{IsStore};
 ghost use Rattle.sm_world.specs.Answering.{one_more};
 ghost use Rattle.sm_world.specs.Dialing.{next_number};
-ghost use Rattle.sm_world.specs.Numbered.{AreByNumber};
 ghost use Rattle.sm_world.specs.Worlds.{World, Stands, Crashes};
 
 use sm_archive::Limits;
@@ -37,9 +36,8 @@ pub struct OriginDial<S: Crashing> {
 }
 
 impl<S: Crashing> Model for OriginDial<S> {
-    ghost use Rattle.std.specs.Prelude.{ℕ, ◌≤◌, ◌<◌, ◌^◌, drop, length};
+    ghost use Rattle.std.specs.Prelude.{ℕ, ◌≤◌, ◌<◌, ◌^◌, length};
     ghost use Rattle.sm_world.specs.Dialing.{Dialing};
-    ghost use Rattle.sm_world.specs.Numbered.{AreByNumber};
     ghost use Rattle.sm_world.specs.Worlds.{World, Stands};
 
     ghost Value = { S × Dialing };
@@ -60,7 +58,7 @@ impl<S: Crashing> Model for OriginDial<S> {
 
     ghost invariant = { λ d. (d.limits.store_bytes ≤ 2 ^ 62) × (d.limits.entries < 2 ^ 32)
         × ((w : World) × Stands S.Disk.view S.Disk.may_leave S.Disk.left_at w d.state d.site)
-        × (d.since ≤ length d.made.items) × AreByNumber d.lost d.cut 1 (drop d.since d.made.items) };
+        × (d.since ≤ length d.made.items) };
 }
 
 impl<S: Crashing> OriginDial<S> {
@@ -150,13 +148,6 @@ impl<S: Crashing> OriginDial<S> {
         ensures { result ≡ next_number self.now.1 }
     {
         (self.made.len() - self.since) as u64 + 1
-    }
-
-    /// The exchanges told since they were counted from 1 were answered as their numbers say.
-    pub fn numbered(&self)
-        ensures { (self.now.1.since ≤ length self.now.1.made) × AreByNumber self.now.1.lost self.now.1.cut 1 (drop self.now.1.since self.now.1.made) }
-    {
-        let _ = &self.site;
     }
 
     /// Lets so many further writes and syncs of the site pass. All behind them fail, up to the next crash.

@@ -1,6 +1,8 @@
 //! What the encoders of a rehearsal push.
-ghost use Rattle.std.specs.Prelude.{◌≡◌, ◌<◌, ◌≤◌, ◌^◌, IfOk};
+ghost use Rattle.std.specs.Prelude.{◌≡◌, ◌<◌, ◌≤◌, ◌^◌, ◌++◌, [], IfOk, OnOk};
+ghost use Rattle.sm_model.specs.FragText.{frag_text};
 ghost use Rattle.sm_model.specs.Fragments.{IsValid};
+ghost use Rattle.sm_world.specs.Deeds.{body_of_a, body_of_b};
 ghost use Rattle.sm_world.specs.Encoders.{bitrate_of, fragment_of, name_of, of_encoder_a};
 
 use crate::header::name;
@@ -66,6 +68,7 @@ pub(crate) fn of_encoder_a(alloc: Global, i: u64, id: u32) -> Result<Fragment, N
 
 fn add(alloc: Global, body: &mut Vec<u8>, id: u32, fragment: &Fragment) -> Result<(), NoMemory>
     requires valid { IsValid fragment.now }
+    ensures { OnOk result (body.new.items ≡ body.old.items ++ frag_text 1 id fragment.now []) }
 {
     let text = put_fragment(alloc, 1, id, fragment, &[])?;
     body.extend_from_slice(text.as_slice())?;
@@ -75,12 +78,12 @@ fn add(alloc: Global, body: &mut Vec<u8>, id: u32, fragment: &Fragment) -> Resul
 /// The push of encoder A in round `i`, from 0: the header, and a fragment of each track.
 pub(crate) fn push_of_a(alloc: Global, header: &[u8], i: u64) -> Result<Vec<u8>, NoMemory>
     requires early { i < 2 ^ 32 }
+    ensures { IfOk result (λ body. body.items ≡ body_of_a header.now i) }
 {
     let mut body = header.to_vec(alloc)?;
-    for id in 1..4 {
-        let fragment = of_encoder_a(alloc, i, id)?;
-        add(alloc, &mut body, id, &fragment)?;
-    }
+    add(alloc, &mut body, 1, &of_encoder_a(alloc, i, 1)?)?;
+    add(alloc, &mut body, 2, &of_encoder_a(alloc, i, 2)?)?;
+    add(alloc, &mut body, 3, &of_encoder_a(alloc, i, 3)?)?;
     Ok(body)
 }
 
@@ -94,6 +97,7 @@ pub(crate) fn push_of_b(
     requires early { time < 2 ^ 62 }
     requires some { 1 ≤ duration }
     requires short { duration < 2 ^ 62 }
+    ensures { IfOk result (λ body. body.items ≡ body_of_b header.now time duration) }
 {
     let mut body = header.to_vec(alloc)?;
     let fragment = fragment_of(alloc, 1, time, duration, vec![in alloc; 0; 1]?)?;

@@ -1,6 +1,7 @@
 //! The header that the encoders of a rehearsal push.
 ghost use Rattle.std.specs.Prelude.{◌≡◌, IfOk};
 ghost use Rattle.sm_world.specs.Encoders.{audio, channel, video};
+ghost use Rattle.sm_world.specs.Header.{header_text};
 
 use sm_box::put_box;
 use sm_model::{Bytes, Channel, Kind, Name, NameFault, NoMemory, Params, Track};
@@ -116,7 +117,9 @@ pub(crate) fn channel(alloc: Global) -> Result<Channel, NoMemory>
 }
 
 /// The header of a push of this channel.
-pub(crate) fn header(alloc: Global) -> Result<Bytes, NoMemory> {
+pub(crate) fn header(alloc: Global) -> Result<Bytes, NoMemory>
+    ensures { IfOk result (λ h. h ≡ header_text) }
+{
     let mut manifest = Vec::with_capacity(alloc, MANIFEST.len() + TEXT.len())?;
     manifest.extend_from_slice(MANIFEST)?;
     manifest.extend_from_slice(TEXT)?;

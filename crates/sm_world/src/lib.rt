@@ -14,6 +14,7 @@ mod exchange;
 mod header;
 mod kind;
 pub mod law;
+mod memory;
 mod opening;
 mod reading;
 mod rehearsal;

@@ -1,5 +1,6 @@
 //! A rehearsal.
 ghost use Rattle.std.specs.Prelude.{◌≡◌, ◌≤◌, ◌<◌, ◌*◌, ◌^◌, IfOk, OnOk, length};
+ghost use Rattle.sm_world.specs.Deeds.{deeds_in};
 ghost use Rattle.sm_world.specs.Encoders.{entries_after};
 ghost use Rattle.sm_world.specs.Rehearsed.{Rehearsed};
 ghost use Rattle.sm_world.specs.Rounds.{crashes, refusals};
@@ -73,7 +74,7 @@ fn push_all(stage: &mut Stage, number: u32, size: u64) -> Result<(), NoMemory>
     requires none_known { stage.old.known ≡ 0 }
     requires none_refused { stage.old.refused ≡ 0 }
     requires few { size ≤ 2000 }
-    ensures pushed { OnOk result (HasPushed stage.old stage.new (crashes size number) (refusals size number) (9 * size)) }
+    ensures pushed { OnOk result (HasPushed stage.old stage.new (deeds_in stage.old.header size number) (crashes size number) (refusals size number) (9 * size)) }
     ensures entries { OnOk result (0 < size → HasEntries stage.new.dial (entries_after size)) }
 {
     stage.rounds(number, size)?;

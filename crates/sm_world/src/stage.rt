@@ -1,6 +1,8 @@
 //! The pushes of a rehearsal.
-ghost use Rattle.std.specs.Prelude.{◌≡◌, ◌≤◌, ◌<◌, ◌*◌, ◌^◌, OnOk, IfOk, if◌then◌else◌};
-ghost use Rattle.sm_world.specs.Rounds.{behind, crashes, is_crash, is_refused, kind_by, refusals, state_by, stirred};
+ghost use Rattle.std.specs.Prelude.{◌≡◌, ◌≤◌, ◌<◌, ◌*◌, ◌^◌, ◌∷◌, [], OnOk, IfOk, if◌then◌else◌};
+ghost use Rattle.sm_world.specs.Deeds.{before_a, body_of_a, chance_by, deeds_in, of_b, round_of};
+ghost use Rattle.sm_world.specs.Deeds.Deed.{Pushes};
+ghost use Rattle.sm_world.specs.Rounds.{behind, crashes, drawn, is_crash, is_refused, kind_by, refusals, state_by, stirred};
 ghost use Rattle.sm_world.specs.Stages.{HasPushed};
 ghost use Rattle.sm_world.specs.Told.{known_by, refused_by};
 
@@ -32,7 +34,7 @@ impl Stage {
         requires few { fragments ≤ 3 }
         requires known { self.old.known < 2 ^ 62 }
         requires refused { self.old.refused < 2 ^ 62 }
-        ensures { IfOk result (λ told. HasPushed self.old self.new 0 (refused_by told) 3) }
+        ensures { IfOk result (λ told. HasPushed self.old self.new (Pushes body.now ∷ []) 0 (refused_by told) 3) }
     {
         let pushed = push_body(self.alloc, &mut self.dial, &self.place, &self.id, body);
         let told = told_by(self.alloc, fragments, pushed)?;
@@ -49,7 +51,7 @@ impl Stage {
         requires few { fragments ≤ 3 }
         requires known { self.old.known < 2 ^ 62 }
         requires refused { self.old.refused < 2 ^ 62 }
-        ensures { OnOk result (HasPushed self.old self.new 0 0 3) }
+        ensures { OnOk result (HasPushed self.old self.new (Pushes body.now ∷ []) 0 0 3) }
     {
         match self.push(body, fragments)? {
             Told::Taken { .. } => Ok(()),
@@ -61,7 +63,7 @@ impl Stage {
     fn push_refused(&mut self, body: &[u8]) -> Result<(), NoMemory>
         requires known { self.old.known < 2 ^ 62 }
         requires refused { self.old.refused < 2 ^ 62 }
-        ensures { OnOk result (HasPushed self.old self.new 0 1 3) }
+        ensures { OnOk result (HasPushed self.old self.new (Pushes body.now ∷ []) 0 1 3) }
     {
         match self.push(body, 1)? {
             Told::Refused => Ok(()),
@@ -73,7 +75,7 @@ impl Stage {
     fn push_stopped(&mut self, body: &[u8]) -> Result<(), NoMemory>
         requires known { self.old.known < 2 ^ 62 }
         requires refused { self.old.refused < 2 ^ 62 }
-        ensures { OnOk result (HasPushed self.old self.new 0 0 3) }
+        ensures { OnOk result (HasPushed self.old self.new (Pushes body.now ∷ []) 0 0 3) }
     {
         match self.push(body, 3)? {
             Told::Taken { .. } => Ok(()),
@@ -86,13 +88,13 @@ impl Stage {
     fn crash(&mut self, draws: &mut Draws, body: &[u8]) -> Result<(), NoMemory>
         requires known { self.old.known < 2 ^ 62 }
         requires refused { self.old.refused < 2 ^ 62 }
-        ensures pushed { OnOk result (HasPushed self.old self.new 1 0 3) }
+        ensures pushed { OnOk result (HasPushed self.old self.new (before_a Kind.Crash body.now (drawn (stirred draws.old.state))) 1 0 3) }
         ensures drawn { draws.new.state ≡ stirred draws.old.state }
     {
         let chance = draws.draw();
-        self.dial.stop_after(chance as u64 % 12);
+        self.dial.stop_disk(chance as u64 % 12);
         self.push_stopped(body)?;
-        self.dial.crash((chance % 4) as u8);
+        self.dial.crash_by((chance % 4) as u8);
         Ok(())
     }
 
@@ -100,7 +102,8 @@ impl Stage {
     fn begin(&mut self, kind: Kind, draws: &mut Draws, body: &[u8]) -> Result<(), NoMemory>
         requires known { self.old.known < 2 ^ 62 }
         requires refused { self.old.refused < 2 ^ 62 }
-        ensures pushed { OnOk result (HasPushed self.old self.new (if is_crash kind then 1 else 0) 0 3) }
+        ensures pushed { OnOk result (HasPushed self.old self.new (before_a kind body.now (drawn (stirred draws.old.state)))
+            (if is_crash kind then 1 else 0) 0 3) }
         ensures drawn { draws.new.state ≡ behind kind draws.old.state }
     {
         match kind {
@@ -113,14 +116,16 @@ impl Stage {
         }
     }
 
-    // What encoder B pushes.
-    fn push_of_b(&mut self, kind: Kind, time: u64, body: &[u8]) -> Result<(), NoMemory>
+    // What encoder B pushes in round `i`, where encoder A pushed this body.
+    fn push_of_b(&mut self, kind: Kind, i: u64, body: &[u8]) -> Result<(), NoMemory>
         requires known { self.old.known < 2 ^ 62 }
         requires refused { self.old.refused < 2 ^ 62 }
-        requires early { time < 2 ^ 61 }
-        ensures { OnOk result (HasPushed self.old self.new 0 (if is_refused kind then 1 else 0) 3) }
+        requires early { i < 2 ^ 32 }
+        requires of_a { body.now ≡ body_of_a self.old.header i }
+        ensures { OnOk result (HasPushed self.old self.new (of_b kind self.old.header i) 0 (if is_refused kind then 1 else 0) 3) }
     {
         let header = self.header.as_slice();
+        let time = LENGTH * i;
         match kind {
             Kind::Known => {
                 let other = push_of_b(self.alloc, header, time, LENGTH)?;
@@ -144,15 +149,17 @@ impl Stage {
         requires known { self.old.known < 2 ^ 61 }
         requires refused { self.old.refused < 2 ^ 61 }
         requires early { i < 2 ^ 32 }
-        ensures pushed { OnOk result (HasPushed self.old self.new (if is_crash (kind_by draws.old.state) then 1 else 0)
+        ensures pushed { OnOk result (HasPushed self.old self.new
+            (round_of (kind_by draws.old.state) self.old.header i (chance_by draws.old.state)) (if is_crash (kind_by draws.old.state) then 1 else 0)
             (if is_refused (kind_by draws.old.state) then 1 else 0) 9) }
         ensures drawn { OnOk result (draws.new.state ≡ behind (kind_by draws.old.state) (state_by draws.old.state)) }
     {
         let kind = draw_kind(draws);
-        let body = push_of_a(self.alloc, self.header.as_slice(), i)?;
-        self.begin(kind, draws, &body)?;
-        self.push_taken(&body, 3)?;
-        self.push_of_b(kind, LENGTH * i, &body)
+        let pushed = push_of_a(self.alloc, self.header.as_slice(), i)?;
+        let body = pushed.as_slice();
+        self.begin(kind, draws, body)?;
+        self.push_taken(body, 3)?;
+        self.push_of_b(kind, i, body)
     }
 
     /// So many rounds, with what is drawn from this number on.
@@ -160,7 +167,7 @@ impl Stage {
         requires none_known { self.old.known ≡ 0 }
         requires none_refused { self.old.refused ≡ 0 }
         requires few { size ≤ 2000 }
-        ensures { OnOk result (HasPushed self.old self.new (crashes size number) (refusals size number) (9 * size)) }
+        ensures { OnOk result (HasPushed self.old self.new (deeds_in self.old.header size number) (crashes size number) (refusals size number) (9 * size)) }
     {
         let mut draws = Draws { state: number };
         for i in 0..size {

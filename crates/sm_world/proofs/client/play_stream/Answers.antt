@@ -1,9 +1,11 @@
-use Rattle.std.proofs.Common.{◌≡◌, ◌<◌, ◌+◌, ◌-◌, ◌*◌, List, length, ap, ◌∙◌, arith}
+use Rattle.std.proofs.Common.{◌≡◌, ◌<◌, ◌+◌, ◌-◌, ◌*◌, ℕ, List, length, take, drop, ap, ◌∙◌, subst, arith}
+use Rattle.std.proofs.lemmas.List.{length-drop}
 use Rattle.sm_ends.specs.TracksHeld.{TracksState}
 use Rattle.sm_fetch.specs.declared.dial.Exchange.{Exchange}
 use Rattle.sm_client.specs.declared.report.End.TheVariants.{Done}
 use Rattle.sm_world.specs.Dialing.{Dialing}
-use Rattle.sm_world.proofs.ClientsPlayed.{plays_one, has_played}
+use Rattle.sm_world.specs.Clients.{HaveCome}
+use Rattle.sm_world.proofs.ClientsPlayed.{plays_one, has_played, take_rest}
 use Rattle.sm_world.proofs.client.play_stream.Goals as goal
 use Rattle.sm_world.proofs.client.play_stream.Goals.{in-Done, in_default+else-count-gt0}
 
@@ -25,10 +27,14 @@ returns c c' =
       | in-Done w ↦ (λ some. w.in-Done.is)
       | in_default+else-count-gt0 w ↦ (λ some. absurd (let none = w.if-count-gt0.false in omega (arith, some, none)))
     ] in
-    let made : length c'.exchanges.result.now - length c'.exchanges-before.result.now ≡ length new.1.made - length old.1.made =
-    ap (λ (xs : List Exchange). length xs - length c'.exchanges-before.result.now) c'.exchanges.ensures
-    ∙ ap (λ (xs : List Exchange). length new.1.made - length xs) (c'.exchanges-before.ensures ∙ ap (λ (d : Dialing). d.made) c'.renumber.ensures.dialing)
+    let more = take (length c'.exchanges.result.now - length c'.exchanges-before.result.now) (drop (length c'.exchanges-before.result.now) c'.exchanges.result.now) in
+    let before : length c'.exchanges-before.result.now ≡ length old.1.made =
+    ap (λ (xs : List Exchange). length xs) (c'.exchanges-before.ensures ∙ ap (λ (d : Dialing). d.made) c'.renumber.ensures.dialing)
     in
+    let are : more ≡ drop (length old.1.made) new.1.made =
+    take_rest (length c'.exchanges-before.result.now) c'.exchanges.result.now
+    ∙ ap (λ (n : ℕ). drop n c'.exchanges.result.now) before ∙ ap (λ (xs : List Exchange). drop (length old.1.made) xs) c'.exchanges.ensures
+    in
+    let made : length more ≡ length new.1.made - length old.1.made = ap (λ (xs : List Exchange). length xs) are ∙ length-drop (length old.1.made) new.1.made in
     has_played _ c'.args.policy c'.args.stream.now count ((count + 1) * 9) old new lost cut c'.play-report.new.tracks report c'.requires.stream c'.requires.few (omega arith)
-    c'.in_ok-multiples.ensures c'.in_ok-multiples-2.ensures plays c'.numbered.ensures.1 ended c'.if-report-count.false
-    (length c'.exchanges.result.now - length c'.exchanges-before.result.now) made
+    c'.in_ok-multiples.ensures c'.in_ok-multiples-2.ensures plays (subst (HaveCome 1) are (c'.have_come.ensures c'.if-not-have_come.false)) ended c'.if-report-count.false (length more) made

@@ -12,7 +12,7 @@ invariant_of-self g c =
     let tells = g.met.S.Crashing.tells e in
     let x = crashes g.S.Disk.view g.S.Disk.may_leave g.S.Disk.left_at i.2.0 c.self.inside.state d e (g.met.S.Crashing.tells d).contents tells.contents
     c.crash_here.ensures.image c.crash_here.ensures.settled (empty_told (g.S.Disk.view e).transcript tells.transcript c.crash_here.ensures.transcript) i.2.1 in
-    (i.0, i.1, (x.0, x.1), i.3, i.4)
+    (i.0, i.1, (x.0, x.1), i.3)
 
 pub returns-clause-crashes : goal.returns-clause-crashes
 returns-clause-crashes g c =

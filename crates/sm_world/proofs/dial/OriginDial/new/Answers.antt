@@ -1,6 +1,5 @@
 use Rattle.std.proofs.Common.{[], arith}
 use Rattle.sm_world.proofs.Calls.{begins_closed, some_world}
-use Rattle.sm_world.proofs.Numbering.{none_numbered}
 use Rattle.sm_world.proofs.dial.OriginDial.new.Goals as goal
 
 pub invariant_of-result : goal.invariant_of-result
@@ -10,7 +9,6 @@ invariant_of-result g c =
       c.requires.entries,
       some_world g.S.Disk.view g.S.Disk.may_leave g.S.Disk.left_at c.args.site [] tells.contents tells.transcript c.requires.settled c.requires.store,
       omega arith,
-      none_numbered c.args.lost c.args.cut c.new.result.items c.new.ensures.items,
     )
 
 pub returns-clause-stands : goal.returns-clause-stands

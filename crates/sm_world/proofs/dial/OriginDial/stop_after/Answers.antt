@@ -17,7 +17,6 @@ invariant_of-self g c =
             (same_view (g.S.Disk.view d) (g.S.Disk.view e) c.stop_after.ensures.view) c.stop_after.ensures.crash c.stop_after.ensures.past c.self.inside.state i.2.1,
       ),
       i.3,
-      i.4,
     )
 
 pub returns-clause-stands : goal.returns-clause-stands

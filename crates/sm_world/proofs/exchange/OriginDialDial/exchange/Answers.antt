@@ -1,7 +1,8 @@
-use Rattle.std.proofs.Common.{◌≡◌, ⊎_elim, inl, inr, ℕ, ◌+◌, ◌-◌, Option, Bool, length, ◌∙◌, sym, ap, subst, arith}
+use Rattle.std.proofs.Common.{◌≡◌, ⊎_elim, inl, inr, ℕ, ◌+◌, ◌-◌, Option, Bool, length, refl, ◌∙◌, sym, ap, subst, arith}
 use Rattle.sm_fetch.specs.Exchanges.{IsWithin}
 use Rattle.sm_world.specs.Worlds.{GoesOn}
-use Rattle.sm_world.proofs.Numbering.{answer_within, numbered}
+use Rattle.sm_world.specs.Later.{IsLater}
+use Rattle.sm_world.proofs.Numbering.{answer_within, later_exchange, since_within}
 use Rattle.sm_fetch.specs.Origins.{AnswersFrom}
 use Rattle.sm_site.specs.Faults.{is_listed}
 use Rattle.sm_serve.specs.declared.state.State.{State}
@@ -23,9 +24,17 @@ returns-clause-answers g c =
     in
     let cut : c.contains-cut.result ≡ is_listed (next_number v) v.cut =
     c.contains-cut.ensures ∙ ap (λ (v : _). is_listed number v.1.cut) c.self.view_is ∙ ap (λ (n : ℕ). is_listed n v.cut) is
+    in
+    let V = g.S.Disk.view in
+    let A = g.S.Disk.may_leave in
+    let L = g.S.Disk.left_at in
+    let e = c.ask-state.new.site in
+    let says : SaysOn V A L c.self.inside.state c.self.inside.site c.args.request.now came c.ask-state.result.state e =
+    subst (λ (o : Option State). SaysOn V A L o c.self.inside.site c.args.request.now came c.ask-state.result.state e) c.take-state.ensures.value c.ask-state.ensures.says
     in (
       came,
       subst (λ (s : _). HasCause g.S.Disk.view s c.ask-state.new.site c.args.request.now came) (ap (λ (v : _). v.0) c.self.view_is) c.ask-state.ensures.cause,
+      subst (λ (v : _). SaysOn V A L v.1.state v.0 c.args.request.now came c.ask-state.result.state e) c.self.view_is says,
       ⊎_elim
           (λ wants. inl wants)
           (λ same. inr (same ∙ c.answer_for-answer.ensures ∙ ap (λ (b : Bool). answer_for b c.contains-cut.result c.args.limit came) lost
@@ -56,9 +65,8 @@ returns-clause-within g c = ⊎_elim
     (answer_within c.contains-lost.result c.contains-cut.result c.args.limit c.ask-state.result.acted))
     c.told.ensures.same
 
-pub invariant_of-self : goal.invariant_of-self
-invariant_of-self g c =
-    let i = c.self.invariant in
+pub returns-clause-goes_on : goal.returns-clause-goes_on
+returns-clause-goes_on g c =
     let s = c.self.inside in
     let V = g.S.Disk.view in
     let A = g.S.Disk.may_leave in
@@ -68,13 +76,41 @@ invariant_of-self g c =
     let came = c.ask-state.result.acted in
     let n = length s.made.items - s.since + 1 in
     let goes : GoesOn V A L s.state s.site state e = subst (λ (o : Option State). GoesOn V A L o s.site state e) c.take-state.ensures.value c.ask-state.ensures.goes_on in
-    let w = goes i.2.0 i.2.1 in
+    let says : SaysOn V A L s.state s.site c.args.request.now came state e =
+    subst (λ (o : Option State). SaysOn V A L o s.site c.args.request.now came state e) c.take-state.ensures.value c.ask-state.ensures.says
+    in
     let number : c.number-number.result ≡ n = c.number-number.ensures ∙ sym (ap (λ (v : _). next_number v.1) c.self.view_is) in
     let lost : c.contains-lost.result ≡ is_listed n s.lost = c.contains-lost.ensures ∙ ap (λ (k : ℕ). is_listed k s.lost) number in
     let cut : c.contains-cut.result ≡ is_listed n s.cut = c.contains-cut.ensures ∙ ap (λ (k : ℕ). is_listed k s.cut) number in
-    let numbers = numbered s.lost s.cut s.since s.made.items i.3 i.4 c.told.new.made.items c.args.request.now c.args.limit c.told.result came c.told.ensures.made
+    subst (λ (v : _). IsLater V A L v (
+      e,
+      record {
+        state = state;
+        limits = s.limits;
+        lost = s.lost;
+        cut = s.cut;
+        since = s.since;
+        made = c.told.new.made.items;
+        faults = c.told.new.faults;
+        crashes = s.crashes;
+      },
+    )) c.self.view_is
+    (later_exchange V A L _ _ c.args.request.now c.args.limit came says c.told.result c.told.ensures.made
     (⊎_elim (λ (wants : c.told.result ≡ answers.NoMemory). inl wants)
     (λ (same : c.told.result ≡ c.answer_for-answer.result). inr (same ∙ c.answer_for-answer.ensures ∙ ap (λ (b : Bool). answer_for b c.contains-cut.result c.args.limit came) lost
     ∙ ap (λ (b : Bool). answer_for (is_listed n s.lost) b c.args.limit came) cut))
     c.told.ensures.same)
-    in (i.0, i.1, (w.0, w.1), numbers.0, numbers.1)
+    refl refl refl refl refl goes)
+
+pub invariant_of-self : goal.invariant_of-self
+invariant_of-self g c =
+    let i = c.self.invariant in
+    let s = c.self.inside in
+    let V = g.S.Disk.view in
+    let A = g.S.Disk.may_leave in
+    let L = g.S.Disk.left_at in
+    let goes : GoesOn V A L s.state s.site c.ask-state.result.state c.ask-state.new.site =
+    subst (λ (o : Option State). GoesOn V A L o s.site c.ask-state.result.state c.ask-state.new.site) c.take-state.ensures.value c.ask-state.ensures.goes_on
+    in
+    let w = goes i.2.0 i.2.1 in
+    (i.0, i.1, (w.0, w.1), since_within s.since s.made.items c.told.new.made.items c.args.request.now c.args.limit c.told.result i.3 c.told.ensures.made)

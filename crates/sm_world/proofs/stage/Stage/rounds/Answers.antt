@@ -1,4 +1,5 @@
 use Rattle.std.proofs.Common.{◌≡◌, ◌+◌, ◌*◌, ℕ, suc, arith, subst}
+use Rattle.sm_world.specs.Deeds.{deeds_in}
 use Rattle.sm_world.specs.Rounds.{crashes, refusals, state_at}
 use Rattle.sm_world.specs.Stages.{HasPushed}
 use Rattle.sm_world.proofs.Staging.{few_refusals, round_more, state_more}
@@ -18,7 +19,7 @@ loop-i-preserved c =
     let more : suc i ≡ i + 1 = omega arith in
     let inv = c.loop-i.invariant in
     record {
-      pushed = subst (λ (n : ℕ). HasPushed c.args.self.now c.round.new.self (crashes n x) (refusals n x) (9 * n)) more
+      pushed = subst (λ (n : ℕ). HasPushed c.args.self.now c.round.new.self (deeds_in c.args.self.now.header n x) (crashes n x) (refusals n x) (9 * n)) more
           (round_more c.args.self.now c.loop-i.self c.round.new.self i x c.loop-i.draws.state inv.state inv.pushed c.in_ok-round.ensures.pushed);
       state = subst (λ (n : ℕ). c.round.new.draws.state ≡ state_at n x) more (state_more i x c.loop-i.draws.state c.round.new.draws.state inv.state c.in_ok-round.ensures.drawn);
     }
