@@ -144,9 +144,9 @@ impl Peer {
         }
     }
 
-    /// A turn of the loop on a piece of this peer took so many milliseconds.
-    pub fn weigh(&mut self, took: u128) {
-        self.budget.weigh(took);
+    /// A turn of the loop on a piece of this peer took so many milliseconds, in which something was sent or brought to rest, or not.
+    pub fn weigh(&mut self, took: u128, worked: bool) {
+        self.budget.weigh(took, worked);
     }
 
     /// So much of the time doesn't count, since nobody could be served.

@@ -63,12 +63,13 @@ impl Peers {
         }
     }
 
-    /// A turn of the loop on a piece of the one with a number took so many milliseconds.
-    pub fn weigh(&mut self, number: u64, took: u128)
+    /// A turn of the loop on a piece of the one with a number took so many milliseconds, in which something was sent or brought to rest,
+    /// or not.
+    pub fn weigh(&mut self, number: u64, took: u128, worked: bool)
         ensures { (self.new.list.items ≡ self.old.list.items) ⊎ Touches number self.old.list.items self.new.list.items }
     {
         if let Some(place) = self.place(number) {
-            self.list[place].weigh(took);
+            self.list[place].weigh(took, worked);
         }
     }
 

@@ -91,6 +91,7 @@ impl<R: Files<File = File> + Net + Clock + Drop> Disk for RealSite<R> {
     }
 
     fn sync(&mut self, file: u32) -> Result<(), Failed> {
+        self.link.note_work();
         self.disk.sync(file)
     }
 }

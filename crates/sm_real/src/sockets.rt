@@ -48,11 +48,12 @@ pub enum Asked {
     NoMemory,
 }
 
-// Whose piece was given last, and when.
+// Whose piece was given last, when, and whether something was sent or brought to rest since.
 #[derive(Clone, Copy)]
 struct Given {
     number: u64,
     at: Instant,
+    worked: bool,
 }
 
 /// A listener and its peers.
@@ -134,9 +135,19 @@ impl Sockets {
             self.given = Some(Given {
                 number: *holder,
                 at,
+                worked: false,
             });
         }
         asked
+    }
+
+    /// Something was sent or brought to rest for the piece that was given last.
+    pub fn note_work(&mut self)
+        ensures { self.new.peers ≡ self.old.peers }
+    {
+        if let Some(given) = &mut self.given {
+            given.worked = true;
+        }
     }
 
     // The loop is done with the piece that was given last.
@@ -145,7 +156,7 @@ impl Sockets {
             && let Ok(now) = Instant::now(rt)
         {
             let took = now.saturating_duration_since(given.at).as_millis();
-            self.peers.weigh(given.number, took);
+            self.peers.weigh(given.number, took, given.worked);
         }
     }
 
@@ -305,6 +316,7 @@ impl Sockets {
         ensures bounded { wait_in_all self.new.peers.list.items ≤ self.new.patience.waiting }
         ensures sent { OnOk result (SentAmong number (head.now ++ tail.now) self.old.peers.list.items self.new.peers.list.items) }
     {
+        self.note_work();
         let sent = self.peers.send(self.alloc, number, head, tail, self.now);
         self.peers.relieve(self.alloc, self.patience.waiting);
         sent

@@ -132,6 +132,17 @@ impl<R: Net + Clock + Drop> TcpLink<R> {
         }
     }
 
+    /// The site brought something to rest for the piece that was given last.
+    pub fn note_work(&mut self)
+        ensures faults { self.new.faults ≡ self.old.faults }
+        ensures send_faults { self.new.send_faults ≡ self.old.send_faults }
+        ensures numbers { self.new.next_number ≡ self.old.next_number }
+    {
+        if let Some(sockets) = &mut self.sockets {
+            sockets.note_work();
+        }
+    }
+
     /// Where it listens.
     pub fn local_addr(&self) -> io::Result<SocketAddr> {
         match &self.sockets {
