@@ -6,45 +6,22 @@ ghost use Rattle.std.specs.Prelude.{◌≡◌, length, map, string_bytes};
 ghost use Rattle.std.specs.Option.{option_map};
 ghost use Rattle.std.specs.Process.{exit_status};
 ghost use Rattle.std.specs.Result.{result_ok};
-ghost use Rattle.smooth.specs.Ran.{EndsAs};
+ghost use Rattle.sm_tool.specs.Ran.{EndsAs};
 
-mod answer;
-pub mod law;
-mod line;
-mod matched;
-mod option;
-mod order;
-mod origins;
-mod pick;
-mod place;
-mod play;
-mod play_order;
-mod print;
-mod put;
-mod rehearse;
-mod search;
-mod seek;
 mod std_ends;
-mod stores;
-#[cfg(test)]
-mod tests;
-mod tool;
-mod words;
 
-use answer::Answer;
-use print::print;
 use sm_ends::{Sink, Source, Tracks};
 use sm_fetch::Dial;
 use sm_model::NoMemory;
 use sm_policy::{Fixed, Ladder, Policy, Steps};
 use sm_real::{FileTracks, RealSite, TcpDial};
 use sm_site::Site;
+use sm_tool::{starved, tool};
 use std::alloc::Global;
 use std::env;
 use std::io::ErrorKind;
 use std::process::ExitCode;
 use std_ends::{StdSink, StdSource};
-use tool::tool;
 
 // The words behind the program's name. Where one of them is no text they are none of a command, and so are no words at all.
 fn words_of(rt: &HostRuntime) -> Result<Vec<String>, NoMemory> {
@@ -73,7 +50,7 @@ fn run<I: Source, O: Sink, S: Site, C: Dial, T: Tracks>(
     policies: Vec<Box<dyn Policy>>,
 ) -> ExitCode
     requires policies { length policies.items ≡ 3 }
-    ensures { EndsAs S.Disk.view S.Disk.may_leave S.Disk.left_at (record { pick = pick_after; retired = retired_after }) policies.items
+    ensures ends { EndsAs S.Disk.view S.Disk.may_leave S.Disk.left_at C.store (record { pick = pick_after; retired = retired_after }) policies.items
         (option_map (λ list. map string_bytes list.items) (result_ok words))
         (record {
           input = record { told = I.left input.old; faults = I.faults input.old };
@@ -86,18 +63,19 @@ fn run<I: Source, O: Sink, S: Site, C: Dial, T: Tracks>(
           tracks = record { held = T.held tracks.new; faults = T.faults tracks.new };
         })
         (record { told = O.held output.old; faults = O.faults output.old })
-        (record { told = O.held output.new; faults = O.faults output.new }) site.old site.new (exit_status result) }
+        (record { told = O.held output.new; faults = O.faults output.new }) site.old site.new dial.old dial.new (exit_status result) }
+    ensures goes_on { C.later dial.old dial.new }
 {
     let status = match words {
         Ok(words) => tool(alloc, &words, input, output, site, dial, tracks, policies),
-        Err(NoMemory) => print(output, &Answer::Starved),
+        Err(NoMemory) => starved(output),
     };
     ExitCode::from(status)
 }
 
-// Tells that there is no memory.
-fn starved<O: Sink>(output: &mut O) -> ExitCode {
-    ExitCode::from(print(output, &Answer::Starved))
+// Ends where there is no memory to begin with.
+fn end_starved<O: Sink>(output: &mut O) -> ExitCode {
+    ExitCode::from(starved(output))
 }
 
 fn main(rt: HostRuntime) -> ExitCode {
@@ -108,19 +86,19 @@ fn main(rt: HostRuntime) -> ExitCode {
     let mut tracks = FileTracks::new(&rt, rt.alloc());
     let words = words_of(&rt);
     let Ok(steps) = Box::new(rt.alloc(), Steps::new()) else {
-        return starved(&mut output);
+        return end_starved(&mut output);
     };
     let Ok(ladder) = Box::new(rt.alloc(), Ladder::new()) else {
-        return starved(&mut output);
+        return end_starved(&mut output);
     };
     let Ok(fixed) = Box::new(rt.alloc(), Fixed::new(0)) else {
-        return starved(&mut output);
+        return end_starved(&mut output);
     };
     let steps: Box<dyn Policy> = steps;
     let ladder: Box<dyn Policy> = ladder;
     let fixed: Box<dyn Policy> = fixed;
     let Ok(policies) = vec![in rt.alloc(); steps, ladder, fixed] else {
-        return starved(&mut output);
+        return end_starved(&mut output);
     };
     run(
         rt.alloc(),

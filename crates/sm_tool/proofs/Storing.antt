@@ -1,0 +1,145 @@
+-- What a fault of a command on a store means.
+use Rattle.std.proofs.Common.{◌≡◌, ◌⊎◌, inl, inr, ℕ, Bool, List, None, Some, Result, Ok, Err, refl, sym, subst, ◌∙◌}
+use Rattle.std.specs.Prelude.{IfOk}
+use Rattle.sm_model.specs.declared.no_memory.NoMemory.{NoMemory}
+use Rattle.sm_site.specs.Image.{Image}
+use Rattle.sm_site.specs.Meanings.{Chosen, View}
+use Rattle.sm_archive.specs.declared.answers.Declared.{Declared}
+use Rattle.sm_archive.specs.declared.answers.Declared.TheVariants as declared
+use Rattle.sm_serve.specs.declared.outcome.Served.{Served as Outcome}
+use Rattle.sm_serve.specs.declared.outcome.Served.TheVariants as served
+use Rattle.sm_serve.specs.declared.state.State.{State}
+use Rattle.sm_command.specs.declared.fault.StoreFault.{StoreFault}
+use Rattle.sm_command.specs.declared.fault.StoreFault.TheVariants as fault
+use Rattle.sm_command.specs.Lasting.{Untouched}
+use Rattle.sm_command.specs.Listing.{WhyUnlisted}
+use Rattle.sm_command.specs.Serving.{Input, LadderMeans, UnreadyBy, WhyUnready, outcome_of}
+use Rattle.sm_tool.specs.declared.answer.Answer.{Answer}
+use Rattle.sm_tool.specs.declared.answer.Answer.TheVariants.{Found, NotAStore}
+use Rattle.sm_tool.specs.Stores.{End, IsSelected, ListMeans, ServeMeans, Tells, TellsEnd, input_of, or_starved}
+
+-- a ladder is never answered by damage
+not_damaged : (answer : Declared) → Err fault.Damaged ≡ outcome_of answer → ⊥
+not_damaged declared.Fixed e = cc
+not_damaged declared.Agreed e = cc
+not_damaged (declared.Refused cause) e = cc
+not_damaged declared.Full e = cc
+not_damaged declared.DiskFault e = cc
+not_damaged declared.NoMemory e = cc
+
+never_damaged : {D : Type 0} (view : D → View) (leave : D → Image → Type 0) (left_at : D → ℕ → Image → Type 0) (ladder : Bool) (input input' : Input) (d d' : D)
+    → UnreadyBy view leave left_at ladder input input' d d' fault.Damaged → ⊥
+never_damaged {D} view leave left_at ladder input input' d d' (inl h) = h.0
+never_damaged {D} view leave left_at ladder input input' d d' (inr h) = by_ladder h.1.state h.1.after h.1.opened h.1.means
+  where
+    by_ladder : (state after : State) (opened : D) → LadderMeans view leave left_at input input' state opened after d' (Err fault.Damaged) → ⊥
+    by_ladder state after opened (inl declares) = not_damaged declares.0 declares.1
+    by_ladder state after opened (inr none) = none.why
+
+told : {D : Type 0} (view : D → View) (leave : D → Image → Type 0) (left_at : D → ℕ → Image → Type 0) (ladder : Bool) (turns : ℕ) (input input' : End) (d d' : D) (why : StoreFault) (answer : Answer)
+    → WhyUnready view leave left_at ladder (input_of input) (input_of input') d d' why → Tells why answer → ServeMeans view leave left_at ladder turns input input' d d' answer
+told view leave left_at ladder turns input input' d d' fault.DiskFault answer h is = subst (λ (a : Answer). ServeMeans view leave left_at ladder turns input input' d d' a) (sym is) h
+told view leave left_at ladder turns input input' d d' fault.LinkFault answer h is = subst (λ (a : Answer). ServeMeans view leave left_at ladder turns input input' d d' a) (sym is) (inr h)
+told view leave left_at ladder turns input input' d d' (fault.NotAStore at) answer h is =
+    subst (λ (a : Answer). ServeMeans view leave left_at ladder turns input input' d d' a) (sym is) (at, refl, h)
+told view leave left_at ladder turns input input' d d' fault.Unread answer h is = subst (λ (a : Answer). ServeMeans view leave left_at ladder turns input input' d d' a) (sym is) h
+told view leave left_at ladder turns input input' d d' fault.LongLadder answer h is = subst (λ (a : Answer). ServeMeans view leave left_at ladder turns input input' d d' a) (sym is) h
+told view leave left_at ladder turns input input' d d' (fault.BadLadder at) answer h is =
+    subst (λ (a : Answer). ServeMeans view leave left_at ladder turns input input' d d' a) (sym is) (at, refl, h)
+told view leave left_at ladder turns input input' d d' (fault.Refused cause) answer h is =
+    subst (λ (a : Answer). ServeMeans view leave left_at ladder turns input input' d d' a) (sym is) (cause, refl, h)
+told view leave left_at ladder turns input input' d d' fault.Full answer h is = subst (λ (a : Answer). ServeMeans view leave left_at ladder turns input input' d d' a) (sym is) h
+told view leave left_at ladder turns input input' d d' fault.Damaged answer h is = absurd (never_damaged view leave left_at ladder (input_of input) (input_of input') d d' h.cause)
+told view leave left_at ladder turns input input' d d' fault.NoMemory answer h is =
+    subst (λ (a : Answer). ServeMeans view leave left_at ladder turns input input' d d' a) (sym is) (inr (fault.NoMemory, h))
+
+pub unserved : {D : Type 0} (view : D → View) (leave : D → Image → Type 0) (left_at : D → ℕ → Image → Type 0) (ladder : Bool) (turns : ℕ) (input input' : End) (d d' : D) (why : StoreFault)
+    (r : Result Answer NoMemory) (answer : Answer) → WhyUnready view leave left_at ladder (input_of input) (input_of input') d d' why → IfOk r (λ a. Tells why a) → answer ≡ or_starved r
+    → ServeMeans view leave left_at ladder turns input input' d d' answer
+unserved view leave left_at ladder turns input input' d d' why (Ok a) answer h tells is =
+    subst (λ (x : Answer). ServeMeans view leave left_at ladder turns input input' d d' x) (sym is) (told view leave left_at ladder turns input input' d d' why a h tells)
+unserved view leave left_at ladder turns input input' d d' why (Err none) answer h tells is =
+    subst (λ (x : Answer). ServeMeans view leave left_at ladder turns input input' d d' x) (sym is) (inr (why, h))
+
+-- ---- list
+
+told_list : {D : Type 0} (view : D → View) (leave : D → Image → Type 0) (left_at : D → ℕ → Image → Type 0) (d d' : D) (why : StoreFault) (answer : Answer) → WhyUnlisted view leave left_at d d' why → Tells why answer
+    → ListMeans view leave left_at d d' answer
+told_list view leave left_at d d' fault.DiskFault answer h is = subst (λ (a : Answer). ListMeans view leave left_at d d' a) (sym is) h
+told_list view leave left_at d d' fault.LinkFault answer h is = subst (λ (a : Answer). ListMeans view leave left_at d d' a) (sym is) h
+told_list view leave left_at d d' (fault.NotAStore at) answer h is = subst (λ (a : Answer). ListMeans view leave left_at d d' a) (sym is) (at, refl, h)
+told_list view leave left_at d d' fault.Unread answer h is = absurd h.cause
+told_list view leave left_at d d' fault.LongLadder answer h is = absurd h.cause
+told_list view leave left_at d d' (fault.BadLadder at) answer h is = absurd h.cause
+told_list view leave left_at d d' (fault.Refused cause) answer h is = absurd h.cause
+told_list view leave left_at d d' fault.Full answer h is = absurd h.cause
+told_list view leave left_at d d' fault.Damaged answer h is = subst (λ (a : Answer). ListMeans view leave left_at d d' a) (sym is) h
+told_list view leave left_at d d' fault.NoMemory answer h is = subst (λ (a : Answer). ListMeans view leave left_at d d' a) (sym is) (fault.NoMemory, h)
+
+pub unlisted : {D : Type 0} (view : D → View) (leave : D → Image → Type 0) (left_at : D → ℕ → Image → Type 0) (d d' : D) (why : StoreFault) (r : Result Answer NoMemory) (answer : Answer) → WhyUnlisted view leave left_at d d' why
+    → IfOk r (λ a. Tells why a) → answer ≡ or_starved r → ListMeans view leave left_at d d' answer
+unlisted view leave left_at d d' why (Ok a) answer h tells is = subst (λ (x : Answer). ListMeans view leave left_at d d' x) (sym is) (told_list view leave left_at d d' why a h tells)
+unlisted view leave left_at d d' why (Err none) answer h tells is = subst (λ (x : Answer). ListMeans view leave left_at d d' x) (sym is) (why, h)
+
+-- ---- what is told to be no store
+
+-- the place of the fault that is told so
+placed : (why : StoreFault) (answer : Answer) (line : List ℕ) → Tells why answer → answer ≡ NotAStore line → (at : ℕ) × (why ≡ fault.NotAStore at)
+placed fault.DiskFault answer line is e = absurd (let no = sym is ∙ e in cc)
+placed fault.LinkFault answer line is e = absurd (let no = sym is ∙ e in cc)
+placed (fault.NotAStore at) answer line is e = (at, refl)
+placed fault.Unread answer line is e = absurd (let no = sym is ∙ e in cc)
+placed fault.LongLadder answer line is e = absurd (let no = sym is ∙ e in cc)
+placed (fault.BadLadder at) answer line is e = absurd (let no = sym is ∙ e in cc)
+placed (fault.Refused cause) answer line is e = absurd (let no = sym is ∙ e in cc)
+placed fault.Full answer line is e = absurd (let no = sym is ∙ e in cc)
+placed fault.Damaged answer line is e = absurd (let no = sym is ∙ e in cc)
+placed fault.NoMemory answer line is e = absurd (let no = sym is ∙ e in cc)
+
+-- the place of the fault behind such an answer
+placed_by : (why : StoreFault) (r : Result Answer NoMemory) (answer : Answer) (line : List ℕ) → IfOk r (λ a. Tells why a) → answer ≡ or_starved r → answer ≡ NotAStore line
+    → (at : ℕ) × (why ≡ fault.NotAStore at)
+placed_by why (Ok a) answer line tells is e = placed why a line tells (sym is ∙ e)
+placed_by why (Err none) answer line tells is e = absurd (let no = sym is ∙ e in cc)
+
+pub unwritten_served : {D : Type 0} (view : D → View) (leave : D → Image → Type 0) (left_at : D → ℕ → Image → Type 0) (ladder : Bool) {input input' : Input} (d d' : D) (why : StoreFault) (r : Result Answer NoMemory) (answer : Answer) (line : List ℕ)
+    → WhyUnready view leave left_at ladder input input' d d' why → IfOk r (λ a. Tells why a) → answer ≡ or_starved r → answer ≡ NotAStore line → Untouched view leave left_at d d'
+unwritten_served view leave left_at ladder d d' why r answer line h tells is e = let p = placed_by why r answer line tells is e in h.untouched p.0 p.1
+
+pub unwritten_listed : {D : Type 0} (view : D → View) (leave : D → Image → Type 0) (left_at : D → ℕ → Image → Type 0) (d d' : D) (why : StoreFault) (r : Result Answer NoMemory) (answer : Answer) (line : List ℕ)
+    → WhyUnlisted view leave left_at d d' why → IfOk r (λ a. Tells why a) → answer ≡ or_starved r → answer ≡ NotAStore line → Untouched view leave left_at d d'
+unwritten_listed view leave left_at d d' why r answer line h tells is e = let p = placed_by why r answer line tells is e in h.untouched p.0 p.1
+
+ended_so : (end : Outcome) (answer : Answer) (line : List ℕ) → TellsEnd end answer → answer ≡ NotAStore line → ⊥
+ended_so (served.Done taken behind short) answer line is e = let no = sym is ∙ e in cc
+ended_so served.LinkFault answer line is e = let no = sym is ∙ e in cc
+ended_so served.NoMemory answer line is e = let no = sym is ∙ e in cc
+
+-- a loop that ran was on a store
+pub ended_is_store : (end : Outcome) (r : Result Answer NoMemory) (answer : Answer) (line : List ℕ) → IfOk r (λ a. TellsEnd end a) → answer ≡ or_starved r → answer ≡ NotAStore line → ⊥
+ended_is_store end (Ok a) answer line tells is e = ended_so end a line tells (sym is ∙ e)
+ended_is_store end (Err none) answer line tells is e = let no = sym is ∙ e in cc
+
+-- ---- what the site is selected with
+
+pub selected : (answer : Answer) (chosen : Chosen) (view : View) → view.chosen ≡ Some chosen → IsSelected answer chosen view
+selected (Found line) chosen view is = is
+selected answer chosen view is = inl is
+
+told_selected : (why : StoreFault) (answer : Answer) (chosen : Chosen) (view : View) → Tells why answer → (view.chosen ≡ Some chosen) ⊎ (view.chosen ≡ None)
+    → IsSelected answer chosen view
+told_selected fault.DiskFault answer chosen view is h = subst (λ (a : Answer). IsSelected a chosen view) (sym is) h
+told_selected fault.LinkFault answer chosen view is h = subst (λ (a : Answer). IsSelected a chosen view) (sym is) h
+told_selected (fault.NotAStore at) answer chosen view is h = subst (λ (a : Answer). IsSelected a chosen view) (sym is) h
+told_selected fault.Unread answer chosen view is h = subst (λ (a : Answer). IsSelected a chosen view) (sym is) h
+told_selected fault.LongLadder answer chosen view is h = subst (λ (a : Answer). IsSelected a chosen view) (sym is) h
+told_selected (fault.BadLadder at) answer chosen view is h = subst (λ (a : Answer). IsSelected a chosen view) (sym is) h
+told_selected (fault.Refused cause) answer chosen view is h = subst (λ (a : Answer). IsSelected a chosen view) (sym is) h
+told_selected fault.Full answer chosen view is h = subst (λ (a : Answer). IsSelected a chosen view) (sym is) h
+told_selected fault.Damaged answer chosen view is h = subst (λ (a : Answer). IsSelected a chosen view) (sym is) h
+told_selected fault.NoMemory answer chosen view is h = subst (λ (a : Answer). IsSelected a chosen view) (sym is) h
+
+pub unselected : (why : StoreFault) (r : Result Answer NoMemory) (answer : Answer) (chosen : Chosen) (view : View) → IfOk r (λ a. Tells why a) → answer ≡ or_starved r
+    → (view.chosen ≡ Some chosen) ⊎ (view.chosen ≡ None) → IsSelected answer chosen view
+unselected why (Ok a) answer chosen view tells is h = subst (λ (x : Answer). IsSelected x chosen view) (sym is) (told_selected why a chosen view tells h)
+unselected why (Err none) answer chosen view tells is h = subst (λ (x : Answer). IsSelected x chosen view) (sym is) h

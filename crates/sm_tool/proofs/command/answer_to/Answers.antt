@@ -1,0 +1,43 @@
+use Rattle.std.proofs.Common.{map, string_bytes, Option, Some, ap, sym, ◌∙◌}
+use Rattle.std.specs.Option.{option_map}
+use Rattle.sm_tool.specs.declared.order.Order.{Order}
+use Rattle.sm_tool.specs.Orders.{wanted_of}
+use Rattle.sm_tool.proofs.Idling.{idle_lasts}
+use Rattle.sm_tool.proofs.Sounding.{playable, rehearsable}
+use Rattle.sm_tool.proofs.command.answer_to.Goals as goal
+
+pub play-requires-clause-playable : goal.play-requires-clause-playable
+play-requires-clause-playable g c =
+    let at = c.in-Ok-Some-Play in
+    playable at.order.plan (map string_bytes c.args.words.now)
+    (sym (ap (λ (o : Option Order). option_map wanted_of o) (at.field-0-is ∙ ap (λ (o : Order). Some o) at.field-0-0-is)) ∙ at.ensures)
+
+pub rehearse-requires-clause-number : goal.rehearse-requires-clause-number
+rehearse-requires-clause-number g c =
+    let at = c.in-Ok-Some-Rehearse in
+    (rehearsable at.number at.size (map string_bytes c.args.words.now)
+    (sym (ap (λ (o : Option Order). option_map wanted_of o) (at.field-0-is ∙ ap (λ (o : Order). Some o) at.field-0-0-is)) ∙ at.ensures)).number_fits
+
+pub rehearse-requires-clause-size : goal.rehearse-requires-clause-size
+rehearse-requires-clause-size g c =
+    let at = c.in-Ok-Some-Rehearse in
+    (rehearsable at.number at.size (map string_bytes c.args.words.now)
+    (sym (ap (λ (o : Option Order). option_map wanted_of o) (at.field-0-is ∙ ap (λ (o : Order). Some o) at.field-0-0-is)) ∙ at.ensures)).size_fits
+
+pub returns-in-Ok-Some-Pick-clause-lasts : goal.returns-in-Ok-Some-Pick-clause-lasts
+returns-in-Ok-Some-Pick-clause-lasts g c = idle_lasts g.S.Disk.view g.S.Disk.may_leave g.S.Disk.left_at g.met.S.Disk.no_later g.met.S.Disk.at_now c.args.site.now
+
+pub returns-in-Ok-Some-Push-clause-lasts : goal.returns-in-Ok-Some-Push-clause-lasts
+returns-in-Ok-Some-Push-clause-lasts g c = idle_lasts g.S.Disk.view g.S.Disk.may_leave g.S.Disk.left_at g.met.S.Disk.no_later g.met.S.Disk.at_now c.args.site.now
+
+pub returns-in-Ok-Some-Play-clause-lasts : goal.returns-in-Ok-Some-Play-clause-lasts
+returns-in-Ok-Some-Play-clause-lasts g c = idle_lasts g.S.Disk.view g.S.Disk.may_leave g.S.Disk.left_at g.met.S.Disk.no_later g.met.S.Disk.at_now c.args.site.now
+
+pub returns-in-Ok-Some-Rehearse-clause-lasts : goal.returns-in-Ok-Some-Rehearse-clause-lasts
+returns-in-Ok-Some-Rehearse-clause-lasts g c = idle_lasts g.S.Disk.view g.S.Disk.may_leave g.S.Disk.left_at g.met.S.Disk.no_later g.met.S.Disk.at_now c.args.site.now
+
+pub returns-in-Ok-None-clause-lasts : goal.returns-in-Ok-None-clause-lasts
+returns-in-Ok-None-clause-lasts g c = idle_lasts g.S.Disk.view g.S.Disk.may_leave g.S.Disk.left_at g.met.S.Disk.no_later g.met.S.Disk.at_now c.args.site.now
+
+pub returns-in-Err-clause-lasts : goal.returns-in-Err-clause-lasts
+returns-in-Err-clause-lasts g c = idle_lasts g.S.Disk.view g.S.Disk.may_leave g.S.Disk.left_at g.met.S.Disk.no_later g.met.S.Disk.at_now c.args.site.now

@@ -1,0 +1,29 @@
+-- What was read by `clap`.
+use Rattle.std.specs.Prelude.{◌≡◌, ◌∷◌, Some, map, string_bytes}
+use Rattle.std.specs.Option.{option_map}
+use Rattle.sm_tool.specs.declared.matched.ServeTexts.{ServeTexts}
+use Rattle.sm_tool.specs.declared.matched.PushTexts.{PushTexts}
+use Rattle.sm_tool.specs.declared.matched.PlayTexts.{PlayTexts}
+use Rattle.sm_tool.specs.Words.{PlayTexts as Played, PushTexts as Sent, ServeTexts as Asked}
+
+pub record IsReadOf (texts : ServeTexts) (x : Asked) : Type 0 where
+  pub port : option_map string_bytes texts.port ≡ Some x.port
+  pub ladder : texts.ladder ≡ x.ladder
+  pub turns : option_map string_bytes texts.turns ≡ x.turns
+  pub store : option_map string_bytes texts.store ≡ Some x.store
+
+pub record IsPushRead (texts : PushTexts) (x : Sent) : Type 0 where
+  pub host : option_map string_bytes texts.host ≡ Some x.host
+  pub port : option_map string_bytes texts.port ≡ Some x.port
+  pub path : option_map string_bytes texts.path ≡ Some x.path
+  pub id : option_map string_bytes texts.id ≡ Some x.id
+
+pub record IsPlayRead (texts : PlayTexts) (x : Played) : Type 0 where
+  pub host : option_map string_bytes texts.host ≡ Some x.host
+  pub port : option_map string_bytes texts.port ≡ Some x.port
+  pub path : option_map string_bytes texts.path ≡ Some x.path
+  pub streams : map string_bytes texts.streams.items ≡ x.stream ∷ x.more
+  pub from : option_map string_bytes texts.from ≡ x.from
+  pub count : option_map string_bytes texts.count ≡ Some x.count
+  pub tries : option_map string_bytes texts.tries ≡ Some x.tries
+  pub refresh : option_map string_bytes texts.refresh ≡ Some x.refresh

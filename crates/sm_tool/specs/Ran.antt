@@ -1,0 +1,119 @@
+-- What a run of a command did.
+use Rattle.std.specs.Prelude.{◌≡◌, ◌≤◌, ◌<◌, ◌+◌, ◌⊎◌, ℕ, List, length, Option, Some, None, IfSome}
+use Rattle.std.specs.Io.KnownBytes.{Appends}
+use Rattle.sm_ends.specs.Faults.{Rose}
+use Rattle.sm_ends.specs.Moves.{TakesCount, TakesAtMost, AppendsFront}
+use Rattle.sm_model.specs.declared.entry.Entry.{Entry}
+use Rattle.sm_client.specs.Turns.{Meaning}
+use Rattle.sm_command.specs.Lasting.{Lasts, NoFewer, Untouched}
+use Rattle.sm_site.specs.Image.{Image}
+use Rattle.sm_site.specs.Meanings.{View}
+use Rattle.sm_tool.specs.declared.answer.Picked.TheVariants as picked
+use Rattle.sm_tool.specs.declared.answer.Answer.{Answer}
+use Rattle.sm_tool.specs.declared.answer.Answer.TheVariants.{Found, Words, Unread, TooLong, LongLadder, Refused, NotKept, Clash, Undone}
+use Rattle.sm_tool.specs.declared.answer.Answer.TheVariants.{Damaged, DiskFault, LinkFault, TrackFault, Starved, Full, NotAStore}
+use Rattle.sm_tool.specs.Words.{Wanted, Pick, Serve, Push, Play, Listing, Rehearse, asked}
+use Rattle.sm_tool.specs.Answers.{IsAnswered, limit, status_of, unwritten_status_of, line_of}
+use Rattle.sm_client.specs.Pushing.{Line}
+use Rattle.sm_tool.specs.Stores.{End, IsSelected, IsSilent, ListMeans, ServeMeans, at_folder, at_port}
+use Rattle.sm_tool.specs.Origins.{PushMeans}
+use Rattle.sm_tool.specs.Plays.{PlayMeans, Tape}
+use Rattle.sm_tool.specs.Rehearsals.{RehearseMeans}
+
+-- ---- pick
+
+-- more bytes came than the limit, and one more than that was taken
+pub record IsTooLong (old new : End) : Type 0 where
+  pub long : IfSome old.told (λ input. limit < length input)
+  pub taken : TakesCount old.told new.told (limit + 1)
+
+-- the source failed
+pub record IsUnread (old new : End) : Type 0 where
+  pub rose : Rose old.faults new.faults
+  pub taken : TakesAtMost old.told new.told limit
+
+-- the answer that an input has, where a fragment of it is asked for
+abbrev pub PickMeans : ℕ → ℕ → End → End → Answer → Type 0
+PickMeans track time old new (Found text) = IsAnswered track time old.told new.told (picked.Found text)
+PickMeans track time old new (Refused line) = IsAnswered track time old.told new.told (picked.Refused line)
+PickMeans track time old new NotKept = IsAnswered track time old.told new.told picked.NotKept
+PickMeans track time old new Words = ⊥
+PickMeans track time old new TooLong = IsTooLong old new
+PickMeans track time old new LongLadder = ⊥
+PickMeans track time old new (Clash line) = ⊥
+PickMeans track time old new (Undone line) = ⊥
+PickMeans track time old new Damaged = ⊥
+PickMeans track time old new DiskFault = ⊥
+PickMeans track time old new Unread = IsUnread old new
+PickMeans track time old new LinkFault = ⊥
+PickMeans track time old new TrackFault = ⊥
+PickMeans track time old new Starved = TakesAtMost old.told new.told limit
+PickMeans track time old new Full = ⊥
+PickMeans track time old new (NotAStore line) = ⊥
+
+-- ---- a command
+
+-- what a command stands before and what it leaves, but for the site and what is printed: the input, the dial and the tracks
+pub record Around : Type 0 where
+  pub input : End
+  pub dial : Line
+  pub tracks : Tape
+
+-- nothing was read, nothing was sent, nothing was written to a track and nothing was done
+pub record IsIdle {D C : Type 0} (old new : Around) (d d' : D) (c c' : C) : Type 0 where
+  pub around_is : new ≡ old
+  pub site_is : d' ≡ d
+  pub dial_is : c' ≡ c
+
+-- The answer that words, input, dial, tracks and site have. Words that ask for nothing have no other than that, but for want of memory, and
+-- leave all of them alone. A dial has logs that the origin behind it may have.
+abbrev pub MeansBy : {D C P : Type 0} (view : D → View) (leave : D → Image → Type 0) (left_at : D → ℕ → Image → Type 0) (store : C → List Entry → Type 0)
+    → Meaning P → List P → Option Wanted → Around → Around → D → D → C → C → Answer → Type 0
+MeansBy view leave left_at store m policies None old new d d' c c' answer = (answer ≡ Words) × IsIdle old new d d' c c'
+MeansBy view leave left_at store m policies (Some (Pick track time)) old new d d' c c' answer =
+    PickMeans track time old.input new.input answer × (new.dial ≡ old.dial) × (new.tracks ≡ old.tracks) × (d' ≡ d) × (c' ≡ c)
+MeansBy view leave left_at store m policies (Some (Serve folder port ladder turns)) old new d d' c c' answer =
+    ServeMeans view leave left_at ladder turns old.input new.input d d' answer × IsSelected answer (at_port folder port) (view d')
+    × (old.input.faults ≤ new.input.faults) × (new.dial ≡ old.dial) × (new.tracks ≡ old.tracks) × (c' ≡ c)
+MeansBy view leave left_at store m policies (Some (Push host port path id)) old new d d' c c' answer =
+    PushMeans (record { host = host; port = port; path = path }) id old.input new.input old.dial new.dial (store c) (store c') answer
+    × (new.tracks ≡ old.tracks) × (d' ≡ d)
+MeansBy view leave left_at store m policies (Some (Play plan)) old new d d' c c' answer =
+    PlayMeans m plan policies old.dial new.dial (store c) (store c') old.tracks new.tracks answer × (new.input ≡ old.input) × (d' ≡ d)
+MeansBy view leave left_at store m policies (Some (Listing folder)) old new d d' c c' answer =
+    ListMeans view leave left_at d d' answer × IsSilent (view d) (view d') × NoFewer (view d) (view d') × IsSelected answer (at_folder folder) (view d')
+    × (new.input ≡ old.input) × (new.dial ≡ old.dial) × (new.tracks ≡ old.tracks) × (c' ≡ c)
+MeansBy view leave left_at store m policies (Some (Rehearse number size)) old new d d' c c' answer =
+    RehearseMeans m number size policies answer × IsIdle old new d d' c c'
+
+abbrev pub Means : {D C P : Type 0} (view : D → View) (leave : D → Image → Type 0) (left_at : D → ℕ → Image → Type 0) (store : C → List Entry → Type 0)
+    → Meaning P → List P → List (List ℕ) → Around → Around → D → D → C → C → Answer → Type 0
+Means view leave left_at store m policies words old new d d' c c' answer =
+    MeansBy view leave left_at store m policies (asked words) old new d d' c c' answer
+    ⊎ ((answer ≡ Starved) × IsIdle old new d d' c c')
+
+-- the whole line went out, or a front of it where the sink failed
+abbrev pub Prints : Answer → End → End → ℕ → Type 0
+Prints answer old new status =
+    ((status ≡ status_of answer) × Appends old.told new.told (line_of answer))
+    ⊎ ((status ≡ unwritten_status_of answer) × AppendsFront old.told new.told (line_of answer) × Rose old.faults new.faults)
+
+-- The words, the input, the dial, the tracks and the site have an answer, its line was printed, and the status tells it.
+pub record IsRun {D C P : Type 0} (view : D → View) (leave : D → Image → Type 0) (left_at : D → ℕ → Image → Type 0) (store : C → List Entry → Type 0)
+    (m : Meaning P) (policies : List P) (words : List (List ℕ)) (old new : Around) (output output' : End) (d d' : D) (c c' : C) (status : ℕ) : Type 0 where
+  pub answer : Answer
+  pub means : Means view leave left_at store m policies words old new d d' c c' answer
+  pub prints : Prints answer output output' status
+  -- Whatever the command, and however it ended: what a crash may leave at each moment of the call is a store whose log begins with the one
+  -- that was there, and holds what the call had shown by then.
+  pub lasts : Lasts view leave left_at d d'
+  -- files that are said to be no store weren't written
+  pub untouched : (line : List ℕ) → answer ≡ NotAStore line → Untouched view leave left_at d d'
+
+-- A program ended with the status of a run; where there was no memory for its words, that alone was told.
+abbrev pub EndsAs : {D C P : Type 0} (view : D → View) (leave : D → Image → Type 0) (left_at : D → ℕ → Image → Type 0) (store : C → List Entry → Type 0)
+    → Meaning P → List P → Option (List (List ℕ)) → Around → Around → End → End → D → D → C → C → ℕ → Type 0
+EndsAs view leave left_at store m policies None old new output output' d d' c c' status =
+    Prints Starved output output' status × IsIdle old new d d' c c'
+EndsAs view leave left_at store m policies (Some words) old new output output' d d' c c' status =
+    IsRun view leave left_at store m policies words old new output output' d d' c c' status

@@ -1,0 +1,152 @@
+-- What a command on a store answers.
+use Rattle.std.specs.Prelude.{◌≡◌, ◌⊎◌, ℕ, Bool, List, ◌++◌, true, false, codes, decimal, Option, None, Some, IfSome, Result, Ok, Err}
+use Rattle.sm_model.specs.declared.cause.Cause.{Cause}
+use Rattle.sm_model.specs.declared.entry.Entry.{Entry}
+use Rattle.sm_model.specs.declared.no_memory.NoMemory.{NoMemory}
+use Rattle.sm_model.specs.Causes.{cause_line}
+use Rattle.sm_site.specs.Image.{Image}
+use Rattle.sm_site.specs.Meanings.{Chosen, View}
+use Rattle.sm_archive.specs.Store.{IsStore}
+use Rattle.sm_serve.specs.declared.outcome.Served.{Served as Outcome}
+use Rattle.sm_serve.specs.declared.outcome.Served.TheVariants as served
+use Rattle.sm_command.specs.declared.fault.StoreFault.{StoreFault}
+use Rattle.sm_command.specs.declared.fault.StoreFault.TheVariants as fault
+use Rattle.sm_command.specs.Listing.{WhyUnlisted, lines_of}
+use Rattle.sm_serve.specs.Serving.{CountsNone}
+use Rattle.sm_command.specs.Serving.{HasRun, Input, WhyUnready}
+use Rattle.sm_tool.specs.declared.answer.Answer.{Answer}
+use Rattle.sm_tool.specs.declared.answer.Answer.TheVariants.{Found, Words, Unread, TooLong, LongLadder, Refused, NotKept, Clash, Undone}
+use Rattle.sm_tool.specs.declared.answer.Answer.TheVariants.{Damaged, DiskFault, LinkFault, TrackFault, Starved, Full, NotAStore}
+
+-- an end before a call and after it: what it tells, and its count of faults
+pub record End : Type 0 where
+  pub told : Option (List ℕ)
+  pub faults : ℕ
+
+abbrev pub input_of : End → Input
+input_of end = record { told = end.told; faults = end.faults }
+
+-- the folder and the port of the words, and neither one address nor a journal
+abbrev pub at_port : List ℕ → ℕ → Chosen
+at_port store port = record { store = store; make = true; port = port; bind = None; journal = None }
+
+-- the folder alone, where it is there
+abbrev pub at_folder : List ℕ → Chosen
+at_folder store = record { store = store; make = false; port = 0; bind = None; journal = None }
+
+-- The site is selected with this; where nothing was found, with nothing else than this.
+abbrev pub IsSelected : Answer → Chosen → View → Type 0
+IsSelected (Found line) chosen view = view.chosen ≡ Some chosen
+IsSelected answer chosen view = (view.chosen ≡ Some chosen) ⊎ (view.chosen ≡ None)
+
+-- ---- the lines
+
+abbrev pub turns_line : ℕ → List ℕ
+turns_line turns = codes "turns " ++ (decimal turns ++ codes "\n")
+
+abbrev pub store_line : ℕ → List ℕ
+store_line at = codes "error: not a store at " ++ (decimal at ++ codes "\n")
+
+abbrev pub ladder_line : ℕ → List ℕ
+ladder_line at = codes "error: input at " ++ (decimal at ++ codes ": 5 BadLiveManifest\n")
+
+abbrev pub clash_line : Cause → List ℕ
+clash_line cause = codes "error: " ++ cause_line 0 cause
+
+-- ---- how a fault is told
+
+abbrev pub Tells : StoreFault → Answer → Type 0
+Tells fault.DiskFault answer = answer ≡ DiskFault
+Tells fault.LinkFault answer = answer ≡ LinkFault
+Tells (fault.NotAStore at) answer = answer ≡ NotAStore (store_line at)
+Tells fault.Unread answer = answer ≡ Unread
+Tells fault.LongLadder answer = answer ≡ LongLadder
+Tells (fault.BadLadder at) answer = answer ≡ Refused (ladder_line at)
+Tells (fault.Refused cause) answer = answer ≡ Clash (clash_line cause)
+Tells fault.Full answer = answer ≡ Full
+Tells fault.Damaged answer = answer ≡ Damaged
+Tells fault.NoMemory answer = answer ≡ Starved
+
+-- how the end of the loop is told
+abbrev pub TellsEnd : Outcome → Answer → Type 0
+TellsEnd (served.Done taken behind short) answer = answer ≡ Found (turns_line taken)
+TellsEnd served.LinkFault answer = answer ≡ LinkFault
+TellsEnd served.NoMemory answer = answer ≡ Starved
+
+-- without memory for its line an answer is that
+abbrev pub or_starved : Result Answer NoMemory → Answer
+or_starved (Ok answer) = answer
+or_starved (Err none) = Starved
+
+-- ---- serve
+
+-- the loop ran to its end, and the line tells how many events it took
+pub record HasServed {D : Type 0} (view : D → View) (leave : D → Image → Type 0) (left_at : D → ℕ → Image → Type 0) (ladder : Bool) (turns : ℕ)
+    (input input' : End) (d d' : D) (line : List ℕ) : Type 0 where
+  pub taken : ℕ
+  pub behind : ℕ
+  pub short : ℕ
+  pub line_is : line ≡ turns_line taken
+  pub counts : CountsNone (served.Done taken behind short)
+  pub run : HasRun view leave left_at ladder input.told input'.told turns d d' (served.Done taken behind short)
+
+-- A fault of the disk is one before the first event. One of the link is that of a choice of the port, or ended the loop. Want of memory may
+-- come at any time, and what was done until then is done.
+abbrev pub ServeMeans : {D : Type 0} (view : D → View) (leave : D → Image → Type 0) (left_at : D → ℕ → Image → Type 0) → Bool → ℕ → End → End
+    → D → D → Answer → Type 0
+ServeMeans view leave left_at ladder turns input input' d d' (Found line) = HasServed view leave left_at ladder turns input input' d d' line
+ServeMeans view leave left_at ladder turns input input' d d' Words = ⊥
+ServeMeans view leave left_at ladder turns input input' d d' Unread = WhyUnready view leave left_at ladder (input_of input) (input_of input') d d' fault.Unread
+ServeMeans view leave left_at ladder turns input input' d d' TooLong = ⊥
+ServeMeans view leave left_at ladder turns input input' d d' LongLadder =
+    WhyUnready view leave left_at ladder (input_of input) (input_of input') d d' fault.LongLadder
+ServeMeans view leave left_at ladder turns input input' d d' (Refused line) =
+    (at : ℕ) × (line ≡ ladder_line at) × WhyUnready view leave left_at ladder (input_of input) (input_of input') d d' (fault.BadLadder at)
+ServeMeans view leave left_at ladder turns input input' d d' NotKept = ⊥
+ServeMeans view leave left_at ladder turns input input' d d' (Clash line) =
+    (cause : Cause) × (line ≡ clash_line cause) × WhyUnready view leave left_at ladder (input_of input) (input_of input') d d' (fault.Refused cause)
+ServeMeans view leave left_at ladder turns input input' d d' (Undone line) = ⊥
+ServeMeans view leave left_at ladder turns input input' d d' Damaged = ⊥
+ServeMeans view leave left_at ladder turns input input' d d' DiskFault =
+    WhyUnready view leave left_at ladder (input_of input) (input_of input') d d' fault.DiskFault
+ServeMeans view leave left_at ladder turns input input' d d' LinkFault =
+    HasRun view leave left_at ladder input.told input'.told turns d d' served.LinkFault
+    ⊎ WhyUnready view leave left_at ladder (input_of input) (input_of input') d d' fault.LinkFault
+ServeMeans view leave left_at ladder turns input input' d d' TrackFault = ⊥
+ServeMeans view leave left_at ladder turns input input' d d' Starved =
+    ((end : Outcome) × CountsNone end × HasRun view leave left_at ladder input.told input'.told turns d d' end)
+    ⊎ ((why : StoreFault) × WhyUnready view leave left_at ladder (input_of input) (input_of input') d d' why)
+ServeMeans view leave left_at ladder turns input input' d d' Full = WhyUnready view leave left_at ladder (input_of input) (input_of input') d d' fault.Full
+ServeMeans view leave left_at ladder turns input input' d d' (NotAStore line) =
+    (at : ℕ) × (line ≡ store_line at) × WhyUnready view leave left_at ladder (input_of input) (input_of input') d d' (fault.NotAStore at)
+
+-- ---- list
+
+-- the lines of the log that the disk has
+abbrev pub IsListed : Option Image → List ℕ → Type 0
+IsListed contents text = IfSome contents (λ c. (log : List Entry) × IsStore log c × (text ≡ lines_of log))
+
+-- the lines of the log that the disk has, or why not; without memory for its line a fault is told as that
+abbrev pub ListMeans : {D : Type 0} (view : D → View) (leave : D → Image → Type 0) (left_at : D → ℕ → Image → Type 0) → D → D → Answer → Type 0
+ListMeans view leave left_at d d' (Found text) = IsListed (view d).contents text
+ListMeans view leave left_at d d' Words = ⊥
+ListMeans view leave left_at d d' Unread = ⊥
+ListMeans view leave left_at d d' TooLong = ⊥
+ListMeans view leave left_at d d' LongLadder = ⊥
+ListMeans view leave left_at d d' (Refused line) = ⊥
+ListMeans view leave left_at d d' NotKept = ⊥
+ListMeans view leave left_at d d' (Clash line) = ⊥
+ListMeans view leave left_at d d' (Undone line) = ⊥
+ListMeans view leave left_at d d' Damaged = WhyUnlisted view leave left_at d d' fault.Damaged
+ListMeans view leave left_at d d' DiskFault = WhyUnlisted view leave left_at d d' fault.DiskFault
+ListMeans view leave left_at d d' LinkFault = WhyUnlisted view leave left_at d d' fault.LinkFault
+ListMeans view leave left_at d d' TrackFault = ⊥
+ListMeans view leave left_at d d' Starved = (why : StoreFault) × WhyUnlisted view leave left_at d d' why
+ListMeans view leave left_at d d' Full = ⊥
+ListMeans view leave left_at d d' (NotAStore line) =
+    (at : ℕ) × (line ≡ store_line at) × WhyUnlisted view leave left_at d d' (fault.NotAStore at)
+
+-- nothing was taken from the link, and nothing was sent
+pub record IsSilent (old new : View) : Type 0 where
+  pub transcript : new.transcript ≡ old.transcript
+  pub send_faults : new.send_faults ≡ old.send_faults

@@ -1,0 +1,125 @@
+//! The commands.
+ghost use Rattle.std.specs.Prelude.{◌≡◌, ℕ, List, length, map, string_bytes};
+ghost use Rattle.sm_command.specs.Lasting.{Lasts, Untouched};
+ghost use Rattle.sm_tool.specs.declared.answer.Answer.TheVariants as answers;
+ghost use Rattle.sm_tool.specs.Ran.{IsRun, Means, PickMeans, Prints};
+
+use crate::answer::{Answer, Picked};
+use crate::order::{Order, order_of};
+use crate::origins::push;
+use crate::pick::pick;
+use crate::play::play;
+use crate::print::print;
+use crate::rehearse::rehearse;
+use crate::stores::{list, serve};
+use sm_ends::{InputFault, Sink, Source, Tracks};
+use sm_fetch::Dial;
+use sm_model::NoMemory;
+use sm_policy::Policy;
+use sm_site::Site;
+use std::alloc::Global;
+
+// What the input comes to, where a fragment of it is asked for.
+fn picked<I: Source>(alloc: Global, input: &mut I, track: u32, time: u64) -> Answer
+    ensures { PickMeans track time (record { told = I.left input.old; faults = I.faults input.old })
+        (record { told = I.left input.new; faults = I.faults input.new }) result }
+{
+    match pick(alloc, input, track, time) {
+        Ok(Picked::Found(text)) => Answer::Found(text),
+        Ok(Picked::Refused(line)) => Answer::Refused(line),
+        Ok(Picked::NotKept) => Answer::NotKept,
+        Err(InputFault::Failed) => Answer::Unread,
+        Err(InputFault::TooLong) => Answer::TooLong,
+        Err(InputFault::NoMemory) => Answer::Starved,
+    }
+}
+
+// What the words, the input, the site, the dial and the tracks come to.
+fn answer_to<I: Source, S: Site, C: Dial, T: Tracks>(
+    alloc: Global,
+    words: &[String],
+    input: &mut I,
+    site: &mut S,
+    dial: &mut C,
+    tracks: &mut T,
+    policies: Vec<Box<dyn Policy>>,
+) -> Answer
+    requires policies { length policies.items ≡ 3 }
+    ensures means { Means S.Disk.view S.Disk.may_leave S.Disk.left_at C.store (record { pick = pick_after; retired = retired_after }) policies.items (map string_bytes words.now)
+        (record {
+          input = record { told = I.left input.old; faults = I.faults input.old };
+          dial = record { log = C.log dial.old; faults = C.dial_faults dial.old; chosen = C.chosen dial.old };
+          tracks = record { held = T.held tracks.old; faults = T.faults tracks.old };
+        })
+        (record {
+          input = record { told = I.left input.new; faults = I.faults input.new };
+          dial = record { log = C.log dial.new; faults = C.dial_faults dial.new; chosen = C.chosen dial.new };
+          tracks = record { held = T.held tracks.new; faults = T.faults tracks.new };
+        }) site.old site.new dial.old dial.new result }
+    ensures lasts { Lasts S.Disk.view S.Disk.may_leave S.Disk.left_at site.old site.new }
+    ensures untouched { (line : List ℕ) → result ≡ answers.NotAStore line → Untouched S.Disk.view S.Disk.may_leave S.Disk.left_at site.old site.new }
+    ensures goes_on { C.later dial.old dial.new }
+{
+    match order_of(alloc, words) {
+        Ok(Some(Order::Pick { track, time })) => picked(alloc, input, track, time),
+        Ok(Some(Order::Serve(order))) => serve(alloc, input, site, order),
+        Ok(Some(Order::Push(order))) => push(alloc, input, dial, &order),
+        Ok(Some(Order::Play(order))) => play(alloc, dial, tracks, policies, &order),
+        Ok(Some(Order::List { store })) => list(alloc, site, store),
+        Ok(Some(Order::Rehearse { number, size })) => rehearse(alloc, number, size, policies),
+        Ok(None) => Answer::Words,
+        Err(NoMemory) => Answer::Starved,
+    }
+}
+
+/// Carries out the command that the words name, and gives the exit status.
+///
+/// `pick TRACK TIME` reads the body of a push from `input`, with a header or without, and writes the canonical text of the first
+/// fragment with that track_ID and time, in ticks of its track's timescale, numbered by its place among all of them.
+/// `serve STORE --port N [--ladder] [--turns N]` serves the store in that folder at that port, until nothing more comes or so many
+/// events were taken; with `--ladder` the input is a ladder, which is declared first. `push HOST PORT PATH ID` sends the input,
+/// whole and once, to the channel with that path at that origin, as a stream of that name, and writes the body of the reply.
+/// `list STORE` lists the fragments of the store in that folder.
+/// `play HOST PORT PATH STREAM... [--from N] [--count N] [--tries N] [--refresh N]` plays streams of the channel with that path at that
+/// origin, one after another, the first to track 0, and writes how many fragments it wrote, or why it ended before there were as many
+/// as were wanted. The policies act in turn.
+/// `rehearse NUMBER SIZE` runs the world of that number in memory, with so many rounds of pushes and three clients, each with one of
+/// the policies, and writes what came of it in numbers; it uses none of the ends. Every line, also that of a failure, goes to `output`.
+pub fn tool<I: Source, O: Sink, S: Site, C: Dial, T: Tracks>(
+    alloc: Global,
+    words: &[String],
+    input: &mut I,
+    output: &mut O,
+    site: &mut S,
+    dial: &mut C,
+    tracks: &mut T,
+    policies: Vec<Box<dyn Policy>>,
+) -> u8
+    requires policies { length policies.items ≡ 3 }
+    ensures run { IsRun S.Disk.view S.Disk.may_leave S.Disk.left_at C.store (record { pick = pick_after; retired = retired_after }) policies.items (map string_bytes words.now)
+        (record {
+          input = record { told = I.left input.old; faults = I.faults input.old };
+          dial = record { log = C.log dial.old; faults = C.dial_faults dial.old; chosen = C.chosen dial.old };
+          tracks = record { held = T.held tracks.old; faults = T.faults tracks.old };
+        })
+        (record {
+          input = record { told = I.left input.new; faults = I.faults input.new };
+          dial = record { log = C.log dial.new; faults = C.dial_faults dial.new; chosen = C.chosen dial.new };
+          tracks = record { held = T.held tracks.new; faults = T.faults tracks.new };
+        })
+        (record { told = O.held output.old; faults = O.faults output.old })
+        (record { told = O.held output.new; faults = O.faults output.new }) site.old site.new dial.old dial.new result }
+    // What the dial promises of whatever is done with it holds of the call.
+    ensures goes_on { C.later dial.old dial.new }
+{
+    let answer = answer_to(alloc, words, input, site, dial, tracks, policies);
+    print(output, &answer)
+}
+
+/// Writes the line of a want of memory before any command was begun, and gives the exit status.
+pub fn starved<O: Sink>(output: &mut O) -> u8
+    ensures { Prints answers.Starved (record { told = O.held output.old; faults = O.faults output.old })
+        (record { told = O.held output.new; faults = O.faults output.new }) result }
+{
+    print(output, &Answer::Starved)
+}

@@ -1,0 +1,162 @@
+//! Playing streams of an origin.
+ghost use Rattle.std.specs.Prelude.{◌≡◌, ◌<◌, ◌++◌, codes, length, string_bytes, IfOk, IfErr, OnOk};
+ghost use Rattle.sm_tool.specs.Orders.{IsPlayable};
+ghost use Rattle.sm_tool.specs.Plays.{HasPlayed, PlayMeans, TellsPlay, WhyUnplayed, gave_up_line, hole_line, miss_word, miss_words};
+ghost use Rattle.sm_tool.specs.Plays.{name_at, no_manifest_line, no_more_line, no_stream_line, played_line};
+
+use crate::answer::Answer;
+use crate::play_order::PlayOrder;
+use sm_client::{End, Miss, Names, Outcomes, Plan, Report};
+use sm_ends::Tracks;
+use sm_fetch::{Dial, DialError};
+use sm_model::{Bytes, NoMemory};
+use sm_policy::Policy;
+use std::alloc::Global;
+
+fn played_line(alloc: Global, played: u64) -> Result<Bytes, NoMemory>
+    ensures { IfOk result (λ line. line ≡ played_line played) }
+{
+    let line = format!(in alloc; "played {played}\n")?;
+    Ok(Bytes::from_vec(line.into_bytes()))
+}
+
+fn no_more_line(alloc: Global, expected: u64) -> Result<Bytes, NoMemory>
+    ensures { IfOk result (λ line. line ≡ no_more_line expected) }
+{
+    let line = format!(in alloc; "error: NoMore {expected}\n")?;
+    Ok(Bytes::from_vec(line.into_bytes()))
+}
+
+fn hole_line(alloc: Global, expected: u64, next: u64) -> Result<Bytes, NoMemory>
+    ensures { IfOk result (λ line. line ≡ hole_line expected next) }
+{
+    let line = format!(in alloc; "error: Hole {expected} {next}\n")?;
+    Ok(Bytes::from_vec(line.into_bytes()))
+}
+
+// What came in place of what was asked, behind a space.
+fn miss_word(alloc: Global, miss: Miss) -> Result<String, NoMemory>
+    ensures { IfOk result (λ word. string_bytes word ≡ miss_word miss) }
+{
+    Ok(match miss {
+        Miss::Lost => String::from_str(alloc, " Lost")?,
+        Miss::Cut => String::from_str(alloc, " Cut")?,
+        Miss::Unreadable { at } => format!(in alloc; " Unreadable-{at}")?,
+        Miss::Status(status) => format!(in alloc; " Status-{status}")?,
+    })
+}
+
+// Adds what came of the tries, in their order, and ends the line.
+fn end_with(alloc: Global, line: &mut Vec<u8>, outcomes: &[Miss]) -> Result<(), NoMemory>
+    ensures { OnOk result (line.new.items ≡ line.old.items ++ (miss_words outcomes.now ++ codes "\n")) }
+{
+    for miss in outcomes {
+        let word = miss_word(alloc, *miss)?;
+        line.extend_from_slice(word.as_bytes())?;
+    }
+    line.extend_from_slice(b"\n")?;
+    Ok(())
+}
+
+fn gave_up_line(alloc: Global, time: u64, outcomes: &Outcomes) -> Result<Bytes, NoMemory>
+    ensures { IfOk result (λ line. line ≡ gave_up_line time outcomes.now) }
+{
+    let mut line = format!(in alloc; "error: GaveUp {time}")?.into_bytes();
+    end_with(alloc, &mut line, outcomes.as_slice())?;
+    Ok(Bytes::from_vec(line))
+}
+
+fn no_manifest_line(alloc: Global, outcomes: &Outcomes) -> Result<Bytes, NoMemory>
+    ensures { IfOk result (λ line. line ≡ no_manifest_line outcomes.now) }
+{
+    let mut line = Vec::from_slice(alloc, b"error: NoManifest")?;
+    end_with(alloc, &mut line, outcomes.as_slice())?;
+    Ok(Bytes::from_vec(line))
+}
+
+// The name of that place among the streams.
+fn name_at(streams: &Names, index: u32) -> &[u8]
+    ensures { result.now ≡ name_at streams.now index }
+{
+    match streams.as_slice().get(index as usize) {
+        Some(name) => name.as_bytes(),
+        None => b"",
+    }
+}
+
+fn no_stream_line(alloc: Global, streams: &Names, index: u32) -> Result<Bytes, NoMemory>
+    ensures { IfOk result (λ line. line ≡ no_stream_line (name_at streams.now index)) }
+{
+    let mut line = Vec::from_slice(alloc, b"error: NoStream ")?;
+    line.extend_from_slice(name_at(streams, index))?;
+    line.extend_from_slice(b"\n")?;
+    Ok(Bytes::from_vec(line))
+}
+
+// How the play ended.
+fn told(alloc: Global, streams: &Names, report: &Report) -> Result<Answer, NoMemory>
+    ensures { IfOk result (TellsPlay streams.now report.now) }
+{
+    match &report.end {
+        End::Done => Ok(Answer::Found(played_line(alloc, report.played)?)),
+        End::NoMore { expected } => Ok(Answer::Undone(no_more_line(alloc, *expected)?)),
+        End::Hole { expected, next } => Ok(Answer::Undone(hole_line(alloc, *expected, *next)?)),
+        End::GaveUp { time, outcomes } => {
+            Ok(Answer::Undone(gave_up_line(alloc, *time, outcomes)?))
+        }
+        End::NoManifest { outcomes } => Ok(Answer::Undone(no_manifest_line(alloc, outcomes)?)),
+        End::NoStream { index } => Ok(Answer::Undone(no_stream_line(alloc, streams, *index)?)),
+        End::WriteFault => Ok(Answer::TrackFault),
+        End::NoMemory => Ok(Answer::Starved),
+    }
+}
+
+// Plays what the order names, at its place.
+fn play_at<C: Dial, T: Tracks>(
+    alloc: Global,
+    dial: &mut C,
+    tracks: &mut T,
+    policies: Vec<Box<dyn Policy>>,
+    order: &PlayOrder,
+) -> Result<Report, DialError>
+    requires policies { 0 < length policies.items }
+    requires playable { IsPlayable order.now.plan }
+    ensures played { IfOk result (λ report. HasPlayed (record { pick = pick_after; retired = retired_after }) order.now.plan policies.items
+        (record { log = C.log dial.old; faults = C.dial_faults dial.old; chosen = C.chosen dial.old })
+        (record { log = C.log dial.new; faults = C.dial_faults dial.new; chosen = C.chosen dial.new }) (C.store dial.old) (C.store dial.new)
+        (record { held = T.held tracks.old; faults = T.faults tracks.old }) (record { held = T.held tracks.new; faults = T.faults tracks.new }) report) }
+    ensures why { IfErr result (λ why. WhyUnplayed
+        (record { log = C.log dial.old; faults = C.dial_faults dial.old; chosen = C.chosen dial.old })
+        (record { log = C.log dial.new; faults = C.dial_faults dial.new; chosen = C.chosen dial.new }) (C.store dial.old) (C.store dial.new)
+        (record { held = T.held tracks.old; faults = T.faults tracks.old }) (record { held = T.held tracks.new; faults = T.faults tracks.new }) why) }
+    ensures goes_on { C.later dial.old dial.new }
+{
+    dial.select(order.host.as_str(), order.plan.place.port)?;
+    Ok(sm_client::play(alloc, dial, tracks, policies, &order.plan))
+}
+
+/// Turns to the host and port of the order, plays its streams there, one after another into the tracks, and says how that ended.
+pub fn play<C: Dial, T: Tracks>(
+    alloc: Global,
+    dial: &mut C,
+    tracks: &mut T,
+    policies: Vec<Box<dyn Policy>>,
+    order: &PlayOrder,
+) -> Answer
+    requires policies { 0 < length policies.items }
+    requires playable { IsPlayable order.now.plan }
+    ensures means { PlayMeans (record { pick = pick_after; retired = retired_after }) order.now.plan policies.items
+        (record { log = C.log dial.old; faults = C.dial_faults dial.old; chosen = C.chosen dial.old })
+        (record { log = C.log dial.new; faults = C.dial_faults dial.new; chosen = C.chosen dial.new }) (C.store dial.old) (C.store dial.new)
+        (record { held = T.held tracks.old; faults = T.faults tracks.old }) (record { held = T.held tracks.new; faults = T.faults tracks.new }) result }
+    ensures goes_on { C.later dial.old dial.new }
+{
+    match play_at(alloc, dial, tracks, policies, order) {
+        Ok(report) => match told(alloc, &order.plan.streams, &report) {
+            Ok(answer) => answer,
+            Err(NoMemory) => Answer::Starved,
+        },
+        Err(DialError::Failed) => Answer::LinkFault,
+        Err(DialError::NoMemory) => Answer::Starved,
+    }
+}

@@ -1,0 +1,82 @@
+//! Printing an answer.
+ghost use Rattle.std.specs.Prelude.{◌≡◌, OnOk, OnErr};
+ghost use Rattle.std.specs.Io.KnownBytes.{Appends};
+ghost use Rattle.sm_ends.specs.Faults.{HasCause};
+ghost use Rattle.sm_ends.specs.Moves.{AppendsFront};
+ghost use Rattle.sm_tool.specs.Answers.{line_of, status_of, unwritten_status_of};
+ghost use Rattle.sm_tool.specs.Ran.{Prints};
+
+use crate::answer::Answer;
+use sm_ends::{Failed, Sink, write_all};
+
+// The line of an answer.
+fn line(answer: &Answer) -> &[u8]
+    ensures { result.now ≡ line_of answer.now }
+{
+    match answer {
+        Answer::Found(text) => text.as_slice(),
+        Answer::Refused(line) => line.as_slice(),
+        Answer::Clash(line) => line.as_slice(),
+        Answer::Undone(line) => line.as_slice(),
+        Answer::NotAStore(line) => line.as_slice(),
+        Answer::Words => b"error: words\n",
+        Answer::Unread => b"error: read\n",
+        Answer::TooLong => b"error: input at 268435456: too long\n",
+        Answer::LongLadder => b"error: input at 1048576: too long\n",
+        Answer::NotKept => b"error: 47 NotKept\n",
+        Answer::Damaged => b"error: 32 Damaged\n",
+        Answer::DiskFault => b"error: disk\n",
+        Answer::LinkFault => b"error: link\n",
+        Answer::TrackFault => b"",
+        Answer::Starved => b"error: memory\n",
+        Answer::Full => b"error: full\n",
+    }
+}
+
+// Writes the line of an answer, or a front of it and fails.
+fn write_line<O: Sink>(sink: &mut O, answer: &Answer) -> Result<(), Failed>
+    ensures ok { OnOk result (Appends (O.held sink.old) (O.held sink.new) (line_of answer.now)) }
+    ensures err { OnErr result (AppendsFront (O.held sink.old) (O.held sink.new) (line_of answer.now)) }
+    ensures cause { HasCause (O.faults sink.old) (O.faults sink.new) result }
+{
+    write_all(sink, line(answer))
+}
+
+fn status(answer: &Answer) -> u8
+    ensures { result ≡ status_of answer.now }
+{
+    match answer {
+        Answer::Found(_) => 0,
+        Answer::Words => 2,
+        Answer::TooLong | Answer::LongLadder | Answer::Refused(_) => 3,
+        Answer::NotKept | Answer::Clash(_) | Answer::Undone(_) | Answer::Damaged => 4,
+        Answer::DiskFault => 5,
+        Answer::Unread => 6,
+        Answer::TrackFault => 7,
+        Answer::LinkFault => 8,
+        Answer::Starved => 9,
+        Answer::Full => 10,
+        Answer::NotAStore(_) => 11,
+    }
+}
+
+// Where what was found can't be written the status is 7; a failure keeps its own.
+fn unwritten_status(answer: &Answer) -> u8
+    ensures { result ≡ unwritten_status_of answer.now }
+{
+    match answer {
+        Answer::Found(_) => 7,
+        _ => status(answer),
+    }
+}
+
+/// Prints the line of an answer, and gives the status that tells both.
+pub fn print<O: Sink>(sink: &mut O, answer: &Answer) -> u8
+    ensures { Prints answer.now (record { told = O.held sink.old; faults = O.faults sink.old })
+        (record { told = O.held sink.new; faults = O.faults sink.new }) result }
+{
+    match write_line(sink, answer) {
+        Ok(()) => status(answer),
+        Err(Failed) => unwritten_status(answer),
+    }
+}

@@ -1,0 +1,127 @@
+//! The commands on a store.
+ghost use Rattle.std.specs.Prelude.{◌≡◌, ◌≤◌, ℕ, List, IfOk, string_bytes};
+ghost use Rattle.sm_command.specs.Lasting.{Lasts, NoFewer, Untouched};
+ghost use Rattle.sm_tool.specs.declared.answer.Answer.TheVariants as answers;
+ghost use Rattle.sm_tool.specs.Stores.{IsSelected, IsSilent, ListMeans, ServeMeans, Tells, at_folder, at_port, TellsEnd, clash_line, ladder_line, or_starved, store_line, turns_line};
+
+use crate::answer::Answer;
+use crate::order::ServeOrder;
+use sm_command::{StoreFault, list_store, serve_store};
+use sm_ends::Source;
+use sm_model::{Bytes, Cause, NoMemory, Refusal, put_cause};
+use sm_serve::Served;
+use sm_site::{Selection, Site};
+use std::alloc::Global;
+
+fn turns_line(alloc: Global, turns: u64) -> Result<Bytes, NoMemory>
+    ensures { IfOk result (λ line. line ≡ turns_line turns) }
+{
+    let line = format!(in alloc; "turns {turns}\n")?;
+    Ok(Bytes::from_vec(line.into_bytes()))
+}
+
+fn store_line(alloc: Global, at: u64) -> Result<Bytes, NoMemory>
+    ensures { IfOk result (λ line. line ≡ store_line at) }
+{
+    let line = format!(in alloc; "error: not a store at {at}\n")?;
+    Ok(Bytes::from_vec(line.into_bytes()))
+}
+
+fn ladder_line(alloc: Global, at: u64) -> Result<Bytes, NoMemory>
+    ensures { IfOk result (λ line. line ≡ ladder_line at) }
+{
+    let line = format!(in alloc; "error: input at {at}: 5 BadLiveManifest\n")?;
+    Ok(Bytes::from_vec(line.into_bytes()))
+}
+
+// The line of a cause, which has no place here.
+fn clash_line(alloc: Global, cause: Cause) -> Result<Bytes, NoMemory>
+    ensures { IfOk result (λ line. line ≡ clash_line cause) }
+{
+    let told = put_cause(alloc, &Refusal { at: 0, cause })?;
+    let mut line = Vec::new(alloc);
+    line.extend_from_slice(b"error: ")?;
+    line.extend_from_slice(told.as_slice())?;
+    Ok(Bytes::from_vec(line))
+}
+
+// Why a store is not served or not listed.
+fn refused(alloc: Global, fault: StoreFault) -> Result<Answer, NoMemory>
+    ensures { IfOk result (λ answer. Tells fault answer) }
+{
+    match fault {
+        StoreFault::DiskFault => Ok(Answer::DiskFault),
+        StoreFault::LinkFault => Ok(Answer::LinkFault),
+        StoreFault::NotAStore { at } => Ok(Answer::NotAStore(store_line(alloc, at)?)),
+        StoreFault::Unread => Ok(Answer::Unread),
+        StoreFault::LongLadder => Ok(Answer::LongLadder),
+        StoreFault::BadLadder { at } => Ok(Answer::Refused(ladder_line(alloc, at)?)),
+        StoreFault::Refused(cause) => Ok(Answer::Clash(clash_line(alloc, cause)?)),
+        StoreFault::Full => Ok(Answer::Full),
+        StoreFault::Damaged => Ok(Answer::Damaged),
+        StoreFault::NoMemory => Ok(Answer::Starved),
+    }
+}
+
+// How the loop ended.
+fn ended(alloc: Global, end: Served) -> Result<Answer, NoMemory>
+    ensures { IfOk result (λ answer. TellsEnd end answer) }
+{
+    match end {
+        Served::Done { turns, .. } => Ok(Answer::Found(turns_line(alloc, turns)?)),
+        Served::LinkFault => Ok(Answer::LinkFault),
+        Served::NoMemory => Ok(Answer::Starved),
+    }
+}
+
+fn or_starved(answer: Result<Answer, NoMemory>) -> Answer
+    ensures { result ≡ or_starved answer }
+{
+    match answer {
+        Ok(answer) => answer,
+        Err(NoMemory) => Answer::Starved,
+    }
+}
+
+/// Serves the store that the order names, and says how that ended.
+pub fn serve<I: Source, S: Site>(
+    alloc: Global,
+    input: &mut I,
+    site: &mut S,
+    order: ServeOrder,
+) -> Answer
+    ensures selected { IsSelected result (at_port (string_bytes order.store) order.port) (S.Disk.view site.new) }
+    ensures means { ServeMeans S.Disk.view S.Disk.may_leave S.Disk.left_at order.ladder order.turns
+        (record { told = I.left input.old; faults = I.faults input.old })
+        (record { told = I.left input.new; faults = I.faults input.new }) site.old site.new result }
+    ensures counted { I.faults input.old ≤ I.faults input.new }
+    ensures lasts { Lasts S.Disk.view S.Disk.may_leave S.Disk.left_at site.old site.new }
+    ensures untouched { (line : List ℕ) → result ≡ answers.NotAStore line → Untouched S.Disk.view S.Disk.may_leave S.Disk.left_at site.old site.new }
+{
+    let selection = Selection {
+        store: order.store,
+        make: true,
+        port: order.port,
+        bind: None,
+        journal: None,
+    };
+    match serve_store(alloc, input, site, selection, order.ladder, order.turns) {
+        Ok(end) => or_starved(ended(alloc, end)),
+        Err(fault) => or_starved(refused(alloc, fault)),
+    }
+}
+
+/// Lists the store in that folder.
+pub fn list<S: Site>(alloc: Global, site: &mut S, store: String) -> Answer
+    ensures selected { IsSelected result (at_folder (string_bytes store)) (S.Disk.view site.new) }
+    ensures means { ListMeans S.Disk.view S.Disk.may_leave S.Disk.left_at site.old site.new result }
+    ensures no_fewer { NoFewer (S.Disk.view site.old) (S.Disk.view site.new) }
+    ensures silent { IsSilent (S.Disk.view site.old) (S.Disk.view site.new) }
+    ensures lasts { Lasts S.Disk.view S.Disk.may_leave S.Disk.left_at site.old site.new }
+    ensures untouched { (line : List ℕ) → result ≡ answers.NotAStore line → Untouched S.Disk.view S.Disk.may_leave S.Disk.left_at site.old site.new }
+{
+    match list_store(alloc, site, store) {
+        Ok(text) => Answer::Found(text),
+        Err(fault) => or_starved(refused(alloc, fault)),
+    }
+}

@@ -1,5 +1,0 @@
-use Rattle.smooth.proofs.Reading.{ValuesFrom}
-use Rattle.smooth.proofs.line.first_value.Given as goal
-
-abbrev pub invariant-loop-at : goal.invariant-loop-at
-invariant-loop-at l = ValuesFrom l.given l.name l.at
