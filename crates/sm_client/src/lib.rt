@@ -17,8 +17,6 @@ mod rest;
 mod seek;
 mod standing;
 mod stream;
-#[cfg(test)]
-mod tests;
 mod write;
 
 pub use call::play;

@@ -34,12 +34,16 @@
 
 mod case;
 mod definition;
+pub mod disks;
 mod expression;
 mod fault;
 mod line;
 mod page;
+mod pages;
 mod parts;
 mod row;
+pub mod scripts;
+pub mod tales;
 mod token;
 pub mod values;
 mod words;
@@ -48,6 +52,7 @@ pub use case::Case;
 pub use fault::RowFault;
 pub use line::Line;
 pub use page::Page;
+pub use pages::{Caller, run_pages};
 pub use parts::{hex, told, told_text};
 pub use row::Row;
 pub use words::Words;

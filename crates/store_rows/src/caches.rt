@@ -1,9 +1,9 @@
 //! Steps on a cache of fragments.
-use crate::scripts::is_quiet;
-use crate::tales::Tale;
 use crate::values::{address, fragment};
 use anyhow::{Result, bail};
 use sm_cache::Cache;
+use sm_rows::scripts::is_quiet;
+use sm_rows::tales::Tale;
 use sm_rows::{Case, Line, Words};
 use std::alloc::Global;
 

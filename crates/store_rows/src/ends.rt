@@ -1,11 +1,11 @@
 //! Inputs, outputs and tracks in memory, whose calls fail by number.
-use crate::tales::Tale;
 use anyhow::{Result, bail};
 use sm_ends::{
     Calls, CountedSource, Failed, InputFault, MemorySink, MemorySource, MemoryTracks, ShortSink,
     ShortSource, Source, Tracks, read_input, write_all,
 };
 use sm_model::Bytes;
+use sm_rows::tales::Tale;
 use sm_rows::{Case, Words};
 use std::alloc::Global;
 

@@ -4,11 +4,11 @@ ghost use Rattle.sm_site.specs.Memory.{site_may_leave};
 ghost use Rattle.sm_gatelog.specs.Logs.{IsLog};
 
 use crate::answers::{appended, settled};
-use crate::scripts::is_quiet;
-use crate::tales::Tale;
 use anyhow::{Result, bail};
 use sm_gatelog::{Appended, GateLog, ReadFault, Settled};
 use sm_model::Bytes;
+use sm_rows::scripts::is_quiet;
+use sm_rows::tales::Tale;
 use sm_rows::{Case, Line, Words};
 use sm_site::{Crashing, MemorySite};
 use std::alloc::Global;

@@ -4,10 +4,10 @@ ghost use Rattle.sm_site.specs.Memory.{site_may_leave};
 ghost use Rattle.sm_seglog.specs.Segments.{GoesOn, IsReady, IsSegLog};
 
 use crate::answers::{appended, settled};
-use crate::scripts::is_quiet;
-use crate::tales::Tale;
 use anyhow::{Result, bail};
 use sm_gatelog::{Appended, Settled};
+use sm_rows::scripts::is_quiet;
+use sm_rows::tales::Tale;
 use sm_rows::{Case, Line, Words};
 use sm_seglog::SegLog;
 use sm_site::{Crashing, MemorySite};

@@ -5,13 +5,13 @@ ghost use Rattle.sm_origin.specs.Machine.{Machine};
 ghost use Rattle.sm_origin.specs.Acting.{StandsFor, IsValidAct};
 
 use crate::choices::limits;
-use crate::scripts::is_quiet;
-use crate::tales::Tale;
 use crate::values::{add_to, address, channel, fragment};
 use crate::verdicts::declared;
 use anyhow::{Result, bail};
 use sm_model::{Act, Cause, Channel, Refusal, Track};
 use sm_origin::{Counted, Origin, Reply};
+use sm_rows::scripts::is_quiet;
+use sm_rows::tales::Tale;
 use sm_rows::{Case, Line, Words};
 use sm_site::MemorySite;
 use std::alloc::Global;

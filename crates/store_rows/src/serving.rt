@@ -6,12 +6,12 @@ ghost use Rattle.sm_serve.specs.Standing.{StandsOn};
 ghost use Rattle.sm_serve.specs.Serving.{Known};
 
 use crate::choices::{chosen, limits};
-use crate::tales::Tale;
 use crate::values::{add_to, channel, is_of_track};
 use crate::verdicts::declared;
 use anyhow::{Result, bail};
 use sm_archive::Declared;
 use sm_model::Channel;
+use sm_rows::tales::Tale;
 use sm_rows::{Case, Line, Words};
 use sm_serve::{Served, State, serve};
 use sm_site::MemorySite;

@@ -2,11 +2,11 @@
 //!
 //! A line that opens something is followed by the steps on it, up to the next that opens, to `shut` or to a crash; all other steps are
 //! on the site itself.
-use crate::scripts::{Cut, is_quiet, site};
-use crate::tales::Tale;
-use crate::{disks, files, logs, origins, serving, stores};
+use crate::{files, logs, origins, serving, stores};
 use anyhow::Result;
-use sm_rows::{Case, Line, Words};
+use sm_rows::scripts::{Cut, is_quiet, site};
+use sm_rows::tales::Tale;
+use sm_rows::{Case, Line, Words, disks};
 use sm_site::{MemorySite, Script};
 use std::alloc::Global;
 

@@ -5,13 +5,13 @@ ghost use Rattle.sm_site.specs.Memory.{site_may_leave};
 ghost use Rattle.sm_archive.specs.Stands.{Stands};
 
 use crate::choices::limits;
-use crate::scripts::is_quiet;
-use crate::tales::Tale;
 use crate::values::{add_to, address, channel, fragment};
 use crate::verdicts::{declared, fetched, kept};
 use anyhow::{Result, bail};
 use sm_archive::{Archive, Fetched, fewer_images_stand, open_store};
 use sm_model::{Address, Channel, Fragment, Track};
+use sm_rows::scripts::is_quiet;
+use sm_rows::tales::Tale;
 use sm_rows::{Case, Line, Words};
 use sm_site::{Crashing, MemorySite};
 use std::alloc::Global;

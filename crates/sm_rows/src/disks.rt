@@ -1,8 +1,8 @@
 //! Steps on the disk and the link of a site themselves.
 use crate::scripts::{Cut, extend};
 use crate::tales::Tale;
+use crate::{Line, Words};
 use anyhow::{Result, bail};
-use sm_rows::{Line, Words};
 use sm_site::{
     Crashing, Disk, Event, Failed, Link, LinkError, MemorySite, Selection, Site, SiteError,
 };

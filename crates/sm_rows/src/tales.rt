@@ -1,6 +1,6 @@
 //! What the steps of a row tell.
+use crate::parts::hex;
 use anyhow::Result;
-use sm_rows::hex;
 use std::alloc::Global;
 
 /// The lines that were told so far, and how many disk calls there were when they were last told.

@@ -3,8 +3,8 @@ ghost use Rattle.std.specs.Prelude.{◌∷◌, List, IfSome, IsTrue};
 ghost use Rattle.sm_site.specs.declared.event.Event.{Event};
 ghost use Rattle.sm_site.specs.Scripts.{is_script};
 
+use crate::{Case, Line};
 use anyhow::{Result, bail};
-use sm_rows::{Case, Line};
 use sm_site::{Crashing, Event, MemorySite, Numbers, Piece, Script};
 use std::alloc::Global;
 
@@ -129,21 +129,14 @@ fn numbers(alloc: Global, case: &Case<'_>, key: &str) -> Result<Numbers> {
     Ok(Numbers::from_vec(all))
 }
 
-/// Whether a line says what comes or fails, and is no step.
+/// Whether a line says what comes, what fails or what is to come of it, and is no step.
 pub fn is_quiet(key: &str) -> bool {
-    matches!(
+    let comes = matches!(
         key,
-        "opened"
-            | "closed"
-            | "piece"
-            | "sends"
-            | "fails-disk"
-            | "fails-link"
-            | "sizes"
-            | "gives"
-            | "gives-hex"
-            | "gives-text"
-    )
+        "opened" | "closed" | "piece" | "sends" | "input" | "zeros-input" | "answers" | "loses"
+    );
+    let limits = matches!(key, "most" | "sizes") || key.starts_with("fails-");
+    comes || limits || matches!(key, "gives" | "gives-hex" | "gives-text")
 }
 
 /// The site of a row: `opened N`, or `opened N M` of all numbers from N to M, `closed N`, `piece N` with bytes and `sends N` with bytes, which opens first, are what comes, and

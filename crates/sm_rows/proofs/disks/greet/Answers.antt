@@ -2,7 +2,7 @@ use Rattle.std.proofs.Common.{rules}
 use Rattle.sm_site.specs.Meanings.Deal.{Began}
 use Rattle.sm_site.specs.Clauses.{Adds}
 use Rattle.sm_site.proofs.Lives.{live_began, live_after_send}
-use Rattle.store_rows.proofs.disks.greet.Goals as goal
+use Rattle.sm_rows.proofs.disks.greet.Goals as goal
 
 pub send-requires : goal.send-requires
 send-requires g c =

@@ -1,0 +1,52 @@
+//! Runs what each row of the files of `data/` says, commands, plays and exchanges, over ends, sites, dials and tracks in memory, and
+//! prints how what they give differs from what they have to give.
+//!
+//! A last line says how many rows there are. `sm_rows` says how a row is written.
+#![tactic(auto)]
+
+mod commands;
+mod ends;
+mod exchanges;
+mod faults;
+mod plays;
+mod stage;
+mod worlds;
+
+use anyhow::Result;
+use sm_rows::{Caller, Case, run_pages};
+use std::alloc::Global;
+
+// In the order in which they are read: names and blocks of one are known in those behind it.
+const PAGES: [&str; 11] = [
+    "fixtures.txt",
+    "exchanges.txt",
+    "words.txt",
+    "picks.txt",
+    "causes.txt",
+    "limits.txt",
+    "pushes.txt",
+    "plays.txt",
+    "stores.txt",
+    "rehearsals.txt",
+    "faults.txt",
+];
+
+struct Rows;
+
+impl Caller for Rows {
+    fn answer(alloc: Global, case: &Case<'_>) -> Result<String> {
+        match case.call() {
+            "fronts" => commands::play_fronts(alloc, case),
+            "exchanges" => exchanges::play(alloc, case),
+            "faults" => faults::told(alloc, case),
+            "fronts of replies" => exchanges::play_fronts(alloc, case),
+            "plays" => plays::play(alloc, case),
+            "worlds" => worlds::play(alloc, case),
+            _ => stage::play(alloc, case),
+        }
+    }
+}
+
+fn main(rt: HostRuntime) -> Result<()> {
+    run_pages::<Rows>(&rt, &PAGES)
+}
