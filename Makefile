@@ -29,20 +29,11 @@ install: build
 	sed 's|@PREFIX@|$(PREFIX)|' examples/smooth.service > $(DESTDIR)$(PREFIX)/lib/systemd/system/smooth.service
 
 # Holds the program against a plain reference in Python, on the samples and on many inputs made of them, and tries it with ffmpeg,
-# curl, nginx and strace, each where it is installed; then kills, a loss of power, an hour of a push, many clients at once, slow readers, and
-# whether memory comes back. `scripts/check_kill 100` and `scripts/check_crash` are the long forms.
+# curl, nginx and strace, each where it is installed; then kills, a loss of power, an hour of a push, slow readers, whether memory comes
+# back, and many clients at once. The last line says what ran. `scripts/check_kill 100` and `scripts/check_crash` are the long forms;
+# `scripts/check_checks` shows that the checks can fail.
 check: build
-	bash scripts/check_pick $(PROGRAM)
-	SMOOTH=$(PROGRAM) scripts/check_play
-	SMOOTH=$(PROGRAM) scripts/check_ffmpeg
-	SMOOTH=$(PROGRAM) scripts/check_two_encoders
-	SMOOTH=$(PROGRAM) scripts/check_return
-	SMOOTH=$(PROGRAM) scripts/check_proxy
-	SMOOTH=$(PROGRAM) scripts/check_kill 10
-	SMOOTH=$(PROGRAM) scripts/check_crash 100
-	SMOOTH=$(PROGRAM) scripts/check_hour
-	SMOOTH=$(PROGRAM) scripts/check_slow
-	SMOOTH=$(PROGRAM) scripts/check_memory
+	bash scripts/check_all $(PROGRAM)
 
 # Figures of the readers, the store and the running origin: docs/PERFORMANCE.md says what they came to.
 bench: build

@@ -168,8 +168,9 @@ def read(fragment):
     return int.from_bytes(first[at : at + 8], "big"), int.from_bytes(first[at + 8 : at + 16], "big"), second[8:]
 
 
-def encode(target, groups, rate=8, first=0):
-    """An ffmpeg that pushes test pictures at two bitrates with a sound, so many times as fast as they last, from a group on."""
+def encode(target, groups, rate=8, first=0, beside=None):
+    """An ffmpeg that pushes test pictures at two bitrates with a sound, so many times as fast as they last, from a group on; it also
+    writes what it pushes to the file beside, if one is named."""
     words = ["ffmpeg", "-nostdin", "-v", "error"]
     for source in (f"testsrc2=size=320x180:rate={PICTURES}", "sine=frequency=440:sample_rate=48000"):
         words += ["-readrate", str(rate), "-f", "lavfi", "-i", source]
@@ -177,8 +178,144 @@ def encode(target, groups, rate=8, first=0):
     words += ["-c:v", "libx264", "-preset", "ultrafast", "-bf", "0", "-g", str(GROUP), "-keyint_min", str(GROUP), "-sc_threshold", "0"]
     words += ["-b:v:0", str(BITRATES[0]), "-b:v:1", str(BITRATES[1]), "-c:a", "aac", "-b:a", "64000"]
     words += ["-af", "asetpts=PTS+1024/48000/TB", "-output_ts_offset", str(first * UNIT / 10_000_000)]
-    words += ["-movflags", "isml+frag_keyframe", "-f", "ismv", target]
+    if beside is None:
+        return subprocess.Popen(words + ["-movflags", "isml+frag_keyframe", "-f", "ismv", target])
+    # the file has each packet before it is pushed
+    form = "[f=ismv:movflags=isml+frag_keyframe:flush_packets=1]"
+    words += ["-flags", "+global_header", "-f", "tee", f"{form}{beside}|{form}{target}"]
     return subprocess.Popen(words)
+
+
+# ---- what an encoder pushed, read by this script alone
+
+
+def within(data, *path):
+    """The bodies of the boxes at a path of kinds below a body."""
+    for kind, text in boxes(data):
+        if kind == path[0]:
+            if len(path) == 1:
+                yield text[8:]
+            else:
+                yield from within(text[8:], *path[1:])
+
+
+def number(data, at):
+    return int.from_bytes(data[at : at + 4], "big")
+
+
+def rows(traf, defaults):
+    """The duration, size, flags and offset of each sample of a traf's body, where a track has these defaults of the first three."""
+    tfhd, trun = next(within(traf, b"tfhd")), next(within(traf, b"trun"))
+    flags, at = number(tfhd, 0) & 0xFFFFFF, 8 + 8 * (tfhd[3] & 1) + 4 * (tfhd[3] >> 1 & 1)
+    usual = list(defaults)
+    for place, bit in enumerate((8, 16, 32)):
+        if flags & bit:
+            usual[place], at = number(tfhd, at), at + 4
+    flags, count, at, found = number(trun, 0) & 0xFFFFFF, number(trun, 4), 8, []
+    at += 4 * (flags & 1)
+    first = number(trun, at) if flags & 4 else None
+    at += 4 * (flags >> 2 & 1)
+    for turn in range(count):
+        row = [*usual, 0]
+        if turn == 0 and first is not None:
+            row[2] = first
+        for place, bit in enumerate((0x100, 0x200, 0x400, 0x800)):
+            if flags & bit:
+                row[place], at = number(trun, at), at + 4
+        found.append(tuple(row))
+    return found
+
+
+class Pushed:
+    """A push as a file: its tracks as the live manifest says them, their timescales, and its fragments."""
+
+    def __init__(self, path):
+        with open(path, "rb") as file:
+            data = file.read()
+        text = data[data.index(b"<?xml") : data.index(b"</smil>") + 7]
+        moov = next(within(data, b"moov"))
+        scales = {}
+        for trak in within(moov, b"trak"):
+            tkhd, mdhd = next(within(trak, b"tkhd")), next(within(trak, b"mdia", b"mdhd"))
+            scales[number(tkhd, 20 if tkhd[0] else 12)] = number(mdhd, 20 if mdhd[0] else 12)
+        usual = {number(trex, 4): [number(trex, at) for at in (12, 16, 20)] for trex in within(moov, b"mvex", b"trex")}
+        self.tracks = {}
+        for track in (element for element in xml.fromstring(text).iter() if element.get("systemBitrate")):
+            said = {param.get("name"): param.get("value") for param in track}
+            self.tracks[int(said["trackID"])] = (said.get("trackName", track.tag), int(track.get("systemBitrate")), said)
+        self.scales = {place[:2]: scales[track] for track, place in self.tracks.items()}
+        self.fragments = {}
+        moof = None
+        for kind, text in boxes(data):
+            if len(text) < number(text, 0):
+                # the file of an encoder that was cut off
+                break
+            if kind == b"moof":
+                moof = text[8:]
+            elif kind == b"mdat" and moof is not None:
+                traf = next(within(moof, b"traf"))
+                track = number(next(within(traf, b"tfhd")), 4)
+                at = traf.index(TFXD) + 16
+                wide = 8 if traf[at] else 4
+                start, lasts = (int.from_bytes(traf[at + 4 + n * wide : at + 4 + (n + 1) * wide], "big") for n in (0, 1))
+                stream, bitrate, _ = self.tracks[track]
+                self.fragments[stream, bitrate, start] = (lasts, rows(traf, usual.get(track, [0, 0, 0])), text[8:])
+
+    def is_everywhere(self, place):
+        """Whether each quality of the stream has a fragment of that time."""
+        stream, _, start = place
+        return all((name, bitrate, start) in self.fragments for name, bitrate, _ in self.tracks.values() if name == stream)
+
+
+def check_manifest(text, pushed):
+    """Each value that the manifest says of a track is the one that the encoder's header said."""
+    streams = {stream.get("Name"): stream for stream in xml.fromstring(text).iter("StreamIndex")}
+    names = {name for name, _, _ in pushed.tracks.values()}
+    test(set(streams) == names, f"the manifest has the streams {sorted(streams)}, and not {sorted(names)}")
+    for name, bitrate, said in pushed.tracks.values():
+        scale = streams[name].get("TimeScale")
+        test(scale == str(pushed.scales[name, bitrate]), f"{name} has the timescale {scale}")
+        levels = [level for level in streams[name].iter("QualityLevel") if level.get("Bitrate") == str(bitrate)]
+        test(len(levels) == 1, f"{name} has {len(levels)} levels of {bitrate}")
+        for key in ("FourCC", "CodecPrivateData", "MaxWidth", "MaxHeight", "AudioTag", "Channels", "SamplingRate", "BitsPerSample", "PacketSize"):
+            mine, its = levels[0].get(key), said.get(key)
+            test(its is None or (mine or "").lower() == its.lower(), f"{name} {bitrate} has {key} {mine}, and not {its}")
+
+
+def check_fragments(origin, files, get=None, cut=()):
+    """Each fragment that the manifest lists has the samples that one of these pushes had for that track and time, and each time that
+    they had in each quality is listed, but for those of pushes that were cut off. Gives the sequence number of each fragment."""
+    get = get or origin.get
+    status, text = get("Manifest")
+    test(status == 200, f"the manifest is answered by {status}")
+    check_manifest(text, files[0])
+    numbers = {}
+    for stream, (bitrates, times) in listed(text).items():
+        for start, _ in times:
+            for bitrate in bitrates:
+                place = (stream, bitrate, start)
+                had = [pushed.fragments[place] for pushed in [*files, *cut] if place in pushed.fragments]
+                test(had, f"{place} is listed, and was not pushed")
+                status, fragment = get(path_of(bitrate, stream, start))
+                test(status == 200, f"{place} is listed and answered by {status}")
+                moof = next(within(fragment, b"moof"))
+                lasts, samples = read(fragment)[1:]
+                served = (lasts, rows(next(within(moof, b"traf")), [0, 0, 0]), samples)
+                test(served in had, f"{place} is served with other samples than were pushed")
+                numbers[place] = number(next(within(moof, b"mfhd")), 4)
+    for pushed in files:
+        # a time is listed once each quality of its stream has it
+        lost = {place for place in pushed.fragments if pushed.is_everywhere(place)} - set(numbers)
+        test(not lost, f"{sorted(lost)[:3]} were pushed and are not listed")
+    return numbers
+
+
+def check_numbers(numbers, lines):
+    """The sequence number of each fragment is its place in the store, as `list` says it."""
+    for line in lines:
+        _, place, stream, bitrate, start, *_ = line.split()
+        served = numbers.get((stream, int(bitrate), int(start)))
+        test(served is None or served == int(place), f"{stream} {bitrate} {start} is numbered {served}, and stands at {place}")
 
 
 def header():
