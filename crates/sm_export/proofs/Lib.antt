@@ -1,0 +1,9 @@
+pub mod Heads
+pub mod Texts
+pub mod Kept
+pub mod Answering
+pub mod Ordered
+pub mod OneHead
+pub mod BareHead
+pub mod ReadBack
+pub mod Opened

@@ -1,0 +1,137 @@
+-- Texts one behind another, and how much of them has gone out.
+use Rattle.std.proofs.Common.{◌≡◌, ◌+◌, ◌<◌, ◌≤◌, min, ℕ, List, [], ◌∷◌, ◌++◌, length, length-append, take, drop, Option, refl, sym, ap, subst, ◌∙◌, arith, append_assoc, append-nil}
+use Rattle.std.specs.Prelude.{◌==◌, ◌^◌, zero, suc, Bool, true, false, nat_lt, slice_index_or, if◌then◌else◌}
+use Rattle.std.specs.Io.KnownBytes.{Appends}
+use Rattle.std.proofs.KnownBytes.{Appends-trans}
+use Rattle.std.proofs.lemmas.List.{take_more, take-append-le, take_min, take-append-drop}
+use Rattle.std.proofs.Math.Seq.{take-append-add}
+use Rattle.sm_ends.specs.Moves.{AppendsFront}
+use Rattle.sm_model.specs.declared.address.Address.{Address}
+use Rattle.sm_model.specs.declared.entry.Entry.{Entry}
+use Rattle.sm_model.specs.declared.fragment.Fragment.{Fragment}
+use Rattle.sm_model.specs.FragText.{frag_text}
+use Rattle.sm_model.specs.declared.entry.Entry.TheVariants.{Declare, Keep}
+use Rattle.sm_model.specs.Same.{is_same}
+use Rattle.sm_log.specs.Times.{with_entry}
+use Rattle.sm_log.specs.Adds.{Add, times_from}
+use Rattle.sm_log.specs.Logs.{times_in, adds_of, adds_from, IsSound}
+use Rattle.sm_export.specs.Exporting.{texts_from}
+use Rattle.sm_export.specs.Qualities.{kept_list, kept_among}
+
+pub texts_both : (seq id : ℕ) (xs ys : List Fragment) → texts_from seq id (xs ++ ys) ≡ texts_from seq id xs ++ texts_from (seq + length xs) id ys
+texts_both seq id [] ys = ap (λ (n : ℕ). texts_from n id ys) (omega arith)
+texts_both seq id (x ∷ xs) ys =
+    let n : (seq + 1) + length xs ≡ seq + length (x ∷ xs) = omega arith in
+    ap (λ (t : List ℕ). frag_text seq id x [] ++ t) (texts_both (seq + 1) id xs ys ∙ ap (λ (m : ℕ). texts_from (seq + 1) id xs ++ texts_from m id ys) n)
+    ∙ sym (append_assoc (frag_text seq id x []) (texts_from (seq + 1) id xs) (texts_from (seq + length (x ∷ xs)) id ys))
+
+pub kept_both : (log : List Entry) (name : List ℕ) (bitrate : ℕ) (ts us : List (ℕ × ℕ)) → kept_among log name bitrate (ts ++ us) ≡ kept_among log name bitrate ts ++ kept_among log name bitrate us
+kept_both log name bitrate [] us = refl
+kept_both log name bitrate (t ∷ ts) us =
+    let first : List Fragment = kept_list log (record { stream = name; bitrate = bitrate; time = t.0 }) in
+    ap (λ (fs : List Fragment). first ++ fs) (kept_both log name bitrate ts us) ∙ sym (append_assoc first (kept_among log name bitrate ts) (kept_among log name bitrate us))
+
+-- ---- how much has gone out
+
+-- all of the first, and a front of the second, is a front of both and more
+pub front_then : (a b c : Option (List ℕ)) (xs ys zs : List ℕ) → Appends a b xs → AppendsFront b c ys → AppendsFront a c (xs ++ (ys ++ zs))
+front_then a b c xs ys zs p q =
+    let n : ℕ = min q.0 (length ys) in
+    (length xs + n, subst (Appends a c) (sym (took xs ys zs q.0)) (Appends-trans a b c xs (take q.0 ys) p q.1))
+  where
+    took : (xs ys zs : List ℕ) (k : ℕ) → take (length xs + min k (length ys)) (xs ++ (ys ++ zs)) ≡ xs ++ take k ys
+    took xs ys zs k = take-append-add xs (ys ++ zs) (min k (length ys)) ∙ ap (λ (t : List ℕ). xs ++ t) (take-append-le (min k (length ys)) ys zs (omega arith) ∙ take_min k ys)
+
+-- a front of the first is a front of both
+pub front_of_first : (a b : Option (List ℕ)) (xs ys : List ℕ) → AppendsFront a b xs → AppendsFront a b (xs ++ ys)
+front_of_first a b xs ys p = (min p.0 (length xs), subst (Appends a b) (took xs ys p.0) p.1)
+  where
+    took : (xs ys : List ℕ) (k : ℕ) → take k xs ≡ take (min k (length xs)) (xs ++ ys)
+    took xs ys k = sym (take-append-le (min k (length xs)) xs ys (omega arith) ∙ take_min k xs)
+
+-- ---- one address more
+
+kept_one : (log : List Entry) (name : List ℕ) (bitrate : ℕ) (address : Address) (t : ℕ × ℕ) → address ≡ record { stream = name; bitrate = bitrate; time = t.0 }
+    → kept_among log name bitrate (t ∷ []) ≡ kept_list log address
+kept_one log name bitrate address t is = append-nil (kept_list log (record { stream = name; bitrate = bitrate; time = t.0 })) ∙ ap (λ (a : Address). kept_list log a) (sym is)
+
+kept_next : (log : List Entry) (name : List ℕ) (bitrate : ℕ) (address : Address) (times : List (ℕ × ℕ)) (i : ℕ) (t : ℕ × ℕ) → i < length times → t ≡ slice_index_or times i t
+    → address ≡ record { stream = name; bitrate = bitrate; time = t.0 } → kept_among log name bitrate (take (i + 1) times) ≡ kept_among log name bitrate (take i times) ++ kept_list log address
+kept_next log name bitrate address times i t lt here is =
+    ap (λ (ts : List (ℕ × ℕ)). kept_among log name bitrate ts) (take_more times i t lt ∙ ap (λ (u : ℕ × ℕ). take i times ++ u ∷ []) (sym here))
+    ∙ (kept_both log name bitrate (take i times) (t ∷ []) ∙ ap (λ (fs : List Fragment). kept_among log name bitrate (take i times) ++ fs) (kept_one log name bitrate address t is))
+
+texts_next : (id written : ℕ) (ks fs : List Fragment) → written ≡ length ks → texts_from 1 id (ks ++ fs) ≡ texts_from 1 id ks ++ texts_from (written + 1) id fs
+texts_next id written ks fs count = texts_both 1 id ks fs ∙ ap (λ (n : ℕ). texts_from 1 id ks ++ texts_from n id fs) (omega (arith, count))
+
+pub wrote_more : (a b c : Option (List ℕ)) (log : List Entry) (name : List ℕ) (bitrate : ℕ) (address : Address) (times : List (ℕ × ℕ)) (i : ℕ) (t : ℕ × ℕ) (id written n : ℕ) → i < length times
+    → t ≡ slice_index_or times i t → address ≡ record { stream = name; bitrate = bitrate; time = t.0 }
+    → Appends a b (texts_from 1 id (kept_among log name bitrate (take i times))) → written ≡ length (kept_among log name bitrate (take i times))
+    → Appends b c (texts_from (written + 1) id (kept_list log address)) → length (kept_list log address) ≡ n
+    → Appends a c (texts_from 1 id (kept_among log name bitrate (take (i + 1) times))) × (written + n ≡ length (kept_among log name bitrate (take (i + 1) times)))
+wrote_more a b c log name bitrate address times i t id written n lt here is p count q one =
+    let next = kept_next log name bitrate address times i t lt here is in
+    let text : texts_from 1 id (kept_among log name bitrate (take (i + 1) times)) ≡ texts_from 1 id (kept_among log name bitrate (take i times)) ++ texts_from (written + 1) id (kept_list log address) =
+    ap (texts_from 1 id) next ∙ texts_next id written (kept_among log name bitrate (take i times)) (kept_list log address) count in
+    let len : length (kept_among log name bitrate (take (i + 1) times)) ≡ length (kept_among log name bitrate (take i times)) + length (kept_list log address) =
+    ap length next ∙ length-append (kept_among log name bitrate (take i times)) (kept_list log address) in (
+      subst (Appends a c) (sym text) (Appends-trans a b c _ _ p q),
+      omega (arith, count, one, len),
+    )
+
+-- what went out of one text, behind all before it, is a front of all
+pub wrote_part : (a b c : Option (List ℕ)) (log : List Entry) (name : List ℕ) (bitrate : ℕ) (address : Address) (times : List (ℕ × ℕ)) (i : ℕ) (t : ℕ × ℕ) (id written : ℕ) → i < length times
+    → t ≡ slice_index_or times i t → address ≡ record { stream = name; bitrate = bitrate; time = t.0 }
+    → Appends a b (texts_from 1 id (kept_among log name bitrate (take i times))) → written ≡ length (kept_among log name bitrate (take i times))
+    → AppendsFront b c (texts_from (written + 1) id (kept_list log address)) → AppendsFront a c (texts_from 1 id (kept_among log name bitrate times))
+wrote_part a b c log name bitrate address times i t id written lt here is p count q =
+    let ks : List Fragment = kept_among log name bitrate (take i times) in
+    let fs : List Fragment = kept_list log address in
+    let more : List Fragment = kept_among log name bitrate (drop (i + 1) times) in
+    let all : kept_among log name bitrate times ≡ ks ++ (fs ++ more) =
+    ap (λ (ts : List (ℕ × ℕ)). kept_among log name bitrate ts) (sym (take-append-drop (i + 1) times))
+    ∙ (kept_both log name bitrate (take (i + 1) times) (drop (i + 1) times) ∙ (ap (λ (gs : List Fragment). gs ++ more) (kept_next log name bitrate address times i t lt here is) ∙ append_assoc ks fs more)) in
+    let rest : List ℕ = texts_from ((written + 1) + length fs) id more in
+    let text : texts_from 1 id (kept_among log name bitrate times) ≡ texts_from 1 id ks ++ (texts_from (written + 1) id fs ++ rest) =
+    ap (texts_from 1 id) all ∙ (texts_next id written ks (fs ++ more) count ∙ ap (λ (x : List ℕ). texts_from 1 id ks ++ x) (texts_both (written + 1) id fs more)) in
+    subst (AppendsFront a c) (sym text) (front_then a b c (texts_from 1 id ks) (texts_from (written + 1) id fs) rest p q)
+
+-- what stands at an index, whatever else would
+pub at_any : (xs : List (ℕ × ℕ)) (i : ℕ) (d e : ℕ × ℕ) → i < length xs → slice_index_or xs i d ≡ slice_index_or xs i e
+at_any [] i d e lt = absurd (omega (arith, lt))
+at_any (x ∷ xs) zero d e lt = refl
+at_any (x ∷ xs) (suc i) d e lt = at_any xs i d e (omega (arith, lt))
+
+-- ---- how many times there are
+
+with_len : (s v : ℕ) (xs : List (ℕ × ℕ)) → length (with_entry s v xs) ≤ length xs + 1
+with_len s v [] = omega arith
+with_len s v (x ∷ xs) = cases (with_len s v xs) (nat_lt s x.0) (x.0 == s)
+  where
+    cases : length (with_entry s v xs) ≤ length xs + 1 → (p q : Bool) → length (if p then (s, v) ∷ x ∷ xs else if q then x ∷ xs else x ∷ with_entry s v xs) ≤ length (x ∷ xs) + 1
+    cases one true q = omega arith
+    cases one false true = omega arith
+    cases one false false = omega (arith, one)
+
+times_len : (stream : List ℕ) (times : List (ℕ × ℕ)) (adds : List Add) → length (times_from stream times adds) ≤ length times + length adds
+times_len stream times [] = omega arith
+times_len stream times (a ∷ adds) =
+    cases (is_same a.address.stream stream) (times_len stream (with_entry a.address.time a.duration times) adds) (times_len stream times adds) (with_len a.address.time a.duration times)
+  where
+    cases : (p : Bool) → length (times_from stream (with_entry a.address.time a.duration times) adds) ≤ length (with_entry a.address.time a.duration times) + length adds
+        → length (times_from stream times adds) ≤ length times + length adds → length (with_entry a.address.time a.duration times) ≤ length times + 1
+        → length (times_from stream (if p then with_entry a.address.time a.duration times else times) adds) ≤ length times + length (a ∷ adds)
+    cases true more same one = omega (arith, more, one)
+    cases false more same one = omega (arith, same)
+
+adds_len : (place : ℕ) (log : List Entry) → length (adds_from place log) ≤ length log
+adds_len place [] = omega arith
+adds_len place (Declare tracks ∷ log) = let more = adds_len (suc place) log in omega (arith, more)
+adds_len place (Keep f ∷ log) = let more = adds_len (suc place) log in omega (arith, more)
+
+pub times_few : (log : List Entry) (stream : List ℕ) → IsSound log → length (times_in log stream) < 2 ^ 32
+times_few log stream sound =
+    let times = times_len stream [] (adds_of log) in
+    let adds = adds_len 0 log in
+    let few = sound.few in
+    omega (arith, times, adds, few)

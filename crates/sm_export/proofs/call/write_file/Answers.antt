@@ -1,0 +1,24 @@
+use Rattle.std.proofs.Common.{ℕ, List, [], ◌++◌, subst, append-nil}
+use Rattle.std.proofs.KnownBytes.{Appends-trans}
+use Rattle.std.proofs.lemmas.Result.{IfOk-weaker, on_err_weaker}
+use Rattle.sm_ends.specs.Moves.{AppendsFront}
+use Rattle.sm_export.specs.Exporting.{texts_from}
+use Rattle.sm_export.specs.Qualities.{kept_among}
+use Rattle.sm_export.proofs.Texts.{front_then, front_of_first}
+use Rattle.sm_export.proofs.call.write_file.Goals as goal
+
+pub returns-in-Ok-clause-ok : goal.returns-in-Ok-clause-ok
+returns-in-Ok-clause-ok g c = IfOk-weaker c.write_times.result _ _ (λ written p log doubt s told. let w = p log doubt s told in (Appends-trans _ _ _ _ _ c.in-Ok.ensures.ok w.0, w.1)) c.write_times.ensures.ok
+
+pub returns-in-Ok-clause-err : goal.returns-in-Ok-clause-err
+returns-in-Ok-clause-err g c = on_err_weaker c.write_times.result
+    (λ p log doubt s told.
+    let texts : List ℕ = texts_from 1 c.args.id (kept_among log c.args.name.now c.args.bitrate c.args.times.now) in
+    let a = g.O.Sink.held c.args.out.now in
+    let b = g.O.Sink.held c.write_times.new.out in
+    subst (λ (x : List ℕ). AppendsFront a b (c.args.header.now ++ x)) (append-nil texts) (front_then a (g.O.Sink.held c.write_all.new.sink) b c.args.header.now texts [] c.in-Ok.ensures.ok (p log doubt s told)))
+    c.write_times.ensures.err
+
+pub returns-in-Err-clause-err : goal.returns-in-Err-clause-err
+returns-in-Err-clause-err g c = λ log doubt s told. front_of_first (g.O.Sink.held c.args.out.now) (g.O.Sink.held c.write_all.new.sink) c.args.header.now
+    (texts_from 1 c.args.id (kept_among log c.args.name.now c.args.bitrate c.args.times.now)) c.in-Err.ensures.err

@@ -1,0 +1,4 @@
+pub mod Heads
+pub mod Qualities
+pub mod Exporting
+pub mod Storing

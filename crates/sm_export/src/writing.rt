@@ -1,0 +1,143 @@
+//! Writing the fragments of one quality.
+ghost use Rattle.std.specs.Prelude.{◌≡◌, ◌≤◌, ◌<◌, ◌+◌, ◌^◌, ℕ, [], ◌∷◌, ◌++◌, true, false, List, Option, None, Some, Err, IfOk, OnOk, OnErr, IsErrOf, IsSome, is_some, length};
+ghost use Rattle.std.specs.Io.KnownBytes.{Appends};
+ghost use Rattle.sm_ends.specs.Moves.{AppendsFront};
+ghost use Rattle.sm_ends.specs.Faults.{Rose as FaultsRose};
+ghost use Rattle.sm_model.specs.declared.address.Address.{Address};
+ghost use Rattle.sm_model.specs.declared.entry.Entry.{Entry};
+ghost use Rattle.sm_model.specs.Fragments.{IsValid};
+ghost use Rattle.sm_model.specs.FragText.{frag_text};
+ghost use Rattle.sm_site.specs.Clauses.{Rose, Throughout};
+ghost use Rattle.sm_site.specs.Meanings.{SameLink};
+ghost use Rattle.sm_archive.specs.Stands.{Stands};
+ghost use Rattle.sm_export.specs.Exporting.{texts_from};
+ghost use Rattle.sm_export.specs.Qualities.{kept_list, kept_among};
+ghost use Rattle.sm_export.specs.declared.writing.Broken.TheVariants as broken;
+
+use sm_archive::{Archive, Fetched};
+use sm_ends::{Failed, Sink, write_all};
+use sm_log::law::kept_is_added;
+use sm_model::{Address, Fragment, Name};
+use sm_moof::put_fragment;
+use sm_site::Disk;
+use std::alloc::Global;
+
+/// Why a file ends too early.
+#[derive(Clone, Copy, Debug, PartialEq, Eq)]
+pub(crate) enum Broken {
+    DiskFault,
+    Damaged,
+    WriteFault,
+    NoMemory,
+}
+
+// The text of one fragment.
+fn write_fragment<O: Sink>(
+    alloc: Global,
+    fragment: &Fragment,
+    seq: u32,
+    id: u32,
+    out: &mut O,
+) -> Result<(), Broken>
+    requires { IsValid fragment.now }
+    ensures ok { OnOk result (Appends (O.held out.old) (O.held out.new) (frag_text seq id fragment.now [])) }
+    ensures err { OnErr result (AppendsFront (O.held out.old) (O.held out.new) (frag_text seq id fragment.now [])) }
+    ensures disk { IsErrOf result broken.DiskFault → ⊥ }
+    ensures damaged { IsErrOf result broken.Damaged → ⊥ }
+    ensures fault { IsErrOf result broken.WriteFault → FaultsRose (O.faults out.old) (O.faults out.new) }
+    ensures later { O.faults out.old ≤ O.faults out.new }
+{
+    let Ok(text) = put_fragment(alloc, seq, id, fragment, &[]) else {
+        return Err(Broken::NoMemory);
+    };
+    match write_all(out, text.as_slice()) {
+        Ok(()) => Ok(()),
+        Err(Failed) => Err(Broken::WriteFault),
+    }
+}
+
+// What is kept at an address, if anything is: whether it was written.
+fn write_at<D: Disk, O: Sink>(
+    alloc: Global,
+    disk: &mut D,
+    archive: &Archive,
+    address: &Address,
+    seq: u32,
+    id: u32,
+    out: &mut O,
+) -> Result<u32, Broken>
+    requires stands { (log : List Entry) × (doubt : Option Entry) × Stands archive.now log doubt (D.may_leave disk.old) }
+    ensures few { IfOk result (λ wrote. wrote ≤ 1) }
+    ensures ok { IfOk result (λ wrote. (log : List Entry) (doubt : Option Entry) → Stands archive.now log doubt (D.may_leave disk.old) → IsSome (D.view disk.old).contents
+        → Appends (O.held out.old) (O.held out.new) (texts_from seq id (kept_list log address.now)) × (length (kept_list log address.now) ≡ wrote)) }
+    ensures err { OnErr result ((log : List Entry) (doubt : Option Entry) → Stands archive.now log doubt (D.may_leave disk.old) → IsSome (D.view disk.old).contents
+        → AppendsFront (O.held out.old) (O.held out.new) (texts_from seq id (kept_list log address.now))) }
+    ensures damaged { IsErrOf result broken.Damaged → IsSome (D.view disk.old).contents → ⊥ }
+    ensures disk_fault { IsErrOf result broken.DiskFault → Rose (D.view disk.old).disk_faults (D.view disk.new).disk_faults }
+    ensures fault { IsErrOf result broken.WriteFault → FaultsRose (O.faults out.old) (O.faults out.new) }
+    ensures later { O.faults out.old ≤ O.faults out.new }
+    ensures stands { (log : List Entry) (doubt : Option Entry) → Stands archive.now log doubt (D.may_leave disk.old) → Stands archive.now log doubt (D.may_leave disk.new) }
+    ensures told { is_some (D.view disk.new).contents ≡ is_some (D.view disk.old).contents }
+    ensures any_moment { Throughout D.view D.left_at disk.old disk.new (λ t c. D.may_leave disk.old c) }
+    ensures no_fewer { (D.view disk.old).disk_faults ≤ (D.view disk.new).disk_faults }
+    ensures link { SameLink (D.view disk.old) (D.view disk.new) }
+{
+    kept_is_added();
+    match archive.fetch(alloc, disk, address) {
+        Fetched::Found { place: _, fragment } => match write_fragment(
+            alloc, &fragment, seq, id, out,
+        ) {
+            Ok(()) => Ok(1),
+            Err(broken) => Err(broken),
+        },
+        Fetched::Absent => Ok(0),
+        Fetched::DiskFault => Err(Broken::DiskFault),
+        Fetched::Damaged => Err(Broken::Damaged),
+        Fetched::NoMemory => Err(Broken::NoMemory),
+    }
+}
+
+/// What is kept of a quality at these times, in their order, numbered from 1: how many fragments there are.
+pub(crate) fn write_times<D: Disk, O: Sink>(
+    alloc: Global,
+    disk: &mut D,
+    archive: &Archive,
+    name: &Name,
+    bitrate: u32,
+    times: &[(u64, u64)],
+    id: u32,
+    out: &mut O,
+) -> Result<u64, Broken>
+    requires stands { (log : List Entry) × (doubt : Option Entry) × Stands archive.now log doubt (D.may_leave disk.old) }
+    requires few { length times.now < 2 ^ 32 }
+    ensures ok { IfOk result (λ written. (log : List Entry) (doubt : Option Entry) → Stands archive.now log doubt (D.may_leave disk.old) → IsSome (D.view disk.old).contents
+        → Appends (O.held out.old) (O.held out.new) (texts_from 1 id (kept_among log name.now bitrate times.now)) × (written ≡ length (kept_among log name.now bitrate times.now))) }
+    ensures err { OnErr result ((log : List Entry) (doubt : Option Entry) → Stands archive.now log doubt (D.may_leave disk.old) → IsSome (D.view disk.old).contents
+        → AppendsFront (O.held out.old) (O.held out.new) (texts_from 1 id (kept_among log name.now bitrate times.now))) }
+    ensures damaged { IsErrOf result broken.Damaged → IsSome (D.view disk.old).contents → ⊥ }
+    ensures disk_fault { IsErrOf result broken.DiskFault → Rose (D.view disk.old).disk_faults (D.view disk.new).disk_faults }
+    ensures fault { IsErrOf result broken.WriteFault → FaultsRose (O.faults out.old) (O.faults out.new) }
+    ensures later { O.faults out.old ≤ O.faults out.new }
+    ensures stands { (log : List Entry) (doubt : Option Entry) → Stands archive.now log doubt (D.may_leave disk.old) → Stands archive.now log doubt (D.may_leave disk.new) }
+    ensures any_moment { Throughout D.view D.left_at disk.old disk.new (λ t c. D.may_leave disk.old c) }
+    ensures no_fewer { (D.view disk.old).disk_faults ≤ (D.view disk.new).disk_faults }
+    ensures link { SameLink (D.view disk.old) (D.view disk.new) }
+{
+    let Ok(stream) = name.copy(alloc) else {
+        return Err(Broken::NoMemory);
+    };
+    let mut address = Address {
+        stream,
+        bitrate,
+        time: 0,
+    };
+    let mut written: u32 = 0;
+    for time in times {
+        address.time = time.0;
+        match write_at(alloc, disk, archive, &address, written + 1, id, out) {
+            Ok(wrote) => written += wrote,
+            Err(broken) => return Err(broken),
+        }
+    }
+    Ok(written as u64)
+}

@@ -1,0 +1,7 @@
+pub mod Dials
+pub mod Tried
+pub mod Disks
+pub mod Judging
+pub mod Finding
+pub mod BelowStays
+pub mod Offered

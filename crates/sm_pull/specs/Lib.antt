@@ -1,0 +1,4 @@
+pub mod Asks
+pub mod Adds
+pub mod Tracks
+pub mod Below

@@ -1,0 +1,13 @@
+use Rattle.std.proofs.Common.{List, None, take}
+use Rattle.sm_model.specs.declared.entry.Entry.{Entry}
+use Rattle.sm_archive.specs.Stands.{Stands}
+use Rattle.sm_log.specs.Adds.{tracks_of}
+use Rattle.sm_relay.specs.Wants.{wants_over}
+use Rattle.sm_relay.specs.Pulls.{Pulls}
+use Rattle.sm_relay.proofs.stream.pull_stream.Given as goal
+
+abbrev pub invariant-loop-time : goal.invariant-loop-time
+invariant-loop-time g l =
+    (log : List Entry) → Stands l.initial.archive log None (g.D.Disk.may_leave l.initial.disk)
+    → Pulls g.D.Disk.view g.D.Disk.left_at g.D.Disk.may_leave g.C.Dial.log g.C.Dial.store g.C.Dial.later g.C.Dial.dial_faults g.C.Dial.chosen l.plan l.initial.disk l.disk l.initial.dial l.dial l.initial.archive l.archive log
+    (wants_over l.stream.pattern (tracks_of l.stream.name l.channel) (take l.time-index l.stream.times))

@@ -1,0 +1,13 @@
+pub mod Rises
+pub mod Grows
+pub mod Steps
+pub mod Windows
+pub mod Places
+pub mod Ahead
+pub mod Fronts
+pub mod Logs
+pub mod Heights
+pub mod Answered
+pub mod Reading
+pub mod Filling
+pub mod Going

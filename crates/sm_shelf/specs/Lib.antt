@@ -1,0 +1,4 @@
+pub mod Parts
+pub mod Laying
+pub mod Shelf
+pub mod Shown

@@ -1,0 +1,4 @@
+pub mod Resting
+pub mod Readings
+pub mod Marked
+pub mod Going

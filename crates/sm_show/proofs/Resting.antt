@@ -1,0 +1,99 @@
+-- A run that goes on by reading back.
+use Rattle.std.proofs.Common.{◌≡◌, ℕ, List, [], Option, IsSome, is_some, refl, sym, ◌∙◌, ap, subst, le_refl, append-nil, arith}
+use Rattle.sm_site.specs.Image.{Image}
+use Rattle.sm_site.specs.Meanings.{View, Deal, SameLink}
+use Rattle.sm_model.specs.declared.address.Address.{Address}
+use Rattle.sm_archive.specs.declared.fetch.Fetched.{Fetched}
+use Rattle.sm_serve.specs.declared.state.State.{State}
+use Rattle.sm_serve.specs.Connections.{deals_in}
+use Rattle.sm_serve.specs.Standing.{History}
+use Rattle.sm_serve.specs.Serving.{Serves, Since, TurnsBy, RecallsIn}
+use Rattle.sm_serve.proofs.Lasting.{on_itself, on_then}
+use Rattle.sm_serve.proofs.Events.{same_script}
+use Rattle.sm_model.specs.declared.entry.Entry.{Entry}
+use Rattle.sm_shelf.specs.Shelf.{Desk, Belongs}
+use Rattle.sm_show.specs.Recalling.{Rests, Recalls}
+
+pub since_itself : (h : History) → Since h h
+since_itself h = record { first = refl; begin = refl; base = refl; found = refl; on = on_itself h }
+
+pub since_then : (h k l : History) → Since h k → Since k l → Since h l
+since_then h k l one two = record {
+  first = two.first ∙ one.first;
+  begin = two.begin ∙ one.begin;
+  base = two.base ∙ one.base;
+  found = two.found ∙ one.found;
+  on = on_then h k l one.on two.on;
+}
+
+pub same_link_here : (v : View) → SameLink v v
+same_link_here v = record { transcript = refl; script = refl; link_faults = refl; send_faults = refl; chosen = refl }
+
+pub same_link_then : (a b c : View) → SameLink a b → SameLink b c → SameLink a c
+same_link_then a b c one two = record {
+  transcript = two.transcript ∙ one.transcript;
+  script = two.script ∙ one.script;
+  link_faults = two.link_faults ∙ one.link_faults;
+  send_faults = two.send_faults ∙ one.send_faults;
+  chosen = two.chosen ∙ one.chosen;
+}
+
+module _ {D : Type 0} (view : D → View) (leave : D → Image → Type 0) (left_at : D → ℕ → Image → Type 0) where
+  pub rests_here : (h : History) (state : State) (d : D) → Serves view leave left_at h state d → Rests view leave left_at h state d
+  rests_here h state d serves = record { later = h; serves = serves; since = since_itself h; same = refl; log = λ told. refl }
+
+  pub rests_by : (h : History) (a : Address) (r : Fetched) (state : State) (d : D) → RecallsIn view leave left_at h a r state d → Rests view leave left_at h state d
+  rests_by h a r state d on = record { later = on.later; serves = on.serves; since = on.since; same = on.same; log = on.log }
+
+  pub rests_then : (h : History) (state : State) (d e : D) → is_some (view e).contents ≡ is_some (view d).contents → (one : Rests view leave left_at h state d)
+      → Rests view leave left_at one.later state e → Rests view leave left_at h state e
+  rests_then h state d e told one two = record {
+    later = two.later;
+    serves = two.serves;
+    since = since_then h one.later two.later one.since two.since;
+    same = two.same ∙ one.same;
+    log = λ has. two.log has ∙ one.log (sym told ∙ has);
+  }
+
+  pub recalls_here : (state : State) (d : D) → Recalls view leave left_at state d d
+  recalls_here state d = record {
+    rests = λ h serves. rests_here h state d serves;
+    told = refl;
+    no_fewer = le_refl (view d).disk_faults;
+    link = same_link_here (view d);
+  }
+
+  pub recalls_then : (state : State) (d e f : D) → Recalls view leave left_at state d e → Recalls view leave left_at state e f → Recalls view leave left_at state d f
+  recalls_then state d e f one two = record {
+    rests = λ h serves.
+        let mid = one.rests h serves in
+        rests_then h state e f two.told mid (two.rests mid.later mid.serves);
+    told = two.told ∙ one.told;
+    no_fewer = (let a = one.no_fewer in let b = two.no_fewer in omega (arith, a, b));
+    link = same_link_then (view d) (view e) (view f) one.link two.link;
+  }
+
+  -- it is no event
+  unfoldable pub turns_rest : (h : History) (was : Option (List Deal)) (state : State) (d : D) → (view d).script ≡ was → Rests view leave left_at h state d → TurnsBy view leave left_at h 0 was state d
+  turns_rest h was state d script rests = record {
+    deals = [];
+    many = refl;
+    turns = record {
+      later = rests.later;
+      serves = rests.serves;
+      since = rests.since;
+      taken = ap deals_in rests.same ∙ sym (append-nil (deals_in h.items));
+    };
+    script_is = same_script was (view d).script script;
+  }
+
+  -- what belongs to the log before belongs to it behind
+  pub belongs_then : (state : State) (old mid : D) (a b c : Desk) → Recalls view leave left_at state old mid
+      → ((h : History) → Serves view leave left_at h state old → IsSome (view old).contents → Belongs h.point.machine.log a → Belongs h.point.machine.log b)
+      → ((h : History) → Serves view leave left_at h state mid → IsSome (view mid).contents → Belongs h.point.machine.log b → Belongs h.point.machine.log c)
+      → (h : History) → Serves view leave left_at h state old → IsSome (view old).contents → Belongs h.point.machine.log a → Belongs h.point.machine.log c
+  belongs_then state old mid a b c recalls one two h serves told belongs =
+      let rests = recalls.rests h serves in
+      let has = recalls.told ∙ told in
+      let same = rests.log has in
+      subst (λ (l : List Entry). Belongs l c) same (two rests.later rests.serves has (subst (λ (l : List Entry). Belongs l b) (sym same) (one h serves told belongs)))

@@ -1,0 +1,10 @@
+pub mod Waits
+pub mod Opens
+pub mod Founds
+pub mod Putting
+pub mod Taking
+pub mod Plans
+pub mod Rounding
+pub mod Logs
+pub mod Bounds
+pub mod Spelling

@@ -1,0 +1,9 @@
+pub mod Candidates
+pub mod Waiting
+pub mod Turns
+pub mod Ends
+pub mod Asked
+pub mod Followed
+pub mod Rounds
+pub mod Placed
+pub mod Spelled

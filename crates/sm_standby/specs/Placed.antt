@@ -1,0 +1,69 @@
+-- A log that has the entries of another at their places.
+use Rattle.std.specs.Prelude.{◌≡◌, ℕ, List, ◌++◌, length, Option, IsSome}
+use Rattle.std.specs.List.{AllByRecursion}
+use Rattle.sm_model.specs.declared.address.Address.{Address}
+use Rattle.sm_model.specs.declared.entry.Entry.{Entry}
+use Rattle.sm_model.specs.declared.track.Track.{Track}
+use Rattle.sm_model.specs.declared.target.Target.TheVariants as target
+use Rattle.sm_addr.specs.Targets.{target_of}
+use Rattle.sm_site.specs.Image.{Image}
+use Rattle.sm_site.specs.Meanings.{View}
+use Rattle.sm_site.specs.Clauses.{Throughout}
+use Rattle.sm_archive.specs.declared.archive.Archive.{Archive}
+use Rattle.sm_archive.specs.Store.{IsStore}
+use Rattle.sm_manin.specs.declared.listing.Listing.{Listing}
+use Rattle.sm_fetch.specs.declared.dial.Exchange.{Exchange}
+use Rattle.sm_fetch.specs.declared.place.Place.{Place}
+use Rattle.sm_fetch.specs.Origins.{MayBeAsked}
+use Rattle.sm_fetch.specs.Requests.{fragment_target}
+use Rattle.sm_pull.specs.declared.plan.PullPlan.{PullPlan}
+use Rattle.sm_pull.specs.Below.{Places}
+use Rattle.sm_standby.specs.Turns.{url_of, address_for, Turn, passed, asked, kept_in}
+use Rattle.sm_standby.specs.declared.report.FollowReport.{FollowReport}
+use Rattle.sm_standby.specs.Rounds.{Round, Part, kept_by, Called}
+
+-- ---- what a target names
+
+-- the target that was asked for may be asked, and names the address itself
+pub record NamesItself (place : Place) (url : List ℕ) (a : Address) : Type 0 where
+  pub may : MayBeAsked place.host place.port (fragment_target place url a)
+  pub names : target_of (fragment_target place url a) ≡ target.Fragment a
+
+abbrev pub Names : Place → Listing → Turn → Type 0
+Names place listing (passed a) = Unit {0}
+Names place listing (asked who made came) = NamesItself place (url_of listing (address_for who)) (address_for who)
+
+abbrev pub AllName : Place → Listing → List Turn → Type 0
+AllName place listing turns = AllByRecursion (Names place listing) turns
+
+-- each target of these rounds names the address that it was asked for
+abbrev pub RoundsName : Place → List Round → Type 0
+RoundsName place rounds = AllByRecursion (λ r. AllName place r.listing r.turns) rounds
+
+abbrev pub PartNames : Place → Part → Type 0
+PartNames place p = AllName place p.listing (p.turns ++ p.tried)
+
+-- ---- what a crash leaves
+
+-- at a moment a crash leaves a store whose entries stand at their places in this log
+abbrev pub LeavesPlaces : List Entry → ℕ → Image → Type 0
+LeavesPlaces up t c = (after : List Entry) × IsStore after c × Places after up
+
+-- ---- a whole call
+
+-- Where the opening log has its entries at their places in a log of the primary, so has each store that a crash may leave at any moment, in
+-- one that goes on from it: provided that the targets name the addresses that they were asked for.
+abbrev pub StaysPlaced : {D C : Type 0} → (D → View) → (D → ℕ → Image → Type 0) → (C → List Entry → Type 0) → D → D → C → C → Place → List Entry
+    → List Round → Part → Type 0
+StaysPlaced view left_at store disk disk' dial dial' place before rounds part =
+    (up : List Entry) → store dial up → (more : List Entry) × store dial' (up ++ more)
+    × (RoundsName place rounds → PartNames place part → Places before up → IsSome (view disk).contents → Throughout view left_at disk disk' (LeavesPlaces (up ++ more)))
+
+-- What a call did, how many fragments were kept, and that these stand at their places.
+pub record Followed {D C : Type 0} (view : D → View) (left_at : D → ℕ → Image → Type 0) (leave : D → Image → Type 0) (told : C → Option (List Exchange))
+    (store : C → List Entry → Type 0)
+    (goes_on : C → C → Type 0) (faults : C → ℕ) (disk disk' : D) (dial dial' : C) (plan : PullPlan) (channel : List Track) (old new : Archive)
+    (before : List Entry) (report : FollowReport) : Type 0 where
+  pub called : Called view left_at leave told store goes_on faults disk disk' dial dial' plan channel old new before report.end
+  pub kept : report.kept ≡ length (kept_by called.rounds ++ kept_in called.part.turns)
+  pub placed : StaysPlaced view left_at store disk disk' dial dial' plan.place before called.rounds called.part
