@@ -8,6 +8,7 @@ pub mod ReadLevels
 pub mod ReadStreams
 pub mod ReadManifest
 pub mod FewestRuns
+pub mod Among
 pub mod ShownPieces
 pub mod ShownLines
 pub mod ShownRuns
@@ -18,3 +19,4 @@ pub mod ShownTimes
 pub mod ShownDeclared
 pub mod ShownStream
 pub mod ShownManifest
+pub mod Whole

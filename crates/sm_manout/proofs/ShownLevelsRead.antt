@@ -10,8 +10,8 @@ use Rattle.sm_manout.proofs.ShownPieces.{has_no, decimal_none, both_none, all_jo
 use Rattle.sm_manout.proofs.ShownLevels.{level_front, level_more}
 use Rattle.sm_manout.proofs.ShownOpening.{level_read}
 
-front_none : (i b : ℕ) (more : List ℕ) → i < 2 ^ 64 → b < 2 ^ 64 → has_no 10 more ≡ true → has_no 10 (level_front i b more) ≡ true
-front_none i b more li lb none =
+pub level_front_none : (i b : ℕ) (more : List ℕ) → i < 2 ^ 64 → b < 2 ^ 64 → has_no 10 more ≡ true → has_no 10 (level_front i b more) ≡ true
+level_front_none i b more li lb none =
     both_none 10 (decimal i) (34 ∷ codes " Bitrate=\"" ++ (decimal b ++ (34 ∷ more))) (decimal_none 10 i refl li) (both_none 10 (decimal b) (34 ∷ more) (decimal_none 10 b refl lb) none)
 
 -- a track whose line can be written, and whose bitrate R allows where it is one of the stream
@@ -31,7 +31,7 @@ levels_read P R name bs i (t ∷ ts) x same fits lines rates go =
     by_test true is more other =
         let T : List ℕ → Type 0 = λ l. Good P (record { stream = name; bitrates = bs }) l in
         let here : R name t.bitrate = same t is lines.0.2 in
-        let none = front_none i t.bitrate (level_more t) (omega (arith, fits)) (omega (arith, lines.0.0)) lines.0.1 in
+        let none = level_front_none i t.bitrate (level_more t) (omega (arith, fits)) (omega (arith, lines.0.0)) lines.0.1 in
         rw add-one
         (subst T (sym (append_assoc (level_line i t) (level_lines (suc i) name ts) x))
         (level_read P (record { stream = name; bitrates = bs }) i t (level_lines (suc i) name ts ++ x) (omega (arith, fits)) lines.0.0 none (more (all_join (R name) bs (t.bitrate ∷ []) rates (here, tt)))))

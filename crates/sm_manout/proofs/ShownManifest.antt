@@ -57,7 +57,7 @@ numbers_none p narrow =
     (both_none 10 (option_attribute (codes "BitsPerSample") p.bits) (option_attribute (codes "PacketSize") p.packet) (option_none (codes "BitsPerSample") p.bits refl narrow.bits)
     (option_none (codes "PacketSize") p.packet refl narrow.packet))))))
 
-level_none : (t : Track) → is_fourcc t.fourcc ≡ true → AreNarrow t.numbers → has_no 10 (level_more t) ≡ true
+pub level_none : (t : Track) → is_fourcc t.fourcc ≡ true → AreNarrow t.numbers → has_no 10 (level_more t) ≡ true
 level_none t fourcc narrow =
     both_none 10 (text_attribute (codes "FourCC") t.fourcc) _ (text_none (codes "FourCC") t.fourcc refl (fourcc_none t.fourcc fourcc))
     (both_none 10 (attribute (codes "CodecPrivateData") (encode_upper t.private)) _ (attribute_none (codes "CodecPrivateData") (encode_upper t.private) refl (private_none t.private))
@@ -73,14 +73,14 @@ kind_none kind.Video = refl
 kind_none kind.Audio = refl
 kind_none kind.Text = refl
 
-more_none : (t : Track) (chunks levels : ℕ) → t.timescale < 2 ^ 32 → chunks < 2 ^ 64 → levels < 2 ^ 64 → has_no 10 (opening_more t chunks levels) ≡ true
+pub more_none : (t : Track) (chunks levels : ℕ) → t.timescale < 2 ^ 32 → chunks < 2 ^ 64 → levels < 2 ^ 64 → has_no 10 (opening_more t chunks levels) ≡ true
 more_none t chunks levels ticks low few =
     both_none 10 (number_attribute (codes "TimeScale") t.timescale) _ (number_none (codes "TimeScale") t.timescale refl (omega (arith, ticks)))
     (both_none 10 (number_attribute (codes "Chunks") chunks) _ (number_none (codes "Chunks") chunks refl low)
     (both_none 10 (number_attribute (codes "QualityLevels") levels) _ (number_none (codes "QualityLevels") levels refl few)
     (both_none 10 (attribute (codes "Url") (url t.name)) (codes ">") (attribute_none (codes "Url") (url t.name) refl (url_none t.name)) refl)))
 
-opening_none : (t : Track) (more : List ℕ) → is_name t.name ≡ true → has_no 10 more ≡ true → has_no 10 (opening_front (kind_name t.kind) t.name more) ≡ true
+pub opening_none : (t : Track) (more : List ℕ) → is_name t.name ≡ true → has_no 10 more ≡ true → has_no 10 (opening_front (kind_name t.kind) t.name more) ≡ true
 opening_none t more is none =
     both_none 10 (kind_name t.kind) (34 ∷ codes " Name=\"" ++ (t.name ++ (34 ∷ more))) (kind_none t.kind) (both_none 10 t.name (34 ∷ more) (name_none 10 t.name refl is) none)
 

@@ -1,5 +1,5 @@
 -- The `c` lines of runs stand for the times that the runs were made of.
-use Rattle.std.proofs.Common.{◌≡◌, add-one, ◌+◌, ◌<◌, ◌^◌, ℕ, zero, suc, Bool, true, false, cond, eqb, List, [], ◌∷◌, ◌++◌, length, refl, sym, ap, subst, ◌∙◌, append_assoc, arith}
+use Rattle.std.proofs.Common.{◌≡◌, add-one, ◌+◌, ◌<◌, ◌^◌, ℕ, zero, suc, Bool, true, false, cond, eqb, List, [], ◌∷◌, ◌++◌, length, refl, sym, ap, subst, ◌∙◌, append_assoc, arith, inl, inr}
 use Rattle.std.specs.Prelude.{decimal, codes}
 use Rattle.std.specs.List.{AllByRecursion, flat_map}
 use Rattle.std.proofs.lemmas.Bool.{and_parts, eqb-true}
@@ -7,18 +7,19 @@ use Rattle.std.proofs.lemmas.List.{append-nil}
 use Rattle.sm_model.specs.declared.address.Address.{Address}
 use Rattle.sm_manout.specs.ManifestText.{TimeRun, run_line, run_lines, runs_from, follows}
 use Rattle.sm_manout.specs.Shown.{Open, after_line, run_starts, at_bitrates}
+use Rattle.sm_manout.proofs.Among.{Has}
 use Rattle.sm_manout.proofs.ShownPieces.{has_no, Good, line_good, decimal_none, both_none}
 use Rattle.sm_manout.proofs.ShownLines.{count_end, run_front, run_text, run_says}
 
-end_none : (b : Bool) (r : ℕ) → r < 2 ^ 64 → has_no 10 (count_end b r) ≡ true
-end_none true r lt = refl
-end_none false r lt = both_none 10 (decimal r) (34 ∷ codes "/>") (decimal_none 10 r refl lt) refl
+run_end_none : (b : Bool) (r : ℕ) → r < 2 ^ 64 → has_no 10 (count_end b r) ≡ true
+run_end_none true r lt = refl
+run_end_none false r lt = both_none 10 (decimal r) (34 ∷ codes "/>") (decimal_none 10 r refl lt) refl
 
-front_none : (b : Bool) (s d r : ℕ) → s < 2 ^ 64 → d < 2 ^ 64 → r < 2 ^ 64 → has_no 10 (run_front b s d r) ≡ true
-front_none b s d r ls ld lr =
-    both_none 10 (decimal s) (34 ∷ codes " d=\"" ++ (decimal d ++ (34 ∷ count_end b r))) (decimal_none 10 s refl ls) (both_none 10 (decimal d) (34 ∷ count_end b r) (decimal_none 10 d refl ld) (end_none b r lr))
+pub run_front_none : (b : Bool) (s d r : ℕ) → s < 2 ^ 64 → d < 2 ^ 64 → r < 2 ^ 64 → has_no 10 (run_front b s d r) ≡ true
+run_front_none b s d r ls ld lr =
+    both_none 10 (decimal s) (34 ∷ codes " d=\"" ++ (decimal d ++ (34 ∷ count_end b r))) (decimal_none 10 s refl ls) (both_none 10 (decimal d) (34 ∷ count_end b r) (decimal_none 10 d refl ld) (run_end_none b r lr))
 
-after_run : (o : Open) (b : Bool) (s d r : ℕ) → after_line o (run_front b s d r) ≡ o
+pub after_run : (o : Open) (b : Bool) (s d r : ℕ) → after_line o (run_front b s d r) ≡ o
 unfolding after_line
 after_run o b s d r = refl
 
@@ -31,7 +32,7 @@ run_read P o r x ls ld lr here go =
     let T : List ℕ → Type 0 = λ l. Good P o l in
     let A : List ℕ → Type 0 = λ l. AllByRecursion P (flat_map (at_bitrates o) l) in
     let G : Open → Type 0 = λ o'. Good P o' x in
-    subst T (sym (run_text r x)) (line_good P o front x (front_none b r.start r.duration r.count ls ld lr) (subst A (sym (run_says r.start r.duration r.count ls ld lr)) here) (subst G (sym (after_run o b r.start r.duration r.count)) go))
+    subst T (sym (run_text r x)) (line_good P o front x (run_front_none b r.start r.duration r.count ls ld lr) (subst A (sym (run_says r.start r.duration r.count ls ld lr)) here) (subst G (sym (after_run o b r.start r.duration r.count)) go))
 
 pub run_end : ℕ → ℕ → ℕ → ℕ
 run_end zero s d = s
@@ -47,6 +48,17 @@ unfolding run_end
 starts_more Q zero s d all last = (last, tt)
 starts_more Q (suc n) s d all last = (all.0, starts_more Q n (s + d) d all.1 last)
 
+-- a run that goes on keeps its starts, and has the next one
+pub starts_stay : (t n s d : ℕ) → Has t (run_starts n s d) → Has t (run_starts (suc n) s d)
+starts_stay t zero s d h = absurd h
+starts_stay t (suc n) s d (inl e) = inl e
+starts_stay t (suc n) s d (inr h) = inr (starts_stay t n (s + d) d h)
+
+pub starts_next : (n s d : ℕ) → Has (run_end n s d) (run_starts (suc n) s d)
+unfolding run_end
+starts_next zero s d = inl refl
+starts_next (suc n) s d = inr (starts_next n (s + d) d)
+
 abbrev pub IsTime : (ℕ → Type 0) → ℕ × ℕ → Type 0
 IsTime Q y = Q y.0 × (y.0 < 2 ^ 64) × (y.1 < 2 ^ 64)
 
@@ -57,7 +69,7 @@ pub record IsRun (Q : ℕ → Type 0) (start count : ℕ) (last : ℕ × ℕ) : 
   pub start_fits : start < 2 ^ 64
   pub last_fits : last.1 < 2 ^ 64
 
-run_more : (Q : ℕ → Type 0) (start count : ℕ) (last y : ℕ × ℕ) → IsRun Q start count last → IsTime Q y → y.1 ≡ last.1 → y.0 ≡ last.0 + last.1 → IsRun Q start (suc count) y
+pub run_more : (Q : ℕ → Type 0) (start count : ℕ) (last y : ℕ × ℕ) → IsRun Q start count last → IsTime Q y → y.1 ≡ last.1 → y.0 ≡ last.0 + last.1 → IsRun Q start (suc count) y
 run_more Q start count last y run time same next =
     let D : ℕ → Type 0 = λ d. AllByRecursion Q (run_starts (suc count) start d) in
     let here : Q (run_end count start last.1) = subst Q (next ∙ sym run.ends) time.0 in

@@ -41,6 +41,14 @@ pub fn manifests_list_what_is_listed()
         → (is_declared channel a ≡ true) × (is_some (entry_at a.time (times a.stream)) ≡ true) }
 {}
 
+/// A whole manifest lists each address of the channel's tracks at each time that it was written with.
+pub fn whole_manifests_list_all()
+    ensures { (channel : List Track) (times : List ℕ → List (ℕ × ℕ)) (a : Address) → IsChannel channel → All IsWritable channel
+        → ((name : List ℕ) → All IsSpan (times name)) → ((name : List ℕ) → length (times name) < 2 ^ 64)
+        → is_declared channel a ≡ true → is_some (entry_at a.time (times a.stream)) ≡ true
+        → ListsIn (manifest channel times) a }
+{}
+
 /// Each part of the manifest of a sound log lists only addresses at which a fragment is kept in that log.
 pub fn manifests_list_what_is_kept()
     ensures { (log : List Entry) (channel : List Track) (part more : List ℕ) (a : Address) → IsSound log → channel_of log ≡ Some channel
