@@ -38,15 +38,18 @@ fn write_file<D: Disk, O: Sink>(
     requires few { length times.now < 2 ^ 32 }
     // A track_ID has 32 bits.
     ensures narrow { id < 2 ^ 32 }
-    ensures ok { IfOk result (λ written. (log : List Entry) (doubt : Option Entry) → Stands archive.now log doubt (D.may_leave disk.old) → IsSome (D.view disk.old).contents
-        → Appends (O.held out.old) (O.held out.new) (header.now ++ texts_from 1 id (kept_among log name.now bitrate times.now)) × (written ≡ length (kept_among log name.now bitrate times.now))) }
+    ensures ok { IfOk result (λ written. (log : List Entry) (doubt : Option Entry) → Stands archive.now log doubt (D.may_leave disk.old)
+        → IsSome (D.view disk.old).contents
+        → Appends (O.held out.old) (O.held out.new) (header.now ++ texts_from 1 id (kept_among log name.now bitrate times.now))
+        × (written ≡ length (kept_among log name.now bitrate times.now))) }
     ensures err { OnErr result ((log : List Entry) (doubt : Option Entry) → Stands archive.now log doubt (D.may_leave disk.old) → IsSome (D.view disk.old).contents
         → AppendsFront (O.held out.old) (O.held out.new) (header.now ++ texts_from 1 id (kept_among log name.now bitrate times.now))) }
     ensures damaged { IsErrOf result broken.Damaged → IsSome (D.view disk.old).contents → ⊥ }
     ensures disk_fault { IsErrOf result broken.DiskFault → Rose (D.view disk.old).disk_faults (D.view disk.new).disk_faults }
     ensures fault { IsErrOf result broken.WriteFault → FaultsRose (O.faults out.old) (O.faults out.new) }
     ensures later { O.faults out.old ≤ O.faults out.new }
-    ensures stands { (log : List Entry) (doubt : Option Entry) → Stands archive.now log doubt (D.may_leave disk.old) → Stands archive.now log doubt (D.may_leave disk.new) }
+    ensures stands { (log : List Entry) (doubt : Option Entry) → Stands archive.now log doubt (D.may_leave disk.old)
+        → Stands archive.now log doubt (D.may_leave disk.new) }
     ensures any_moment { Throughout D.view D.left_at disk.old disk.new (λ t c. D.may_leave disk.old c) }
     ensures no_fewer { (D.view disk.old).disk_faults ≤ (D.view disk.new).disk_faults }
     ensures link { SameLink (D.view disk.old) (D.view disk.new) }
@@ -76,7 +79,8 @@ pub fn export<D: Disk, O: Sink>(
     ensures disk_fault { result ≡ exported.DiskFault → Rose (D.view disk.old).disk_faults (D.view disk.new).disk_faults }
     ensures fault { result ≡ exported.WriteFault → FaultsRose (O.faults out.old) (O.faults out.new) }
     ensures later { O.faults out.old ≤ O.faults out.new }
-    ensures stands { (log : List Entry) (doubt : Option Entry) → Stands archive.now log doubt (D.may_leave disk.old) → Stands archive.now log doubt (D.may_leave disk.new) }
+    ensures stands { (log : List Entry) (doubt : Option Entry) → Stands archive.now log doubt (D.may_leave disk.old)
+        → Stands archive.now log doubt (D.may_leave disk.new) }
     ensures any_moment { Throughout D.view D.left_at disk.old disk.new (λ t c. D.may_leave disk.old c) }
     ensures no_fewer { (D.view disk.old).disk_faults ≤ (D.view disk.new).disk_faults }
     ensures link { SameLink (D.view disk.old) (D.view disk.new) }

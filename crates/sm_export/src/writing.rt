@@ -1,5 +1,6 @@
 //! Writing the fragments of one quality.
-ghost use Rattle.std.specs.Prelude.{◌≡◌, ◌≤◌, ◌<◌, ◌+◌, ◌^◌, ℕ, [], ◌∷◌, ◌++◌, true, false, List, Option, None, Some, Err, IfOk, OnOk, OnErr, IsErrOf, IsSome, is_some, length};
+ghost use Rattle.std.specs.Prelude.{◌≡◌, ◌≤◌, ◌<◌, ◌+◌, ◌^◌, ℕ, [], ◌∷◌, ◌++◌, true, false, List, Option, None, Some, Err, IfOk, OnOk, OnErr, IsErrOf, IsSome, is_some};
+ghost use Rattle.std.specs.Prelude.{length};
 ghost use Rattle.std.specs.Io.KnownBytes.{Appends};
 ghost use Rattle.sm_ends.specs.Moves.{AppendsFront};
 ghost use Rattle.sm_ends.specs.Faults.{Rose as FaultsRose};
@@ -76,7 +77,8 @@ fn write_at<D: Disk, O: Sink>(
     ensures disk_fault { IsErrOf result broken.DiskFault → Rose (D.view disk.old).disk_faults (D.view disk.new).disk_faults }
     ensures fault { IsErrOf result broken.WriteFault → FaultsRose (O.faults out.old) (O.faults out.new) }
     ensures later { O.faults out.old ≤ O.faults out.new }
-    ensures stands { (log : List Entry) (doubt : Option Entry) → Stands archive.now log doubt (D.may_leave disk.old) → Stands archive.now log doubt (D.may_leave disk.new) }
+    ensures stands { (log : List Entry) (doubt : Option Entry) → Stands archive.now log doubt (D.may_leave disk.old)
+        → Stands archive.now log doubt (D.may_leave disk.new) }
     ensures told { is_some (D.view disk.new).contents ≡ is_some (D.view disk.old).contents }
     ensures any_moment { Throughout D.view D.left_at disk.old disk.new (λ t c. D.may_leave disk.old c) }
     ensures no_fewer { (D.view disk.old).disk_faults ≤ (D.view disk.new).disk_faults }
@@ -110,15 +112,18 @@ pub(crate) fn write_times<D: Disk, O: Sink>(
 ) -> Result<u64, Broken>
     requires stands { (log : List Entry) × (doubt : Option Entry) × Stands archive.now log doubt (D.may_leave disk.old) }
     requires few { length times.now < 2 ^ 32 }
-    ensures ok { IfOk result (λ written. (log : List Entry) (doubt : Option Entry) → Stands archive.now log doubt (D.may_leave disk.old) → IsSome (D.view disk.old).contents
-        → Appends (O.held out.old) (O.held out.new) (texts_from 1 id (kept_among log name.now bitrate times.now)) × (written ≡ length (kept_among log name.now bitrate times.now))) }
+    ensures ok { IfOk result (λ written. (log : List Entry) (doubt : Option Entry) → Stands archive.now log doubt (D.may_leave disk.old)
+        → IsSome (D.view disk.old).contents
+        → Appends (O.held out.old) (O.held out.new) (texts_from 1 id (kept_among log name.now bitrate times.now))
+        × (written ≡ length (kept_among log name.now bitrate times.now))) }
     ensures err { OnErr result ((log : List Entry) (doubt : Option Entry) → Stands archive.now log doubt (D.may_leave disk.old) → IsSome (D.view disk.old).contents
         → AppendsFront (O.held out.old) (O.held out.new) (texts_from 1 id (kept_among log name.now bitrate times.now))) }
     ensures damaged { IsErrOf result broken.Damaged → IsSome (D.view disk.old).contents → ⊥ }
     ensures disk_fault { IsErrOf result broken.DiskFault → Rose (D.view disk.old).disk_faults (D.view disk.new).disk_faults }
     ensures fault { IsErrOf result broken.WriteFault → FaultsRose (O.faults out.old) (O.faults out.new) }
     ensures later { O.faults out.old ≤ O.faults out.new }
-    ensures stands { (log : List Entry) (doubt : Option Entry) → Stands archive.now log doubt (D.may_leave disk.old) → Stands archive.now log doubt (D.may_leave disk.new) }
+    ensures stands { (log : List Entry) (doubt : Option Entry) → Stands archive.now log doubt (D.may_leave disk.old)
+        → Stands archive.now log doubt (D.may_leave disk.new) }
     ensures any_moment { Throughout D.view D.left_at disk.old disk.new (λ t c. D.may_leave disk.old c) }
     ensures no_fewer { (D.view disk.old).disk_faults ≤ (D.view disk.new).disk_faults }
     ensures link { SameLink (D.view disk.old) (D.view disk.new) }

@@ -53,7 +53,8 @@ fn relay_all<C: Dial, D: Disk>(
     requires stands { (log : List Entry) × (channel : List Track) × Stands archive.old log None (D.may_leave disk.old) × (channel_of log ≡ Some channel) }
     requires rounds { 0 < plan.now.rounds }
     ensures relayed { (log : List Entry) (channel : List Track) → Stands archive.old log None (D.may_leave disk.old) → channel_of log ≡ Some channel
-        → Relayed D.view D.left_at D.may_leave C.log C.store C.later C.dial_faults C.chosen plan.now channel disk.old disk.new dial.old dial.new archive.old archive.new log result }
+        → Relayed D.view D.left_at D.may_leave C.log C.store C.later C.dial_faults C.chosen plan.now channel disk.old disk.new dial.old dial.new archive.old archive.new
+        log result }
     ensures fault { result ≡ ends.DiskFault → Rose (D.view disk.old).disk_faults (D.view disk.new).disk_faults }
 {
     match channel_of(alloc, disk, archive) {
@@ -82,16 +83,21 @@ pub fn relay<C: Dial, D: Disk>(
     requires tries { 0 < plan.now.tries }
     // Each fragment was read of an answer to a request for its address, by the Url that the manifest of its round lists.
     ensures relayed { (log : List Entry) (channel : List Track) → Stands archive.old log None (D.may_leave disk.old) → channel_of log ≡ Some channel
-        → (p : Relayed D.view D.left_at D.may_leave C.log C.store C.later C.dial_faults C.chosen plan.now channel disk.old disk.new dial.old dial.new archive.old archive.new log result.end)
+        → (p : Relayed D.view D.left_at D.may_leave C.log C.store C.later C.dial_faults C.chosen plan.now channel disk.old disk.new dial.old dial.new archive.old
+        archive.new log result.end)
         × (result.kept ≡ length (kept_in p.rounds ++ p.added))
         × AllByRecursion (KeepsListed channel (log ++ keeps_of (kept_in p.rounds ++ p.added))) p.rounds }
     // Over an origin that keeps a log, a crash at any moment leaves a store whose Keeps that log keeps, where it kept those from before.
-    ensures below { (log : List Entry) (channel up : List Track) (first last : List Entry) (before made : List Exchange) → Stands archive.old log None (D.may_leave disk.old)
-        → channel_of log ≡ Some channel → C.log dial.old ≡ Some before → C.log dial.new ≡ Some (before ++ made) → Serves plan.now.place up first last made → Below log first
+    ensures below { (log : List Entry) (channel up : List Track) (first last : List Entry) (before made : List Exchange)
+        → Stands archive.old log None (D.may_leave disk.old)
+        → channel_of log ≡ Some channel → C.log dial.old ≡ Some before → C.log dial.new ≡ Some (before ++ made) → Serves plan.now.place up first last made
+        → Below log first
         → IsSome (D.view disk.old).contents → Throughout D.view D.left_at disk.old disk.new (LeavesBelow last) }
     // And where it answers each request, and its channel has the tracks, no answer of it ends the call.
-    ensures well { (log : List Entry) (channel up : List Track) (first last : List Entry) (before made : List Exchange) → Stands archive.old log None (D.may_leave disk.old)
-        → channel_of log ≡ Some channel → C.log dial.old ≡ Some before → C.log dial.new ≡ Some (before ++ made) → Serves plan.now.place up first last made → Below log first
+    ensures well { (log : List Entry) (channel up : List Track) (first last : List Entry) (before made : List Exchange)
+        → Stands archive.old log None (D.may_leave disk.old)
+        → channel_of log ≡ Some channel → C.log dial.old ≡ Some before → C.log dial.new ≡ Some (before ++ made) → Serves plan.now.place up first last made
+        → Below log first
         → IsPatient made → AllByRecursion (IsOffered up) channel → EndsWell result.end }
     ensures fault { result.end ≡ ends.DiskFault → Rose (D.view disk.old).disk_faults (D.view disk.new).disk_faults }
     ensures lost { Contains (carried result.end) miss.Lost → exchanges.Rose (C.dial_faults dial.old) (C.dial_faults dial.new) }

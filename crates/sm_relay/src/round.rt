@@ -92,9 +92,11 @@ pub fn pull_round<C: Dial, D: Disk>(
     requires few { length channel.now ≤ 64 }
     requires stands { (log : List Entry) × Stands archive.old log None (D.may_leave disk.old) }
     ensures ok { OnOk result ((log : List Entry) → Stands archive.old log None (D.may_leave disk.old)
-        → RunsRound D.view D.left_at D.may_leave C.log C.store C.later C.dial_faults C.chosen plan.now channel.now disk.old disk.new dial.old dial.new archive.old archive.new log) }
+        → RunsRound D.view D.left_at D.may_leave C.log C.store C.later C.dial_faults C.chosen plan.now channel.now disk.old disk.new dial.old dial.new archive.old
+        archive.new log) }
     ensures err { IfErr result (λ why. (log : List Entry) → Stands archive.old log None (D.may_leave disk.old)
-        → BreaksRound D.view D.left_at D.may_leave C.log C.store C.later C.dial_faults C.chosen plan.now channel.now disk.old disk.new dial.old dial.new archive.old archive.new log why) }
+        → BreaksRound D.view D.left_at D.may_leave C.log C.store C.later C.dial_faults C.chosen plan.now channel.now disk.old disk.new dial.old dial.new archive.old
+        archive.new log why) }
     ensures fault { IsErrOf result stop.DiskFault → Rose (D.view disk.old).disk_faults (D.view disk.new).disk_faults }
 {
     match read_listing(alloc, dial, &plan.place, plan.tries) {

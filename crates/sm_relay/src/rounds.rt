@@ -38,9 +38,11 @@ fn pull_turn<C: Dial, D: Disk>(
     requires few { length channel.now ≤ 64 }
     requires stands { (log : List Entry) × Stands archive.old log None (D.may_leave disk.old) }
     ensures ok { OnOk result ((log : List Entry) → Stands archive.old log None (D.may_leave disk.old)
-        → RunsRound D.view D.left_at D.may_leave C.log C.store C.later C.dial_faults C.chosen plan.now channel.now disk.old disk.new dial.old dial.new archive.old archive.new log) }
+        → RunsRound D.view D.left_at D.may_leave C.log C.store C.later C.dial_faults C.chosen plan.now channel.now disk.old disk.new dial.old dial.new archive.old
+        archive.new log) }
     ensures err { IfErr result (λ why. (log : List Entry) → Stands archive.old log None (D.may_leave disk.old)
-        → BreaksRound D.view D.left_at D.may_leave C.log C.store C.later C.dial_faults C.chosen plan.now channel.now disk.old disk.new dial.old dial.new archive.old archive.new log why) }
+        → BreaksRound D.view D.left_at D.may_leave C.log C.store C.later C.dial_faults C.chosen plan.now channel.now disk.old disk.new dial.old dial.new archive.old
+        archive.new log why) }
     ensures fault { IsErrOf result stop.DiskFault → Rose (D.view disk.old).disk_faults (D.view disk.new).disk_faults }
 {
     pause_before(dial, round);
@@ -59,9 +61,11 @@ pub fn pull_rounds<C: Dial, D: Disk>(
     requires few { length channel.now ≤ 64 }
     requires stands { (log : List Entry) × Stands archive.old log None (D.may_leave disk.old) }
     ensures ok { OnOk result ((log : List Entry) → Stands archive.old log None (D.may_leave disk.old)
-        → Ran D.view D.left_at D.may_leave C.log C.store C.later C.dial_faults C.chosen plan.now channel.now disk.old disk.new dial.old dial.new archive.old archive.new log plan.now.rounds) }
+        → Ran D.view D.left_at D.may_leave C.log C.store C.later C.dial_faults C.chosen plan.now channel.now disk.old disk.new dial.old dial.new archive.old archive.new
+        log plan.now.rounds) }
     ensures err { IfErr result (λ why. (log : List Entry) → Stands archive.old log None (D.may_leave disk.old)
-        → RanOut D.view D.left_at D.may_leave C.log C.store C.later C.dial_faults C.chosen plan.now channel.now disk.old disk.new dial.old dial.new archive.old archive.new log why) }
+        → RanOut D.view D.left_at D.may_leave C.log C.store C.later C.dial_faults C.chosen plan.now channel.now disk.old disk.new dial.old dial.new archive.old
+        archive.new log why) }
     ensures fault { IsErrOf result stop.DiskFault → Rose (D.view disk.old).disk_faults (D.view disk.new).disk_faults }
 {
     for round in 0..plan.rounds {

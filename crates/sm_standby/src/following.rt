@@ -43,11 +43,13 @@ fn follow_one<C: Dial, D: Disk>(
     address: &Address,
 ) -> Result<(), FollowEnd>
     requires stands { (log : List Entry) × Stands archive.old log None (D.may_leave disk.old) × AreOpen log held.old × (due (length log) held.old ≡ None) }
-    ensures ok { OnOk result ((log : List Entry) (more : List Address) → Stands archive.old log None (D.may_leave disk.old) → AreOpen log held.old → due (length log) held.old ≡ None
+    ensures ok { OnOk result ((log : List Entry) (more : List Address) → Stands archive.old log None (D.may_leave disk.old) → AreOpen log held.old
+        → due (length log) held.old ≡ None
         → (f : Follows D.view D.left_at D.may_leave C.log C.store C.later C.dial_faults disk.old disk.new dial.old dial.new plan.now channel.now listing.now
         archive.old archive.new (at log held.old (address.now ∷ more)) held.new more)
         × (due (length f.log) held.new ≡ None)) }
-    ensures err { IfErr result (λ end. (log : List Entry) (more : List Address) → Stands archive.old log None (D.may_leave disk.old) → AreOpen log held.old → due (length log) held.old ≡ None
+    ensures err { IfErr result (λ end. (log : List Entry) (more : List Address) → Stands archive.old log None (D.may_leave disk.old) → AreOpen log held.old
+        → due (length log) held.old ≡ None
         → Ends D.view D.left_at D.may_leave C.log C.store C.later C.dial_faults disk.old disk.new dial.old dial.new plan.now channel.now listing.now
         archive.old archive.new (at log held.old (address.now ∷ more)) end) }
 {
@@ -97,11 +99,13 @@ fn follow_row<C: Dial, D: Disk>(
     addresses: &[Address],
 ) -> Result<(), FollowEnd>
     requires stands { (log : List Entry) × Stands archive.old log None (D.may_leave disk.old) × AreOpen log held.old × (due (length log) held.old ≡ None) }
-    ensures ok { OnOk result ((log : List Entry) (more : List Address) → Stands archive.old log None (D.may_leave disk.old) → AreOpen log held.old → due (length log) held.old ≡ None
+    ensures ok { OnOk result ((log : List Entry) (more : List Address) → Stands archive.old log None (D.may_leave disk.old) → AreOpen log held.old
+        → due (length log) held.old ≡ None
         → (f : Follows D.view D.left_at D.may_leave C.log C.store C.later C.dial_faults disk.old disk.new dial.old dial.new plan.now channel.now listing.now
         archive.old archive.new (at log held.old (addresses.now ++ more)) held.new more)
         × (due (length f.log) held.new ≡ None)) }
-    ensures err { IfErr result (λ end. (log : List Entry) (more : List Address) → Stands archive.old log None (D.may_leave disk.old) → AreOpen log held.old → due (length log) held.old ≡ None
+    ensures err { IfErr result (λ end. (log : List Entry) (more : List Address) → Stands archive.old log None (D.may_leave disk.old) → AreOpen log held.old
+        → due (length log) held.old ≡ None
         → Ends D.view D.left_at D.may_leave C.log C.store C.later C.dial_faults disk.old disk.new dial.old dial.new plan.now channel.now listing.now
         archive.old archive.new (at log held.old (addresses.now ++ more)) end) }
 {
@@ -130,11 +134,13 @@ fn follow_place<C: Dial, D: Disk>(
     place: usize,
 ) -> Result<(), FollowEnd>
     requires stands { (log : List Entry) × Stands archive.old log None (D.may_leave disk.old) × AreOpen log held.old × (due (length log) held.old ≡ None) }
-    ensures ok { OnOk result ((log : List Entry) (more : List Address) → Stands archive.old log None (D.may_leave disk.old) → AreOpen log held.old → due (length log) held.old ≡ None
+    ensures ok { OnOk result ((log : List Entry) (more : List Address) → Stands archive.old log None (D.may_leave disk.old) → AreOpen log held.old
+        → due (length log) held.old ≡ None
         → (f : Follows D.view D.left_at D.may_leave C.log C.store C.later C.dial_faults disk.old disk.new dial.old dial.new plan.now channel.now listing.now
         archive.old archive.new (at log held.old (row channel.now place all.now ++ more)) held.new more)
         × (due (length f.log) held.new ≡ None)) }
-    ensures err { IfErr result (λ end. (log : List Entry) (more : List Address) → Stands archive.old log None (D.may_leave disk.old) → AreOpen log held.old → due (length log) held.old ≡ None
+    ensures err { IfErr result (λ end. (log : List Entry) (more : List Address) → Stands archive.old log None (D.may_leave disk.old) → AreOpen log held.old
+        → due (length log) held.old ≡ None
         → Ends D.view D.left_at D.may_leave C.log C.store C.later C.dial_faults disk.old disk.new dial.old dial.new plan.now channel.now listing.now
         archive.old archive.new (at log held.old (row channel.now place all.now ++ more)) end) }
 {

@@ -117,9 +117,11 @@ pub(crate) fn place_one<C: Dial, D: Disk>(
 ) -> Result<Step, FollowEnd>
     requires stands { (log : List Entry) × Stands archive.old log None (D.may_leave disk.old) }
     requires absent { (log : List Entry) → Stands archive.old log None (D.may_leave disk.old) → kept_at log address ≡ None }
-    ensures ok { IfOk result (λ step. (log : List Entry) → Stands archive.old log None (D.may_leave disk.old) → Went D.view D.left_at D.may_leave C.log C.store C.later C.dial_faults
+    ensures ok { IfOk result (λ step. (log : List Entry) → Stands archive.old log None (D.may_leave disk.old)
+        → Went D.view D.left_at D.may_leave C.log C.store C.later C.dial_faults
         disk.old disk.new dial.old dial.new plan.now channel.now url.now address archive.old archive.new log step) }
-    ensures err { IfErr result (λ end. (log : List Entry) → Stands archive.old log None (D.may_leave disk.old) → Stopped D.view D.left_at D.may_leave C.log C.store C.later C.dial_faults
+    ensures err { IfErr result (λ end. (log : List Entry) → Stands archive.old log None (D.may_leave disk.old)
+        → Stopped D.view D.left_at D.may_leave C.log C.store C.later C.dial_faults
         disk.old disk.new dial.old dial.new plan.now channel.now url.now address archive.old archive.new log end) }
     ensures fault { IsErrOf result ends.DiskFault → Rose (D.view disk.old).disk_faults (D.view disk.new).disk_faults }
 {

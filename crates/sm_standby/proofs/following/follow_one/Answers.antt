@@ -6,7 +6,8 @@ use Rattle.sm_standby.specs.declared.placing.Step.TheVariants as step
 use Rattle.sm_standby.specs.Waiting.{waits}
 use Rattle.sm_standby.specs.Turns.{candidate}
 use Rattle.sm_standby.proofs.Opens.{or_left}
-use Rattle.sm_standby.proofs.Taking.{follows_passed, follows_then, follows_on, follows_stands, follows_settled, follows_dropped, follows_later, ends_none, ends_one, ends_then, ends_wanting, went_at, stopped_at, open_turn, no_some, later_kept}
+use Rattle.sm_standby.proofs.Taking.{follows_passed, follows_then, follows_on, follows_stands, follows_settled, follows_dropped, follows_later, ends_none, ends_one, ends_then, ends_wanting, went_at}
+use Rattle.sm_standby.proofs.Taking.{stopped_at, open_turn, no_some, later_kept}
 use Rattle.sm_standby.proofs.following.follow_one.Goals as goal
 
 pub returns-then-is_there-clause-ok : goal.returns-then-is_there-clause-ok
