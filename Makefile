@@ -21,16 +21,17 @@ build:
 	rm -f $(PROGRAM)
 	cd crates/smooth && { rt run < /dev/null > /dev/null; test -x out/smooth; }
 
-# The program, its manual page and a unit for systemd.
+# The program, its manual page and the units for systemd, for one event and for many.
 install: build
 	install -D -m 755 $(PROGRAM) $(DESTDIR)$(PREFIX)/bin/smooth
 	install -D -m 644 docs/smooth.1 $(DESTDIR)$(PREFIX)/share/man/man1/smooth.1
 	install -d $(DESTDIR)$(PREFIX)/lib/systemd/system
 	sed 's|@PREFIX@|$(PREFIX)|' examples/smooth.service > $(DESTDIR)$(PREFIX)/lib/systemd/system/smooth.service
+	sed 's|@PREFIX@|$(PREFIX)|' examples/smooth@.service > $(DESTDIR)$(PREFIX)/lib/systemd/system/smooth@.service
 
 # Holds the program against a plain reference in Python, on the samples and on many inputs made of them, and tries it with ffmpeg,
-# curl, nginx and strace, each where it is installed; then kills, a loss of power, an hour of a push, slow readers, whether memory comes
-# back, and many clients at once. The last line says what ran. `scripts/check_kill 100` and `scripts/check_crash` are the long forms;
+# curl, nginx and strace, each where it is installed, and with the session of README; then kills, a loss of power, an hour of a push, slow
+# readers, whether memory comes back, and many clients at once. The last line says what ran. `scripts/check_kill 100` and `scripts/check_crash` are the long forms;
 # `scripts/check_checks` shows that the checks can fail.
 check: build
 	bash scripts/check_all $(PROGRAM)
@@ -45,6 +46,7 @@ bench: build
 	bash scripts/bench_archive $(BENCH)
 	SMOOTH=$(PROGRAM) scripts/bench_rehearse
 	SMOOTH=$(PROGRAM) scripts/bench_serve
+	SMOOTH=$(PROGRAM) scripts/bench_export
 
 clean:
 	rm -rf crates/*/out

@@ -76,8 +76,12 @@ class Origin:
         self.kill()
         shutil.rmtree(self.folder, ignore_errors=True)
 
+    def words(self):
+        """Further options."""
+        return []
+
     def start(self):
-        words = [PROGRAM, "serve", self.store, "--port", str(self.port)]
+        words = [PROGRAM, "serve", self.store, "--port", str(self.port), *self.words()]
         with open(os.path.join(self.folder, "printed"), "ab") as printed:
             self.process = subprocess.Popen(words, stdin=subprocess.DEVNULL, stdout=printed)
         for _ in range(2000):

@@ -17,7 +17,7 @@ use sm_rows::{Caller, Case, run_pages};
 use std::alloc::Global;
 
 // In the order in which they are read: names and blocks of one are known in those behind it.
-const PAGES: [&str; 11] = [
+const PAGES: [&str; 12] = [
     "fixtures.txt",
     "exchanges.txt",
     "words.txt",
@@ -27,6 +27,7 @@ const PAGES: [&str; 11] = [
     "pushes.txt",
     "plays.txt",
     "stores.txt",
+    "exports.txt",
     "rehearsals.txt",
     "faults.txt",
 ];

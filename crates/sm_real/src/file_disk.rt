@@ -8,6 +8,7 @@ use crate::folder::Folder;
 use sm_site::{Disk, Failed};
 use std::alloc::Global;
 use std::fs::File;
+use std::io;
 use std::rt::Files;
 
 /// A disk in a folder of the system, which it has alone while it is there. File k of it is k in eight digits with `.seg`.
@@ -47,14 +48,22 @@ impl<R: Files<File = File> + Drop> FileDisk<R> {
                 self.folder = Some(folder);
                 Ok(())
             }
-            Err(e) => {
-                let fault = OpenFault::of(&e);
-                if fault == OpenFault::Failed {
-                    self.fail();
-                }
-                Err(fault)
-            }
+            Err(e) => Err(self.refused(&e)),
         }
+    }
+
+    /// What a file that can't be opened comes to; a failure of the system is counted.
+    pub fn refused(&mut self, e: &io::Error) -> OpenFault
+        ensures failed { result ≡ OpenFault.Failed → Rose self.old.faults self.new.faults }
+        ensures faults { self.old.faults ≤ self.new.faults }
+        ensures reads { self.new.reads ≡ self.old.reads }
+        ensures folder { self.new.folder ≡ self.old.folder }
+    {
+        let fault = OpenFault::of(e);
+        if fault == OpenFault::Failed {
+            self.fail();
+        }
+        fault
     }
 
     /// Gives the folder up.

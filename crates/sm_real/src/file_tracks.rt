@@ -1,10 +1,11 @@
 // Tracks in files.
 ghost use Rattle.std.specs.Prelude.{◌≡◌, None};
 
+use crate::file_limit::may_reach;
 use sm_ends::{Failed, Tracks};
 use std::alloc::Global;
 use std::fs::{File, OpenOptions};
-use std::io::{self, Write};
+use std::io::{self, ErrorKind, Write};
 use std::rt::Files;
 
 /// The tracks of a play in files of the current folder: track k is appended to `track-k.frag`, which is made where it isn't there.
@@ -55,6 +56,9 @@ impl<R: Files<File = File> + Drop> FileTracks<R> {
     {
         let track = self.open(number)?;
         let length = track.handle.metadata()?.len();
+        if !may_reach(length.saturating_add(bytes.len() as u64)) {
+            return Err(ErrorKind::FileTooLarge.into());
+        }
         let added = (&track.handle).write_all(bytes);
         if added.is_err() {
             track.handle.set_len(length)?;

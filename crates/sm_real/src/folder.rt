@@ -2,6 +2,7 @@
 ghost use Rattle.std.specs.Prelude.{◌≡◌, ◌≢◌, ◌<◌, ◌^◌, [], true, IfOk, OnOk, IsErr};
 ghost use Rattle.sm_real.specs.AtRest.{IsAtRest, IsPending, IsSynced};
 
+use crate::file_limit::may_reach;
 use std::alloc::{AllocError, Global};
 use std::fs::{self, File, OpenOptions};
 use std::io::{self, ErrorKind};
@@ -276,6 +277,9 @@ fn sync_above(files: &impl Files<File = File>, path: &str) -> io::Result<()> {
 fn put(handle: &File, at: u64, bytes: &[u8]) -> io::Result<()> {
     if handle.metadata()?.len() < at {
         return Err(ErrorKind::UnexpectedEof.into());
+    }
+    if !may_reach(at.saturating_add(bytes.len() as u64)) {
+        return Err(ErrorKind::FileTooLarge.into());
     }
     handle.write_all_at(bytes, at)
 }

@@ -4,16 +4,22 @@
 #![tactic(auto)]
 
 mod budget;
+mod digits;
 mod fault;
 mod file_disk;
+mod file_limit;
 mod file_tracks;
 mod folder;
+mod journal;
 mod limits;
 mod outgoing;
+mod outlet;
 mod peer;
 mod peers;
 mod real_site;
 mod sockets;
+mod talk;
+mod tally;
 mod tcp_dial;
 mod tcp_link;
 #[cfg(test)]

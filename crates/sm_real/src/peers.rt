@@ -35,6 +35,15 @@ impl Peers {
         self.list.len() >= MOST
     }
 
+    /// How many bytes wait for all together.
+    pub fn waiting(&self) -> usize {
+        let mut waiting: usize = 0;
+        for peer in &self.list {
+            waiting = waiting.saturating_add(peer.waiting());
+        }
+        waiting
+    }
+
     /// The one at a place.
     pub fn at(&mut self, place: usize) -> Option<&mut Peer>
         ensures within { IfSome result (λ peer. place < vec_len self.old.list) }

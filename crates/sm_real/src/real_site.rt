@@ -3,21 +3,33 @@ ghost use Rattle.std.specs.Prelude.{◌≡◌, ◌≤◌, refl, IsErrOf};
 ghost use Rattle.sm_site.specs.Clauses.{Rose};
 ghost use Rattle.sm_real.specs.Telling.{counts_alone};
 
+use crate::journal::Journal;
 use crate::{FileDisk, OpenFault, TcpLink};
 use sm_site::{Disk, Event, Failed, Link, LinkError, Selection, Site, SiteError};
 use std::alloc::Global;
 use std::fs::File;
 use std::net::Net;
 use std::rt::Files;
-use std::time::Clock;
+use std::time::{Clock, Instant};
 
 /// A disk in a folder and a link over sockets. It tells no contents and no transcript. After a refusal of `select` it has neither a
 /// folder nor a port.
 #[derive(Drop)]
 pub struct RealSite<R: Files<File = File> + Net + Clock + Drop> {
+    rt: R,
+    alloc: Global,
     disk: FileDisk<R>,
     link: TcpLink<R>,
     selection: Option<Selection>,
+    // The store is being opened, which the journal tells once the first event is waited for.
+    opening: Option<Opening>,
+}
+
+// Since when a store has been opened, and how much of it was read.
+#[derive(Drop)]
+struct Opening {
+    since: Instant,
+    read: u64,
 }
 
 impl<R: Files<File = File> + Net + Clock + Copy + Drop> RealSite<R> {
@@ -26,7 +38,10 @@ impl<R: Files<File = File> + Net + Clock + Copy + Drop> RealSite<R> {
         RealSite {
             disk: FileDisk::new(rt, alloc),
             link: TcpLink::new(rt, alloc),
+            rt,
+            alloc,
             selection: None,
+            opening: None,
         }
     }
 }
@@ -52,9 +67,59 @@ impl<R: Files<File = File> + Net + Clock + Drop> RealSite<R> {
             None => self.link.listen(selection.port),
         };
         match listening {
-            Ok(()) => Ok(()),
+            Ok(()) => self.open_journal(selection),
             Err(OpenFault::Failed) => Err(SiteError::Link),
             Err(OpenFault::NoMemory) => Err(SiteError::NoMemory),
+        }
+    }
+
+    // Opens the journal, where one is wanted. One that can't be opened is a fault of the disk.
+    fn open_journal(&mut self, selection: &Selection) -> Result<(), SiteError>
+        ensures disk { IsErrOf result SiteError.Disk → Rose self.old.disk.faults self.new.disk.faults }
+        ensures no_link { IsErrOf result SiteError.Link → ⊥ }
+        ensures disk_faults { self.old.disk.faults ≤ self.new.disk.faults }
+        ensures link_faults { self.new.link.faults ≡ self.old.link.faults }
+        ensures reads { self.new.disk.reads ≡ self.old.disk.reads }
+        ensures send_faults { self.new.link.send_faults ≡ self.old.link.send_faults }
+        ensures numbers { self.new.link.next_number ≡ self.old.link.next_number }
+    {
+        let Some(path) = &selection.journal else {
+            return Ok(());
+        };
+        match Journal::open(&self.rt, self.alloc, path.as_str()) {
+            Ok(journal) => self.link.tell_in(journal),
+            Err(e) => {
+                return match self.disk.refused(&e) {
+                    OpenFault::Failed => Err(SiteError::Disk),
+                    OpenFault::NoMemory => Err(SiteError::NoMemory),
+                };
+            }
+        }
+        if let Some(since) = self.link.moment() {
+            self.opening = Some(Opening { since, read: 0 });
+        }
+        Ok(())
+    }
+
+    /// The origin ends: the last lines of the journal go out.
+    pub fn end(&mut self) {
+        self.link.note_end();
+    }
+
+    // The store is open, and events are waited for.
+    fn begin(&mut self)
+        ensures disk { self.new.disk ≡ self.old.disk }
+        ensures selection { self.new.selection ≡ self.old.selection }
+        ensures link_faults { self.new.link.faults ≡ self.old.link.faults }
+        ensures send_faults { self.new.link.send_faults ≡ self.old.link.send_faults }
+        ensures numbers { self.new.link.next_number ≡ self.old.link.next_number }
+    {
+        if let Some(opening) = self.opening.take()
+            && let Some(selection) = &self.selection
+            && let Some(now) = self.link.moment()
+        {
+            let took = now.saturating_duration_since(opening.since);
+            self.link.note_begin(selection, took, opening.read);
         }
     }
 }
@@ -83,16 +148,26 @@ impl<R: Files<File = File> + Net + Clock + Drop> Disk for RealSite<R> {
     }
 
     fn read_at(&mut self, file: u32, at: u64, into: &mut [u8]) -> Result<(), Failed> {
+        if let Some(opening) = &mut self.opening {
+            opening.read = opening.read.saturating_add(into.len() as u64);
+        }
         self.disk.read_at(file, at, into)
     }
 
     fn write_at(&mut self, file: u32, at: u64, bytes: &[u8]) -> Result<(), Failed> {
+        // A gate behind the head of a file, which is one byte, is opened for an entry.
+        if bytes.len() == 1 && at > 0 {
+            self.link.note_kept();
+        }
         self.disk.write_at(file, at, bytes)
     }
 
     fn sync(&mut self, file: u32) -> Result<(), Failed> {
         self.link.note_work();
-        self.disk.sync(file)
+        let since = self.link.moment();
+        let synced = self.disk.sync(file);
+        self.link.note_sync(since);
+        synced
     }
 }
 
@@ -108,6 +183,7 @@ impl<R: Files<File = File> + Net + Clock + Drop> Link for RealSite<R> {
     ghost no_entry_later = { λ s. tt };
 
     fn next(&mut self) -> Result<Event, LinkError> {
+        self.begin();
         self.link.next()
     }
 

@@ -5,6 +5,7 @@ ghost use Rattle.sm_real.specs.Numbers.{SentAmong, Touches};
 ghost use Rattle.sm_real.specs.Waiting.{wait_in_all};
 
 use crate::Patience;
+use crate::journal::{Journal, Standing};
 use crate::outgoing::copy;
 use crate::peer::{Found, Peer};
 use crate::peers::Peers;
@@ -85,6 +86,8 @@ pub struct Sockets {
     // Bytes of the buffer that are still to be given, and whose they are.
     held: usize,
     holder: u64,
+    /// Where what happens is told, if anywhere.
+    pub journal: Option<Journal>,
 }
 
 impl Sockets {
@@ -115,6 +118,7 @@ impl Sockets {
             spare: Vec::with_capacity(alloc, SPARE)?,
             held: 0,
             holder: 0,
+            journal: None,
             alloc,
         })
     }
@@ -188,6 +192,7 @@ impl Sockets {
         self.poll
             .poll(&mut self.events, Some(Duration::from_millis(rest)))?;
         self.turn_to(Instant::now(rt)?);
+        self.tell(rt);
         for readiness in &self.events {
             let token = readiness.token();
             if token == LISTENER {
@@ -197,6 +202,17 @@ impl Sockets {
             self.peers.note(token.0 as u64, readiness);
         }
         Ok(())
+    }
+
+    // A round is over for the journal too.
+    fn tell(&mut self, rt: &impl Clock) {
+        if let Some(journal) = &mut self.journal {
+            let standing = Standing {
+                connections: self.peers.len(),
+                waiting: self.peers.waiting(),
+            };
+            journal.turn(rt, standing);
+        }
     }
 
     // How long the system is waited for, in milliseconds.
@@ -248,6 +264,7 @@ impl Sockets {
                 }
                 Found::Left => {
                     self.busy = true;
+                    self.tell_left(holder);
                     return Asked::Left(holder);
                 }
                 Found::Gone => {
@@ -257,6 +274,15 @@ impl Sockets {
             }
         }
         self.accept(number)
+    }
+
+    // One has ended, or the loop is done with it.
+    fn tell_left(&mut self, number: u64)
+        ensures { self.new.peers ≡ self.old.peers }
+    {
+        if let Some(journal) = &mut self.journal {
+            journal.left(number);
+        }
     }
 
     // Gives the bytes that the buffer holds.
@@ -270,6 +296,9 @@ impl Sockets {
         match copy(self.alloc, &self.buffer[..held]) {
             Ok(bytes) => {
                 self.held = 0;
+                if let Some(journal) = &mut self.journal {
+                    journal.came(self.holder, &bytes, self.now);
+                }
                 Asked::Piece(self.holder, Piece::from_vec(bytes))
             }
             Err(AllocError) => Asked::NoMemory,
@@ -283,8 +312,8 @@ impl Sockets {
         if !self.waiting || self.peers.is_full() {
             return Asked::Nothing;
         }
-        let mut stream = match self.listener.accept() {
-            Ok((stream, _)) => stream,
+        let (mut stream, address) = match self.listener.accept() {
+            Ok(taken) => taken,
             Err(e) => {
                 if e.kind() == io::ErrorKind::WouldBlock {
                     self.waiting = false;
@@ -308,18 +337,40 @@ impl Sockets {
             return Asked::NoMemory;
         }
         self.busy = true;
+        if let Some(journal) = &mut self.journal {
+            journal.opened(number, &address);
+        }
         Asked::Opened
     }
 
     /// Sends both parts to one, and gives up those for which most waits where too much does for all together.
-    pub fn send(&mut self, number: u64, head: &[u8], tail: &[u8]) -> Result<(), Failed>
+    pub fn send(
+        &mut self,
+        rt: &impl Clock,
+        number: u64,
+        head: &[u8],
+        tail: &[u8],
+    ) -> Result<(), Failed>
         ensures bounded { wait_in_all self.new.peers.list.items ≤ self.new.patience.waiting }
         ensures sent { OnOk result (SentAmong number (head.now ++ tail.now) self.old.peers.list.items self.new.peers.list.items) }
     {
         self.note_work();
         let sent = self.peers.send(self.alloc, number, head, tail, self.now);
         self.peers.relieve(self.alloc, self.patience.waiting);
+        self.tell_sent(rt, number, head, tail, sent.is_ok());
         sent
+    }
+
+    // A reply went out, or couldn't.
+    fn tell_sent(&mut self, rt: &impl Clock, number: u64, head: &[u8], tail: &[u8], went: bool)
+        ensures peers { self.new.peers ≡ self.old.peers }
+        ensures patience { self.new.patience ≡ self.old.patience }
+    {
+        if let Some(journal) = &mut self.journal
+            && let Ok(now) = Instant::now(rt)
+        {
+            journal.sent(number, head, tail, now, went);
+        }
     }
 
     /// The loop is done with one.
@@ -327,5 +378,6 @@ impl Sockets {
         ensures { (self.new.peers.list.items ≡ self.old.peers.list.items) ⊎ Touches number self.old.peers.list.items self.new.peers.list.items }
     {
         self.peers.close(number);
+        self.tell_left(number);
     }
 }

@@ -3,13 +3,14 @@ ghost use Rattle.std.specs.Prelude.{◌≡◌, ◌≢◌, ◌≤◌, IsErrOf, No
 ghost use Rattle.sm_site.specs.Clauses.{Rose};
 ghost use Rattle.sm_real.specs.Telling.{counts_alone};
 
+use crate::journal::Journal;
 use crate::sockets::{Asked, Sockets};
 use crate::{OpenFault, Patience};
-use sm_site::{Event, Failed, Link, LinkError};
+use sm_site::{Event, Failed, Link, LinkError, Selection};
 use std::alloc::Global;
 use std::io::{self, ErrorKind};
 use std::net::{IpAddr, Ipv4Addr, Ipv6Addr, Net, SocketAddr};
-use std::time::Clock;
+use std::time::{Clock, Duration, Instant};
 
 /// A link over sockets, which are asked in turn. It tells nothing of what goes over them. Until it listens each call fails.
 ///
@@ -143,6 +144,79 @@ impl<R: Net + Clock + Drop> TcpLink<R> {
         }
     }
 
+    /// Tells what happens from now on in a journal.
+    pub fn tell_in(&mut self, journal: Journal)
+        ensures faults { self.new.faults ≡ self.old.faults }
+        ensures send_faults { self.new.send_faults ≡ self.old.send_faults }
+        ensures numbers { self.new.next_number ≡ self.old.next_number }
+    {
+        if let Some(sockets) = &mut self.sockets {
+            sockets.journal = Some(journal);
+        }
+    }
+
+    /// The origin begins to serve this store, for the journal. `took` is how long opening it took, and `read` how many bytes of it were
+    /// read.
+    pub fn note_begin(&mut self, selection: &Selection, took: Duration, read: u64)
+        ensures faults { self.new.faults ≡ self.old.faults }
+        ensures send_faults { self.new.send_faults ≡ self.old.send_faults }
+        ensures numbers { self.new.next_number ≡ self.old.next_number }
+    {
+        if let Some(sockets) = &mut self.sockets
+            && let Some(journal) = &mut sockets.journal
+        {
+            journal.begin(selection.store.as_str(), selection.port, took, read);
+        }
+    }
+
+    /// A file of the store was brought to rest, for the journal, since this moment.
+    pub fn note_sync(&mut self, since: Option<Instant>)
+        ensures faults { self.new.faults ≡ self.old.faults }
+        ensures send_faults { self.new.send_faults ≡ self.old.send_faults }
+        ensures numbers { self.new.next_number ≡ self.old.next_number }
+    {
+        if let Some(since) = since
+            && let Some(sockets) = &mut self.sockets
+            && let Some(journal) = &mut sockets.journal
+            && let Ok(now) = Instant::now(&self.rt)
+        {
+            journal.synced(now.saturating_duration_since(since));
+        }
+    }
+
+    /// An entry of the store was kept, for the journal.
+    pub fn note_kept(&mut self)
+        ensures faults { self.new.faults ≡ self.old.faults }
+        ensures send_faults { self.new.send_faults ≡ self.old.send_faults }
+        ensures numbers { self.new.next_number ≡ self.old.next_number }
+    {
+        if let Some(sockets) = &mut self.sockets
+            && let Some(journal) = &mut sockets.journal
+        {
+            journal.kept();
+        }
+    }
+
+    /// The origin ends, for the journal.
+    pub fn note_end(&mut self)
+        ensures faults { self.new.faults ≡ self.old.faults }
+        ensures send_faults { self.new.send_faults ≡ self.old.send_faults }
+        ensures numbers { self.new.next_number ≡ self.old.next_number }
+    {
+        if let Some(sockets) = &mut self.sockets
+            && let Some(journal) = &mut sockets.journal
+        {
+            journal.end();
+        }
+    }
+
+    /// This moment, where a journal wants it.
+    pub fn moment(&self) -> Option<Instant> {
+        let sockets = self.sockets.as_ref()?;
+        let _journal = sockets.journal.as_ref()?;
+        Instant::now(&self.rt).ok()
+    }
+
     /// Where it listens.
     pub fn local_addr(&self) -> io::Result<SocketAddr> {
         match &self.sockets {
@@ -189,7 +263,7 @@ impl<R: Net + Clock + Drop> Link for TcpLink<R> {
 
     fn send_both(&mut self, conn: u64, head: &[u8], tail: &[u8]) -> Result<(), Failed> {
         if let Some(sockets) = &mut self.sockets
-            && sockets.send(conn, head, tail).is_ok()
+            && sockets.send(&self.rt, conn, head, tail).is_ok()
         {
             return Ok(());
         }

@@ -1,15 +1,4 @@
-pub mod Reading
-pub mod Adding
-pub mod Putting
-pub mod Naming
-pub mod Clapping
-pub mod Playing
-pub mod Asking
-pub mod Sounding
-pub mod Searching
-pub mod Looking
-pub mod Picking
-pub mod OneAnswer
 pub mod Storing
 pub mod Idling
 pub mod Turning
+pub mod Telling

@@ -84,7 +84,7 @@ unlisted view leave left_at d d' why (Err none) answer h tells is = subst (λ (x
 -- ---- what is told to be no store
 
 -- the place of the fault that is told so
-placed : (why : StoreFault) (answer : Answer) (line : List ℕ) → Tells why answer → answer ≡ NotAStore line → (at : ℕ) × (why ≡ fault.NotAStore at)
+pub placed : (why : StoreFault) (answer : Answer) (line : List ℕ) → Tells why answer → answer ≡ NotAStore line → (at : ℕ) × (why ≡ fault.NotAStore at)
 placed fault.DiskFault answer line is e = absurd (let no = sym is ∙ e in cc)
 placed fault.LinkFault answer line is e = absurd (let no = sym is ∙ e in cc)
 placed (fault.NotAStore at) answer line is e = (at, refl)
@@ -126,7 +126,7 @@ pub selected : (answer : Answer) (chosen : Chosen) (view : View) → view.chosen
 selected (Found line) chosen view is = is
 selected answer chosen view is = inl is
 
-told_selected : (why : StoreFault) (answer : Answer) (chosen : Chosen) (view : View) → Tells why answer → (view.chosen ≡ Some chosen) ⊎ (view.chosen ≡ None)
+pub told_selected : (why : StoreFault) (answer : Answer) (chosen : Chosen) (view : View) → Tells why answer → (view.chosen ≡ Some chosen) ⊎ (view.chosen ≡ None)
     → IsSelected answer chosen view
 told_selected fault.DiskFault answer chosen view is h = subst (λ (a : Answer). IsSelected a chosen view) (sym is) h
 told_selected fault.LinkFault answer chosen view is h = subst (λ (a : Answer). IsSelected a chosen view) (sym is) h

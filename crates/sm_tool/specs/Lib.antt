@@ -1,13 +1,6 @@
-pub mod Options
-pub mod Places
-pub mod Words
-pub mod Line
-pub mod Clapped
-pub mod Matched
-pub mod Orders
 pub mod Answers
-pub mod Search
 pub mod Stores
+pub mod Exports
 pub mod Origins
 pub mod Plays
 pub mod Rehearsals

@@ -10,7 +10,7 @@ use Rattle.sm_client.specs.declared.fault.VisitFault.TheVariants as fault
 use Rattle.sm_client.specs.Pushing.{HasPushed, Input, Line, WhyUnpushed}
 use Rattle.sm_tool.specs.declared.answer.Answer.{Answer}
 use Rattle.sm_tool.specs.declared.answer.Answer.TheVariants.{Found, Unread, TooLong, Undone, LinkFault, Starved}
-use Rattle.sm_tool.specs.declared.order.PushOrder.{PushOrder}
+use Rattle.sm_words.specs.declared.order.PushOrder.{PushOrder}
 use Rattle.sm_tool.specs.Stores.{End}
 
 abbrev pub source_of : End → Input

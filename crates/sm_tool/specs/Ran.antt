@@ -8,14 +8,18 @@ use Rattle.sm_client.specs.Turns.{Meaning}
 use Rattle.sm_command.specs.Lasting.{Lasts, NoFewer, Untouched}
 use Rattle.sm_site.specs.Image.{Image}
 use Rattle.sm_site.specs.Meanings.{View}
-use Rattle.sm_tool.specs.declared.answer.Picked.TheVariants as picked
+use Rattle.sm_pick.specs.declared.picked.Picked.TheVariants as picked
 use Rattle.sm_tool.specs.declared.answer.Answer.{Answer}
 use Rattle.sm_tool.specs.declared.answer.Answer.TheVariants.{Found, Words, Unread, TooLong, LongLadder, Refused, NotKept, Clash, Undone}
-use Rattle.sm_tool.specs.declared.answer.Answer.TheVariants.{Damaged, DiskFault, LinkFault, TrackFault, Starved, Full, NotAStore}
-use Rattle.sm_tool.specs.Words.{Wanted, Pick, Serve, Push, Play, Listing, Rehearse, asked}
-use Rattle.sm_tool.specs.Answers.{IsAnswered, limit, status_of, unwritten_status_of, line_of}
+use Rattle.sm_tool.specs.declared.answer.Answer.TheVariants.{Damaged, DiskFault, LinkFault, TrackFault, Starved, Full, NotAStore, Unfinished}
+use Rattle.sm_words.specs.Words.{Wanted, Pick, Serve, Push, Play, Listing, Rehearse, Export, Help, Version, asked, topic_of}
+use Rattle.sm_pick.specs.Due.{IsAnswered, limit}
+use Rattle.sm_tool.specs.Answers.{status_of, unwritten_status_of, line_of}
 use Rattle.sm_client.specs.Pushing.{Line}
-use Rattle.sm_tool.specs.Stores.{End, IsSelected, IsSilent, ListMeans, ServeMeans, at_folder, at_port}
+use Rattle.sm_tool.specs.Exports.{ExportMeans}
+use Rattle.sm_words.specs.Helps.{help_of, version}
+use Rattle.sm_words.specs.declared.topic.Topic.{Topic}
+use Rattle.sm_tool.specs.Stores.{End, IsSelected, IsSilent, ListMeans, ServeMeans, at_folder, chosen_of}
 use Rattle.sm_tool.specs.Origins.{PushMeans}
 use Rattle.sm_tool.specs.Plays.{PlayMeans, Tape}
 use Rattle.sm_tool.specs.Rehearsals.{RehearseMeans}
@@ -37,7 +41,7 @@ abbrev pub PickMeans : ℕ → ℕ → End → End → Answer → Type 0
 PickMeans track time old new (Found text) = IsAnswered track time old.told new.told (picked.Found text)
 PickMeans track time old new (Refused line) = IsAnswered track time old.told new.told (picked.Refused line)
 PickMeans track time old new NotKept = IsAnswered track time old.told new.told picked.NotKept
-PickMeans track time old new Words = ⊥
+PickMeans track time old new (Words topic) = ⊥
 PickMeans track time old new TooLong = IsTooLong old new
 PickMeans track time old new LongLadder = ⊥
 PickMeans track time old new (Clash line) = ⊥
@@ -50,6 +54,7 @@ PickMeans track time old new TrackFault = ⊥
 PickMeans track time old new Starved = TakesAtMost old.told new.told limit
 PickMeans track time old new Full = ⊥
 PickMeans track time old new (NotAStore line) = ⊥
+PickMeans track time old new (Unfinished stop) = ⊥
 
 -- ---- a command
 
@@ -65,32 +70,40 @@ pub record IsIdle {D C : Type 0} (old new : Around) (d d' : D) (c c' : C) : Type
   pub site_is : d' ≡ d
   pub dial_is : c' ≡ c
 
--- The answer that words, input, dial, tracks and site have. Words that ask for nothing have no other than that, but for want of memory, and
--- leave all of them alone. A dial has logs that the origin behind it may have.
+-- The answer that words, input, dial, tracks and site have. Words that ask for nothing have no other than that, with the use of the command
+-- that they begin with, but for want of memory, and leave all of them alone. A dial has logs that the origin behind it may have. `export` alone writes to the output before its answer is told.
 abbrev pub MeansBy : {D C P : Type 0} (view : D → View) (leave : D → Image → Type 0) (left_at : D → ℕ → Image → Type 0) (store : C → List Entry → Type 0)
-    → Meaning P → List P → Option Wanted → Around → Around → D → D → C → C → Answer → Type 0
-MeansBy view leave left_at store m policies None old new d d' c c' answer = (answer ≡ Words) × IsIdle old new d d' c c'
-MeansBy view leave left_at store m policies (Some (Pick track time)) old new d d' c c' answer =
-    PickMeans track time old.input new.input answer × (new.dial ≡ old.dial) × (new.tracks ≡ old.tracks) × (d' ≡ d) × (c' ≡ c)
-MeansBy view leave left_at store m policies (Some (Serve folder port ladder turns)) old new d d' c c' answer =
-    ServeMeans view leave left_at ladder turns old.input new.input d d' answer × IsSelected answer (at_port folder port) (view d')
-    × (old.input.faults ≤ new.input.faults) × (new.dial ≡ old.dial) × (new.tracks ≡ old.tracks) × (c' ≡ c)
-MeansBy view leave left_at store m policies (Some (Push host port path id)) old new d d' c c' answer =
+    → Meaning P → List P → Topic → Option Wanted → Around → Around → End → End → D → D → C → C → Answer → Type 0
+MeansBy view leave left_at store m policies topic None old new out out' d d' c c' answer = (answer ≡ Words topic) × (out' ≡ out) × IsIdle old new d d' c c'
+MeansBy view leave left_at store m policies topic (Some (Pick track time)) old new out out' d d' c c' answer =
+    PickMeans track time old.input new.input answer × (out' ≡ out) × (new.dial ≡ old.dial) × (new.tracks ≡ old.tracks) × (d' ≡ d) × (c' ≡ c)
+MeansBy view leave left_at store m policies topic (Some (Serve s)) old new out out' d d' c c' answer =
+    ServeMeans view leave left_at s.ladder s.turns old.input new.input d d' answer × IsSelected answer (chosen_of s) (view d')
+    × (old.input.faults ≤ new.input.faults) × (out' ≡ out) × (new.dial ≡ old.dial) × (new.tracks ≡ old.tracks) × (c' ≡ c)
+MeansBy view leave left_at store m policies topic (Some (Push host port path id)) old new out out' d d' c c' answer =
     PushMeans (record { host = host; port = port; path = path }) id old.input new.input old.dial new.dial (store c) (store c') answer
-    × (new.tracks ≡ old.tracks) × (d' ≡ d)
-MeansBy view leave left_at store m policies (Some (Play plan)) old new d d' c c' answer =
-    PlayMeans m plan policies old.dial new.dial (store c) (store c') old.tracks new.tracks answer × (new.input ≡ old.input) × (d' ≡ d)
-MeansBy view leave left_at store m policies (Some (Listing folder)) old new d d' c c' answer =
+    × (out' ≡ out) × (new.tracks ≡ old.tracks) × (d' ≡ d)
+MeansBy view leave left_at store m policies topic (Some (Play plan)) old new out out' d d' c c' answer =
+    PlayMeans m plan policies old.dial new.dial (store c) (store c') old.tracks new.tracks answer × (out' ≡ out) × (new.input ≡ old.input) × (d' ≡ d)
+MeansBy view leave left_at store m policies topic (Some (Listing folder)) old new out out' d d' c c' answer =
     ListMeans view leave left_at d d' answer × IsSilent (view d) (view d') × NoFewer (view d) (view d') × IsSelected answer (at_folder folder) (view d')
-    × (new.input ≡ old.input) × (new.dial ≡ old.dial) × (new.tracks ≡ old.tracks) × (c' ≡ c)
-MeansBy view leave left_at store m policies (Some (Rehearse number size)) old new d d' c c' answer =
-    RehearseMeans m number size policies answer × IsIdle old new d d' c c'
+    × (out' ≡ out) × (new.input ≡ old.input) × (new.dial ≡ old.dial) × (new.tracks ≡ old.tracks) × (c' ≡ c)
+MeansBy view leave left_at store m policies topic (Some (Rehearse number size)) old new out out' d d' c c' answer =
+    RehearseMeans m number size policies answer × (out' ≡ out) × IsIdle old new d d' c c'
+MeansBy view leave left_at store m policies topic (Some (Export folder name bitrate)) old new out out' d d' c c' answer =
+    ExportMeans name bitrate (view d) (view d') old.input new.input out out' answer × IsSilent (view d) (view d') × NoFewer (view d) (view d')
+    × IsSelected answer (at_folder folder) (view d') × (old.input.faults ≤ new.input.faults) × (out.faults ≤ out'.faults)
+    × (new.dial ≡ old.dial) × (new.tracks ≡ old.tracks) × (c' ≡ c)
+MeansBy view leave left_at store m policies topic (Some (Help about)) old new out out' d d' c c' answer =
+    (answer ≡ Found (help_of about)) × (out' ≡ out) × IsIdle old new d d' c c'
+MeansBy view leave left_at store m policies topic (Some Version) old new out out' d d' c c' answer =
+    (answer ≡ Found version) × (out' ≡ out) × IsIdle old new d d' c c'
 
 abbrev pub Means : {D C P : Type 0} (view : D → View) (leave : D → Image → Type 0) (left_at : D → ℕ → Image → Type 0) (store : C → List Entry → Type 0)
-    → Meaning P → List P → List (List ℕ) → Around → Around → D → D → C → C → Answer → Type 0
-Means view leave left_at store m policies words old new d d' c c' answer =
-    MeansBy view leave left_at store m policies (asked words) old new d d' c c' answer
-    ⊎ ((answer ≡ Starved) × IsIdle old new d d' c c')
+    → Meaning P → List P → List (List ℕ) → Around → Around → End → End → D → D → C → C → Answer → Type 0
+Means view leave left_at store m policies words old new out out' d d' c c' answer =
+    MeansBy view leave left_at store m policies (topic_of words) (asked words) old new out out' d d' c c' answer
+    ⊎ ((answer ≡ Starved) × (out' ≡ out) × IsIdle old new d d' c c')
 
 -- the whole line went out, or a front of it where the sink failed
 abbrev pub Prints : Answer → End → End → ℕ → Type 0
@@ -98,12 +111,14 @@ Prints answer old new status =
     ((status ≡ status_of answer) × Appends old.told new.told (line_of answer))
     ⊎ ((status ≡ unwritten_status_of answer) × AppendsFront old.told new.told (line_of answer) × Rose old.faults new.faults)
 
--- The words, the input, the dial, the tracks and the site have an answer, its line was printed, and the status tells it.
+-- The words, the input, the dial, the tracks and the site have an answer, its line was printed behind what the command had written, and the
+-- status tells it.
 pub record IsRun {D C P : Type 0} (view : D → View) (leave : D → Image → Type 0) (left_at : D → ℕ → Image → Type 0) (store : C → List Entry → Type 0)
     (m : Meaning P) (policies : List P) (words : List (List ℕ)) (old new : Around) (output output' : End) (d d' : D) (c c' : C) (status : ℕ) : Type 0 where
   pub answer : Answer
-  pub means : Means view leave left_at store m policies words old new d d' c c' answer
-  pub prints : Prints answer output output' status
+  pub written : End
+  pub means : Means view leave left_at store m policies words old new output written d d' c c' answer
+  pub prints : Prints answer written output' status
   -- Whatever the command, and however it ended: what a crash may leave at each moment of the call is a store whose log begins with the one
   -- that was there, and holds what the call had shown by then.
   pub lasts : Lasts view leave left_at d d'

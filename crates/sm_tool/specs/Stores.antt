@@ -14,9 +14,10 @@ use Rattle.sm_command.specs.declared.fault.StoreFault.TheVariants as fault
 use Rattle.sm_command.specs.Listing.{WhyUnlisted, lines_of}
 use Rattle.sm_serve.specs.Serving.{CountsNone}
 use Rattle.sm_command.specs.Serving.{HasRun, Input, WhyUnready}
+use Rattle.sm_words.specs.Words.{Serving}
 use Rattle.sm_tool.specs.declared.answer.Answer.{Answer}
 use Rattle.sm_tool.specs.declared.answer.Answer.TheVariants.{Found, Words, Unread, TooLong, LongLadder, Refused, NotKept, Clash, Undone}
-use Rattle.sm_tool.specs.declared.answer.Answer.TheVariants.{Damaged, DiskFault, LinkFault, TrackFault, Starved, Full, NotAStore}
+use Rattle.sm_tool.specs.declared.answer.Answer.TheVariants.{Damaged, DiskFault, LinkFault, TrackFault, Starved, Full, NotAStore, Unfinished}
 
 -- an end before a call and after it: what it tells, and its count of faults
 pub record End : Type 0 where
@@ -26,9 +27,9 @@ pub record End : Type 0 where
 abbrev pub input_of : End → Input
 input_of end = record { told = end.told; faults = end.faults }
 
--- the folder and the port of the words, and neither one address nor a journal
-abbrev pub at_port : List ℕ → ℕ → Chosen
-at_port store port = record { store = store; make = true; port = port; bind = None; journal = None }
+-- the folder, the port, the address and the journal of the words; the folder is made where it isn't there
+abbrev pub chosen_of : Serving → Chosen
+chosen_of s = record { store = s.store; make = true; port = s.port; bind = s.bind; journal = s.journal }
 
 -- the folder alone, where it is there
 abbrev pub at_folder : List ℕ → Chosen
@@ -95,7 +96,7 @@ pub record HasServed {D : Type 0} (view : D → View) (leave : D → Image → T
 abbrev pub ServeMeans : {D : Type 0} (view : D → View) (leave : D → Image → Type 0) (left_at : D → ℕ → Image → Type 0) → Bool → ℕ → End → End
     → D → D → Answer → Type 0
 ServeMeans view leave left_at ladder turns input input' d d' (Found line) = HasServed view leave left_at ladder turns input input' d d' line
-ServeMeans view leave left_at ladder turns input input' d d' Words = ⊥
+ServeMeans view leave left_at ladder turns input input' d d' (Words topic) = ⊥
 ServeMeans view leave left_at ladder turns input input' d d' Unread = WhyUnready view leave left_at ladder (input_of input) (input_of input') d d' fault.Unread
 ServeMeans view leave left_at ladder turns input input' d d' TooLong = ⊥
 ServeMeans view leave left_at ladder turns input input' d d' LongLadder =
@@ -119,6 +120,7 @@ ServeMeans view leave left_at ladder turns input input' d d' Starved =
 ServeMeans view leave left_at ladder turns input input' d d' Full = WhyUnready view leave left_at ladder (input_of input) (input_of input') d d' fault.Full
 ServeMeans view leave left_at ladder turns input input' d d' (NotAStore line) =
     (at : ℕ) × (line ≡ store_line at) × WhyUnready view leave left_at ladder (input_of input) (input_of input') d d' (fault.NotAStore at)
+ServeMeans view leave left_at ladder turns input input' d d' (Unfinished stop) = ⊥
 
 -- ---- list
 
@@ -129,7 +131,7 @@ IsListed contents text = IfSome contents (λ c. (log : List Entry) × IsStore lo
 -- the lines of the log that the disk has, or why not; without memory for its line a fault is told as that
 abbrev pub ListMeans : {D : Type 0} (view : D → View) (leave : D → Image → Type 0) (left_at : D → ℕ → Image → Type 0) → D → D → Answer → Type 0
 ListMeans view leave left_at d d' (Found text) = IsListed (view d).contents text
-ListMeans view leave left_at d d' Words = ⊥
+ListMeans view leave left_at d d' (Words topic) = ⊥
 ListMeans view leave left_at d d' Unread = ⊥
 ListMeans view leave left_at d d' TooLong = ⊥
 ListMeans view leave left_at d d' LongLadder = ⊥
@@ -145,6 +147,7 @@ ListMeans view leave left_at d d' Starved = (why : StoreFault) × WhyUnlisted vi
 ListMeans view leave left_at d d' Full = ⊥
 ListMeans view leave left_at d d' (NotAStore line) =
     (at : ℕ) × (line ≡ store_line at) × WhyUnlisted view leave left_at d d' (fault.NotAStore at)
+ListMeans view leave left_at d d' (Unfinished stop) = ⊥
 
 -- nothing was taken from the link, and nothing was sent
 pub record IsSilent (old new : View) : Type 0 where

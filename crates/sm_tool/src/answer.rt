@@ -1,16 +1,19 @@
 //! What a command answers.
 
 use sm_model::Bytes;
+use sm_words::Topic;
 
-/// What an input comes to that was read for a fragment.
-#[derive(Debug, Drop)]
-pub enum Picked {
-    /// The text of the fragment.
-    Found(Bytes),
-    /// The input is no whole push. The line says where, and why.
-    Refused(Bytes),
-    /// The input has no such fragment.
-    NotKept,
+/// Why a file that was begun in the output isn't whole.
+#[derive(Clone, Copy, Debug, PartialEq, Eq)]
+pub enum Stop {
+    /// The disk failed.
+    Disk,
+    /// What was read of the store is not what was written.
+    Damaged,
+    /// The output failed.
+    Output,
+    /// Memory ran out.
+    Memory,
 }
 
 /// What a command comes to, before it is printed.
@@ -18,8 +21,8 @@ pub enum Picked {
 pub enum Answer {
     /// The text that was asked for.
     Found(Bytes),
-    /// The words are none of a command.
-    Words,
+    /// The words are none of a command. The use of this one is told, or that of all.
+    Words(Topic),
     /// Reading the input failed.
     Unread,
     /// The input has more than 268,435,456 bytes.
@@ -48,4 +51,6 @@ pub enum Answer {
     Full,
     /// The folder has no store. The line says where.
     NotAStore(Bytes),
+    /// A file was begun in the output, and isn't whole. No line is told behind what was written of it.
+    Unfinished(Stop),
 }

@@ -1,22 +1,23 @@
 //! The commands.
-ghost use Rattle.std.specs.Prelude.{◌≡◌, ℕ, List, length, map, string_bytes};
+ghost use Rattle.std.specs.Prelude.{◌≡◌, ◌⊎◌, ℕ, List, length, map, string_bytes};
 ghost use Rattle.sm_command.specs.Lasting.{Lasts, Untouched};
 ghost use Rattle.sm_tool.specs.declared.answer.Answer.TheVariants as answers;
 ghost use Rattle.sm_tool.specs.Ran.{IsRun, Means, PickMeans, Prints};
 
-use crate::answer::{Answer, Picked};
-use crate::order::{Order, order_of};
+use crate::answer::Answer;
+use crate::exports::export;
 use crate::origins::push;
-use crate::pick::pick;
 use crate::play::play;
 use crate::print::print;
 use crate::rehearse::rehearse;
 use crate::stores::{list, serve};
 use sm_ends::{InputFault, Sink, Source, Tracks};
 use sm_fetch::Dial;
-use sm_model::NoMemory;
+use sm_model::{Bytes, NoMemory};
+use sm_pick::{Picked, pick};
 use sm_policy::Policy;
 use sm_site::Site;
+use sm_words::{Order, Topic, help_text, order_of, version_text};
 use std::alloc::Global;
 
 // What the input comes to, where a fragment of it is asked for.
@@ -34,11 +35,22 @@ fn picked<I: Source>(alloc: Global, input: &mut I, track: u32, time: u64) -> Ans
     }
 }
 
-// What the words, the input, the site, the dial and the tracks come to.
-fn answer_to<I: Source, S: Site, C: Dial, T: Tracks>(
+// A text that was asked for.
+fn told(alloc: Global, text: &str) -> Answer
+    ensures { (result ≡ answers.Found text.now) ⊎ (result ≡ answers.Starved) }
+{
+    match Bytes::from_slice(alloc, text.as_bytes()) {
+        Ok(text) => Answer::Found(text),
+        Err(NoMemory) => Answer::Starved,
+    }
+}
+
+// What the words, the input, the site, the dial and the tracks come to. An export goes to the output.
+fn answer_to<I: Source, O: Sink, S: Site, C: Dial, T: Tracks>(
     alloc: Global,
     words: &[String],
     input: &mut I,
+    output: &mut O,
     site: &mut S,
     dial: &mut C,
     tracks: &mut T,
@@ -55,7 +67,9 @@ fn answer_to<I: Source, S: Site, C: Dial, T: Tracks>(
           input = record { told = I.left input.new; faults = I.faults input.new };
           dial = record { log = C.log dial.new; faults = C.dial_faults dial.new; chosen = C.chosen dial.new };
           tracks = record { held = T.held tracks.new; faults = T.faults tracks.new };
-        }) site.old site.new dial.old dial.new result }
+        })
+        (record { told = O.held output.old; faults = O.faults output.old })
+        (record { told = O.held output.new; faults = O.faults output.new }) site.old site.new dial.old dial.new result }
     ensures lasts { Lasts S.Disk.view S.Disk.may_leave S.Disk.left_at site.old site.new }
     ensures untouched { (line : List ℕ) → result ≡ answers.NotAStore line → Untouched S.Disk.view S.Disk.may_leave S.Disk.left_at site.old site.new }
     ensures goes_on { C.later dial.old dial.new }
@@ -67,7 +81,10 @@ fn answer_to<I: Source, S: Site, C: Dial, T: Tracks>(
         Ok(Some(Order::Play(order))) => play(alloc, dial, tracks, policies, &order),
         Ok(Some(Order::List { store })) => list(alloc, site, store),
         Ok(Some(Order::Rehearse { number, size })) => rehearse(alloc, number, size, policies),
-        Ok(None) => Answer::Words,
+        Ok(Some(Order::Export(order))) => export(alloc, input, output, site, order),
+        Ok(Some(Order::Help(topic))) => told(alloc, help_text(topic)),
+        Ok(Some(Order::Version)) => told(alloc, version_text()),
+        Ok(None) => Answer::Words(Topic::of(words)),
         Err(NoMemory) => Answer::Starved,
     }
 }
@@ -76,15 +93,20 @@ fn answer_to<I: Source, S: Site, C: Dial, T: Tracks>(
 ///
 /// `pick TRACK TIME` reads the body of a push from `input`, with a header or without, and writes the canonical text of the first
 /// fragment with that track_ID and time, in ticks of its track's timescale, numbered by its place among all of them.
-/// `serve STORE --port N [--ladder] [--turns N]` serves the store in that folder at that port, until nothing more comes or so many
-/// events were taken; with `--ladder` the input is a ladder, which is declared first. `push HOST PORT PATH ID` sends the input,
+/// `serve STORE --port N [--ladder] [--turns N] [--bind ADDRESS] [--journal FILE]` serves the store in that folder at that port, of all
+/// addresses or of that one, until nothing more comes or so many events were taken; with `--ladder` the input is a ladder, which is
+/// declared first; what happens is told in that file. `push HOST PORT PATH ID` sends the input,
 /// whole and once, to the channel with that path at that origin, as a stream of that name, and writes the body of the reply.
 /// `list STORE` lists the fragments of the store in that folder.
 /// `play HOST PORT PATH STREAM... [--from N] [--count N] [--tries N] [--refresh N]` plays streams of the channel with that path at that
 /// origin, one after another, the first to track 0, and writes how many fragments it wrote, or why it ended before there were as many
 /// as were wanted. The policies act in turn.
 /// `rehearse NUMBER SIZE` runs the world of that number in memory, with so many rounds of pushes and three clients, each with one of
-/// the policies, and writes what came of it in numbers; it uses none of the ends. Every line, also that of a failure, goes to `output`.
+/// the policies, and writes what came of it in numbers; it uses none of the ends.
+/// `export STORE NAME BITRATE` reads a pushed header from `input`, alone or with what was pushed behind it, and writes that header and then
+/// each fragment that the store in that folder keeps of the stream of that name at that bitrate, in the order of time.
+/// `help`, `help COMMAND` and `--help` tell how the commands are used, `version` and `--version` which version this is; words that name no
+/// command are answered by the use of the one that they begin with. Every line, also that of a failure, goes to `output`; none follows where a file was begun and isn't whole.
 pub fn tool<I: Source, O: Sink, S: Site, C: Dial, T: Tracks>(
     alloc: Global,
     words: &[String],
@@ -112,7 +134,7 @@ pub fn tool<I: Source, O: Sink, S: Site, C: Dial, T: Tracks>(
     // What the dial promises of whatever is done with it holds of the call.
     ensures goes_on { C.later dial.old dial.new }
 {
-    let answer = answer_to(alloc, words, input, site, dial, tracks, policies);
+    let answer = answer_to(alloc, words, input, output, site, dial, tracks, policies);
     print(output, &answer)
 }
 

@@ -4,11 +4,11 @@ ghost use Rattle.sm_client.specs.Pushing.{HasPushed, WhyUnpushed};
 ghost use Rattle.sm_tool.specs.Origins.{IsAnswered, PushMeans, TellsPush, TellsUnpushed, place_of, status_line, unreadable_line};
 
 use crate::answer::Answer;
-use crate::order::PushOrder;
 use sm_client::{VisitFault, push_input};
 use sm_ends::Source;
 use sm_fetch::{Dial, Place, Pushed};
 use sm_model::{Bytes, NoMemory};
+use sm_words::PushOrder;
 use std::alloc::Global;
 
 // The body of a reply, and behind it the status.

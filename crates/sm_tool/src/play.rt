@@ -1,16 +1,16 @@
 //! Playing streams of an origin.
 ghost use Rattle.std.specs.Prelude.{◌≡◌, ◌<◌, ◌++◌, codes, length, string_bytes, IfOk, IfErr, OnOk};
-ghost use Rattle.sm_tool.specs.Orders.{IsPlayable};
+ghost use Rattle.sm_words.specs.Orders.{IsPlayable};
 ghost use Rattle.sm_tool.specs.Plays.{HasPlayed, PlayMeans, TellsPlay, WhyUnplayed, gave_up_line, hole_line, miss_word, miss_words};
 ghost use Rattle.sm_tool.specs.Plays.{name_at, no_manifest_line, no_more_line, no_stream_line, played_line};
 
 use crate::answer::Answer;
-use crate::play_order::PlayOrder;
 use sm_client::{End, Miss, Names, Outcomes, Plan, Report};
 use sm_ends::Tracks;
 use sm_fetch::{Dial, DialError};
 use sm_model::{Bytes, NoMemory};
 use sm_policy::Policy;
+use sm_words::PlayOrder;
 use std::alloc::Global;
 
 fn played_line(alloc: Global, played: u64) -> Result<Bytes, NoMemory>

@@ -3,11 +3,12 @@ ghost use Rattle.std.specs.Prelude.{◌≡◌, OnOk, OnErr};
 ghost use Rattle.std.specs.Io.KnownBytes.{Appends};
 ghost use Rattle.sm_ends.specs.Faults.{HasCause};
 ghost use Rattle.sm_ends.specs.Moves.{AppendsFront};
-ghost use Rattle.sm_tool.specs.Answers.{line_of, status_of, unwritten_status_of};
+ghost use Rattle.sm_tool.specs.Answers.{line_of, status_of, stop_status_of, unwritten_status_of};
 ghost use Rattle.sm_tool.specs.Ran.{Prints};
 
-use crate::answer::Answer;
+use crate::answer::{Answer, Stop};
 use sm_ends::{Failed, Sink, write_all};
+use sm_words::wrong_words;
 
 // The line of an answer.
 fn line(answer: &Answer) -> &[u8]
@@ -19,7 +20,7 @@ fn line(answer: &Answer) -> &[u8]
         Answer::Clash(line) => line.as_slice(),
         Answer::Undone(line) => line.as_slice(),
         Answer::NotAStore(line) => line.as_slice(),
-        Answer::Words => b"error: words\n",
+        Answer::Words(topic) => wrong_words(*topic).as_bytes(),
         Answer::Unread => b"error: read\n",
         Answer::TooLong => b"error: input at 268435456: too long\n",
         Answer::LongLadder => b"error: input at 1048576: too long\n",
@@ -27,7 +28,7 @@ fn line(answer: &Answer) -> &[u8]
         Answer::Damaged => b"error: 32 Damaged\n",
         Answer::DiskFault => b"error: disk\n",
         Answer::LinkFault => b"error: link\n",
-        Answer::TrackFault => b"",
+        Answer::TrackFault | Answer::Unfinished(_) => b"",
         Answer::Starved => b"error: memory\n",
         Answer::Full => b"error: full\n",
     }
@@ -42,12 +43,23 @@ fn write_line<O: Sink>(sink: &mut O, answer: &Answer) -> Result<(), Failed>
     write_all(sink, line(answer))
 }
 
+fn stop_status(stop: Stop) -> u8
+    ensures { result ≡ stop_status_of stop }
+{
+    match stop {
+        Stop::Damaged => 4,
+        Stop::Disk => 5,
+        Stop::Output => 7,
+        Stop::Memory => 9,
+    }
+}
+
 fn status(answer: &Answer) -> u8
     ensures { result ≡ status_of answer.now }
 {
     match answer {
         Answer::Found(_) => 0,
-        Answer::Words => 2,
+        Answer::Words(_) => 2,
         Answer::TooLong | Answer::LongLadder | Answer::Refused(_) => 3,
         Answer::NotKept | Answer::Clash(_) | Answer::Undone(_) | Answer::Damaged => 4,
         Answer::DiskFault => 5,
@@ -57,6 +69,7 @@ fn status(answer: &Answer) -> u8
         Answer::Starved => 9,
         Answer::Full => 10,
         Answer::NotAStore(_) => 11,
+        Answer::Unfinished(stop) => stop_status(*stop),
     }
 }
 

@@ -2,15 +2,16 @@
 ghost use Rattle.std.specs.Prelude.{◌≡◌, ◌≤◌, ℕ, List, IfOk, string_bytes};
 ghost use Rattle.sm_command.specs.Lasting.{Lasts, NoFewer, Untouched};
 ghost use Rattle.sm_tool.specs.declared.answer.Answer.TheVariants as answers;
-ghost use Rattle.sm_tool.specs.Stores.{IsSelected, IsSilent, ListMeans, ServeMeans, Tells, at_folder, at_port, TellsEnd, clash_line, ladder_line, or_starved, store_line, turns_line};
+ghost use Rattle.sm_words.specs.Orders.{serving_of};
+ghost use Rattle.sm_tool.specs.Stores.{IsSelected, IsSilent, ListMeans, ServeMeans, Tells, at_folder, chosen_of, TellsEnd, clash_line, ladder_line, or_starved, store_line, turns_line};
 
 use crate::answer::Answer;
-use crate::order::ServeOrder;
 use sm_command::{StoreFault, list_store, serve_store};
 use sm_ends::Source;
 use sm_model::{Bytes, Cause, NoMemory, Refusal, put_cause};
 use sm_serve::Served;
 use sm_site::{Selection, Site};
+use sm_words::ServeOrder;
 use std::alloc::Global;
 
 fn turns_line(alloc: Global, turns: u64) -> Result<Bytes, NoMemory>
@@ -34,8 +35,8 @@ fn ladder_line(alloc: Global, at: u64) -> Result<Bytes, NoMemory>
     Ok(Bytes::from_vec(line.into_bytes()))
 }
 
-// The line of a cause, which has no place here.
-fn clash_line(alloc: Global, cause: Cause) -> Result<Bytes, NoMemory>
+/// The line of a cause, which has no place here.
+pub fn clash_line(alloc: Global, cause: Cause) -> Result<Bytes, NoMemory>
     ensures { IfOk result (λ line. line ≡ clash_line cause) }
 {
     let told = put_cause(alloc, &Refusal { at: 0, cause })?;
@@ -45,8 +46,8 @@ fn clash_line(alloc: Global, cause: Cause) -> Result<Bytes, NoMemory>
     Ok(Bytes::from_vec(line))
 }
 
-// Why a store is not served or not listed.
-fn refused(alloc: Global, fault: StoreFault) -> Result<Answer, NoMemory>
+/// Why a store is not served, not listed and not exported from.
+pub fn refused(alloc: Global, fault: StoreFault) -> Result<Answer, NoMemory>
     ensures { IfOk result (λ answer. Tells fault answer) }
 {
     match fault {
@@ -74,7 +75,8 @@ fn ended(alloc: Global, end: Served) -> Result<Answer, NoMemory>
     }
 }
 
-fn or_starved(answer: Result<Answer, NoMemory>) -> Answer
+/// An answer; without memory for its line that alone is told.
+pub fn or_starved(answer: Result<Answer, NoMemory>) -> Answer
     ensures { result ≡ or_starved answer }
 {
     match answer {
@@ -90,7 +92,7 @@ pub fn serve<I: Source, S: Site>(
     site: &mut S,
     order: ServeOrder,
 ) -> Answer
-    ensures selected { IsSelected result (at_port (string_bytes order.store) order.port) (S.Disk.view site.new) }
+    ensures selected { IsSelected result (chosen_of (serving_of order)) (S.Disk.view site.new) }
     ensures means { ServeMeans S.Disk.view S.Disk.may_leave S.Disk.left_at order.ladder order.turns
         (record { told = I.left input.old; faults = I.faults input.old })
         (record { told = I.left input.new; faults = I.faults input.new }) site.old site.new result }
@@ -102,8 +104,8 @@ pub fn serve<I: Source, S: Site>(
         store: order.store,
         make: true,
         port: order.port,
-        bind: None,
-        journal: None,
+        bind: order.bind,
+        journal: order.journal,
     };
     match serve_store(alloc, input, site, selection, order.ladder, order.turns) {
         Ok(end) => or_starved(ended(alloc, end)),

@@ -1,9 +1,9 @@
 use Rattle.std.proofs.Common.{map, string_bytes, Option, Some, ap, sym, ◌∙◌}
 use Rattle.std.specs.Option.{option_map}
-use Rattle.sm_tool.specs.declared.order.Order.{Order}
-use Rattle.sm_tool.specs.Orders.{wanted_of}
+use Rattle.sm_words.specs.declared.order.Order.{Order}
+use Rattle.sm_words.specs.Orders.{wanted_of}
 use Rattle.sm_tool.proofs.Idling.{idle_lasts}
-use Rattle.sm_tool.proofs.Sounding.{playable, rehearsable}
+use Rattle.sm_words.proofs.Sounding.{playable, rehearsable}
 use Rattle.sm_tool.proofs.command.answer_to.Goals as goal
 
 pub play-requires-clause-playable : goal.play-requires-clause-playable
@@ -41,3 +41,9 @@ returns-in-Ok-None-clause-lasts g c = idle_lasts g.S.Disk.view g.S.Disk.may_leav
 
 pub returns-in-Err-clause-lasts : goal.returns-in-Err-clause-lasts
 returns-in-Err-clause-lasts g c = idle_lasts g.S.Disk.view g.S.Disk.may_leave g.S.Disk.left_at g.met.S.Disk.no_later g.met.S.Disk.at_now c.args.site.now
+
+pub returns-in-Ok-Some-Help-clause-lasts : goal.returns-in-Ok-Some-Help-clause-lasts
+returns-in-Ok-Some-Help-clause-lasts g c = idle_lasts g.S.Disk.view g.S.Disk.may_leave g.S.Disk.left_at g.met.S.Disk.no_later g.met.S.Disk.at_now c.args.site.now
+
+pub returns-in-Ok-Some-Version-clause-lasts : goal.returns-in-Ok-Some-Version-clause-lasts
+returns-in-Ok-Some-Version-clause-lasts g c = idle_lasts g.S.Disk.view g.S.Disk.may_leave g.S.Disk.left_at g.met.S.Disk.no_later g.met.S.Disk.at_now c.args.site.now

@@ -1,5 +1,5 @@
-use Rattle.std.proofs.Common.{string_bytes}
-use Rattle.sm_tool.specs.Stores.{at_port}
+use Rattle.sm_words.specs.Orders.{serving_of}
+use Rattle.sm_tool.specs.Stores.{chosen_of}
 use Rattle.sm_tool.proofs.Storing.{ended_is_store, selected, unselected, unserved, unwritten_served}
 use Rattle.sm_tool.proofs.stores.serve.Goals as goal
 
@@ -18,9 +18,9 @@ returns-in-Ok-clause-untouched g c line is = absurd (ended_is_store c.in-Ok.end 
 
 pub returns-in-Err-clause-selected : goal.returns-in-Err-clause-selected
 returns-in-Err-clause-selected g c =
-    unselected c.in-Err.fault c.refused.result c.or_starved-in-Err.result (at_port (string_bytes c.args.order.store) c.args.order.port)
+    unselected c.in-Err.fault c.refused.result c.or_starved-in-Err.result (chosen_of (serving_of c.args.order))
     (g.S.Disk.view c.serve_store.new.site) c.refused.ensures c.or_starved-in-Err.ensures c.in-Err.ensures.chosen
 
 pub returns-in-Ok-clause-selected : goal.returns-in-Ok-clause-selected
 returns-in-Ok-clause-selected g c =
-    selected c.or_starved.result (at_port (string_bytes c.args.order.store) c.args.order.port) (g.S.Disk.view c.serve_store.new.site) c.in-Ok.ensures.chosen
+    selected c.or_starved.result (chosen_of (serving_of c.args.order)) (g.S.Disk.view c.serve_store.new.site) c.in-Ok.ensures.chosen

@@ -1,0 +1,4 @@
+pub mod Searching
+pub mod Looking
+pub mod Picking
+pub mod OneAnswer

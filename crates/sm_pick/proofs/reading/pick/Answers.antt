@@ -1,0 +1,46 @@
+use Rattle.std.proofs.Common.{◌≤◌, ◌+◌, ◌++◌, ℕ, List, take, subst, arith}
+use Rattle.std.proofs.KnownBytes.{Consumes-kept}
+use Rattle.sm_pick.specs.Due.{limit}
+use Rattle.sm_pick.specs.Search.{Looks}
+use Rattle.sm_pick.proofs.Picking.{IsPiece, piece_taken, read_on, read_over, at_most, long}
+use Rattle.sm_pick.proofs.reading.pick.Goals as goal
+
+pub loop-total-preserved-in_ok-take : goal.loop-total-preserved-in_ok-take
+loop-total-preserved-in_ok-take g c =
+    let room : List ℕ = c.read_piece.new.room.items in
+    let piece : IsPiece (g.I.Source.left c.loop-total.input) (g.I.Source.left c.read_piece.new.input) c.loop-total.total c.in_ok-count.count room
+    = record { taken = c.in_ok-count.ensures.bytes.0; inside = c.in_ok-count.ensures.bound; within = omega (arith, c.in_ok-count.ensures.most) } in
+    let looks : (b : List ℕ) → Looks c.loop-total.search b → Looks c.take.new.self (b ++ take c.in_ok-count.count room)
+    = subst (λ (r : List ℕ). (b : List ℕ) → Looks c.loop-total.search b → Looks c.take.new.self (b ++ take c.in_ok-count.count r)) c.deref.ensures.value c.in_ok-take.ensures.looks in
+    record {
+      room = c.read_piece.ensures.room;
+      read = read_on _ _ _ _ _ c.loop-total.search c.take.new.self c.loop-total.total c.in_ok-count.count room c.loop-total.invariant.read piece (omega arith) looks c.in_ok-take.ensures.asked.0 c.in_ok-take.ensures.asked.1;
+      later = omega (arith, c.loop-total.invariant.later, c.read_piece.ensures.cause.later);
+    }
+
+pub returns-in_err-take-clause-memory : goal.returns-in_err-take-clause-memory
+returns-in_err-take-clause-memory g c =
+    let room : List ℕ = c.read_piece.new.room.items in
+    let piece : IsPiece (g.I.Source.left c.loop-total.input) (g.I.Source.left c.read_piece.new.input) c.loop-total.total c.in_ok-count.count room
+    = record { taken = c.in_ok-count.ensures.bytes.0; inside = c.in_ok-count.ensures.bound; within = omega (arith, c.in_ok-count.ensures.most) } in
+    λ _. at_most _ _ (c.loop-total.total + c.in_ok-count.count) (piece_taken _ _ _ _ _ c.loop-total.search c.loop-total.total c.in_ok-count.count room c.loop-total.invariant.read piece) (omega arith)
+
+pub loop-total-preserved : goal.loop-total-preserved
+loop-total-preserved g c =
+    let room : List ℕ = c.read_piece.new.room.items in
+    let piece : IsPiece (g.I.Source.left c.loop-total.input) (g.I.Source.left c.read_piece.new.input) c.loop-total.total c.in_ok-count.count room
+    = record { taken = c.in_ok-count.ensures.bytes.0; inside = c.in_ok-count.ensures.bound; within = omega (arith, c.in_ok-count.ensures.most) } in
+    record {
+      room = c.read_piece.ensures.room;
+      read = read_over _ _ _ _ _ c.loop-total.search c.loop-total.total c.in_ok-count.count room c.loop-total.invariant.read piece (omega arith);
+      later = omega (arith, c.loop-total.invariant.later, c.read_piece.ensures.cause.later);
+    }
+
+pub returns-clause-long : goal.returns-clause-long
+returns-clause-long g c = λ _. long _ _ c.loop-total.invariant.read.bytes c.loop-total.invariant.read.taken (omega (arith, c.loop-total.invariant.read.total_is))
+
+pub returns-in_err-count-clause-failed : goal.returns-in_err-count-clause-failed
+returns-in_err-count-clause-failed g c = λ _.
+    let read = c.loop-total.invariant.read in
+    let few : c.loop-total.total ≤ limit = omega arith in
+    (read.bytes, Consumes-kept _ _ _ read.bytes read.taken c.in_err-count.ensures.bytes, omega (arith, few, read.total_is))

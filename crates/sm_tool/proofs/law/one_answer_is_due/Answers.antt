@@ -1,5 +1,0 @@
-use Rattle.sm_tool.proofs.OneAnswer.{one_answer}
-use Rattle.sm_tool.proofs.law.one_answer_is_due.Goals as goal
-
-pub returns : goal.returns
-returns c = one_answer

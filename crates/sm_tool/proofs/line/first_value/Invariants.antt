@@ -1,5 +1,0 @@
-use Rattle.sm_tool.proofs.Reading.{ValuesFrom}
-use Rattle.sm_tool.proofs.line.first_value.Given as goal
-
-abbrev pub invariant-loop-at : goal.invariant-loop-at
-invariant-loop-at l = ValuesFrom l.given l.name l.at

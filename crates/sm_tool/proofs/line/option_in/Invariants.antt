@@ -1,5 +1,0 @@
-use Rattle.sm_tool.proofs.Reading.{FirstFrom}
-use Rattle.sm_tool.proofs.line.option_in.Given as goal
-
-abbrev pub invariant-loop-name : goal.invariant-loop-name
-invariant-loop-name l = FirstFrom l.options l.word l.name-index

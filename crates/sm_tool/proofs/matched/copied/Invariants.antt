@@ -1,7 +1,0 @@
-use Rattle.std.proofs.Common.{map, string_bytes, [], Bor}
-use Rattle.sm_tool.specs.Words.{Text}
-use Rattle.sm_tool.proofs.Adding.{AddedUpTo}
-use Rattle.sm_tool.proofs.matched.copied.Given as goal
-
-abbrev pub invariant-loop-text : goal.invariant-loop-text
-invariant-loop-text l = AddedUpTo (λ (t : Bor Text). t.now) l.texts [] (map string_bytes l.list.items) l.text-index

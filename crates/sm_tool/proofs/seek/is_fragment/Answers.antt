@@ -1,5 +1,0 @@
-use Rattle.sm_tool.proofs.Searching.{has_id}
-use Rattle.sm_tool.proofs.seek.is_fragment.Goals as goal
-
-pub returns : goal.returns
-returns c d = has_id c.args.items.now c.args.index c.id.result c.is_some.result c.id.ensures c.is_some.ensures c.requires d

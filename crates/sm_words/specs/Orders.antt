@@ -1,0 +1,45 @@
+-- What the code holds of an order.
+use Rattle.std.specs.Prelude.{◌<◌, ◌≤◌, ◌^◌, ℕ, length, string_bytes}
+use Rattle.std.specs.Option.{option_map}
+use Rattle.sm_client.specs.declared.plan.Plan.{Plan}
+use Rattle.sm_words.specs.declared.order.Order.{Order}
+use Rattle.sm_words.specs.declared.order.Order.TheVariants as order
+use Rattle.sm_words.specs.declared.order.PlayNumbers.{PlayNumbers}
+use Rattle.sm_words.specs.declared.order.ServeOrder.{ServeOrder}
+use Rattle.sm_words.specs.Words.{Serving, Wanted, Pick, Serve, Push, Play, Listing, Rehearse, Export, Help, Version, PlayNumbers as Numbers}
+
+abbrev pub serving_of : ServeOrder → Serving
+serving_of s = record {
+  store = string_bytes s.store;
+  port = s.port;
+  ladder = s.ladder;
+  turns = s.turns;
+  bind = option_map string_bytes s.bind;
+  journal = option_map string_bytes s.journal;
+}
+
+abbrev pub wanted_of : Order → Wanted
+wanted_of (order.Pick track time) = Pick track time
+wanted_of (order.Serve s) = Serve (serving_of s)
+wanted_of (order.Push p) = Push (string_bytes p.host) p.port (string_bytes p.path) p.id
+wanted_of (order.Play p) = Play p.plan
+wanted_of (order.List store) = Listing (string_bytes store)
+wanted_of (order.Rehearse number size) = Rehearse number size
+wanted_of (order.Help topic) = Help topic
+wanted_of order.Version = Version
+wanted_of (order.Export e) = Export (string_bytes e.store) e.name e.bitrate
+
+abbrev pub numbers_of : PlayNumbers → Numbers
+numbers_of n = record { port = n.port; from = n.from; count = n.count; tries = n.tries; refresh = n.refresh }
+
+-- what may be played
+pub record IsPlayable (plan : Plan) : Type 0 where
+  pub streams : length plan.streams ≤ 16
+  pub count : plan.count ≤ 1000000
+  pub tries : 0 < plan.tries
+  pub refresh : 0 < plan.refresh
+
+-- a world in which may be rehearsed, and its size
+pub record IsWorld (number size : ℕ) : Type 0 where
+  pub number_fits : number < 2 ^ 31
+  pub size_fits : size ≤ 2000

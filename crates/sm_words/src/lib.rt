@@ -1,0 +1,22 @@
+//! The words of the commands: what they ask for, and how that is told.
+#![tactic(auto)]
+
+mod help;
+mod line;
+mod matched;
+mod option;
+mod order;
+mod place;
+mod play_order;
+mod put;
+mod topic;
+mod words;
+
+pub use help::{help_text, version_text, wrong_words};
+pub use line::{Adds, How, Line, Place, Step, Twice, option_in, placed, read_line};
+pub use option::Name;
+pub use order::{ExportOrder, Order, PushOrder, ServeOrder, order_of};
+pub use place::{is_host, is_path};
+pub use play_order::PlayOrder;
+pub use topic::Topic;
+pub use words::number;

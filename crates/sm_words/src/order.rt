@@ -1,0 +1,485 @@
+//! What the words of a command ask for.
+ghost use Rattle.std.specs.Prelude.{◌≡◌, ◌≤◌, ◌<◌, ◌^◌, map, string_bytes, length, IfOk, IfSome, Some, [], List, ℕ};
+ghost use Rattle.std.specs.Option.{option_map, option_and_then};
+ghost use Rattle.sm_words.specs.Options.{play_options, serve_options};
+ghost use Rattle.sm_words.specs.Words.{Listing, ExportTexts as Filed, PlayTexts as Played, PushTexts as Sent, ServeTexts as Asked, alone, asked, filled, help_by, list_of, number_or, start_by};
+ghost use Rattle.sm_words.specs.Words.{name_by, numbers_by, pick_by, pick_of, play_by, play_of, push_by, push_of, read, rehearse_by, rehearse_of, serve_by};
+ghost use Rattle.sm_words.specs.Words.{export_by, export_of, serve_of, streams_by};
+ghost use Rattle.sm_words.specs.Matched.{IsExportRead, IsPlayRead, IsPushRead, IsReadOf};
+ghost use Rattle.sm_words.specs.Orders.{numbers_of, wanted_of};
+
+use crate::line::read_line;
+use crate::matched::{
+    ExportTexts, PlayTexts, PushTexts, ServeTexts, read_export, read_list, read_pick, read_play,
+    read_push, read_rehearse, read_serve,
+};
+use crate::option::Name;
+use crate::place::{is_host, is_path};
+use crate::play_order::PlayOrder;
+use crate::put::{export_put, list_put, pick_put, play_put, push_put, rehearse_put, serve_put};
+use crate::topic::Topic;
+use crate::words::number;
+use sm_client::{Names, Plan};
+use sm_fetch::Place;
+use sm_model::{Bytes, Name as StreamName, NameFault, NoMemory};
+use std::alloc::Global;
+
+/// What the words ask for.
+#[derive(Debug, Drop)]
+pub enum Order {
+    /// The first fragment of an input with that track_ID, and that time in ticks of the track's timescale.
+    Pick { track: u32, time: u64 },
+    /// To serve a store.
+    Serve(ServeOrder),
+    /// To push to an origin.
+    Push(PushOrder),
+    /// To play streams of an origin.
+    Play(PlayOrder),
+    /// The list of what the store in a folder keeps.
+    List { store: String },
+    /// To rehearse in the world of that number, with so many rounds of pushes.
+    Rehearse { number: u64, size: u64 },
+    /// To export a quality from a store.
+    Export(ExportOrder),
+    /// What is said of a command, or of all.
+    Help(Topic),
+    /// Which version this is.
+    Version,
+}
+
+/// What is served, and how.
+#[derive(Debug, Drop)]
+pub struct ServeOrder {
+    /// The folder.
+    pub store: String,
+    /// The port, from 1 on.
+    pub port: u16,
+    /// Whether a ladder is read and declared first.
+    pub ladder: bool,
+    /// The most events that are taken.
+    pub turns: u64,
+    /// The one address that is listened at; all of the machine where it isn't given.
+    pub bind: Option<String>,
+    /// The file of the journal.
+    pub journal: Option<String>,
+}
+
+/// Where the input is pushed, and as what.
+#[derive(Debug, Drop)]
+pub struct PushOrder {
+    /// The host: 1 to 255 letters, digits, `.`, `-` and `:`.
+    pub host: String,
+    /// The port, from 1 on.
+    pub port: u16,
+    /// The path of the channel: 1 to 512 bytes without `?`, control bytes and `.isml/`.
+    pub path: String,
+    /// The name of the stream.
+    pub id: StreamName,
+}
+
+/// From where a quality is exported, and which.
+#[derive(Debug, Drop)]
+pub struct ExportOrder {
+    /// The folder.
+    pub store: String,
+    /// The name of the stream.
+    pub name: StreamName,
+    /// In bits a second, as declared.
+    pub bitrate: u32,
+}
+
+// The numbers among the words of `play`.
+#[derive(Clone, Copy, Debug)]
+struct PlayNumbers {
+    port: u16,
+    from: Option<u64>,
+    count: u64,
+    tries: u32,
+    refresh: u32,
+}
+
+// The largest number that a word may write.
+const MOST: u64 = 9_223_372_036_854_775_807;
+
+const SERVE: [Name; 5] = [
+    Name::Port,
+    Name::Ladder,
+    Name::Turns,
+    Name::Bind,
+    Name::Journal,
+];
+
+const PLAY: [Name; 4] = [Name::From, Name::Count, Name::Tries, Name::Refresh];
+
+// The most streams of one play.
+const STREAMS: usize = 16;
+
+// The greatest number of a world.
+const LAST_WORLD: u64 = 2_147_483_647;
+
+// The most rounds of a rehearsal.
+const MOST_ROUNDS: u64 = 2_000;
+
+// The number that a text writes, or another where there is no text.
+fn number_or(text: &Option<String>, low: u64, high: u64, other: Option<u64>) -> Option<u64>
+    requires high { high < 2 ^ 63 }
+    requires other { IfSome other (λ n. n ≤ high) }
+    ensures value { result ≡ number_or low high other (option_map string_bytes text.now) }
+    ensures below { IfSome result (λ n. n ≤ high) }
+{
+    match text {
+        Some(text) => number(text.as_str(), low, high),
+        None => other,
+    }
+}
+
+// A text that isn't empty.
+fn filled(text: Option<String>) -> Option<String>
+    ensures { option_map string_bytes result ≡ option_and_then filled (option_map string_bytes text) }
+{
+    let text = text?;
+    if text.is_empty() { None } else { Some(text) }
+}
+
+fn pick_order(track: &Option<String>, time: &Option<String>) -> Option<Order>
+    ensures { (x : List ℕ × List ℕ) → option_map string_bytes track.now ≡ Some x.0 → option_map string_bytes time.now ≡ Some x.1
+        → option_map wanted_of result ≡ pick_by x.0 x.1 }
+{
+    let track = number_or(track, 1, 4_294_967_295, None)?;
+    let time = number_or(time, 0, MOST, None)?;
+    Some(Order::Pick {
+        track: track as u32,
+        time,
+    })
+}
+
+fn rehearse_order(number: &Option<String>, size: &Option<String>) -> Option<Order>
+    ensures { (x : List ℕ × List ℕ) → option_map string_bytes number.now ≡ Some x.0 → option_map string_bytes size.now ≡ Some x.1
+        → option_map wanted_of result ≡ rehearse_by x.0 x.1 }
+{
+    let number = number_or(number, 0, LAST_WORLD, None)?;
+    let size = number_or(size, 0, MOST_ROUNDS, None)?;
+    Some(Order::Rehearse { number, size })
+}
+
+fn serve_order(texts: ServeTexts) -> Option<Order>
+    ensures { (x : Asked) → IsReadOf texts x → option_map wanted_of result ≡ serve_by x }
+{
+    let port = number_or(&texts.port, 1, 65_535, None)?;
+    let turns = number_or(&texts.turns, 1, MOST, Some(MOST))?;
+    let ladder = texts.ladder;
+    let store = filled(texts.store)?;
+    let bind = filled(texts.bind);
+    let journal = filled(texts.journal);
+    Some(Order::Serve(ServeOrder {
+        store,
+        port: port as u16,
+        ladder,
+        turns,
+        bind,
+        journal,
+    }))
+}
+
+fn push_order(alloc: Global, texts: PushTexts) -> Result<Option<Order>, NoMemory>
+    ensures { IfOk result (λ order. (x : Sent) → IsPushRead texts x → option_map wanted_of order ≡ push_by x) }
+{
+    let PushTexts {
+        host,
+        port,
+        path,
+        id,
+    } = texts;
+    let Some(port) = number_or(&port, 1, 65_535, None) else {
+        return Ok(None);
+    };
+    let (Some(host), Some(path), Some(id)) = (host, path, id) else {
+        return Ok(None);
+    };
+    if !is_host(host.as_str()) || !is_path(path.as_str()) {
+        return Ok(None);
+    }
+    match StreamName::read(alloc, id.as_bytes()) {
+        Ok(id) => Ok(Some(Order::Push(PushOrder {
+            host,
+            port: port as u16,
+            path,
+            id,
+        }))),
+        Err(NameFault::Form { at: _ }) => Ok(None),
+        Err(NameFault::NoMemory) => Err(NoMemory),
+    }
+}
+
+fn list_order(store: Option<String>) -> Option<Order>
+    ensures { option_map wanted_of result ≡ option_and_then (λ text. option_map Listing (filled text)) (option_map string_bytes store) }
+{
+    let store = filled(store)?;
+    Some(Order::List { store })
+}
+
+// The start that a text writes, if there is a text.
+fn start(text: &Option<String>) -> Option<Option<u64>>
+    ensures { result ≡ start_by (option_map string_bytes text.now) }
+{
+    match text {
+        Some(text) => Some(Some(number(text.as_str(), 0, MOST)?)),
+        None => Some(None),
+    }
+}
+
+fn play_numbers(texts: &PlayTexts) -> Option<PlayNumbers>
+    ensures { (x : Played) → IsPlayRead texts.now x → option_map numbers_of result ≡ numbers_by x }
+{
+    let port = number_or(&texts.port, 1, 65_535, None)?;
+    let from = start(&texts.from)?;
+    let count = number_or(&texts.count, 1, 1_000_000, None)?;
+    let tries = number_or(&texts.tries, 1, 16, None)?;
+    let refresh = number_or(&texts.refresh, 1, 10_000, None)?;
+    Some(PlayNumbers {
+        port: port as u16,
+        from,
+        count,
+        tries: tries as u32,
+        refresh: refresh as u32,
+    })
+}
+
+// The name that a text is, if it is one.
+fn name(alloc: Global, text: &str) -> Result<Option<StreamName>, NoMemory>
+    ensures { IfOk result (λ name. name ≡ name_by text.now) }
+{
+    match StreamName::read(alloc, text.as_bytes()) {
+        Ok(name) => Ok(Some(name)),
+        Err(NameFault::Form { at: _ }) => Ok(None),
+        Err(NameFault::NoMemory) => Err(NoMemory),
+    }
+}
+
+// The names that texts are, if there are at most 16.
+fn streams(alloc: Global, texts: &[String]) -> Result<Option<Names>, NoMemory>
+    ensures { IfOk result (λ names. names ≡ streams_by (map string_bytes texts.now)) }
+{
+    if texts.len() > STREAMS {
+        return Ok(None);
+    }
+    let mut names = Vec::new(alloc);
+    for text in texts {
+        let Some(name) = name(alloc, text.as_str())? else {
+            return Ok(None);
+        };
+        names.push(name)?;
+    }
+    Ok(Some(Names::from_vec(names)))
+}
+
+fn play_order(alloc: Global, texts: PlayTexts) -> Result<Option<Order>, NoMemory>
+    ensures { IfOk result (λ order. (x : Played) → IsPlayRead texts x → option_map wanted_of order ≡ play_by x) }
+{
+    let Some(numbers) = play_numbers(&texts) else {
+        return Ok(None);
+    };
+    let (Some(host), Some(path)) = (texts.host, texts.path) else {
+        return Ok(None);
+    };
+    if !is_host(host.as_str()) || !is_path(path.as_str()) {
+        return Ok(None);
+    }
+    let Some(streams) = streams(alloc, &texts.streams)? else {
+        return Ok(None);
+    };
+    let place = Place {
+        host: Bytes::from_slice(alloc, host.as_bytes())?,
+        port: numbers.port,
+        path: Bytes::from_vec(path.into_bytes()),
+    };
+    Ok(Some(Order::Play(PlayOrder {
+        host,
+        plan: Plan {
+            place,
+            streams,
+            from: numbers.from,
+            count: numbers.count,
+            tries: numbers.tries,
+            refresh: numbers.refresh,
+        },
+    })))
+}
+
+fn export_order(alloc: Global, texts: ExportTexts) -> Result<Option<Order>, NoMemory>
+    ensures { IfOk result (λ order. (x : Filed) → IsExportRead texts x → option_map wanted_of order ≡ export_by x) }
+{
+    let Some(bitrate) = number_or(&texts.bitrate, 0, 4_294_967_295, None) else {
+        return Ok(None);
+    };
+    let (Some(store), Some(text)) = (filled(texts.store), texts.name) else {
+        return Ok(None);
+    };
+    let Some(name) = name(alloc, text.as_str())? else {
+        return Ok(None);
+    };
+    Ok(Some(Order::Export(ExportOrder {
+        store,
+        name,
+        bitrate: bitrate as u32,
+    })))
+}
+
+fn pick_asked(alloc: Global, words: &[String]) -> Result<Option<Order>, NoMemory>
+    ensures { IfOk result (λ order. option_map wanted_of order ≡ option_and_then pick_of (read [] (map string_bytes words.now))) }
+{
+    let Some(line) = read_line(alloc, &[], words)? else {
+        return Ok(None);
+    };
+    let Some(words) = pick_put(alloc, &line)? else {
+        return Ok(None);
+    };
+    let (track, time) = read_pick(alloc, &words)?;
+    Ok(pick_order(&track, &time))
+}
+
+fn rehearse_asked(alloc: Global, words: &[String]) -> Result<Option<Order>, NoMemory>
+    ensures { IfOk result (λ order. option_map wanted_of order ≡ option_and_then rehearse_of (read [] (map string_bytes words.now))) }
+{
+    let Some(line) = read_line(alloc, &[], words)? else {
+        return Ok(None);
+    };
+    let Some(words) = rehearse_put(alloc, &line)? else {
+        return Ok(None);
+    };
+    let (number, size) = read_rehearse(alloc, &words)?;
+    Ok(rehearse_order(&number, &size))
+}
+
+fn serve_asked(alloc: Global, words: &[String]) -> Result<Option<Order>, NoMemory>
+    ensures { IfOk result (λ order. option_map wanted_of order ≡ option_and_then serve_of (read serve_options (map string_bytes words.now))) }
+{
+    let Some(line) = read_line(alloc, &SERVE, words)? else {
+        return Ok(None);
+    };
+    let Some(words) = serve_put(alloc, &line)? else {
+        return Ok(None);
+    };
+    let texts = read_serve(alloc, &words)?;
+    Ok(serve_order(texts))
+}
+
+fn push_asked(alloc: Global, words: &[String]) -> Result<Option<Order>, NoMemory>
+    ensures { IfOk result (λ order. option_map wanted_of order ≡ option_and_then push_of (read [] (map string_bytes words.now))) }
+{
+    let Some(line) = read_line(alloc, &[], words)? else {
+        return Ok(None);
+    };
+    let Some(words) = push_put(alloc, &line)? else {
+        return Ok(None);
+    };
+    let texts = read_push(alloc, &words)?;
+    let order = push_order(alloc, texts)?;
+    Ok(order)
+}
+
+fn play_asked(alloc: Global, words: &[String]) -> Result<Option<Order>, NoMemory>
+    ensures { IfOk result (λ order. option_map wanted_of order ≡ option_and_then play_of (read play_options (map string_bytes words.now))) }
+{
+    let Some(line) = read_line(alloc, &PLAY, words)? else {
+        return Ok(None);
+    };
+    let Some(words) = play_put(alloc, &line)? else {
+        return Ok(None);
+    };
+    let texts = read_play(alloc, &words)?;
+    let order = play_order(alloc, texts)?;
+    Ok(order)
+}
+
+fn list_asked(alloc: Global, words: &[String]) -> Result<Option<Order>, NoMemory>
+    ensures { IfOk result (λ order. option_map wanted_of order ≡ option_and_then list_of (read [] (map string_bytes words.now))) }
+{
+    let Some(line) = read_line(alloc, &[], words)? else {
+        return Ok(None);
+    };
+    let Some(words) = list_put(alloc, &line)? else {
+        return Ok(None);
+    };
+    let store = read_list(alloc, &words)?;
+    Ok(list_order(store))
+}
+
+fn export_asked(alloc: Global, words: &[String]) -> Result<Option<Order>, NoMemory>
+    ensures { IfOk result (λ order. option_map wanted_of order ≡ option_and_then export_of (read [] (map string_bytes words.now))) }
+{
+    let Some(line) = read_line(alloc, &[], words)? else {
+        return Ok(None);
+    };
+    let Some(words) = export_put(alloc, &line)? else {
+        return Ok(None);
+    };
+    let texts = read_export(alloc, &words)?;
+    let order = export_order(alloc, texts)?;
+    Ok(order)
+}
+
+fn help_asked(words: &[String]) -> Option<Order>
+    ensures { option_map wanted_of result ≡ help_by (map string_bytes words.now) }
+{
+    match words {
+        [] => Some(Order::Help(Topic::All)),
+        [name] => Some(Order::Help(Topic::named(name.as_str())?)),
+        _ => None,
+    }
+}
+
+// What is asked by a command without any word.
+fn alone(words: &[String], order: Order) -> Option<Order>
+    ensures { option_map wanted_of result ≡ alone (map string_bytes words.now) (wanted_of order) }
+{
+    if words.is_empty() { Some(order) } else { None }
+}
+
+/// What the words ask for: `pick TRACK TIME`, `serve STORE --port N [--ladder] [--turns N] [--bind ADDRESS] [--journal FILE]`,
+/// `push HOST PORT PATH ID`, `list STORE`,
+/// `play HOST PORT PATH STREAM... [--from N] [--count N] [--tries N] [--refresh N]`, `rehearse NUMBER SIZE`,
+/// `export STORE NAME BITRATE`, `help`, `help COMMAND`, `--help`, `version` or `--version`. None where they are none of these.
+#[tactic(auto, unfolding(crate::specs::Words::asked))]
+pub fn order_of(alloc: Global, words: &[String]) -> Result<Option<Order>, NoMemory>
+    ensures { IfOk result (λ order. option_map wanted_of order ≡ asked (map string_bytes words.now)) }
+{
+    let [command, words @ ..] = words else {
+        return Ok(None);
+    };
+    let command = command.as_str();
+    if command == "pick" {
+        return pick_asked(alloc, words);
+    }
+    if command == "serve" {
+        return serve_asked(alloc, words);
+    }
+    if command == "push" {
+        return push_asked(alloc, words);
+    }
+    if command == "list" {
+        return list_asked(alloc, words);
+    }
+    if command == "play" {
+        return play_asked(alloc, words);
+    }
+    if command == "rehearse" {
+        return rehearse_asked(alloc, words);
+    }
+    if command == "export" {
+        return export_asked(alloc, words);
+    }
+    if command == "help" {
+        return Ok(help_asked(words));
+    }
+    if command == "--help" {
+        return Ok(alone(words, Order::Help(Topic::All)));
+    }
+    if command == "version" {
+        return Ok(alone(words, Order::Version));
+    }
+    if command == "--version" {
+        return Ok(alone(words, Order::Version));
+    }
+    Ok(None)
+}
