@@ -1,0 +1,26 @@
+//! Players: threads that answer viewers from what the loop has published, each over connections of its own. What isn't published any more they
+//! ask the loop.
+#![tactic(auto)]
+
+mod crew;
+mod forward;
+mod gate;
+pub mod law;
+mod live;
+mod parts;
+mod played;
+mod playing;
+mod replying;
+mod spawner;
+mod stop;
+mod telling;
+mod wire;
+
+pub use crew::Crew;
+pub use forward::{Forward, ForwardError};
+pub use gate::Gate;
+pub use played::Played;
+pub use playing::player;
+pub use spawner::{Finished, Parts, SpawnError, Spawner};
+pub use stop::Stop;
+pub use wire::Wire;
