@@ -2,6 +2,7 @@
 
 import http.client
 import os
+import re
 import shutil
 import socket
 import struct
@@ -170,6 +171,27 @@ def read(fragment):
     test((moof, mdat) == (b"moof", b"mdat"), "what is served is no fragment")
     at = first.index(TFXD) + 20
     return int.from_bytes(first[at : at + 8], "big"), int.from_bytes(first[at + 8 : at + 16], "big"), second[8:]
+
+
+def spent(pid):
+    """The processor time that a process has taken, in seconds."""
+    with open(f"/proc/{pid}/stat") as stat:
+        fields = stat.read().rsplit(")", 1)[1].split()
+    return (int(fields[11]) + int(fields[12])) / os.sysconf("SC_CLK_TCK")
+
+
+def load(pid, url, connections, seconds, script=None):
+    """Requests a second of wrk, and requests for each second of the server's processor time."""
+    words = ["wrk", "-t2", f"-c{connections}", f"-d{seconds}s"] + (["-s", script] if script else []) + [url]
+    before = spent(pid)
+    told = subprocess.run(words, stdout=subprocess.PIPE).stdout.decode()
+    took = spent(pid) - before
+    bad = re.search(r"Non-2xx or 3xx responses: (\d+)", told)
+    test(not bad, f"{url}: {bad and bad.group(1)} answers are refusals")
+    broken = re.search(r"Socket errors: (.*)", told)
+    test(not broken, f"{url}: {broken and broken.group(1)}")
+    count = int(re.search(r"(\d+) requests in", told).group(1))
+    return float(re.search(r"Requests/sec:\s+([\d.]+)", told).group(1)), count / took
 
 
 def encode(target, groups, rate=8, first=0, beside=None):

@@ -5,3 +5,4 @@ pub mod Telling
 pub mod Late
 pub mod Waiting
 pub mod Numbers
+pub mod Whose

@@ -3,16 +3,17 @@ ghost use Rattle.std.specs.Prelude.{◌≡◌, ◌≤◌, false, refl, IsErrOf, 
 ghost use Rattle.sm_site.specs.Clauses.{Rose};
 ghost use Rattle.sm_real.specs.Telling.{counts_alone};
 
-use crate::OpenFault;
 use crate::folder::Folder;
+use crate::{Doing, OpenFault, Trouble};
 use sm_site::{Disk, Failed};
 use std::alloc::Global;
 use std::fs::File;
-use std::io;
+use std::io::{Error as IoError, ErrorKind};
 use std::rt::Files;
 
 /// A disk in a folder of the system, which it has alone while it is there. File k of it is k in eight digits with `.seg`.
-/// It tells no contents and no calls. Until a folder is chosen each call fails.
+/// It tells no contents and no calls. Until a folder is chosen each call fails. What the system said of the last failure is kept for
+/// people.
 #[derive(Drop)]
 pub struct FileDisk<R: Files<File = File> + Drop> {
     rt: R,
@@ -20,6 +21,7 @@ pub struct FileDisk<R: Files<File = File> + Drop> {
     folder: Option<Folder>,
     reads: u64,
     faults: u64,
+    trouble: Option<Trouble>,
 }
 
 impl<R: Files<File = File> + Drop> FileDisk<R> {
@@ -31,6 +33,7 @@ impl<R: Files<File = File> + Drop> FileDisk<R> {
             folder: None,
             reads: 0,
             faults: 0,
+            trouble: None,
         }
     }
 
@@ -48,20 +51,20 @@ impl<R: Files<File = File> + Drop> FileDisk<R> {
                 self.folder = Some(folder);
                 Ok(())
             }
-            Err(e) => Err(self.refused(&e)),
+            Err(trouble) => Err(self.refused(trouble)),
         }
     }
 
     /// What a file that can't be opened comes to; a failure of the system is counted.
-    pub fn refused(&mut self, e: &io::Error) -> OpenFault
+    pub fn refused(&mut self, trouble: Trouble) -> OpenFault
         ensures failed { result ≡ OpenFault.Failed → Rose self.old.faults self.new.faults }
         ensures faults { self.old.faults ≤ self.new.faults }
         ensures reads { self.new.reads ≡ self.old.reads }
         ensures folder { self.new.folder ≡ self.old.folder }
     {
-        let fault = OpenFault::of(e);
+        let fault = OpenFault::of(&trouble.error);
         if fault == OpenFault::Failed {
-            self.fail();
+            self.fail(trouble);
         }
         fault
     }
@@ -75,15 +78,35 @@ impl<R: Files<File = File> + Drop> FileDisk<R> {
         self.folder = None;
     }
 
+    /// What the system refused last.
+    pub fn trouble(&self) -> Option<Trouble> {
+        self.trouble
+    }
+
     // A call failed, so the count rises.
-    fn fail(&mut self) -> Failed
+    fn fail(&mut self, trouble: Trouble) -> Failed
         ensures rose { Rose self.old.faults self.new.faults }
         ensures reads { self.new.reads ≡ self.old.reads }
         ensures folder { self.new.folder ≡ self.old.folder }
     {
+        self.keep(trouble);
         self.faults = self.faults.saturating_add(1);
         Failed
     }
+
+    // Keeps what the system said, and nothing else changes.
+    fn keep(&mut self, trouble: Trouble)
+        ensures faults { self.new.faults ≡ self.old.faults }
+        ensures reads { self.new.reads ≡ self.old.reads }
+        ensures folder { self.new.folder ≡ self.old.folder }
+    {
+        self.trouble = Some(trouble);
+    }
+}
+
+// No folder is chosen.
+fn nowhere() -> IoError {
+    IoError::new(ErrorKind::NotFound, "no folder is chosen")
 }
 
 impl<R: Files<File = File> + Drop> Disk for FileDisk<R> {
@@ -106,41 +129,47 @@ impl<R: Files<File = File> + Drop> Disk for FileDisk<R> {
     ghost no_later = { λ d t c left. absurd left };
 
     fn size(&mut self, file: u32) -> Result<u64, Failed> {
-        if let Some(folder) = &self.folder
-            && let Ok(size) = folder.size(&self.rt, self.alloc, file)
-        {
-            return Ok(size);
+        let found = match &self.folder {
+            Some(folder) => folder.size(&self.rt, self.alloc, file),
+            None => Err(nowhere()),
+        };
+        match found {
+            Ok(size) => Ok(size),
+            Err(e) => Err(self.fail(Trouble::new(Doing::Measuring(file), e))),
         }
-        Err(self.fail())
     }
 
     fn read_at(&mut self, file: u32, at: u64, into: &mut [u8]) -> Result<(), Failed> {
         self.reads = self.reads.saturating_add(1);
-        if let Some(folder) = &self.folder
-            && folder.read_at(&self.rt, self.alloc, file, at, into).is_ok()
-        {
-            return Ok(());
+        let read = match &self.folder {
+            Some(folder) => folder.read_at(&self.rt, self.alloc, file, at, into),
+            None => Err(nowhere()),
+        };
+        match read {
+            Ok(()) => Ok(()),
+            Err(e) => Err(self.fail(Trouble::new(Doing::Reading(file), e))),
         }
-        Err(self.fail())
     }
 
     fn write_at(&mut self, file: u32, at: u64, bytes: &[u8]) -> Result<(), Failed> {
-        if let Some(folder) = &mut self.folder
-            && folder
-                .write_at(&self.rt, self.alloc, file, at, bytes)
-                .is_ok()
-        {
-            return Ok(());
+        let written = match &mut self.folder {
+            Some(folder) => folder.write_at(&self.rt, self.alloc, file, at, bytes),
+            None => Err(nowhere()),
+        };
+        match written {
+            Ok(()) => Ok(()),
+            Err(e) => Err(self.fail(Trouble::new(Doing::Writing(file), e))),
         }
-        Err(self.fail())
     }
 
     fn sync(&mut self, file: u32) -> Result<(), Failed> {
-        if let Some(folder) = &mut self.folder
-            && folder.sync(&self.rt, self.alloc, file).is_ok()
-        {
-            return Ok(());
+        let synced = match &mut self.folder {
+            Some(folder) => folder.sync(&self.rt, self.alloc, file),
+            None => Err(nowhere()),
+        };
+        match synced {
+            Ok(()) => Ok(()),
+            Err(e) => Err(self.fail(Trouble::new(Doing::Syncing(file), e))),
         }
-        Err(self.fail())
     }
 }

@@ -1,5 +1,7 @@
 // The limit of a file's size that the system sets a process (POSIX, getrlimit).
 
+use std::io::{self, ErrorKind};
+
 /// Its number on Linux.
 const FILE_SIZE: i32 = 1;
 
@@ -10,4 +12,12 @@ pub fn may_reach(length: u64) -> bool {
         rlim_max: 0,
     };
     libc::getrlimit(FILE_SIZE, &mut limit) != 0 || length <= limit.rlim_cur
+}
+
+/// What is said of such a write.
+pub fn past_limit() -> io::Error {
+    io::Error::new(
+        ErrorKind::FileTooLarge,
+        "past the limit of a file's size (ulimit -f)",
+    )
 }

@@ -1,11 +1,12 @@
 // Tracks in files.
 ghost use Rattle.std.specs.Prelude.{◌≡◌, None};
 
-use crate::file_limit::may_reach;
+use crate::file_limit::{may_reach, past_limit};
+use crate::{Doing, Trouble};
 use sm_ends::{Failed, Tracks};
 use std::alloc::Global;
 use std::fs::{File, OpenOptions};
-use std::io::{self, ErrorKind, Write};
+use std::io::{self, Write};
 use std::rt::Files;
 
 /// The tracks of a play in files of the current folder: track k is appended to `track-k.frag`, which is made where it isn't there.
@@ -17,6 +18,7 @@ pub struct FileTracks<R: Files<File = File> + Drop> {
     // The one that was appended to last.
     last: Option<Track>,
     faults: u64,
+    trouble: Option<Trouble>,
 }
 
 #[derive(Drop)]
@@ -33,7 +35,13 @@ impl<R: Files<File = File> + Drop> FileTracks<R> {
             alloc,
             last: None,
             faults: 0,
+            trouble: None,
         }
+    }
+
+    /// What the system refused last.
+    pub fn trouble(&self) -> Option<Trouble> {
+        self.trouble
     }
 
     // A file that bytes can be added to.
@@ -57,7 +65,7 @@ impl<R: Files<File = File> + Drop> FileTracks<R> {
         let track = self.open(number)?;
         let length = track.handle.metadata()?.len();
         if !may_reach(length.saturating_add(bytes.len() as u64)) {
-            return Err(ErrorKind::FileTooLarge.into());
+            return Err(past_limit());
         }
         let added = (&track.handle).write_all(bytes);
         if added.is_err() {
@@ -76,7 +84,8 @@ impl<R: Files<File = File> + Drop> Tracks for FileTracks<R> {
     fn append(&mut self, track: u32, bytes: &[u8]) -> Result<(), Failed> {
         match self.add(track, bytes) {
             Ok(()) => Ok(()),
-            Err(_) => {
+            Err(e) => {
+                self.trouble = Some(Trouble::new(Doing::Appending(track), e));
                 self.faults = self.faults.saturating_add(1);
                 Err(Failed)
             }

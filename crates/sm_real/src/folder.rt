@@ -2,9 +2,10 @@
 ghost use Rattle.std.specs.Prelude.{◌≡◌, ◌≢◌, ◌<◌, ◌^◌, [], true, IfOk, OnOk, IsErr};
 ghost use Rattle.sm_real.specs.AtRest.{IsAtRest, IsPending, IsSynced};
 
-use crate::file_limit::may_reach;
+use crate::file_limit::{may_reach, past_limit};
+use crate::{Doing, Trouble};
 use std::alloc::{AllocError, Global};
-use std::fs::{self, File, OpenOptions};
+use std::fs::{self, File, OpenOptions, TryLockError};
 use std::io::{self, ErrorKind};
 use std::os::fd::AsRawFd;
 use std::os::unix::fs::FileExt;
@@ -41,22 +42,27 @@ pub struct Folder {
 
 impl Folder {
     /// Opens a folder, which is made where it isn't there and may be, and locks it. It fails where another one has it open.
-    pub fn open(files: &impl Files<File = File>, path: &str, may_make: bool) -> io::Result<Folder> {
-        if may_make {
-            make(files, path)?;
+    pub fn open(
+        files: &impl Files<File = File>,
+        path: &str,
+        may_make: bool,
+    ) -> Result<Folder, Trouble> {
+        if may_make && let Err(e) = make(files, path) {
+            return Err(Trouble::new(Doing::Making, e));
         }
-        let handle = File::open(files, path)?;
-        if !handle.metadata()?.is_dir() {
-            return Err(ErrorKind::NotADirectory.into());
+        match take(files, path) {
+            Ok(handle) => Ok(Folder::new(handle)),
+            Err(e) => Err(Trouble::new(Doing::Opening, e)),
         }
-        handle.try_lock()?;
-        handle.sync_all()?;
-        Ok(Folder {
+    }
+
+    fn new(handle: File) -> Folder {
+        Folder {
             handle,
             writing: None,
             named: true,
             broken: false,
-        })
+        }
     }
 
     fn name(&self, alloc: Global, file: u32) -> Result<String, AllocError> {
@@ -177,7 +183,7 @@ impl Folder {
         ensures { self.now.broken ≡ true → IsErr result }
     {
         if self.broken {
-            return Err(ErrorKind::Other.into());
+            return Err(io::Error::other("a sync failed before"));
         }
         Ok(())
     }
@@ -251,6 +257,29 @@ impl Folder {
     }
 }
 
+// Opens a folder that is there, for itself alone.
+fn take(files: &impl Files<File = File>, path: &str) -> io::Result<File> {
+    let handle = File::open(files, path)?;
+    if !handle.metadata()?.is_dir() {
+        return Err(ErrorKind::NotADirectory.into());
+    }
+    lock(&handle)?;
+    handle.sync_all()?;
+    Ok(handle)
+}
+
+// Locks a folder. Another process may have it, or another disk of this one.
+fn lock(handle: &File) -> io::Result<()> {
+    match handle.try_lock() {
+        Ok(()) => Ok(()),
+        Err(TryLockError::WouldBlock) => Err(io::Error::new(
+            ErrorKind::ResourceBusy,
+            "another process has it",
+        )),
+        Err(TryLockError::Error(e)) => Err(e),
+    }
+}
+
 // Makes a folder where it isn't there, and brings its own name to rest. The folder above one that is there may be closed to us.
 fn make(files: &impl Files<File = File>, path: &str) -> io::Result<()> {
     let there = match fs::create_dir(files, path) {
@@ -276,10 +305,10 @@ fn sync_above(files: &impl Files<File = File>, path: &str) -> io::Result<()> {
 // Writes these bytes from a place of a file on, which isn't past its end.
 fn put(handle: &File, at: u64, bytes: &[u8]) -> io::Result<()> {
     if handle.metadata()?.len() < at {
-        return Err(ErrorKind::UnexpectedEof.into());
+        return Err(io::Error::new(ErrorKind::UnexpectedEof, "it was cut from outside"));
     }
     if !may_reach(at.saturating_add(bytes.len() as u64)) {
-        return Err(ErrorKind::FileTooLarge.into());
+        return Err(past_limit());
     }
     handle.write_all_at(bytes, at)
 }

@@ -1,5 +1,6 @@
 // What happens on a link, a line for each thing, for people.
 
+use crate::Trouble;
 use crate::digits::{put_number, put_seconds};
 use crate::outlet::Outlet;
 use crate::talk::{Asked, Talk};
@@ -29,11 +30,26 @@ pub struct Journal {
     // The line that is being made.
     line: Vec<u8>,
     talks: Vec<Talk>,
+    // Since the last line of counts, and up to that line.
     tally: Tally,
+    before: Tally,
+    // When the journal was opened.
+    begun: Instant,
     // Milliseconds since 1970, at the last round.
     stamp: u64,
     written: Instant,
     counted: Instant,
+}
+
+/// What opening a store came to.
+#[derive(Clone, Copy)]
+pub struct Opened {
+    /// How many entries were found.
+    pub entries: u64,
+    /// How many bytes were read.
+    pub read: u64,
+    /// How long that took.
+    pub took: Duration,
 }
 
 /// What the peers of a link come to, when a line of counts is due.
@@ -59,41 +75,68 @@ impl Journal {
             line: Vec::new(alloc),
             talks: Vec::new(alloc),
             tally: Tally::new(),
+            before: Tally::new(),
+            begun: now,
             stamp: stamp_of(rt),
             written: now,
             counted: now,
         })
     }
 
-    /// A store is served at this port. `took` is how long opening it took, and `read` how many bytes of it were read.
-    pub fn begin(&mut self, store: &str, port: u16, took: Duration, read: u64) {
-        let made = self.tell_begin(store, port, took, read);
+    /// A store is served at this port.
+    pub fn begin(&mut self, store: &str, port: u16, opened: Opened) {
+        let made = self.tell_begin(store, port, opened);
         self.put(made);
     }
 
-    fn tell_begin(
-        &mut self,
-        store: &str,
-        port: u16,
-        took: Duration,
-        read: u64,
-    ) -> Result<(), AllocError> {
+    fn tell_begin(&mut self, store: &str, port: u16, opened: Opened) -> Result<(), AllocError> {
         self.head(b"start")?;
-        self.line.extend_from_slice(b" port ")?;
-        put_number(&mut self.line, u64::from(port))?;
-        self.line.extend_from_slice(b" read ")?;
-        put_number(&mut self.line, read)?;
-        self.line.extend_from_slice(b" seconds ")?;
-        put_seconds(&mut self.line, millis(took))?;
-        self.line.extend_from_slice(b" store ")?;
-        put_text(&mut self.line, store.as_bytes())
+        let counts = [
+            (" port ", u64::from(port)),
+            (" entries ", opened.entries),
+            (" read ", opened.read),
+        ];
+        put_counts(&mut self.line, &counts)?;
+        put_time(&mut self.line, opened.took)?;
+        put_store(&mut self.line, store)
     }
 
-    /// The origin ends.
-    pub fn end(&mut self) {
-        let made = self.head(b"end");
+    /// The origin of this store ends.
+    pub fn end(&mut self, rt: &impl Clock, store: &str) {
+        let now = Instant::now(rt).unwrap_or(self.written);
+        self.stamp = stamp_of(rt);
+        self.before.join(&self.tally);
+        self.tally = Tally::new();
+        let made = self.tell_end(store, now.saturating_duration_since(self.begun));
         self.put(made);
         self.outlet.write();
+    }
+
+    fn tell_end(&mut self, store: &str, ran: Duration) -> Result<(), AllocError> {
+        self.head(b"end")?;
+        put_time(&mut self.line, ran)?;
+        let counts = [
+            (" connections ", self.before.connections),
+            (" pushes ", self.before.pushes),
+            (" replies ", self.before.replies),
+            (" kept ", self.before.kept),
+            (" syncs ", self.before.syncs),
+            (" longest ", self.before.longest),
+        ];
+        put_counts(&mut self.line, &counts)?;
+        put_store(&mut self.line, store)
+    }
+
+    /// The disk refused something.
+    pub fn fault(&mut self, trouble: &Trouble) {
+        let made = self.tell_fault(trouble);
+        self.put(made);
+    }
+
+    fn tell_fault(&mut self, trouble: &Trouble) -> Result<(), AllocError> {
+        let text = format!(in self.alloc; "{trouble}")?;
+        self.head(b"fault ")?;
+        put_text(&mut self.line, text.as_bytes())
     }
 
     /// A round of the link is at its end. The standing of its peers is asked for only where counts are due.
@@ -106,6 +149,7 @@ impl Journal {
             self.counted = now;
             let made = self.tell_counts(standing);
             self.put(made);
+            self.before.join(&self.tally);
             self.tally = Tally::new();
         }
         if now.saturating_duration_since(self.written).as_millis() >= WAIT
@@ -126,13 +170,9 @@ impl Journal {
             (" kept ", self.tally.kept),
             (" waiting ", standing.waiting as u64),
             (" syncs ", self.tally.syncs),
+            (" longest ", self.tally.longest),
         ];
-        for (name, count) in counts {
-            self.line.extend_from_slice(name.as_bytes())?;
-            put_number(&mut self.line, count)?;
-        }
-        self.line.extend_from_slice(b" longest ")?;
-        put_number(&mut self.line, self.tally.longest)
+        put_counts(&mut self.line, &counts)
     }
 
     /// A file of the store was brought to rest, which took so long.
@@ -147,6 +187,7 @@ impl Journal {
 
     /// A connection was taken.
     pub fn opened(&mut self, number: u64, peer: &SocketAddr) {
+        self.tally.connections = self.tally.connections.saturating_add(1);
         let made = self.tell_opened(number, peer);
         self.put(made);
     }
@@ -179,6 +220,9 @@ impl Journal {
         };
         let asked = talk.answered(self.alloc, now);
         self.tally.replies = self.tally.replies.saturating_add(1);
+        if asked.is_push {
+            self.tally.pushes = self.tally.pushes.saturating_add(1);
+        }
         let bytes = (head.len() as u64).saturating_add(tail.len() as u64);
         let made = self.tell_reply(number, &asked, head, bytes, now, went);
         self.put(made);
@@ -234,6 +278,7 @@ impl Journal {
         self.head(b"close")?;
         put_talk(&mut self.line, &talk)?;
         if talk.is_pushing() {
+            self.tally.pushes = self.tally.pushes.saturating_add(1);
             self.line.extend_from_slice(b" cut")?;
             put_request(&mut self.line, talk.last())?;
         }
@@ -275,6 +320,25 @@ fn stamp_of(rt: &impl Clock) -> u64 {
 
 fn millis(time: Duration) -> u64 {
     u64::try_from(time.as_millis()).unwrap_or(u64::MAX)
+}
+
+// Names, and the number of each.
+fn put_counts(line: &mut Vec<u8>, counts: &[(&str, u64)]) -> Result<(), AllocError> {
+    for (name, count) in counts {
+        line.extend_from_slice(name.as_bytes())?;
+        put_number(line, *count)?;
+    }
+    Ok(())
+}
+
+fn put_time(line: &mut Vec<u8>, time: Duration) -> Result<(), AllocError> {
+    line.extend_from_slice(b" seconds ")?;
+    put_seconds(line, millis(time))
+}
+
+fn put_store(line: &mut Vec<u8>, store: &str) -> Result<(), AllocError> {
+    line.extend_from_slice(b" store ")?;
+    put_text(line, store.as_bytes())
 }
 
 // The number and the address of a connection.

@@ -25,6 +25,7 @@ mod tcp_link;
 #[cfg(test)]
 mod tests;
 mod trickle;
+mod trouble;
 
 pub use fault::OpenFault;
 pub use file_disk::FileDisk;
@@ -33,3 +34,4 @@ pub use limits::Patience;
 pub use real_site::RealSite;
 pub use tcp_dial::TcpDial;
 pub use tcp_link::TcpLink;
+pub use trouble::{Doing, Trouble};

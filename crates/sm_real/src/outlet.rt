@@ -1,7 +1,7 @@
 // Where the lines of a journal go: a file, or a pipe that somebody reads.
 
 use crate::digits::put_number;
-use crate::file_limit::may_reach;
+use crate::file_limit::{may_reach, past_limit};
 use crate::outgoing::Outgoing;
 use mio::unix::SourceFd;
 use mio::{Events, Interest, Poll, Token};
@@ -114,7 +114,7 @@ impl Outlet {
     fn append(&self) -> io::Result<()> {
         let length = self.file.metadata()?.len();
         if !may_reach(length.saturating_add(self.lines.len() as u64)) {
-            return Err(ErrorKind::FileTooLarge.into());
+            return Err(past_limit());
         }
         (&self.file).write_all(self.lines.as_slice())
     }

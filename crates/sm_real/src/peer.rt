@@ -68,6 +68,8 @@ pub struct Peer {
     head: Trickle,
     // Since when nothing was read from it, and the system has taken nothing for it.
     since: Instant,
+    // When a write of what waits was tried last.
+    tried: Instant,
 }
 
 impl Peer {
@@ -84,6 +86,7 @@ impl Peer {
             budget: Budget::new(),
             head: Trickle::new(),
             since: now,
+            tried: now,
         }
     }
 
@@ -164,6 +167,7 @@ impl Peer {
     pub fn lose(&mut self, alloc: Global)
         ensures nothing { self.new.queue ≡ [] }
         ensures number { self.new.number ≡ self.old.number }
+        ensures tried { self.new.tried ≡ self.old.tried }
     {
         self.phase = match self.phase {
             Phase::Open | Phase::Lost => Phase::Lost,
@@ -176,7 +180,10 @@ impl Peer {
     fn flush(&mut self, alloc: Global, now: Instant) -> Result<(), Failed>
         ensures goes_out { OnOk result (Sends [] self.old self.new) }
         ensures moved { OnOk result ((self.new.since ≡ self.old.since) ⊎ (self.old.taken < self.new.taken)) }
+        ensures tried { self.new.tried ≡ now }
+        ensures number { self.new.number ≡ self.old.number }
     {
+        self.tried = now;
         let (count, room) = offer(&self.stream, self.queue.as_slice(), &[])?;
         let taken = self.taken.checked_add(count as u64).ok_or(Failed)?;
         self.taken = taken;
@@ -194,6 +201,8 @@ impl Peer {
         ensures fits { FitsIn (length buffer.new) result }
         ensures queue { self.new.queue ≡ self.old.queue }
         ensures taken { self.new.taken ≡ self.old.taken }
+        ensures tried { self.new.tried ≡ self.old.tried }
+        ensures number { self.new.number ≡ self.old.number }
     {
         let room = buffer.len();
         match (&self.stream).read(buffer) {
@@ -228,6 +237,9 @@ impl Peer {
         ensures stuck { IsLate patience.now.stuck now self.old → (self.new.queue ≡ []) ⊎ (self.old.taken < self.new.taken) }
         ensures silent { self.old.queue ≡ [] → self.old.phase ≡ Phase.Open → self.old.readable ≡ false
             → IsLate patience.now.silent now self.old → result ≡ Found.Left }
+        // What waits changes only behind a try to write it, so that nobody is given up without one.
+        ensures last_try { (self.new.queue ≡ self.old.queue) ⊎ (self.new.tried ≡ now) }
+        ensures number { self.new.number ≡ self.old.number }
     {
         if self.is_queued() {
             self.go_on(alloc, buffer, now, patience)
@@ -239,6 +251,8 @@ impl Peer {
     // Writes, and gives the peer up where that fails, or where nothing has gone for too long.
     fn write(&mut self, alloc: Global, now: Instant, limit: u64)
         ensures stuck { IsLate limit now self.old → (self.new.queue ≡ []) ⊎ (self.old.taken < self.new.taken) }
+        ensures tried { self.new.tried ≡ now }
+        ensures number { self.new.number ≡ self.old.number }
     {
         // The system reports room only once much of it is free, and takes bytes as soon as there is any: so the last word is a write's.
         let failed = self.flush(alloc, now).is_err();
@@ -257,6 +271,8 @@ impl Peer {
     ) -> Found
         ensures fits { FitsIn (length buffer.new) result }
         ensures stuck { IsLate patience.now.stuck now self.old → (self.new.queue ≡ []) ⊎ (self.old.taken < self.new.taken) }
+        ensures last_try { (self.new.queue ≡ self.old.queue) ⊎ (self.new.tried ≡ now) }
+        ensures number { self.new.number ≡ self.old.number }
     {
         if self.writable || self.is_late(now, patience.stuck) {
             self.write(alloc, now, patience.stuck);
@@ -272,6 +288,8 @@ impl Peer {
         ensures fits { FitsIn (length buffer.new) result }
         ensures queue { self.new.queue ≡ self.old.queue }
         ensures taken { self.new.taken ≡ self.old.taken }
+        ensures tried { self.new.tried ≡ self.old.tried }
+        ensures number { self.new.number ≡ self.old.number }
         ensures silent { self.old.phase ≡ Phase.Open → self.old.readable ≡ false → IsLate patience.now.silent now self.old → result ≡ Found.Left }
     {
         match self.phase {
@@ -294,6 +312,8 @@ impl Peer {
         ensures silent { self.old.readable ≡ false → IsLate patience.now.silent now self.old → result ≡ Found.Left }
         ensures queue { self.new.queue ≡ self.old.queue }
         ensures taken { self.new.taken ≡ self.old.taken }
+        ensures tried { self.new.tried ≡ self.old.tried }
+        ensures number { self.new.number ≡ self.old.number }
     {
         let most = self.budget.bytes().min(buffer.len());
         let found = if self.readable {
@@ -317,6 +337,8 @@ impl Peer {
     fn shut(&mut self, now: Instant)
         ensures queue { self.new.queue ≡ self.old.queue }
         ensures taken { self.new.taken ≡ self.old.taken }
+        ensures tried { self.new.tried ≡ self.old.tried }
+        ensures number { self.new.number ≡ self.old.number }
     {
         self.since = now;
         self.phase = match self.stream.shutdown(Shutdown::Write) {
@@ -330,6 +352,8 @@ impl Peer {
         ensures fits { FitsIn (length buffer.new) result }
         ensures queue { self.new.queue ≡ self.old.queue }
         ensures taken { self.new.taken ≡ self.old.taken }
+        ensures tried { self.new.tried ≡ self.old.tried }
+        ensures number { self.new.number ≡ self.old.number }
     {
         if self.is_late(now, limit) {
             return Found::Gone;

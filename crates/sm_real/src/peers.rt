@@ -1,10 +1,12 @@
 // The connections of a link, in the order of their numbers.
-ghost use Rattle.std.specs.Prelude.{◌≡◌, ◌⊎◌, ◌≤◌, ◌<◌, ◌++◌, length, true, false, vec_len, IfSome, IfNone, OnOk, slice_index_or};
+ghost use Rattle.std.specs.Prelude.{◌≡◌, ◌⊎◌, ◌≤◌, ◌<◌, ◌++◌, length, true, false, IfSome, IfNone, OnOk, slice_index_or};
+ghost use Rattle.sm_real.specs.Found.{FitsIn};
 ghost use Rattle.sm_real.specs.Numbers.{GivesUp, IsAt, SentTo, Touches};
 ghost use Rattle.sm_real.specs.Waiting.{waits, wait_in_all};
 ghost use Rattle.sm_real.specs.declared.peer.Peer.{Peer};
 
-use crate::peer::Peer;
+use crate::Patience;
+use crate::peer::{Found, Peer};
 use mio::event::Event as Readiness;
 use sm_site::Failed;
 use std::alloc::{AllocError, Global};
@@ -27,7 +29,9 @@ impl Peers {
         })
     }
 
-    pub fn len(&self) -> usize {
+    pub fn len(&self) -> usize
+        ensures { result ≡ length self.now.list.items }
+    {
         self.list.len()
     }
 
@@ -44,11 +48,31 @@ impl Peers {
         waiting
     }
 
-    /// The one at a place.
-    pub fn at(&mut self, place: usize) -> Option<&mut Peer>
-        ensures within { IfSome result (λ peer. place < vec_len self.old.list) }
+    /// Whether there is something to do for the one at a place.
+    pub fn is_due(&self, place: usize, now: Instant, patience: &Patience) -> bool {
+        match self.list.get(place) {
+            Some(peer) => peer.is_due(now, patience),
+            None => false,
+        }
+    }
+
+    /// One step of the one at a place: its number, and what was found. What was received from it stands in the buffer.
+    pub fn visit(
+        &mut self,
+        place: usize,
+        alloc: Global,
+        buffer: &mut [u8],
+        now: Instant,
+        patience: &Patience,
+    ) -> (u64, Found)
+        requires there { place < length self.old.list.items }
+        ensures fits { FitsIn (length buffer.new) result.1 }
+        ensures whose { IsAt result.0 place self.new.list.items }
+        ensures no_other { Touches result.0 self.old.list.items self.new.list.items }
     {
-        self.list.get_mut(place)
+        let peer = &mut self.list[place];
+        let found = peer.visit(alloc, buffer, now, patience);
+        (peer.number, found)
     }
 
     // The place of the one with a number.

@@ -3,14 +3,17 @@ ghost use Rattle.std.specs.Prelude.{◌≡◌, ◌≤◌, refl, IsErrOf};
 ghost use Rattle.sm_site.specs.Clauses.{Rose};
 ghost use Rattle.sm_real.specs.Telling.{counts_alone};
 
-use crate::journal::Journal;
-use crate::{FileDisk, OpenFault, TcpLink};
+use crate::journal::{Journal, Opened};
+use crate::{Doing, FileDisk, OpenFault, TcpLink, Trouble};
 use sm_site::{Disk, Event, Failed, Link, LinkError, Selection, Site, SiteError};
 use std::alloc::Global;
 use std::fs::File;
 use std::net::Net;
 use std::rt::Files;
 use std::time::{Clock, Instant};
+
+/// Where the body of the first entry of a file stands.
+const FIRST_BODY: u64 = 18;
 
 /// A disk in a folder and a link over sockets. It tells no contents and no transcript. After a refusal of `select` it has neither a
 /// folder nor a port.
@@ -25,11 +28,35 @@ pub struct RealSite<R: Files<File = File> + Net + Clock + Drop> {
     opening: Option<Opening>,
 }
 
-// Since when a store has been opened, and how much of it was read.
+// Since when a store has been opened, and what was read of it.
 #[derive(Drop)]
 struct Opening {
     since: Instant,
+    entries: u64,
     read: u64,
+}
+
+impl Opening {
+    fn new(since: Instant) -> Opening {
+        Opening {
+            since,
+            entries: 0,
+            read: 0,
+        }
+    }
+
+    // A file is looked at: it is brought to rest before. All are, before the first entry is read.
+    fn note_file(&mut self) {
+        self.entries = 0;
+    }
+
+    // So many bytes are read. Behind the head of a file, once all files were looked at, each reading is that of the body of one entry.
+    fn note_read(&mut self, at: u64, bytes: u64) {
+        self.read = self.read.saturating_add(bytes);
+        if at >= FIRST_BODY {
+            self.entries = self.entries.saturating_add(1);
+        }
+    }
 }
 
 impl<R: Files<File = File> + Net + Clock + Copy + Drop> RealSite<R> {
@@ -89,21 +116,52 @@ impl<R: Files<File = File> + Net + Clock + Drop> RealSite<R> {
         match Journal::open(&self.rt, self.alloc, path.as_str()) {
             Ok(journal) => self.link.tell_in(journal),
             Err(e) => {
-                return match self.disk.refused(&e) {
+                return match self.disk.refused(Trouble::new(Doing::Telling, e)) {
                     OpenFault::Failed => Err(SiteError::Disk),
                     OpenFault::NoMemory => Err(SiteError::NoMemory),
                 };
             }
         }
         if let Some(since) = self.link.moment() {
-            self.opening = Some(Opening { since, read: 0 });
+            self.opening = Some(Opening::new(since));
         }
         Ok(())
     }
 
+    /// What the system refused last of the disk.
+    pub fn disk_trouble(&self) -> Option<Trouble> {
+        self.disk.trouble()
+    }
+
+    /// What the system refused last of the link, but for what could not be sent.
+    pub fn link_trouble(&self) -> Option<Trouble> {
+        self.link.trouble()
+    }
+
     /// The origin ends: the last lines of the journal go out.
-    pub fn end(&mut self) {
-        self.link.note_end();
+    pub fn end(&mut self)
+        ensures disk { self.new.disk ≡ self.old.disk }
+        ensures selection { self.new.selection ≡ self.old.selection }
+        ensures link_faults { self.new.link.faults ≡ self.old.link.faults }
+        ensures send_faults { self.new.link.send_faults ≡ self.old.link.send_faults }
+        ensures numbers { self.new.link.next_number ≡ self.old.link.next_number }
+    {
+        if let Some(selection) = &self.selection {
+            self.link.note_end(selection);
+        }
+    }
+
+    // Where a call of the disk failed, the journal tells what the system said of it.
+    fn tell_fault(&mut self, failed: bool)
+        ensures disk { self.new.disk ≡ self.old.disk }
+        ensures selection { self.new.selection ≡ self.old.selection }
+        ensures link_faults { self.new.link.faults ≡ self.old.link.faults }
+        ensures send_faults { self.new.link.send_faults ≡ self.old.link.send_faults }
+        ensures numbers { self.new.link.next_number ≡ self.old.link.next_number }
+    {
+        if failed && let Some(trouble) = self.disk.trouble() {
+            self.link.note_fault(&trouble);
+        }
     }
 
     // The store is open, and events are waited for.
@@ -118,8 +176,12 @@ impl<R: Files<File = File> + Net + Clock + Drop> RealSite<R> {
             && let Some(selection) = &self.selection
             && let Some(now) = self.link.moment()
         {
-            let took = now.saturating_duration_since(opening.since);
-            self.link.note_begin(selection, took, opening.read);
+            let opened = Opened {
+                entries: opening.entries,
+                read: opening.read,
+                took: now.saturating_duration_since(opening.since),
+            };
+            self.link.note_begin(selection, opened);
         }
     }
 }
@@ -144,29 +206,39 @@ impl<R: Files<File = File> + Net + Clock + Drop> Disk for RealSite<R> {
     ghost no_later = { λ s t c left. absurd left };
 
     fn size(&mut self, file: u32) -> Result<u64, Failed> {
-        self.disk.size(file)
+        let found = self.disk.size(file);
+        self.tell_fault(found.is_err());
+        found
     }
 
     fn read_at(&mut self, file: u32, at: u64, into: &mut [u8]) -> Result<(), Failed> {
         if let Some(opening) = &mut self.opening {
-            opening.read = opening.read.saturating_add(into.len() as u64);
+            opening.note_read(at, into.len() as u64);
         }
-        self.disk.read_at(file, at, into)
+        let read = self.disk.read_at(file, at, into);
+        self.tell_fault(read.is_err());
+        read
     }
 
     fn write_at(&mut self, file: u32, at: u64, bytes: &[u8]) -> Result<(), Failed> {
+        let written = self.disk.write_at(file, at, bytes);
         // A gate behind the head of a file, which is one byte, is opened for an entry.
-        if bytes.len() == 1 && at > 0 {
+        if written.is_ok() && bytes.len() == 1 && at > 0 {
             self.link.note_kept();
         }
-        self.disk.write_at(file, at, bytes)
+        self.tell_fault(written.is_err());
+        written
     }
 
     fn sync(&mut self, file: u32) -> Result<(), Failed> {
+        if let Some(opening) = &mut self.opening {
+            opening.note_file();
+        }
         self.link.note_work();
         let since = self.link.moment();
         let synced = self.disk.sync(file);
         self.link.note_sync(since);
+        self.tell_fault(synced.is_err());
         synced
     }
 }

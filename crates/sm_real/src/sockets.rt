@@ -1,15 +1,16 @@
 // Sockets, asked in turn.
-ghost use Rattle.std.specs.Prelude.{◌≡◌, ◌⊎◌, ◌≤◌, ◌<◌, ◌++◌, length, OnOk};
+ghost use Rattle.std.specs.Prelude.{◌≡◌, ◌⊎◌, ◌≤◌, ◌<◌, ◌++◌, length, min, OnOk};
 ghost use Rattle.sm_real.specs.Found.{IsPiece};
 ghost use Rattle.sm_real.specs.Numbers.{SentAmong, Touches};
 ghost use Rattle.sm_real.specs.Waiting.{wait_in_all};
+ghost use Rattle.sm_real.specs.Whose.{IfPiece, IsHead, IsThere};
 
-use crate::Patience;
 use crate::journal::{Journal, Standing};
 use crate::outgoing::copy;
 use crate::peer::{Found, Peer};
 use crate::peers::Peers;
-use mio::net::TcpListener;
+use crate::{Doing, Patience, Trouble};
+use mio::net::{TcpListener, TcpStream};
 use mio::{Events, Interest, Poll, Token};
 use sm_site::{Failed, Piece};
 use std::alloc::{AllocError, Global};
@@ -57,13 +58,15 @@ struct Given {
     worked: bool,
 }
 
-/// A listener and its peers.
+/// One or two listeners and their peers.
 #[derive(Drop)]
 pub struct Sockets {
     alloc: Global,
     poll: Poll,
     events: Events,
     listener: TcpListener,
+    // The one of the other family, where the first one doesn't take both.
+    second: Option<TcpListener>,
     // A connection may wait to be taken.
     waiting: bool,
     // Beyond a number of them, new ones wait until some are gone.
@@ -88,6 +91,8 @@ pub struct Sockets {
     holder: u64,
     /// Where what happens is told, if anywhere.
     pub journal: Option<Journal>,
+    // What the system said when it couldn't be waited for any more.
+    refused: Option<io::Error>,
 }
 
 impl Sockets {
@@ -106,6 +111,7 @@ impl Sockets {
             poll,
             events: Events::with_capacity(alloc, REPORTS)?,
             listener,
+            second: None,
             waiting: true,
             peers: Peers::new(alloc)?,
             patience,
@@ -119,17 +125,37 @@ impl Sockets {
             held: 0,
             holder: 0,
             journal: None,
+            refused: None,
             alloc,
         })
+    }
+
+    /// Listens at a further address too.
+    pub fn listen_too(&mut self, net: &impl Net, address: SocketAddr) -> io::Result<()> {
+        let mut second = TcpListener::bind(net, address)?;
+        self.poll
+            .registry()
+            .register(&mut second, LISTENER, Interest::READABLE)?;
+        self.second = Some(second);
+        Ok(())
     }
 
     pub fn local_addr(&self) -> io::Result<SocketAddr> {
         self.listener.local_addr()
     }
 
+    /// What the system refused, where events can't be waited for any more.
+    pub fn trouble(&self) -> Option<Trouble> {
+        match self.refused {
+            Some(error) => Some(Trouble::new(Doing::Waiting, error)),
+            None => None,
+        }
+    }
+
     /// Goes on up to the next event. Where no round has one, or the system fails, this comes to nothing.
     pub fn next(&mut self, rt: &impl Clock, number: u64) -> Asked
         ensures piece { IsPiece result }
+        ensures held { IfPiece result (λ n piece. (n ≡ self.new.holder) × IsHead self.new.buffer.value piece) }
     {
         self.weigh(rt);
         let asked = self.seek(rt, number);
@@ -167,13 +193,15 @@ impl Sockets {
     // Goes on in rounds up to the next event.
     fn seek(&mut self, rt: &impl Clock, number: u64) -> Asked
         ensures piece { IsPiece result }
+        ensures held { IfPiece result (λ n piece. (n ≡ self.new.holder) × IsHead self.new.buffer.value piece) }
     {
         for _ in 0..u32::MAX {
             match self.ask(number) {
                 Asked::Nothing => {}
                 asked => return asked,
             }
-            if self.gather(rt).is_err() {
+            if let Err(e) = self.gather(rt) {
+                self.refused = Some(e);
                 break;
             }
         }
@@ -238,23 +266,28 @@ impl Sockets {
     // Asks those that this round has not asked, up to the first event. A connection that is taken gets this number.
     fn ask(&mut self, number: u64) -> Asked
         ensures piece { IsPiece result }
+        ensures held { IfPiece result (λ n piece. (n ≡ self.new.holder) × IsHead self.new.buffer.value piece) }
+        // The number is that of a peer that is there, or of one whose bytes were read before and could not be given.
+        ensures whose { IfPiece result (λ n piece. IsThere n self.new.peers.list.items ⊎ ((n ≡ self.old.holder) × (0 < self.old.held))) }
     {
         if self.held > 0 {
             return self.give();
         }
         for _ in 0..self.peers.len() {
             let place = self.turn;
-            let Some(peer) = self.peers.at(place) else {
+            if place >= self.peers.len() {
                 break;
-            };
+            }
             self.turn = place + 1;
-            if !peer.is_due(self.now, &self.patience) {
+            if !self.peers.is_due(place, self.now, &self.patience) {
                 continue;
             }
             self.moved = true;
-            let holder = peer.number;
             let buffer = self.buffer.as_mut_slice();
-            match peer.visit(self.alloc, buffer, self.now, &self.patience) {
+            let (holder, found) = self
+                .peers
+                .visit(place, self.alloc, buffer, self.now, &self.patience);
+            match found {
                 Found::Nothing => {}
                 Found::Bytes(n) => {
                     self.busy = true;
@@ -288,6 +321,11 @@ impl Sockets {
     // Gives the bytes that the buffer holds.
     fn give(&mut self) -> Asked
         ensures piece { IsPiece result }
+        ensures held { IfPiece result (λ n piece. (n ≡ self.new.holder) × IsHead self.new.buffer.value piece) }
+        ensures all { IfPiece result (λ n piece. length piece ≡ min self.old.held 65536) }
+        ensures holder { self.new.holder ≡ self.old.holder }
+        ensures buffer { self.new.buffer ≡ self.old.buffer }
+        ensures peers { self.new.peers ≡ self.old.peers }
     {
         let held = self.held.min(PIECE);
         if held == 0 {
@@ -305,14 +343,26 @@ impl Sockets {
         }
     }
 
+    // A connection of either listener.
+    fn take(&self) -> io::Result<(TcpStream, SocketAddr)> {
+        if let Some(second) = &self.second {
+            match second.accept() {
+                Err(e) if e.kind() == io::ErrorKind::WouldBlock => {}
+                taken => return taken,
+            }
+        }
+        self.listener.accept()
+    }
+
     // Takes the next connection that waits.
     fn accept(&mut self, number: u64) -> Asked
         ensures piece { IsPiece result }
+        ensures no_piece { IfPiece result (λ n piece. ⊥) }
     {
         if !self.waiting || self.peers.is_full() {
             return Asked::Nothing;
         }
-        let (mut stream, address) = match self.listener.accept() {
+        let (mut stream, address) = match self.take() {
             Ok(taken) => taken,
             Err(e) => {
                 if e.kind() == io::ErrorKind::WouldBlock {

@@ -3,7 +3,7 @@ ghost use Rattle.std.specs.Prelude.{◌≡◌, ◌≤◌, ◌<◌, length, vec_l
 ghost use Rattle.sm_fetch.specs.Exchanges.{Rose};
 ghost use Rattle.sm_fetch.specs.Origins.{Untold};
 
-use crate::OpenFault;
+use crate::{Doing, OpenFault, Trouble};
 use sm_fetch::{Answer, Dial, DialError, Reply, read_reply};
 use sm_model::{Bytes, NoMemory};
 use std::alloc::{AllocError, Global};
@@ -52,6 +52,7 @@ impl Model for Target {
 /// where no address of the host takes a connection, each but the last within 3 seconds and that one within 30; where the connection
 /// fails, or the peer takes or sends nothing for 30 seconds, before the reply is whole; and where the reply isn't whole two minutes
 /// after the request, and a second more for each 65,536 bytes of it. The address that took a connection comes first from then on.
+/// What the system said of the last exchange, where it was lost, is kept for people.
 #[derive(Drop)]
 pub struct TcpDial<R: Net<Stream = TcpStream> + Clock + Drop> {
     rt: R,
@@ -59,6 +60,7 @@ pub struct TcpDial<R: Net<Stream = TcpStream> + Clock + Drop> {
     addresses: Vec<SocketAddr>,
     turned_to: Option<Target>,
     faults: u64,
+    trouble: Option<Trouble>,
 }
 
 impl<R: Net<Stream = TcpStream> + Clock + Drop> TcpDial<R> {
@@ -70,7 +72,23 @@ impl<R: Net<Stream = TcpStream> + Clock + Drop> TcpDial<R> {
             addresses: Vec::new(alloc),
             turned_to: None,
             faults: 0,
+            trouble: None,
         }
+    }
+
+    /// What the system refused last, where the last exchange was lost or the host that was wanted last could not be found.
+    pub fn trouble(&self) -> Option<Trouble> {
+        self.trouble
+    }
+
+    // What an error of the system comes to; what it said is kept, and nothing else changes.
+    fn refused(&mut self, doing: Doing, error: io::Error) -> OpenFault
+        ensures faults { self.new.faults ≡ self.old.faults }
+        ensures turned_to { self.new.turned_to ≡ self.old.turned_to }
+    {
+        let fault = OpenFault::of(&error);
+        self.trouble = Some(Trouble::new(doing, error));
+        fault
     }
 
     fn fail(&mut self)
@@ -93,7 +111,7 @@ impl<R: Net<Stream = TcpStream> + Clock + Drop> TcpDial<R> {
                 self.turned_to = Some(Target { host: own, port });
                 Ok(())
             }
-            Err(e) => Err(OpenFault::of(&e)),
+            Err(e) => Err(self.refused(Doing::Finding, e)),
         }
     }
 
@@ -134,15 +152,19 @@ impl<R: Net<Stream = TcpStream> + Clock + Drop> TcpDial<R> {
     {
         let stream = match self.connect() {
             Ok(stream) => stream,
-            Err(e) => return Err(OpenFault::of(&e)),
+            Err(e) => return Err(self.refused(Doing::Connecting, e)),
         };
-        let sent = (&stream).write_all(request).is_ok();
+        let sent = (&stream).write_all(request);
         let (taken, ended) = self.take(&stream, limit)?;
-        if sent && ended || self.is_reply(&taken)? {
-            Ok(Bytes::from_vec(taken))
-        } else {
-            Err(OpenFault::Failed)
+        if sent.is_ok() && ended || self.is_reply(&taken)? {
+            return Ok(Bytes::from_vec(taken));
         }
+        let error = match sent {
+            Err(e) => e,
+            Ok(()) => broken_off(),
+        };
+        let _ = self.refused(Doing::Asking, error);
+        Err(OpenFault::Failed)
     }
 
     // What comes up to the end, the limit, a failure or the end of the time, and whether it was one of the first two.
@@ -199,6 +221,11 @@ impl<R: Net<Stream = TcpStream> + Clock + Drop> TcpDial<R> {
     }
 }
 
+// What is said of a reply that didn't come whole.
+fn broken_off() -> io::Error {
+    io::Error::new(ErrorKind::TimedOut, "the reply broke off or took too long")
+}
+
 // Reads once, at most so many bytes.
 fn receive(mut stream: &TcpStream, buffer: &mut [u8], room: u64) -> io::Result<usize>
     ensures within { IfOk result (λ n. n ≤ room) }
@@ -239,6 +266,7 @@ impl<R: Net<Stream = TcpStream> + Clock + Drop> Dial for TcpDial<R> {
     fn select(&mut self, host: &str, port: u16) -> Result<(), DialError> {
         self.addresses.clear();
         self.turned_to = None;
+        self.trouble = None;
         match self.turn_to(host, port) {
             Ok(()) => Ok(()),
             Err(OpenFault::NoMemory) => Err(DialError::NoMemory),
@@ -250,6 +278,7 @@ impl<R: Net<Stream = TcpStream> + Clock + Drop> Dial for TcpDial<R> {
     }
 
     fn exchange(&mut self, request: &[u8], limit: u64) -> Answer {
+        self.trouble = None;
         match self.ask(request, limit) {
             Ok(bytes) => Answer::Bytes(bytes),
             Err(OpenFault::NoMemory) => Answer::NoMemory,

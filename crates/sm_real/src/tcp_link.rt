@@ -1,23 +1,24 @@
 // The link over sockets.
-ghost use Rattle.std.specs.Prelude.{◌≡◌, ◌≢◌, ◌≤◌, IsErrOf, None, is_ok, is_some, false};
+ghost use Rattle.std.specs.Prelude.{◌≡◌, ◌≢◌, ◌≤◌, IsErrOf, None, is_ok, is_some, true, false};
 ghost use Rattle.sm_site.specs.Clauses.{Rose};
 ghost use Rattle.sm_real.specs.Telling.{counts_alone};
 
-use crate::journal::Journal;
+use crate::journal::{Journal, Opened};
 use crate::sockets::{Asked, Sockets};
-use crate::{OpenFault, Patience};
+use crate::{Doing, OpenFault, Patience, Trouble};
 use sm_site::{Event, Failed, Link, LinkError, Selection};
 use std::alloc::Global;
 use std::io::{self, ErrorKind};
 use std::net::{IpAddr, Ipv4Addr, Ipv6Addr, Net, SocketAddr};
-use std::time::{Clock, Duration, Instant};
+use std::time::{Clock, Instant};
 
 /// A link over sockets, which are asked in turn. It tells nothing of what goes over them. Until it listens each call fails.
 ///
 /// `send` never waits: what a peer does not take at once is kept for it, one send whole, and further ones behind it up to
 /// 33,554,432 bytes in all. While something is kept the peer is not read. A peer is given up, and the loop hears that it has closed,
 /// where it takes nothing for 30 seconds, where nothing waits for it and it sends nothing for two minutes, and, the one for which
-/// most waits first, where more than 536,870,912 bytes wait for all together.
+/// most waits first, where more than 536,870,912 bytes wait for all together. What the system said of the last failure is kept for
+/// people.
 #[derive(Drop)]
 pub struct TcpLink<R: Net + Clock + Drop> {
     rt: R,
@@ -28,6 +29,7 @@ pub struct TcpLink<R: Net + Clock + Drop> {
     next_number: u64,
     faults: u64,
     send_faults: u64,
+    trouble: Option<Trouble>,
 }
 
 impl<R: Net + Clock + Drop> TcpLink<R> {
@@ -46,7 +48,13 @@ impl<R: Net + Clock + Drop> TcpLink<R> {
             next_number: 1,
             faults: 0,
             send_faults: 0,
+            trouble: None,
         }
+    }
+
+    /// What the system refused last, but for what could not be sent.
+    pub fn trouble(&self) -> Option<Trouble> {
+        self.trouble
     }
 
     /// Listens at this address. The connections from before are dropped.
@@ -62,7 +70,7 @@ impl<R: Net + Clock + Drop> TcpLink<R> {
         Ok(())
     }
 
-    /// Listens at this port of all addresses of the machine, those of IPv4 alone where it has no others. Port 0 listens nowhere.
+    /// Listens at this port of all addresses of the machine, those of one family alone where it has no others. Port 0 listens nowhere.
     pub fn listen(&mut self, port: u16) -> Result<(), OpenFault>
         ensures listens { port ≢ 0 → is_some self.new.sockets ≡ is_ok result }
         ensures nowhere { port ≡ 0 → is_some self.new.sockets ≡ false }
@@ -76,7 +84,7 @@ impl<R: Net + Clock + Drop> TcpLink<R> {
             return Ok(());
         }
         let listening = self.listen_everywhere(port);
-        self.counted(listening)
+        self.counted(port, listening)
     }
 
     /// Listens at this port of one address, a literal of IPv4 or IPv6 without brackets; another text is refused. Port 0 listens nowhere.
@@ -94,13 +102,13 @@ impl<R: Net + Clock + Drop> TcpLink<R> {
         }
         let listening = match IpAddr::parse_ascii(address.as_bytes()) {
             Ok(address) => self.listen_at(SocketAddr::new(address, port)),
-            Err(_) => Err(ErrorKind::InvalidInput.into()),
+            Err(_) => Err(no_address()),
         };
-        self.counted(listening)
+        self.counted(port, listening)
     }
 
     // What listening came to; a failure of the system is counted.
-    fn counted(&mut self, listening: io::Result<()>) -> Result<(), OpenFault>
+    fn counted(&mut self, port: u16, listening: io::Result<()>) -> Result<(), OpenFault>
         ensures done { is_ok result ≡ is_ok listening }
         ensures failed { IsErrOf result OpenFault.Failed → Rose self.old.faults self.new.faults }
         ensures faults { self.old.faults ≤ self.new.faults }
@@ -113,11 +121,22 @@ impl<R: Net + Clock + Drop> TcpLink<R> {
             Err(e) => {
                 let fault = OpenFault::of(&e);
                 if fault == OpenFault::Failed {
+                    self.keep(Trouble::new(Doing::Listening(port), e));
                     self.faults = self.faults.saturating_add(1);
                 }
                 Err(fault)
             }
         }
+    }
+
+    // Keeps what the system said, and nothing else changes.
+    fn keep(&mut self, trouble: Trouble)
+        ensures faults { self.new.faults ≡ self.old.faults }
+        ensures send_faults { self.new.send_faults ≡ self.old.send_faults }
+        ensures numbers { self.new.next_number ≡ self.old.next_number }
+        ensures sockets { self.new.sockets ≡ self.old.sockets }
+    {
+        self.trouble = Some(trouble);
     }
 
     fn listen_everywhere(&mut self, port: u16) -> io::Result<()>
@@ -126,10 +145,38 @@ impl<R: Net + Clock + Drop> TcpLink<R> {
         ensures send_faults { self.new.send_faults ≡ self.old.send_faults }
         ensures numbers { self.new.next_number ≡ self.old.next_number }
     {
-        match self.listen_at(SocketAddr::from((Ipv6Addr::UNSPECIFIED, port))) {
-            Ok(()) => Ok(()),
+        let six = SocketAddr::from((Ipv6Addr::UNSPECIFIED, port));
+        match self.listen_at(SocketAddr::from((Ipv4Addr::UNSPECIFIED, port))) {
+            Ok(()) => self.widen(six),
             Err(e) if e.kind() == ErrorKind::AddrInUse => Err(e),
-            Err(_) => self.listen_at(SocketAddr::from((Ipv4Addr::UNSPECIFIED, port))),
+            Err(_) => self.listen_at(six),
+        }
+    }
+
+    // Listens at all addresses of IPv6 beside those of IPv4. Where the system lets a listener of IPv6 take both, the one that is there is in
+    // its way, or another process is: so that one alone is taken, if it can be had. Where there is no IPv6 the one that is there goes on.
+    fn widen(&mut self, six: SocketAddr) -> io::Result<()>
+        ensures listens { is_some self.old.sockets ≡ true → is_some self.new.sockets ≡ is_ok result }
+        ensures faults { self.new.faults ≡ self.old.faults }
+        ensures send_faults { self.new.send_faults ≡ self.old.send_faults }
+        ensures numbers { self.new.next_number ≡ self.old.next_number }
+    {
+        match self.listen_too(six) {
+            Err(e) if e.kind() == ErrorKind::AddrInUse => self.listen_at(six),
+            _ => Ok(()),
+        }
+    }
+
+    /// Listens at a further address, beside the one that is there.
+    pub fn listen_too(&mut self, address: SocketAddr) -> io::Result<()>
+        ensures listens { is_some self.new.sockets ≡ is_some self.old.sockets }
+        ensures faults { self.new.faults ≡ self.old.faults }
+        ensures send_faults { self.new.send_faults ≡ self.old.send_faults }
+        ensures numbers { self.new.next_number ≡ self.old.next_number }
+    {
+        match &mut self.sockets {
+            Some(sockets) => sockets.listen_too(&self.rt, address),
+            None => Err(ErrorKind::NotConnected.into()),
         }
     }
 
@@ -155,9 +202,8 @@ impl<R: Net + Clock + Drop> TcpLink<R> {
         }
     }
 
-    /// The origin begins to serve this store, for the journal. `took` is how long opening it took, and `read` how many bytes of it were
-    /// read.
-    pub fn note_begin(&mut self, selection: &Selection, took: Duration, read: u64)
+    /// The origin begins to serve this store, for the journal.
+    pub fn note_begin(&mut self, selection: &Selection, opened: Opened)
         ensures faults { self.new.faults ≡ self.old.faults }
         ensures send_faults { self.new.send_faults ≡ self.old.send_faults }
         ensures numbers { self.new.next_number ≡ self.old.next_number }
@@ -165,7 +211,20 @@ impl<R: Net + Clock + Drop> TcpLink<R> {
         if let Some(sockets) = &mut self.sockets
             && let Some(journal) = &mut sockets.journal
         {
-            journal.begin(selection.store.as_str(), selection.port, took, read);
+            journal.begin(selection.store.as_str(), selection.port, opened);
+        }
+    }
+
+    /// The disk refused something, for the journal.
+    pub fn note_fault(&mut self, trouble: &Trouble)
+        ensures faults { self.new.faults ≡ self.old.faults }
+        ensures send_faults { self.new.send_faults ≡ self.old.send_faults }
+        ensures numbers { self.new.next_number ≡ self.old.next_number }
+    {
+        if let Some(sockets) = &mut self.sockets
+            && let Some(journal) = &mut sockets.journal
+        {
+            journal.fault(trouble);
         }
     }
 
@@ -197,8 +256,8 @@ impl<R: Net + Clock + Drop> TcpLink<R> {
         }
     }
 
-    /// The origin ends, for the journal.
-    pub fn note_end(&mut self)
+    /// The origin of this store ends, for the journal.
+    pub fn note_end(&mut self, selection: &Selection)
         ensures faults { self.new.faults ≡ self.old.faults }
         ensures send_faults { self.new.send_faults ≡ self.old.send_faults }
         ensures numbers { self.new.next_number ≡ self.old.next_number }
@@ -206,7 +265,7 @@ impl<R: Net + Clock + Drop> TcpLink<R> {
         if let Some(sockets) = &mut self.sockets
             && let Some(journal) = &mut sockets.journal
         {
-            journal.end();
+            journal.end(&self.rt, selection.store.as_str());
         }
     }
 
@@ -224,6 +283,11 @@ impl<R: Net + Clock + Drop> TcpLink<R> {
             None => Err(ErrorKind::NotConnected.into()),
         }
     }
+}
+
+// What is said of a text that is no address.
+fn no_address() -> io::Error {
+    io::Error::new(ErrorKind::InvalidInput, "no address of IPv4 or IPv6")
 }
 
 impl<R: Net + Clock + Drop> Link for TcpLink<R> {
@@ -250,7 +314,7 @@ impl<R: Net + Clock + Drop> Link for TcpLink<R> {
                 Asked::Piece(number, piece) => return Ok(Event::Piece(number, piece)),
                 Asked::Left(number) => return Ok(Event::Closed(number)),
                 Asked::NoMemory => return Err(LinkError::NoMemory),
-                Asked::Nothing => {}
+                Asked::Nothing => self.trouble = sockets.trouble(),
             }
         }
         self.faults = self.faults.saturating_add(1);

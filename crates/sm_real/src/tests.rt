@@ -61,6 +61,14 @@ fn brings(link: &mut impl Link, number: u64, bytes: &[u8]) -> bool {
     }
 }
 
+// Whether that was refused, with these words.
+fn says(alloc: Global, trouble: Option<Trouble>, words: &str) -> Result<bool, AllocError> {
+    match trouble {
+        Some(trouble) => Ok(format!(in alloc; "{trouble}")?.as_str() == words),
+        None => Ok(false),
+    }
+}
+
 #[test]
 fn files_have_what_was_written(rt: HostRuntime) -> Result<(), Fail> {
     let store = store(&rt, "files")?;
@@ -100,8 +108,23 @@ fn a_store_is_had_by_one(rt: HostRuntime) -> Result<(), Fail> {
         second.select(at_port(rt.alloc(), &store, 0)?),
         Err(SiteError::Disk)
     );
+    assert!(rt;
+        says(
+            rt.alloc(),
+            second.disk_trouble(),
+            "opening the store: another process has it"
+        )?
+    );
     assert_eq!(rt; second.write_at(0, 0, b"x"), Err(Failed));
+    assert!(rt;
+        says(
+            rt.alloc(),
+            second.disk_trouble(),
+            "writing 00000000.seg: no folder is chosen"
+        )?
+    );
     assert_eq!(rt; first.write_at(0, 0, b"x"), Ok(()));
+    assert!(rt; first.disk_trouble().is_none());
     drop(first);
     assert_eq!(rt; second.select(at_port(rt.alloc(), &store, 0)?), Ok(()));
     assert_eq!(rt; second.size(0), Ok(1));
@@ -119,6 +142,10 @@ fn a_site_is_reached_at_its_port(rt: HostRuntime) -> Result<(), Fail> {
         site.select(at_port(rt.alloc(), &store, port)?),
         Err(SiteError::Link)
     );
+    let said = format!(in rt.alloc();
+        "listening at port {port}: Address already in use (os error 98)"
+    )?;
+    assert!(rt; says(rt.alloc(), site.link_trouble(), &said)?);
     drop(free);
     assert_eq!(rt; site.select(at_port(rt.alloc(), &store, port)?), Ok(()));
     let _peer = TcpStream::connect(&rt, SocketAddr::from((Ipv4Addr::LOCALHOST, port)))?;
@@ -135,6 +162,64 @@ fn a_site_is_reached_at_its_port(rt: HostRuntime) -> Result<(), Fail> {
     let mut gone = at_port(rt.alloc(), &store, 0)?;
     gone.make = false;
     assert_eq!(rt; site.select(gone), Err(SiteError::Disk));
+    Ok(())
+}
+
+#[test]
+fn a_link_listens_at_two_addresses(rt: HostRuntime) -> Result<(), Fail> {
+    let free = TcpListener::bind(&rt, any_port())?;
+    let other = free.local_addr()?;
+    drop(free);
+    let mut link = TcpLink::new(&rt, rt.alloc());
+    assert!(rt; link.listen_too(other).is_err());
+    link.listen_at(any_port())?;
+    link.listen_too(other)?;
+    let _first = TcpStream::connect(&rt, link.local_addr()?)?;
+    assert!(rt; opens(&mut link, 1));
+    let mut second = TcpStream::connect(&rt, other)?;
+    assert!(rt; opens(&mut link, 2));
+    second.write_all(b"two")?;
+    assert!(rt; brings(&mut link, 2, b"two"));
+    Ok(())
+}
+
+#[test]
+fn a_journal_tells_what_was_opened(rt: HostRuntime) -> Result<(), Fail> {
+    let store = store(&rt, "told")?;
+    let path = format!(in rt.alloc(); "{store}.log")?;
+    let free = TcpListener::bind(&rt, any_port())?;
+    let port = free.local_addr()?.port();
+    drop(free);
+    let mut site = RealSite::new(&rt, rt.alloc());
+    let mut selection = at_port(rt.alloc(), &store, port)?;
+    selection.journal = Some(String::from_str(rt.alloc(), &path)?);
+    assert_eq!(rt; site.select(selection), Ok(()));
+    let mut taken = [0u8; 9];
+    // the files are looked at, and then two entries are read
+    assert_eq!(rt; site.read_at(0, 13, &mut taken), Ok(()));
+    assert_eq!(rt; site.read_at(0, 900, &mut taken), Ok(()));
+    assert_eq!(rt; site.sync(1), Ok(()));
+    assert_eq!(rt; site.read_at(1, 0, &mut taken), Ok(()));
+    assert_eq!(rt; site.read_at(0, 18, &mut taken), Ok(()));
+    assert_eq!(rt; site.read_at(0, 32, &mut taken), Ok(()));
+    let _peer = TcpStream::connect(&rt, SocketAddr::from((Ipv4Addr::LOCALHOST, port)))?;
+    assert!(rt; opens(&mut site, 1));
+    assert_eq!(rt; site.write_at(0, 9, b"x"), Err(Failed));
+    site.end();
+    let told = fs::read_to_string(&rt, &path)?;
+    let start = format!(in rt.alloc(); " start port {port} entries 2 read 45 seconds 0.")?;
+    let end = format!(in rt.alloc(); " store {store}\n")?;
+    assert!(rt; told.as_str().contains(start.as_str()));
+    assert!(rt;
+        told.as_str()
+            .contains(" fault writing 00000000.seg: it was cut from outside\n")
+    );
+    assert!(rt;
+        told.as_str().contains(" connections 1 pushes 0 replies 0 kept 0 syncs 1 longest ")
+    );
+    assert!(rt; told.as_str().ends_with(end.as_str()));
+    fs::remove_file(&rt, &path)?;
+    fs::remove_dir_all(&rt, &store)?;
     Ok(())
 }
 

@@ -14,7 +14,7 @@ use sm_ends::{Sink, Source, Tracks};
 use sm_fetch::Dial;
 use sm_model::NoMemory;
 use sm_policy::{Fixed, Ladder, Policy, Steps};
-use sm_real::{FileTracks, RealSite, TcpDial};
+use sm_real::{FileTracks, RealSite, TcpDial, Trouble};
 use sm_site::Site;
 use sm_tool::{starved, tool};
 use std::alloc::Global;
@@ -78,6 +78,18 @@ fn end_starved<O: Sink>(output: &mut O) -> ExitCode {
     ExitCode::from(starved(output))
 }
 
+// What the system said, for people, where it refused what the program needed for this status: a line on the standard error.
+fn tell(rt: &impl Eprint, status: ExitCode, troubles: &[(u8, Option<Trouble>)]) {
+    for (number, trouble) in troubles {
+        if status == ExitCode::from(*number)
+            && let Some(trouble) = trouble
+        {
+            let _ = eprintln!(rt; "smooth: {trouble}");
+            return;
+        }
+    }
+}
+
 fn main(rt: HostRuntime) -> ExitCode {
     let mut input = StdSource::new(rt.stdin());
     let mut output = StdSink::new(rt.stdout());
@@ -100,7 +112,7 @@ fn main(rt: HostRuntime) -> ExitCode {
     let Ok(policies) = vec![in rt.alloc(); steps, ladder, fixed] else {
         return end_starved(&mut output);
     };
-    run(
+    let status = run(
         rt.alloc(),
         words,
         &mut input,
@@ -109,5 +121,17 @@ fn main(rt: HostRuntime) -> ExitCode {
         &mut dial,
         &mut tracks,
         policies,
-    )
+    );
+    site.end();
+    let troubles = [
+        (4, dial.trouble()),
+        (5, site.disk_trouble()),
+        (6, input.trouble()),
+        (7, output.trouble()),
+        (7, tracks.trouble()),
+        (8, site.link_trouble()),
+        (8, dial.trouble()),
+    ];
+    tell(&rt, status, &troubles);
+    status
 }

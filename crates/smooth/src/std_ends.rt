@@ -2,18 +2,29 @@
 //! no contract knows what reaches or leaves the system.
 
 use sm_ends::{Failed, Sink, Source};
-use std::io::{Read, Write};
+use sm_real::{Doing, Trouble};
+use std::io::{ErrorKind, Read, Write};
 
-/// The standard input, or another reader of the system's.
+/// The standard input, or another reader of the system's. What the system said of the last failure is kept for people.
 #[derive(Drop)]
 pub struct StdSource<R> {
     reader: R,
     faults: u64,
+    trouble: Option<Trouble>,
 }
 
 impl<R: Read> StdSource<R> {
     pub fn new(reader: R) -> StdSource<R> {
-        StdSource { reader, faults: 0 }
+        StdSource {
+            reader,
+            faults: 0,
+            trouble: None,
+        }
+    }
+
+    /// What the system refused last.
+    pub fn trouble(&self) -> Option<Trouble> {
+        self.trouble
     }
 }
 
@@ -25,7 +36,8 @@ impl<R: Read> Source for StdSource<R> {
     fn read(&mut self, into: &mut [u8]) -> Result<usize, Failed> {
         match self.reader.read(into) {
             Ok(count) => Ok(count),
-            Err(_) => {
+            Err(e) => {
+                self.trouble = Some(Trouble::new(Doing::Input, e));
                 self.faults = self.faults.saturating_add(1);
                 Err(Failed)
             }
@@ -33,16 +45,26 @@ impl<R: Read> Source for StdSource<R> {
     }
 }
 
-/// The standard output, or another writer of the system's.
+/// The standard output, or another writer of the system's. What the system said of the last failure is kept for people.
 #[derive(Drop)]
 pub struct StdSink<W> {
     writer: W,
     faults: u64,
+    trouble: Option<Trouble>,
 }
 
 impl<W: Write> StdSink<W> {
     pub fn new(writer: W) -> StdSink<W> {
-        StdSink { writer, faults: 0 }
+        StdSink {
+            writer,
+            faults: 0,
+            trouble: None,
+        }
+    }
+
+    /// What the system refused last.
+    pub fn trouble(&self) -> Option<Trouble> {
+        self.trouble
     }
 }
 
@@ -53,12 +75,13 @@ impl<W: Write> Sink for StdSink<W> {
 
     // A writer that takes no byte of a piece has failed.
     fn write(&mut self, bytes: &[u8]) -> Result<usize, Failed> {
-        match self.writer.write(bytes) {
-            Ok(count) if count > 0 || bytes.is_empty() => Ok(count),
-            _ => {
-                self.faults = self.faults.saturating_add(1);
-                Err(Failed)
-            }
-        }
+        let error = match self.writer.write(bytes) {
+            Ok(count) if count > 0 || bytes.is_empty() => return Ok(count),
+            Ok(_) => ErrorKind::WriteZero.into(),
+            Err(e) => e,
+        };
+        self.trouble = Some(Trouble::new(Doing::Output, error));
+        self.faults = self.faults.saturating_add(1);
+        Err(Failed)
     }
 }
