@@ -24,19 +24,19 @@ use Rattle.sm_edge.specs.Opening.{IsEdge}
 pub record HasRelayed {S C : Type 0} (view : S → View) (left_at : S → ℕ → Image → Type 0) (leave : S → Image → Type 0) (told : C → Option (List Exchange))
     (store : C → List Entry → Type 0) (later : C → C → Type 0) (faults : C → ℕ) (chosen : C → Option Peer) (input input' : Input) (selection : Chosen)
     (host : List ℕ) (plan : PullPlan)
-    (old new : S) (dial dial' : C) (report : RelayReport) : Type 0 where
+    (old new : S) (dial dial' : C) (channel : List Track) (report : RelayReport) : Type 0 where
   pub archive : Archive
   pub after : Archive
   pub opened : S
   pub turned : C
-  pub edge : IsEdge view leave input input' archive selection old opened
+  pub edge : IsEdge view leave input input' archive channel selection old opened
   pub turned_to : IsTurnedTo (chosen turned) host plan.place.port
   pub quiet : told turned ≡ told dial
-  pub relayed : Relayed view left_at leave told store later faults chosen plan edge.channel opened new turned dial' archive after edge.log report.end
+  pub relayed : Relayed view left_at leave told store later faults chosen plan channel opened new turned dial' archive after edge.store.log report.end
   pub kept : report.kept ≡ length (kept_in relayed.rounds ++ relayed.added)
-  pub listed : AllByRecursion (KeepsListed edge.channel (edge.log ++ keeps_of (kept_in relayed.rounds ++ relayed.added))) relayed.rounds
+  pub listed : AllByRecursion (KeepsListed channel (edge.store.log ++ keeps_of (kept_in relayed.rounds ++ relayed.added))) relayed.rounds
   pub below : (up : List Track) (first last : List Entry) (before made : List Exchange) → told turned ≡ Some before → told dial' ≡ Some (before ++ made)
-      → Serves plan.place up first last made → Below edge.log first → IsSome (view opened).contents → Throughout view left_at opened new (LeavesBelow last)
+      → Serves plan.place up first last made → Below edge.store.log first → IsSome (view opened).contents → Throughout view left_at opened new (LeavesBelow last)
   pub well : (up : List Track) (first last : List Entry) (before made : List Exchange) → told turned ≡ Some before → told dial' ≡ Some (before ++ made)
-      → Serves plan.place up first last made → Below edge.log first → IsPatient made → AllByRecursion (IsOffered up) edge.channel → EndsWell report.end
+      → Serves plan.place up first last made → Below edge.store.log first → IsPatient made → AllByRecursion (IsOffered up) channel → EndsWell report.end
   pub fault : report.end ≡ ends.DiskFault → Rose (view opened).disk_faults (view new).disk_faults

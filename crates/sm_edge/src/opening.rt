@@ -1,15 +1,35 @@
 //! What a relay and a standby begin with.
-ghost use Rattle.std.specs.Prelude.{◌≡◌, ◌≤◌, IfOk, IfErr, OnOk};
+ghost use Rattle.std.specs.Prelude.{◌≡◌, ◌≤◌, ℕ, List, None, Some, IfOk, IfErr, IsErrOf, IsSome, OnErr, OnOk};
+ghost use Rattle.sm_model.specs.declared.entry.Entry.{Entry};
+ghost use Rattle.sm_model.specs.declared.track.Track.{Track};
+ghost use Rattle.sm_log.specs.Logs.{channel_of};
+ghost use Rattle.sm_site.specs.Clauses.{NoMore, Throughout};
+ghost use Rattle.sm_site.specs.Meanings.{SameLink};
+ghost use Rattle.sm_archive.specs.Stands.{Stands};
+ghost use Rattle.sm_origin.specs.Opening.{HasOneStore};
+ghost use Rattle.sm_command.specs.declared.fault.StoreFault.TheVariants as fault;
+ghost use Rattle.sm_command.specs.Choosing.{IsChosen};
+ghost use Rattle.sm_command.specs.Lasting.{AtEachMoment, NoFewer, Untouched};
+ghost use Rattle.sm_command.specs.Opening.{BeginsWith};
 ghost use Rattle.sm_fetch.specs.Exchanges.{IsTurnedTo};
 ghost use Rattle.sm_fetch.specs.Origins.{Grows};
-ghost use Rattle.sm_edge.specs.Opening.{IsEdge, WhyUnturned, WhyNoEdge};
+ghost use Rattle.sm_edge.specs.Opening.{IsEdge, IsEdgeStore, WhyNoStore, WhyUnturned, WhyNoEdge};
 
 use sm_archive::Archive;
 use sm_command::{StoreFault, choose, open_declared};
 use sm_ends::Source;
 use sm_fetch::{Dial, DialError};
-use sm_site::{Selection, Site};
+use sm_model::{Channel, NoMemory};
+use sm_site::{Disk, Selection, Site};
 use std::alloc::Global;
+
+/// A store that was opened beside an origin.
+#[derive(Drop)]
+pub struct Edge {
+    pub archive: Archive,
+    /// The channel that the archive has.
+    pub channel: Channel,
+}
 
 // Turns to the origin.
 fn turn<C: Dial>(dial: &mut C, host: &str, port: u16) -> Result<(), StoreFault>
@@ -27,9 +47,49 @@ fn turn<C: Dial>(dial: &mut C, host: &str, port: u16) -> Result<(), StoreFault>
     }
 }
 
+// An equal channel to that of an archive which has one.
+fn channel_of<D: Disk>(alloc: Global, disk: &D, archive: &Archive) -> Result<Channel, NoMemory>
+    requires { (log : List Entry) × (channel : List Track) × Stands archive.now log None (D.may_leave disk.now) × (channel_of log ≡ Some channel) }
+    ensures { IfOk result (λ own. (log : List Entry) (channel : List Track) → Stands archive.now log None (D.may_leave disk.now)
+        → channel_of log ≡ Some channel → own ≡ channel) }
+{
+    match archive.catalog() {
+        Some(catalog) => catalog.channel().copy(alloc),
+        None => unreachable!(),
+    }
+}
+
+// Opens the store of a disk whose folder was chosen, with the ladder of the input, and copies its channel.
+fn open_beside<I: Source, D: Disk>(
+    alloc: Global,
+    input: &mut I,
+    disk: &mut D,
+) -> Result<Edge, StoreFault>
+    ensures opened { IfOk result (λ edge. IsEdgeStore D.view D.may_leave
+        (record { told = I.left input.old; faults = I.faults input.old }) (record { told = I.left input.new; faults = I.faults input.new })
+        edge.archive edge.channel disk.old disk.new) }
+    ensures why { IfErr result (λ why. WhyNoStore D.view D.may_leave
+        (record { told = I.left input.old; faults = I.faults input.old }) (record { told = I.left input.new; faults = I.faults input.new })
+        disk.old disk.new why) }
+    ensures any_moment { IsSome (D.view disk.old).contents → (log : List Entry) → HasOneStore log (D.may_leave disk.old)
+        → Throughout D.view D.left_at disk.old disk.new (λ t c. BeginsWith log c) }
+    ensures untouched { (at : ℕ) → IsErrOf result (fault.NotAStore at) → ((D.view disk.new).contents ≡ (D.view disk.old).contents)
+        × NoMore (D.may_leave disk.old) (D.may_leave disk.new) × Throughout D.view D.left_at disk.old disk.new (λ t c. D.may_leave disk.old c) }
+    ensures no_fewer { (D.view disk.old).disk_faults ≤ (D.view disk.new).disk_faults }
+    ensures link { SameLink (D.view disk.old) (D.view disk.new) }
+{
+    match open_declared(alloc, input, disk) {
+        Ok(archive) => match channel_of(alloc, disk, &archive) {
+            Ok(channel) => Ok(Edge { archive, channel }),
+            Err(NoMemory) => Err(StoreFault::NoMemory),
+        },
+        Err(fault) => Err(fault),
+    }
+}
+
 /// Chooses the folder of a site's disk, turns the dial to the origin, opens the store, and reads the input to its end as a ladder, at most
-/// 1,048,576 bytes, whose channel is declared; one that stands already is to have its tracks. It makes no exchange. A fault of the link is
-/// the dial's, where the selection asks for no port.
+/// 1,048,576 bytes, whose channel is declared; one that stands already is to have its tracks. It makes no exchange, and nothing is sent or
+/// taken from the site's link. A fault of the link is the dial's, where the selection asks for no port.
 pub fn open_edge<I: Source, S: Site, C: Dial>(
     alloc: Global,
     input: &mut I,
@@ -38,23 +98,31 @@ pub fn open_edge<I: Source, S: Site, C: Dial>(
     selection: Selection,
     host: &str,
     port: u16,
-) -> Result<Archive, StoreFault>
-    ensures opened { IfOk result (λ archive. IsEdge S.Disk.view S.Disk.may_leave
+) -> Result<Edge, StoreFault>
+    ensures chosen { IsChosen result selection (S.Disk.view site.new) }
+    ensures opened { IfOk result (λ edge. IsEdge S.Disk.view S.Disk.may_leave
         (record { told = I.left input.old; faults = I.faults input.old }) (record { told = I.left input.new; faults = I.faults input.new })
-        archive selection site.old site.new) }
+        edge.archive edge.channel selection site.old site.new) }
     ensures turned { OnOk result (IsTurnedTo (C.chosen dial.new) host.now port) }
     ensures why { IfErr result (WhyNoEdge S.Disk.view S.Disk.may_leave
         (record { told = I.left input.old; faults = I.faults input.old }) (record { told = I.left input.new; faults = I.faults input.new })
-        (C.dial_faults dial.old) (C.dial_faults dial.new) site.old site.new) }
+        (C.dial_faults dial.old) (C.dial_faults dial.new) selection site.old site.new) }
     ensures log { C.log dial.new ≡ C.log dial.old }
     ensures later { C.dial_faults dial.old ≤ C.dial_faults dial.new }
     ensures goes_on { C.later dial.old dial.new }
     ensures store { Grows (C.store dial.old) (C.store dial.new) }
-    ensures no_fewer { (S.Disk.view site.old).disk_faults ≤ (S.Disk.view site.new).disk_faults }
+    // Where each image that a crash might have left was one store, a crash leaves at each moment a store whose log begins with that one.
+    ensures any_moment { IsSome (S.Disk.view site.old).contents → (log : List Entry) → HasOneStore log (S.Disk.may_leave site.old)
+        → AtEachMoment S.Disk.view S.Disk.left_at site.old site.new (BeginsWith log) }
+    // What is no store isn't written.
+    ensures untouched { (at : ℕ) → IsErrOf result (fault.NotAStore at) → Untouched S.Disk.view S.Disk.may_leave S.Disk.left_at site.old site.new }
+    ensures no_fewer { NoFewer (S.Disk.view site.old) (S.Disk.view site.new) }
+    ensures transcript { (S.Disk.view site.new).transcript ≡ (S.Disk.view site.old).transcript }
+    ensures send_faults { (S.Disk.view site.new).send_faults ≡ (S.Disk.view site.old).send_faults }
 {
     match choose(site, selection) {
         Ok(()) => match turn(dial, host, port) {
-            Ok(()) => open_declared(alloc, input, site),
+            Ok(()) => open_beside(alloc, input, site),
             Err(fault) => Err(fault),
         },
         Err(fault) => Err(fault),

@@ -1,16 +1,31 @@
 //! A relay into a store.
-ghost use Rattle.std.specs.Prelude.{◌≡◌, ◌≤◌, ◌<◌, IfOk, IfErr};
+ghost use Rattle.std.specs.Prelude.{◌≡◌, ◌≤◌, ◌<◌, ℕ, IfOk, IfErr, IsErrOf, OnErr};
+ghost use Rattle.sm_command.specs.declared.fault.StoreFault.TheVariants as fault;
+ghost use Rattle.sm_command.specs.Choosing.{IsChosen};
+ghost use Rattle.sm_command.specs.Lasting.{Lasts, NoFewer, Untouched};
+ghost use Rattle.sm_fetch.specs.Origins.{Grows};
 ghost use Rattle.sm_edge.specs.Opening.{WhyNoEdge};
 ghost use Rattle.sm_edge.specs.Relaying.{HasRelayed};
 
-use crate::opening::open_edge;
+use crate::opening::{Edge, open_edge};
+use sm_archive::{an_image_fits, bodies_have_one_log};
 use sm_command::StoreFault;
 use sm_ends::Source;
 use sm_fetch::Dial;
+use sm_model::Channel;
 use sm_pull::PullPlan;
 use sm_relay::{RelayReport, relay};
+use sm_seglog::law::stores_have_one_reading;
 use sm_site::{Selection, Site};
 use std::alloc::Global;
+
+/// What a relay into a store did.
+#[derive(Debug, Drop)]
+pub struct StoreRelay {
+    pub report: RelayReport,
+    /// The channel of the store.
+    pub channel: Channel,
+}
 
 /// Opens the store of an edge, as `open_edge` does, and pulls into it what an origin lists of the tracks of its channel.
 pub fn relay_store<I: Source, S: Site, C: Dial>(
@@ -21,19 +36,43 @@ pub fn relay_store<I: Source, S: Site, C: Dial>(
     selection: Selection,
     host: &str,
     plan: &PullPlan,
-) -> Result<RelayReport, StoreFault>
+) -> Result<StoreRelay, StoreFault>
     requires rounds { 0 < plan.now.rounds }
     requires tries { 0 < plan.now.tries }
-    ensures relayed { IfOk result (HasRelayed S.Disk.view S.Disk.left_at S.Disk.may_leave C.log C.store C.later C.dial_faults C.chosen
+    // No other folder is chosen, and no other port.
+    ensures chosen { IsChosen result selection (S.Disk.view site.new) }
+    ensures relayed { IfOk result (λ r. HasRelayed S.Disk.view S.Disk.left_at S.Disk.may_leave C.log C.store C.later C.dial_faults C.chosen
         (record { told = I.left input.old; faults = I.faults input.old }) (record { told = I.left input.new; faults = I.faults input.new })
-        selection host.now plan.now site.old site.new dial.old dial.new) }
+        selection host.now plan.now site.old site.new dial.old dial.new r.channel r.report) }
     ensures why { IfErr result (WhyNoEdge S.Disk.view S.Disk.may_leave
         (record { told = I.left input.old; faults = I.faults input.old }) (record { told = I.left input.new; faults = I.faults input.new })
-        (C.dial_faults dial.old) (C.dial_faults dial.new) site.old site.new) }
-    ensures no_fewer { (S.Disk.view site.old).disk_faults ≤ (S.Disk.view site.new).disk_faults }
+        (C.dial_faults dial.old) (C.dial_faults dial.new) selection site.old site.new) }
+    // Where no store was opened, nothing was asked for.
+    ensures unasked { OnErr result (C.log dial.new ≡ C.log dial.old) }
+    ensures later { C.dial_faults dial.old ≤ C.dial_faults dial.new }
+    ensures goes_on { C.later dial.old dial.new }
+    ensures store { Grows (C.store dial.old) (C.store dial.new) }
+    // The store that was there outlasts the call, and what is no store isn't written.
+    ensures lasts { Lasts S.Disk.view S.Disk.may_leave S.Disk.left_at site.old site.new }
+    ensures untouched { (at : ℕ) → IsErrOf result (fault.NotAStore at) → Untouched S.Disk.view S.Disk.may_leave S.Disk.left_at site.old site.new }
+    ensures no_fewer { NoFewer (S.Disk.view site.old) (S.Disk.view site.new) }
+    // Nothing is taken from the site's link, and nothing is sent.
+    ensures transcript { (S.Disk.view site.new).transcript ≡ (S.Disk.view site.old).transcript }
+    ensures send_faults { (S.Disk.view site.new).send_faults ≡ (S.Disk.view site.old).send_faults }
 {
+    an_image_fits::<S>();
+    bodies_have_one_log();
+    stores_have_one_reading();
     match open_edge(alloc, input, site, dial, selection, host, plan.place.port) {
-        Ok(mut archive) => Ok(relay(alloc, dial, site, &mut archive, plan)),
+        Ok(
+            Edge {
+                mut archive,
+                channel,
+            },
+        ) => {
+            let report = relay(alloc, dial, site, &mut archive, plan);
+            Ok(StoreRelay { report, channel })
+        }
         Err(fault) => Err(fault),
     }
 }

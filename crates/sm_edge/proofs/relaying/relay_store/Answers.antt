@@ -1,13 +1,44 @@
+use Rattle.std.proofs.Common.{◌∙◌, ◌≡◌, ℕ, List, Option, arith, subst}
+use Rattle.sm_model.specs.declared.entry.Entry.{Entry}
+use Rattle.sm_model.specs.declared.track.Track.{Track}
+use Rattle.sm_site.specs.Image.{Image}
+use Rattle.sm_site.specs.Meanings.{Chosen, View}
+use Rattle.sm_command.specs.Serving.{Input}
+use Rattle.sm_fetch.specs.declared.dial.Exchange.{Exchange}
+use Rattle.sm_fetch.specs.Exchanges.{Peer}
+use Rattle.sm_pull.specs.declared.plan.PullPlan.{PullPlan}
+use Rattle.sm_relay.specs.declared.report.RelayReport.{RelayReport}
+use Rattle.sm_edge.specs.Relaying.{HasRelayed}
+use Rattle.sm_client.proofs.Dials.{grows-more}
+use Rattle.sm_command.proofs.Chosen.{chosen_still}
+use Rattle.sm_command.proofs.Lasting.{counts_then}
+use Rattle.sm_edge.proofs.Outlasting.{added_lasts, fits_alone, silent_grows}
 use Rattle.sm_edge.proofs.relaying.relay_store.Goals as goal
+
+-- the channel by its other name
+of_channel : {S C : Type 0} {view : S → View} {left_at : S → ℕ → Image → Type 0} {leave : S → Image → Type 0} {told : C → Option (List Exchange)} {store : C → List Entry → Type 0}
+    {later : C → C → Type 0} {faults : C → ℕ} {chosen : C → Option Peer} {input input' : Input} {selection : Chosen} {host : List ℕ} {plan : PullPlan} {old new : S} {dial dial' : C}
+    {report : RelayReport} (own channel : List Track) → own ≡ channel
+    → HasRelayed view left_at leave told store later faults chosen input input' selection host plan old new dial dial' own report
+    → HasRelayed view left_at leave told store later faults chosen input input' selection host plan old new dial dial' channel report
+of_channel {view = view} {left_at = left_at} {leave = leave} {told = told} {store = store} {later = later} {faults = faults} {chosen = chosen} {input = input} {input' = input'} {selection = selection}
+    {host = host} {plan = plan} {old = old} {new = new} {dial = dial} {dial' = dial'} {report = report} own channel same h =
+    subst (λ (c : List Track). HasRelayed view left_at leave told store later faults chosen input input' selection host plan old new dial dial' c report) same h
+
+pub relay-report-requires : goal.relay-report-requires
+relay-report-requires g c =
+    let l = c.in-Ok.ensures.opened.store in
+    record { stands = (l.log, c.in-Ok.field-0.channel, l.stands, l.channel_is); rounds = c.requires.rounds; tries = c.requires.tries }
 
 pub returns-in-Ok-clause-relayed : goal.returns-in-Ok-clause-relayed
 returns-in-Ok-clause-relayed g c =
     let o = c.in-Ok.ensures in
     let e = o.opened in
-    let r = c.relay.ensures.relayed e.log e.channel e.stands e.channel_is in
-    record {
-      archive = c.in-Ok.archive;
-      after = c.relay.new.archive;
+    let l = e.store in
+    let r = c.relay-report.ensures.relayed l.log c.in-Ok.field-0.channel l.stands l.channel_is in
+    of_channel c.in-Ok.field-0.channel _ (cc) (record {
+      archive = c.in-Ok.field-0.archive;
+      after = c.relay-report.new.archive;
       opened = c.open_edge.new.site;
       turned = c.open_edge.new.dial;
       edge = e;
@@ -16,7 +47,79 @@ returns-in-Ok-clause-relayed g c =
       relayed = r.0;
       kept = r.1;
       listed = r.2;
-      below = λ up first last before made was told serves below some. c.relay.ensures.below e.log e.channel up first last before made e.stands e.channel_is was told serves below some;
-      well = λ up first last before made was told serves below patient offers. c.relay.ensures.well e.log e.channel up first last before made e.stands e.channel_is was told serves below patient offers;
-      fault = c.relay.ensures.fault;
-    }
+      below = λ up first last before made was told serves below some. c.relay-report.ensures.below l.log c.in-Ok.field-0.channel up first last before made l.stands l.channel_is was told serves below some;
+      well = λ up first last before made was told serves below patient offers. c.relay-report.ensures.well l.log c.in-Ok.field-0.channel up first last before made l.stands l.channel_is was told serves below patient offers;
+      fault = c.relay-report.ensures.fault;
+    })
+
+pub returns-in-Ok-clause-chosen : goal.returns-in-Ok-clause-chosen
+returns-in-Ok-clause-chosen g c =
+    let o = c.in-Ok.ensures in
+    let e = o.opened in
+    let l = e.store in
+    let r = c.relay-report.ensures.relayed l.log c.in-Ok.field-0.channel l.stands l.channel_is in
+    r.0.adds.link.chosen ∙ o.chosen
+
+pub returns-in-Ok-clause-later : goal.returns-in-Ok-clause-later
+returns-in-Ok-clause-later g c =
+    let o = c.in-Ok.ensures in
+    let e = o.opened in
+    let l = e.store in
+    let r = c.relay-report.ensures.relayed l.log c.in-Ok.field-0.channel l.stands l.channel_is in
+    omega (arith, c.open_edge.ensures.later, r.0.asks.no_fewer)
+
+pub returns-in-Ok-clause-goes_on : goal.returns-in-Ok-clause-goes_on
+returns-in-Ok-clause-goes_on g c =
+    let o = c.in-Ok.ensures in
+    let e = o.opened in
+    let l = e.store in
+    let r = c.relay-report.ensures.relayed l.log c.in-Ok.field-0.channel l.stands l.channel_is in
+    g.met.C.Dial.later_then _ _ _ c.open_edge.ensures.goes_on r.0.asks.goes_on
+
+pub returns-in-Ok-clause-store : goal.returns-in-Ok-clause-store
+returns-in-Ok-clause-store g c =
+    let o = c.in-Ok.ensures in
+    let e = o.opened in
+    let l = e.store in
+    let r = c.relay-report.ensures.relayed l.log c.in-Ok.field-0.channel l.stands l.channel_is in
+    grows-more (g.C.Dial.store c.args.dial.now) (g.C.Dial.store c.open_edge.new.dial) (g.C.Dial.store c.relay-report.new.dial) c.open_edge.ensures.store r.0.asks.grows
+
+pub returns-in-Ok-clause-lasts : goal.returns-in-Ok-clause-lasts
+returns-in-Ok-clause-lasts g c some log one base told =
+    let o = c.in-Ok.ensures in
+    let e = o.opened in
+    let l = e.store in
+    let r = c.relay-report.ensures.relayed l.log c.in-Ok.field-0.channel l.stands l.channel_is in
+    added_lasts g.S.Disk.view g.S.Disk.may_leave g.S.Disk.left_at g.met.S.Disk.contents_pass g.met.S.Disk.told g.met.S.Disk.at_now g.met.S.Disk.now_at
+    c.stores_have_one_reading.ensures.one_list c.bodies_have_one_log.ensures log base c.args.site.now c.open_edge.new.site c.relay-report.new.disk one
+    (c.open_edge.ensures.any_moment some log one) (λ image left. fits_alone l.log image (c.an_image_fits.ensures c.in-Ok.field-0.archive l.log _ c.open_edge.new.site image l.stands left))
+    r.0.adds (c.open_edge.ensures.transcript ∙ told)
+
+pub returns-in-Err-clause-lasts : goal.returns-in-Err-clause-lasts
+returns-in-Err-clause-lasts g c some log one base told =
+    silent_grows g.S.Disk.view g.S.Disk.may_leave g.S.Disk.left_at g.met.S.Disk.at_now log base c.args.site.now c.open_edge.new.site one (λ t image left. c.open_edge.ensures.any_moment some log one)
+    (c.open_edge.ensures.transcript ∙ told)
+
+pub returns-in-Ok-clause-no_fewer : goal.returns-in-Ok-clause-no_fewer
+returns-in-Ok-clause-no_fewer g c =
+    let o = c.in-Ok.ensures in
+    let e = o.opened in
+    let l = e.store in
+    let r = c.relay-report.ensures.relayed l.log c.in-Ok.field-0.channel l.stands l.channel_is in
+    counts_then (g.S.Disk.view c.args.site.now) (g.S.Disk.view c.open_edge.new.site) (g.S.Disk.view c.relay-report.new.disk) c.open_edge.ensures.no_fewer r.0.adds.no_fewer r.0.adds.link.link_faults
+
+pub returns-in-Ok-clause-transcript : goal.returns-in-Ok-clause-transcript
+returns-in-Ok-clause-transcript g c =
+    let o = c.in-Ok.ensures in
+    let e = o.opened in
+    let l = e.store in
+    let r = c.relay-report.ensures.relayed l.log c.in-Ok.field-0.channel l.stands l.channel_is in
+    r.0.adds.link.transcript ∙ c.open_edge.ensures.transcript
+
+pub returns-in-Ok-clause-send_faults : goal.returns-in-Ok-clause-send_faults
+returns-in-Ok-clause-send_faults g c =
+    let o = c.in-Ok.ensures in
+    let e = o.opened in
+    let l = e.store in
+    let r = c.relay-report.ensures.relayed l.log c.in-Ok.field-0.channel l.stands l.channel_is in
+    r.0.adds.link.send_faults ∙ c.open_edge.ensures.send_faults
