@@ -21,13 +21,15 @@ build:
 	rm -f $(PROGRAM)
 	cd crates/smooth && { rt run < /dev/null > /dev/null; test -x out/smooth; }
 
-# The program, its manual page and the units for systemd, for one event and for many.
+# The program, its manual page and the units for systemd, for one event, for many, for an edge and for a standby.
 install: build
 	install -D -m 755 $(PROGRAM) $(DESTDIR)$(PREFIX)/bin/smooth
 	install -D -m 644 docs/smooth.1 $(DESTDIR)$(PREFIX)/share/man/man1/smooth.1
 	install -d $(DESTDIR)$(PREFIX)/lib/systemd/system
 	sed 's|@PREFIX@|$(PREFIX)|' examples/smooth.service > $(DESTDIR)$(PREFIX)/lib/systemd/system/smooth.service
 	sed 's|@PREFIX@|$(PREFIX)|' examples/smooth@.service > $(DESTDIR)$(PREFIX)/lib/systemd/system/smooth@.service
+	sed 's|@PREFIX@|$(PREFIX)|' examples/smooth-edge.service > $(DESTDIR)$(PREFIX)/lib/systemd/system/smooth-edge.service
+	sed 's|@PREFIX@|$(PREFIX)|' examples/smooth-standby.service > $(DESTDIR)$(PREFIX)/lib/systemd/system/smooth-standby.service
 
 # Holds the program against a plain reference in Python, on the samples and on many inputs made of them, and tries it with ffmpeg,
 # curl, nginx and strace, each where it is installed, and with the session of README; then kills, a loss of power, an hour of a push, slow

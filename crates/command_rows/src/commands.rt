@@ -1,7 +1,8 @@
 //! Commands, and what they give.
 use crate::ends::{Ends, failing, most};
 use anyhow::{Result, bail};
-use sm_ends::{CountedSource, MemorySource, ShortSource, Source};
+use sm_ends::{CountedSource, MemorySource, ShortSource, Sink, Source, Tracks};
+use sm_fetch::Dial;
 use sm_model::Bytes;
 use sm_policy::{Fixed, Ladder, Policy, Steps};
 use sm_rows::scripts::{Cut, site};
@@ -19,7 +20,24 @@ fn words_of(alloc: Global, words: &Words) -> Result<Vec<String>> {
     Ok(all)
 }
 
-// Runs the command of these words, with the policies of the program, and gives its status.
+/// Runs the command of these words, with the policies of the program, and gives its status.
+pub fn run_over<I: Source, O: Sink, C: Dial, T: Tracks>(
+    alloc: Global,
+    words: &Words,
+    source: &mut I,
+    sink: &mut O,
+    site: &mut MemorySite,
+    dial: &mut C,
+    tracks: &mut T,
+) -> Result<u8> {
+    let words = words_of(alloc, words)?;
+    let steps: Box<dyn Policy> = Box::new(alloc, Steps::new())?;
+    let ladder: Box<dyn Policy> = Box::new(alloc, Ladder::new())?;
+    let fixed: Box<dyn Policy> = Box::new(alloc, Fixed::new(0))?;
+    let policies = vec![in alloc; steps, ladder, fixed]?;
+    Ok(tool(alloc, &words, source, sink, site, dial, tracks, policies))
+}
+
 fn run<I: Source>(
     alloc: Global,
     words: &Words,
@@ -27,18 +45,19 @@ fn run<I: Source>(
     site: &mut MemorySite,
     ends: &mut Ends,
 ) -> Result<u8> {
-    let words = words_of(alloc, words)?;
-    let steps: Box<dyn Policy> = Box::new(alloc, Steps::new())?;
-    let ladder: Box<dyn Policy> = Box::new(alloc, Ladder::new())?;
-    let fixed: Box<dyn Policy> = Box::new(alloc, Fixed::new(0))?;
-    let policies = vec![in alloc; steps, ladder, fixed]?;
     let Ends { sink, dial, tracks } = ends;
-    Ok(tool(alloc, &words, source, sink, site, dial, tracks, policies))
+    run_over(alloc, words, source, sink, site, dial, tracks)
 }
 
-// Tells the status, and behind it what was printed, as a text between quotes, or that it is the input; where it is no text, in
-// hexadecimal digits on a line of their own.
-fn tell(alloc: Global, status: u8, printed: &[u8], input: &[u8], tale: &mut Tale) -> Result<()> {
+/// Tells the status, and behind it what was printed, as a text between quotes, or that it is the input; where it is no text, in
+/// hexadecimal digits on a line of their own.
+pub fn tell(
+    alloc: Global,
+    status: u8,
+    printed: &[u8],
+    input: &[u8],
+    tale: &mut Tale,
+) -> Result<()> {
     if !printed.is_empty() && printed == input {
         return tale.say(format!(in alloc; "{status} the input")?.as_str());
     }

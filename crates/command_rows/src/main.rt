@@ -5,6 +5,7 @@
 #![tactic(auto)]
 
 mod commands;
+mod edges;
 mod ends;
 mod exchanges;
 mod faults;
@@ -17,7 +18,7 @@ use sm_rows::{Caller, Case, run_pages};
 use std::alloc::Global;
 
 // In the order in which they are read: names and blocks of one are known in those behind it.
-const PAGES: [&str; 12] = [
+const PAGES: [&str; 13] = [
     "fixtures.txt",
     "exchanges.txt",
     "words.txt",
@@ -28,6 +29,7 @@ const PAGES: [&str; 12] = [
     "plays.txt",
     "stores.txt",
     "exports.txt",
+    "relays.txt",
     "rehearsals.txt",
     "faults.txt",
 ];
@@ -37,6 +39,8 @@ struct Rows;
 impl Caller for Rows {
     fn answer(alloc: Global, case: &Case<'_>) -> Result<String> {
         match case.call() {
+            "edges" => edges::play(alloc, case),
+            "stops" => edges::play_stops(alloc, case),
             "fronts" => commands::play_fronts(alloc, case),
             "exchanges" => exchanges::play(alloc, case),
             "faults" => faults::told(alloc, case),

@@ -46,12 +46,13 @@ fn head(reply: &[u8]) -> &[u8] {
     }
 }
 
-fn no_numbers(alloc: Global) -> Numbers {
+/// No exchange, and no call.
+pub fn no_numbers(alloc: Global) -> Numbers {
     Numbers::from_vec(Vec::new(alloc))
 }
 
-// The origin of a rehearsal of that number and size, at which nothing is lost and nothing fails any more.
-fn origin(alloc: Global, number: u64, size: u64) -> Result<OriginDial<MemorySite>> {
+/// The origin of a rehearsal of that number and size, at which nothing is lost and nothing fails any more.
+pub fn origin(alloc: Global, number: u64, size: u64) -> Result<OriginDial<MemorySite>> {
     if number > 2_147_483_647 || size > 2_000 {
         bail!("no world");
     }

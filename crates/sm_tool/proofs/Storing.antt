@@ -97,7 +97,7 @@ placed fault.Damaged answer line is e = absurd (let no = sym is ∙ e in cc)
 placed fault.NoMemory answer line is e = absurd (let no = sym is ∙ e in cc)
 
 -- the place of the fault behind such an answer
-placed_by : (why : StoreFault) (r : Result Answer NoMemory) (answer : Answer) (line : List ℕ) → IfOk r (λ a. Tells why a) → answer ≡ or_starved r → answer ≡ NotAStore line
+pub placed_by : (why : StoreFault) (r : Result Answer NoMemory) (answer : Answer) (line : List ℕ) → IfOk r (λ a. Tells why a) → answer ≡ or_starved r → answer ≡ NotAStore line
     → (at : ℕ) × (why ≡ fault.NotAStore at)
 placed_by why (Ok a) answer line tells is e = placed why a line tells (sym is ∙ e)
 placed_by why (Err none) answer line tells is e = absurd (let no = sym is ∙ e in cc)

@@ -2,6 +2,8 @@ pub mod Answers
 pub mod Stores
 pub mod Exports
 pub mod Origins
+pub mod Misses
 pub mod Plays
+pub mod Edges
 pub mod Rehearsals
 pub mod Ran

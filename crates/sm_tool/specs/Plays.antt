@@ -1,5 +1,5 @@
 -- What `play` answers.
-use Rattle.std.specs.Prelude.{◌≡◌, ◌≤◌, ◌⊎◌, ◌++◌, ℕ, List, [], ◌∷◌, Option, codes, decimal, slice_get, unwrap_or}
+use Rattle.std.specs.Prelude.{◌≡◌, ◌≤◌, ◌⊎◌, ◌++◌, ℕ, List, [], Option, codes, decimal, slice_get, unwrap_or}
 use Rattle.sm_ends.specs.Faults.{Rose}
 use Rattle.sm_model.specs.declared.entry.Entry.{Entry}
 use Rattle.sm_fetch.specs.declared.dial.DialError.{DialError}
@@ -8,8 +8,6 @@ use Rattle.sm_fetch.specs.Exchanges.{IsTurnedTo}
 use Rattle.sm_fetch.specs.Origins.{Grows}
 use Rattle.sm_client.specs.Dials.{Dialed, carried}
 use Rattle.sm_client.specs.declared.plan.Plan.{Plan}
-use Rattle.sm_client.specs.declared.report.Miss.{Miss}
-use Rattle.sm_client.specs.declared.report.Miss.TheVariants as miss
 use Rattle.sm_client.specs.declared.report.End.{End}
 use Rattle.sm_client.specs.declared.report.End.TheVariants as ends
 use Rattle.sm_client.specs.declared.report.Report.{Report}
@@ -17,6 +15,7 @@ use Rattle.sm_client.specs.Turns.{Meaning}
 use Rattle.sm_client.specs.Plays.{Played, PlayedKept}
 use Rattle.sm_client.specs.Served.{PlayedServed}
 use Rattle.sm_client.specs.Pushing.{Line}
+use Rattle.sm_tool.specs.Misses.{gave_up_line, no_manifest_line}
 use Rattle.sm_tool.specs.declared.answer.Answer.{Answer}
 use Rattle.sm_tool.specs.declared.answer.Answer.TheVariants.{Found, Undone, LinkFault, TrackFault, Starved}
 
@@ -35,23 +34,6 @@ no_more_line expected = codes "error: NoMore " ++ (decimal expected ++ codes "\n
 
 abbrev pub hole_line : ℕ → ℕ → List ℕ
 hole_line expected next = codes "error: Hole " ++ (decimal expected ++ (codes " " ++ (decimal next ++ codes "\n")))
-
--- what came of a try, behind a space
-abbrev pub miss_word : Miss → List ℕ
-miss_word miss.Lost = codes " Lost"
-miss_word miss.Cut = codes " Cut"
-miss_word (miss.Unreadable at) = codes " Unreadable-" ++ decimal at
-miss_word (miss.Status status) = codes " Status-" ++ decimal status
-
-abbrev pub miss_words : List Miss → List ℕ
-miss_words [] = []
-miss_words (m ∷ misses) = miss_word m ++ miss_words misses
-
-abbrev pub gave_up_line : ℕ → List Miss → List ℕ
-gave_up_line time outcomes = (codes "error: GaveUp " ++ decimal time) ++ (miss_words outcomes ++ codes "\n")
-
-abbrev pub no_manifest_line : List Miss → List ℕ
-no_manifest_line outcomes = codes "error: NoManifest" ++ (miss_words outcomes ++ codes "\n")
 
 -- the name of that place, from 0
 abbrev pub name_at : List (List ℕ) → ℕ → List ℕ

@@ -5,6 +5,7 @@ ghost use Rattle.sm_tool.specs.declared.answer.Answer.TheVariants as answers;
 ghost use Rattle.sm_tool.specs.Ran.{IsRun, Means, PickMeans, Prints};
 
 use crate::answer::Answer;
+use crate::edges::{relay, standby};
 use crate::exports::export;
 use crate::origins::push;
 use crate::play::play;
@@ -57,7 +58,9 @@ fn answer_to<I: Source, O: Sink, S: Site, C: Dial, T: Tracks>(
     policies: Vec<Box<dyn Policy>>,
 ) -> Answer
     requires policies { length policies.items ≡ 3 }
-    ensures means { Means S.Disk.view S.Disk.may_leave S.Disk.left_at C.store (record { pick = pick_after; retired = retired_after }) policies.items (map string_bytes words.now)
+    ensures means { Means S.Disk.view S.Disk.may_leave S.Disk.left_at
+        (record { log = C.log; store = C.store; later = C.later; faults = C.dial_faults; chosen = C.chosen })
+        (record { pick = pick_after; retired = retired_after }) policies.items (map string_bytes words.now)
         (record {
           input = record { told = I.left input.old; faults = I.faults input.old };
           dial = record { log = C.log dial.old; faults = C.dial_faults dial.old; chosen = C.chosen dial.old };
@@ -79,6 +82,8 @@ fn answer_to<I: Source, O: Sink, S: Site, C: Dial, T: Tracks>(
         Ok(Some(Order::Serve(order))) => serve(alloc, input, site, order),
         Ok(Some(Order::Push(order))) => push(alloc, input, dial, &order),
         Ok(Some(Order::Play(order))) => play(alloc, dial, tracks, policies, &order),
+        Ok(Some(Order::Relay(order))) => relay(alloc, input, site, dial, order),
+        Ok(Some(Order::Standby(order))) => standby(alloc, input, site, dial, order),
         Ok(Some(Order::List { store })) => list(alloc, site, store),
         Ok(Some(Order::Rehearse { number, size })) => rehearse(alloc, number, size, policies),
         Ok(Some(Order::Export(order))) => export(alloc, input, output, site, order),
@@ -101,6 +106,9 @@ fn answer_to<I: Source, O: Sink, S: Site, C: Dial, T: Tracks>(
 /// `play HOST PORT PATH STREAM... [--from N] [--count N] [--tries N] [--refresh N]` plays streams of the channel with that path at that
 /// origin, one after another, the first to track 0, and writes how many fragments it wrote, or why it ended before there were as many
 /// as were wanted. The policies act in turn.
+/// `relay HOST PORT PATH STORE [--rounds N] [--tries N]` reads a ladder from `input`, declares it in the store in that folder, pulls into that
+/// what the origin lists of the ladder's tracks, and writes how many fragments it kept, or why it ended before there were as many rounds as
+/// were wanted. `standby` with the same words rebuilds there the log of that origin, fragment by fragment in its order.
 /// `rehearse NUMBER SIZE` runs the world of that number in memory, with so many rounds of pushes and three clients, each with one of
 /// the policies, and writes what came of it in numbers; it uses none of the ends.
 /// `export STORE NAME BITRATE` reads a pushed header from `input`, alone or with what was pushed behind it, and writes that header and then
@@ -118,7 +126,9 @@ pub fn tool<I: Source, O: Sink, S: Site, C: Dial, T: Tracks>(
     policies: Vec<Box<dyn Policy>>,
 ) -> u8
     requires policies { length policies.items ≡ 3 }
-    ensures run { IsRun S.Disk.view S.Disk.may_leave S.Disk.left_at C.store (record { pick = pick_after; retired = retired_after }) policies.items (map string_bytes words.now)
+    ensures run { IsRun S.Disk.view S.Disk.may_leave S.Disk.left_at
+        (record { log = C.log; store = C.store; later = C.later; faults = C.dial_faults; chosen = C.chosen })
+        (record { pick = pick_after; retired = retired_after }) policies.items (map string_bytes words.now)
         (record {
           input = record { told = I.left input.old; faults = I.faults input.old };
           dial = record { log = C.log dial.old; faults = C.dial_faults dial.old; chosen = C.chosen dial.old };

@@ -3,7 +3,9 @@
 
 mod answer;
 mod command;
+mod edges;
 mod exports;
+mod misses;
 mod origins;
 mod play;
 mod print;

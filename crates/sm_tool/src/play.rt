@@ -1,11 +1,12 @@
 //! Playing streams of an origin.
-ghost use Rattle.std.specs.Prelude.{◌≡◌, ◌<◌, ◌++◌, codes, length, string_bytes, IfOk, IfErr, OnOk};
+ghost use Rattle.std.specs.Prelude.{◌≡◌, ◌<◌, length, IfOk, IfErr};
 ghost use Rattle.sm_words.specs.Orders.{IsPlayable};
-ghost use Rattle.sm_tool.specs.Plays.{HasPlayed, PlayMeans, TellsPlay, WhyUnplayed, gave_up_line, hole_line, miss_word, miss_words};
-ghost use Rattle.sm_tool.specs.Plays.{name_at, no_manifest_line, no_more_line, no_stream_line, played_line};
+ghost use Rattle.sm_tool.specs.Plays.{HasPlayed, PlayMeans, TellsPlay, WhyUnplayed, hole_line};
+ghost use Rattle.sm_tool.specs.Plays.{name_at, no_more_line, no_stream_line, played_line};
 
 use crate::answer::Answer;
-use sm_client::{End, Miss, Names, Outcomes, Plan, Report};
+use crate::misses::{gave_up_line, no_manifest_line};
+use sm_client::{End, Names, Plan, Report};
 use sm_ends::Tracks;
 use sm_fetch::{Dial, DialError};
 use sm_model::{Bytes, NoMemory};
@@ -32,46 +33,6 @@ fn hole_line(alloc: Global, expected: u64, next: u64) -> Result<Bytes, NoMemory>
 {
     let line = format!(in alloc; "error: Hole {expected} {next}\n")?;
     Ok(Bytes::from_vec(line.into_bytes()))
-}
-
-// What came in place of what was asked, behind a space.
-fn miss_word(alloc: Global, miss: Miss) -> Result<String, NoMemory>
-    ensures { IfOk result (λ word. string_bytes word ≡ miss_word miss) }
-{
-    Ok(match miss {
-        Miss::Lost => String::from_str(alloc, " Lost")?,
-        Miss::Cut => String::from_str(alloc, " Cut")?,
-        Miss::Unreadable { at } => format!(in alloc; " Unreadable-{at}")?,
-        Miss::Status(status) => format!(in alloc; " Status-{status}")?,
-    })
-}
-
-// Adds what came of the tries, in their order, and ends the line.
-fn end_with(alloc: Global, line: &mut Vec<u8>, outcomes: &[Miss]) -> Result<(), NoMemory>
-    ensures { OnOk result (line.new.items ≡ line.old.items ++ (miss_words outcomes.now ++ codes "\n")) }
-{
-    for miss in outcomes {
-        let word = miss_word(alloc, *miss)?;
-        line.extend_from_slice(word.as_bytes())?;
-    }
-    line.extend_from_slice(b"\n")?;
-    Ok(())
-}
-
-fn gave_up_line(alloc: Global, time: u64, outcomes: &Outcomes) -> Result<Bytes, NoMemory>
-    ensures { IfOk result (λ line. line ≡ gave_up_line time outcomes.now) }
-{
-    let mut line = format!(in alloc; "error: GaveUp {time}")?.into_bytes();
-    end_with(alloc, &mut line, outcomes.as_slice())?;
-    Ok(Bytes::from_vec(line))
-}
-
-fn no_manifest_line(alloc: Global, outcomes: &Outcomes) -> Result<Bytes, NoMemory>
-    ensures { IfOk result (λ line. line ≡ no_manifest_line outcomes.now) }
-{
-    let mut line = Vec::from_slice(alloc, b"error: NoManifest")?;
-    end_with(alloc, &mut line, outcomes.as_slice())?;
-    Ok(Bytes::from_vec(line))
 }
 
 // The name of that place among the streams.

@@ -5,8 +5,8 @@ use Rattle.clap.specs.declared.parser.matches.ArgMatches.{ArgMatches}
 use Rattle.clap.specs.declared.parser.matches.Found.{Found}
 use Rattle.clap.proofs.OnLiterals.{clap_on_literals}
 use Rattle.clap.proofs.WalkLemmas.{first_value-rows, one_text-rows}
-use Rattle.sm_words.specs.Words.{Text, ExportTexts, PushTexts, ServeTexts}
-use Rattle.sm_words.specs.Clapped.{export_app, export_words, list_app, list_words, pick_app, pick_words, push_app, push_words, rehearse_app, rehearse_words, serve_app, serve_words}
+use Rattle.sm_words.specs.Words.{Text, EdgeTexts, ExportTexts, PushTexts, ServeTexts}
+use Rattle.sm_words.specs.Clapped.{edge_app, edge_words, export_app, export_words, list_app, list_words, pick_app, pick_words, push_app, push_words, rehearse_app, rehearse_words, serve_app, serve_words}
 
 -- the rows of a command that is known, at words that are known
 pub rows_read : (a b : App) (words ws : List Text) (m : ArgMatches) → a ≡ b → words ≡ ws → is_simple b ≡ true → HasMatchesOf a words m
@@ -119,6 +119,40 @@ name_read x = refl
 pub bitrate_read : (x : ExportTexts) → first_of (codes "BITRATE") (matches_of export_app (export_words x)) ≡ Some x.bitrate
 unfolding clap_on_literals
 bitrate_read x = refl
+
+-- ---- relay and standby
+
+pub edge_simple : is_simple edge_app ≡ true
+unfolding clap_on_literals
+edge_simple = refl
+
+pub edge_taken : (x : EdgeTexts) → takes edge_app (edge_words x) ≡ true
+unfolding clap_on_literals
+edge_taken x = refl
+
+pub edge_host_read : (x : EdgeTexts) → first_of (codes "HOST") (matches_of edge_app (edge_words x)) ≡ Some x.host
+unfolding clap_on_literals
+edge_host_read x = refl
+
+pub edge_port_read : (x : EdgeTexts) → first_of (codes "PORT") (matches_of edge_app (edge_words x)) ≡ Some x.port
+unfolding clap_on_literals
+edge_port_read x = refl
+
+pub edge_path_read : (x : EdgeTexts) → first_of (codes "PATH") (matches_of edge_app (edge_words x)) ≡ Some x.path
+unfolding clap_on_literals
+edge_path_read x = refl
+
+pub edge_store_read : (x : EdgeTexts) → first_of (codes "STORE") (matches_of edge_app (edge_words x)) ≡ Some x.store
+unfolding clap_on_literals
+edge_store_read x = refl
+
+pub edge_rounds_read : (x : EdgeTexts) → first_of (codes "rounds") (matches_of edge_app (edge_words x)) ≡ Some x.rounds
+unfolding clap_on_literals
+edge_rounds_read x = refl
+
+pub edge_tries_read : (x : EdgeTexts) → first_of (codes "tries") (matches_of edge_app (edge_words x)) ≡ Some x.tries
+unfolding clap_on_literals
+edge_tries_read x = refl
 
 -- ---- serve
 

@@ -7,19 +7,21 @@ use Rattle.clap.proofs.WalkLemmas.{both}
 use Rattle.sm_model.specs.Digits.{is_digit, decimal_from}
 use Rattle.sm_model.specs.Names.{is_name}
 use Rattle.sm_client.specs.declared.plan.Plan.{Plan}
-use Rattle.sm_words.specs.Options.{play_options, serve_options}
-use Rattle.sm_words.specs.Words.{Text, Read, Wanted, Pick, Serve, Push, Play, Listing, Rehearse, Export, Help, Version, ExportTexts, PlayNumbers, PlayTexts, PushTexts, ServeTexts, asked, is, is_numeral, numeral, read}
+use Rattle.sm_words.specs.Options.{edge_options, play_options, serve_options}
+use Rattle.sm_words.specs.Words.{Text, Read, Pulling, Wanted, Pick, Serve, Push, Play, Relay, Standby, Listing, Rehearse, Export, Help, Version, EdgeTexts, ExportTexts, PlayNumbers, PlayTexts, PushTexts, ServeTexts, asked, is, is_numeral, numeral, read}
 use Rattle.sm_words.specs.Words.{filled, list_of, number_or, numbers_by, pick_by, pick_of, plan_by, play_by, play_of, play_texts, push_by, push_of, push_texts, serve_by, serve_of}
 use Rattle.sm_words.specs.declared.topic.Topic.TheVariants as topics
-use Rattle.sm_words.specs.Words.{alone, help_by, topic_named, export_by, export_of, export_texts, name_by, rehearse_by, rehearse_of, serve_texts, start_by, streams_by, two_words, only_word}
+use Rattle.sm_words.specs.Words.{alone, edge_by, edge_of, edge_texts, pulling_by, help_by, topic_named, export_by, export_of, export_texts, name_by, rehearse_by, rehearse_of, serve_texts, start_by, streams_by, two_words, only_word}
 use Rattle.sm_words.specs.Places.{is_host, is_path}
-use Rattle.sm_words.specs.Orders.{IsPlayable, IsWorld}
+use Rattle.sm_words.specs.Orders.{IsPlayable, IsPullable, IsWorld}
 
 abbrev IsFit : Wanted → Type 0
 IsFit (Pick track time) = Unit {0}
 IsFit (Serve s) = Unit {0}
 IsFit (Push host port path id) = Unit {0}
 IsFit (Play plan) = IsPlayable plan
+IsFit (Relay e) = IsPullable e
+IsFit (Standby e) = IsPullable e
 IsFit (Listing store) = Unit {0}
 IsFit (Rehearse number size) = IsWorld number size
 IsFit (Export store name bitrate) = Unit {0}
@@ -171,6 +173,37 @@ export_fits x =
     of_then IsFit (λ store. option_map (λ name. Export store name bitrate) (name_by x.name)) (filled x.store) (λ store s.
     of_map IsFit (λ name. Export store name bitrate) (name_by x.name) (λ name n. tt)))
 
+-- numbers make what is pulled
+edge_fits : (x : EdgeTexts) → IfSome (edge_by x) IsPullable
+edge_fits x =
+    of_then IsPullable (λ port.
+    option_and_then (λ rounds.
+    option_and_then (λ tries.
+    option_and_then (λ store. cond (is_host x.host && is_path x.path) (Some (pulling_by x port rounds tries store)) None) (filled x.store))
+    (numeral 1 16 x.tries))
+    (numeral 1 1000000 x.rounds))
+    (numeral 1 65535 x.port) (λ port p.
+    of_then IsPullable (λ rounds.
+    option_and_then (λ tries.
+    option_and_then (λ store. cond (is_host x.host && is_path x.path) (Some (pulling_by x port rounds tries store)) None) (filled x.store))
+    (numeral 1 16 x.tries))
+    (numeral 1 1000000 x.rounds) (λ rounds r.
+    let many = between 1 1000000 x.rounds rounds r in
+    of_then IsPullable (λ tries.
+    option_and_then (λ store. cond (is_host x.host && is_path x.path) (Some (pulling_by x port rounds tries store)) None) (filled x.store))
+    (numeral 1 16 x.tries) (λ tries t.
+    let patient = between 1 16 x.tries tries t in
+    of_then IsPullable (λ store. cond (is_host x.host && is_path x.path) (Some (pulling_by x port rounds tries store)) None) (filled x.store) (λ store s.
+    of_both IsPullable (is_host x.host && is_path x.path) (Some (pulling_by x port rounds tries store)) None
+    (record { rounds = omega (arith, many.low_is); tries = omega (arith, patient.low_is) }) tt))))
+
+edge_read_fits : (o : Option Read) → IfSome (option_and_then edge_of o) IsPullable
+edge_read_fits o = of_then IsPullable edge_of o (λ r e. of_then IsPullable edge_by (edge_texts r) (λ x s. edge_fits x))
+
+pulls : (to : Pulling → Wanted) → ((e : Pulling) → IsPullable e → IsFit (to e)) → (o : Option Pulling) → IfSome o IsPullable → IfSome (option_map to o) IsFit
+pulls to so None h = tt
+pulls to so (Some e) h = so e h
+
 -- the words behind a command, each of which is asked for by what is read of them
 of_read : {A : Type 0} (texts : Read → Option A) (by : A → Option Wanted) (o : Option Read) → ((x : A) → IfSome (by x) IsFit)
     → IfSome (option_and_then (λ r. option_and_then by (texts r)) o) IsFit
@@ -203,15 +236,26 @@ asked_fits (command ∷ words) =
     (of_read (λ r. two_words r.words) (λ x. rehearse_by x.0 x.1) (read [] words) rehearse_fits)
     (of_both IsFit (is command (codes "export")) (option_and_then export_of (read [] words)) _
     (of_read (λ r. export_texts r.words) export_by (read [] words) export_fits)
+    (of_both IsFit (is command (codes "relay")) (option_map (λ e. Relay e) (option_and_then edge_of (read edge_options words))) _
+    (pulls (λ e. Relay e) (λ e h. h) (option_and_then edge_of (read edge_options words)) (edge_read_fits (read edge_options words)))
+    (of_both IsFit (is command (codes "standby")) (option_map (λ e. Standby e) (option_and_then edge_of (read edge_options words))) _
+    (pulls (λ e. Standby e) (λ e h. h) (option_and_then edge_of (read edge_options words)) (edge_read_fits (read edge_options words)))
     (of_both IsFit (is command (codes "help")) (help_by words) _ (help_fits words)
     (of_both IsFit (is command (codes "--help")) (alone words (Help topics.All)) _ (alone_fits words (Help topics.All) tt)
     (of_both IsFit (is command (codes "version")) (alone words Version) _ (alone_fits words Version tt)
     (of_both IsFit (is command (codes "--version")) (alone words Version) None (alone_fits words Version tt)
-    tt))))))))))
+    tt))))))))))))
 
 -- what the words ask to play may be played
 pub playable : (plan : Plan) (words : List Text) → Some (Play plan) ≡ asked words → IsPlayable plan
 playable plan words e = if_some IsFit (asked words) (Play plan) (asked_fits words) (sym e)
+
+-- and what they ask to relay or to follow may be pulled
+pub relayable : (e : Pulling) (words : List Text) → Some (Relay e) ≡ asked words → IsPullable e
+relayable e words is = if_some IsFit (asked words) (Relay e) (asked_fits words) (sym is)
+
+pub followable : (e : Pulling) (words : List Text) → Some (Standby e) ≡ asked words → IsPullable e
+followable e words is = if_some IsFit (asked words) (Standby e) (asked_fits words) (sym is)
 
 -- and what they ask to rehearse may be rehearsed
 pub rehearsable : (number size : ℕ) (words : List Text) → Some (Rehearse number size) ≡ asked words → IsWorld number size

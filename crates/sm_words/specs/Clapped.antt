@@ -2,7 +2,7 @@
 use Rattle.std.specs.Prelude.{Bool, true, false, List, [], ◌∷◌, ◌++◌, codes, Option, Some, None}
 use Rattle.clap.specs.Words.{App, Rule, new_app, new_rule, with_rule}
 use Rattle.clap.specs.declared.builder.action.ArgAction.TheVariants.{Append, Set, SetTrue}
-use Rattle.sm_words.specs.Words.{Text, ExportTexts, PlayTexts, PushTexts, ServeTexts}
+use Rattle.sm_words.specs.Words.{Text, EdgeTexts, ExportTexts, PlayTexts, PushTexts, ServeTexts}
 
 abbrev pub option_rule : Text → Rule
 option_rule id = record (new_rule id) { long = Some id; action = Some Set }
@@ -84,6 +84,20 @@ play_app =
     (word_rule (codes "PATH")))
     (words_rule (codes "STREAM"))
 
+-- `relay` and `standby`, whose words are the same
+abbrev pub edge_options_app : App
+edge_options_app = with_rule (with_rule (without_help (new_app (codes "edge"))) (option_rule (codes "rounds"))) (option_rule (codes "tries"))
+
+abbrev pub edge_app : App
+edge_app =
+    with_rule
+    (with_rule
+    (with_rule
+    (with_rule edge_options_app (word_rule (codes "HOST")))
+    (word_rule (codes "PORT")))
+    (word_rule (codes "PATH")))
+    (word_rule (codes "STORE"))
+
 -- ---- the words as they are put: the options, as `--name=value`, before `--` and the other words
 
 abbrev pub ladder_words : Bool → List Text
@@ -113,6 +127,10 @@ push_words x = codes "push" ∷ codes "--" ∷ x.host ∷ x.port ∷ x.path ∷ 
 
 abbrev pub export_words : ExportTexts → List Text
 export_words x = codes "export" ∷ codes "--" ∷ x.store ∷ x.name ∷ x.bitrate ∷ []
+
+abbrev pub edge_words : EdgeTexts → List Text
+edge_words x =
+    codes "edge" ∷ (codes "--rounds=" ++ x.rounds) ∷ (codes "--tries=" ++ x.tries) ∷ codes "--" ∷ x.host ∷ x.port ∷ x.path ∷ x.store ∷ []
 
 abbrev pub from_words : Option Text → List Text
 from_words None = []

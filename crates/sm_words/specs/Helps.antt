@@ -5,11 +5,13 @@ use Rattle.sm_words.specs.declared.topic.Topic.TheVariants as topic
 
 -- how its words stand
 abbrev pub usage_of : Topic → List ℕ
-usage_of topic.All = codes "usage: smooth COMMAND [WORDS], and one of\n    serve list push play pick export rehearse help version\n"
+usage_of topic.All = codes "usage: smooth COMMAND [WORDS], and one of\n    serve list push play relay standby pick export rehearse help version\n"
 usage_of topic.Serve = codes "usage: smooth serve STORE --port N [--bind ADDRESS] [--ladder] [--journal FILE] [--turns N]\n"
 usage_of topic.List = codes "usage: smooth list STORE\n"
 usage_of topic.Push = codes "usage: smooth push HOST PORT PATH ID < PUSH\n"
 usage_of topic.Play = codes "usage: smooth play HOST PORT PATH STREAM... [--from N] [--count N] [--tries N] [--refresh N]\n"
+usage_of topic.Relay = codes "usage: smooth relay HOST PORT PATH STORE [--rounds N] [--tries N] < LADDER\n"
+usage_of topic.Standby = codes "usage: smooth standby HOST PORT PATH STORE [--rounds N] [--tries N] < LADDER\n"
 usage_of topic.Pick = codes "usage: smooth pick TRACK TIME < PUSH > FRAGMENT\n"
 usage_of topic.Export = codes "usage: smooth export STORE NAME BITRATE < HEADER > FILE\n"
 usage_of topic.Rehearse = codes "usage: smooth rehearse NUMBER SIZE\n"
@@ -24,6 +26,10 @@ help_of topic.All =
     ++ (codes "  smooth push HOST PORT PATH ID  sends a push to an origin\n"
     ++ (codes "  smooth play HOST PORT PATH STREAM...\n"
     ++ (codes "                                 plays streams of an origin into files\n"
+    ++ (codes "  smooth relay HOST PORT PATH STORE\n"
+    ++ (codes "                                 pulls what an origin lists into a store\n"
+    ++ (codes "  smooth standby HOST PORT PATH STORE\n"
+    ++ (codes "                                 rebuilds the store of an origin, to take over\n"
     ++ (codes "  smooth pick TRACK TIME         takes one fragment out of a push\n"
     ++ (codes "  smooth export STORE NAME BITRATE\n"
     ++ (codes "                                 writes one quality of a store as a file\n"
@@ -31,7 +37,7 @@ help_of topic.All =
     ++ (codes "  smooth help COMMAND            says more of a command\n"
     ++ (codes "  smooth version                 says which version this is\n"
     ++ (codes "\n"
-    ++ (codes "An option is written --name N or --name=N. Behind -- no word is an option.\n"))))))))))))))
+    ++ (codes "An option is written --name N or --name=N. Behind -- no word is an option.\n"))))))))))))))))))
 help_of topic.Serve =
     codes "usage: smooth serve STORE --port N [--bind ADDRESS] [--ladder] [--journal FILE] [--turns N]\n"
     ++ (codes "\n"
@@ -73,6 +79,30 @@ help_of topic.Play =
     ++ (codes "  --refresh N     how many manifests are read for one start, 1 to 10000; default 3\n"
     ++ (codes "\n"
     ++ (codes "  smooth play localhost 8080 live video audio --count 10\n")))))))))))
+help_of topic.Relay =
+    codes "usage: smooth relay HOST PORT PATH STORE [--rounds N] [--tries N] < LADDER\n"
+    ++ (codes "\n"
+    ++ (codes "Pulls what the origin at HOST and PORT lists of /PATH.isml into the store in the folder STORE, which is\n"
+    ++ (codes "made where it isn't there. The ladder in the input, at most 1048576 bytes, is the tracks that are pulled;\n"
+    ++ (codes "it is declared where the store has none. What is kept is served by serve.\n"
+    ++ (codes "\n"
+    ++ (codes "  PORT            1 to 65535\n"
+    ++ (codes "  --rounds N      how often the manifest is read, 1 to 1000000; default 1000000\n"
+    ++ (codes "  --tries N       how often each thing is asked for, 1 to 16; default 3\n"
+    ++ (codes "\n"
+    ++ (codes "  smooth relay origin.example.com 8080 live /var/lib/smooth/edge < ladder.xml\n"))))))))))
+help_of topic.Standby =
+    codes "usage: smooth standby HOST PORT PATH STORE [--rounds N] [--tries N] < LADDER\n"
+    ++ (codes "\n"
+    ++ (codes "Follows the primary at HOST and PORT: rebuilds its store of /PATH.isml, fragment by fragment in its order,\n"
+    ++ (codes "in the folder STORE, which is made where it isn't there. The ladder in the input, at most 1048576 bytes,\n"
+    ++ (codes "is that of the primary. Where the primary is gone, serve takes over from the store.\n"
+    ++ (codes "\n"
+    ++ (codes "  PORT            1 to 65535\n"
+    ++ (codes "  --rounds N      how often the manifest is read, 1 to 1000000; default 1000000\n"
+    ++ (codes "  --tries N       how often each thing is asked for, 1 to 16; default 3\n"
+    ++ (codes "\n"
+    ++ (codes "  smooth standby primary.example.com 8080 live /var/lib/smooth/store < ladder.xml\n"))))))))))
 help_of topic.Pick =
     codes "usage: smooth pick TRACK TIME < PUSH > FRAGMENT\n"
     ++ (codes "\n"

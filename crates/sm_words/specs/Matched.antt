@@ -5,7 +5,8 @@ use Rattle.sm_words.specs.declared.matched.ServeTexts.{ServeTexts}
 use Rattle.sm_words.specs.declared.matched.PushTexts.{PushTexts}
 use Rattle.sm_words.specs.declared.matched.PlayTexts.{PlayTexts}
 use Rattle.sm_words.specs.declared.matched.ExportTexts.{ExportTexts}
-use Rattle.sm_words.specs.Words.{ExportTexts as Filed, PlayTexts as Played, PushTexts as Sent, ServeTexts as Asked}
+use Rattle.sm_words.specs.declared.matched.EdgeTexts.{EdgeTexts}
+use Rattle.sm_words.specs.Words.{EdgeTexts as Pulled, ExportTexts as Filed, PlayTexts as Played, PushTexts as Sent, ServeTexts as Asked}
 
 pub record IsReadOf (texts : ServeTexts) (x : Asked) : Type 0 where
   pub port : option_map string_bytes texts.port ≡ Some x.port
@@ -25,6 +26,14 @@ pub record IsExportRead (texts : ExportTexts) (x : Filed) : Type 0 where
   pub store : option_map string_bytes texts.store ≡ Some x.store
   pub name : option_map string_bytes texts.name ≡ Some x.name
   pub bitrate : option_map string_bytes texts.bitrate ≡ Some x.bitrate
+
+pub record IsEdgeRead (texts : EdgeTexts) (x : Pulled) : Type 0 where
+  pub host : option_map string_bytes texts.host ≡ Some x.host
+  pub port : option_map string_bytes texts.port ≡ Some x.port
+  pub path : option_map string_bytes texts.path ≡ Some x.path
+  pub store : option_map string_bytes texts.store ≡ Some x.store
+  pub rounds : option_map string_bytes texts.rounds ≡ Some x.rounds
+  pub tries : option_map string_bytes texts.tries ≡ Some x.tries
 
 pub record IsPlayRead (texts : PlayTexts) (x : Played) : Type 0 where
   pub host : option_map string_bytes texts.host ≡ Some x.host

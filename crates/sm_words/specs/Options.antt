@@ -1,7 +1,7 @@
 -- The options of the commands.
 use Rattle.std.specs.Prelude.{ℕ, Bool, true, false, List, codes, ◌==◌, [], ◌∷◌}
 use Rattle.sm_words.specs.declared.option.Name.{Name}
-use Rattle.sm_words.specs.declared.option.Name.TheVariants.{Port, Ladder, Turns, Bind, Journal, From, Count, Tries, Refresh}
+use Rattle.sm_words.specs.declared.option.Name.TheVariants.{Port, Ladder, Turns, Bind, Journal, From, Count, Tries, Refresh, Rounds}
 
 -- as it is written
 abbrev pub text_of : Name → List ℕ
@@ -14,6 +14,7 @@ text_of From = codes "--from"
 text_of Count = codes "--count"
 text_of Tries = codes "--tries"
 text_of Refresh = codes "--refresh"
+text_of Rounds = codes "--rounds"
 
 -- whether a value belongs to it
 abbrev pub has_value : Name → Bool
@@ -26,6 +27,7 @@ has_value From = true
 has_value Count = true
 has_value Tries = true
 has_value Refresh = true
+has_value Rounds = true
 
 abbrev pub number_of : Name → ℕ
 number_of Port = 0
@@ -37,6 +39,7 @@ number_of Tries = 5
 number_of Refresh = 6
 number_of Bind = 7
 number_of Journal = 8
+number_of Rounds = 9
 
 abbrev pub is_same : Name → Name → Bool
 is_same a b = number_of a == number_of b
@@ -48,3 +51,7 @@ serve_options = Port ∷ Ladder ∷ Turns ∷ Bind ∷ Journal ∷ []
 -- the options of `play`
 abbrev pub play_options : List Name
 play_options = From ∷ Count ∷ Tries ∷ Refresh ∷ []
+
+-- the options of `relay` and of `standby`
+abbrev pub edge_options : List Name
+edge_options = Rounds ∷ Tries ∷ []

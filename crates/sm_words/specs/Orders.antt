@@ -6,7 +6,8 @@ use Rattle.sm_words.specs.declared.order.Order.{Order}
 use Rattle.sm_words.specs.declared.order.Order.TheVariants as order
 use Rattle.sm_words.specs.declared.order.PlayNumbers.{PlayNumbers}
 use Rattle.sm_words.specs.declared.order.ServeOrder.{ServeOrder}
-use Rattle.sm_words.specs.Words.{Serving, Wanted, Pick, Serve, Push, Play, Listing, Rehearse, Export, Help, Version, PlayNumbers as Numbers}
+use Rattle.sm_words.specs.declared.edge_order.EdgeOrder.{EdgeOrder}
+use Rattle.sm_words.specs.Words.{Pulling, Serving, Wanted, Pick, Serve, Push, Play, Relay, Standby, Listing, Rehearse, Export, Help, Version, PlayNumbers as Numbers}
 
 abbrev pub serving_of : ServeOrder → Serving
 serving_of s = record {
@@ -18,11 +19,16 @@ serving_of s = record {
   journal = option_map string_bytes s.journal;
 }
 
+abbrev pub pulling_of : EdgeOrder → Pulling
+pulling_of e = record { place = e.place; store = string_bytes e.store; rounds = e.rounds; tries = e.tries }
+
 abbrev pub wanted_of : Order → Wanted
 wanted_of (order.Pick track time) = Pick track time
 wanted_of (order.Serve s) = Serve (serving_of s)
 wanted_of (order.Push p) = Push (string_bytes p.host) p.port (string_bytes p.path) p.id
 wanted_of (order.Play p) = Play p.plan
+wanted_of (order.Relay e) = Relay (pulling_of e)
+wanted_of (order.Standby e) = Standby (pulling_of e)
 wanted_of (order.List store) = Listing (string_bytes store)
 wanted_of (order.Rehearse number size) = Rehearse number size
 wanted_of (order.Help topic) = Help topic
@@ -38,6 +44,11 @@ pub record IsPlayable (plan : Plan) : Type 0 where
   pub count : plan.count ≤ 1000000
   pub tries : 0 < plan.tries
   pub refresh : 0 < plan.refresh
+
+-- what may be pulled
+pub record IsPullable (e : Pulling) : Type 0 where
+  pub rounds : 0 < e.rounds
+  pub tries : 0 < e.tries
 
 -- a world in which may be rehearsed, and its size
 pub record IsWorld (number size : ℕ) : Type 0 where

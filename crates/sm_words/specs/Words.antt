@@ -7,13 +7,14 @@ use Rattle.std.specs.Option.{option_and_then, option_map, option_or}
 use Rattle.sm_model.specs.Digits.{is_digit, decimal_from}
 use Rattle.sm_model.specs.Names.{is_name}
 use Rattle.sm_client.specs.declared.plan.Plan.{Plan}
+use Rattle.sm_fetch.specs.declared.place.Place.{Place as Origin}
 use Rattle.sm_words.specs.declared.option.Name.{Name}
-use Rattle.sm_words.specs.declared.option.Name.TheVariants.{Port, Ladder, Turns, Bind, Journal, From, Count, Tries, Refresh}
+use Rattle.sm_words.specs.declared.option.Name.TheVariants.{Port, Ladder, Turns, Bind, Journal, From, Count, Tries, Refresh, Rounds}
 use Rattle.sm_words.specs.declared.line.Place.{Place}
 use Rattle.sm_words.specs.declared.line.Place.TheVariants.{Free, Behind, Bare}
 use Rattle.sm_words.specs.declared.topic.Topic.{Topic}
 use Rattle.sm_words.specs.declared.topic.Topic.TheVariants as topics
-use Rattle.sm_words.specs.Options.{text_of, has_value, is_same, play_options, serve_options}
+use Rattle.sm_words.specs.Options.{text_of, has_value, is_same, edge_options, play_options, serve_options}
 use Rattle.sm_words.specs.Places.{is_host, is_path}
 
 abbrev pub Text : Type 0
@@ -165,6 +166,14 @@ pub record Serving : Type 0 where
   pub bind : Option Text
   pub journal : Option Text
 
+-- where an origin's channel is, the folder of the store that it is pulled into, how often its manifest is read, and how often each thing is
+-- asked for
+pub record Pulling : Type 0 where
+  pub place : Origin
+  pub store : Text
+  pub rounds : ℕ
+  pub tries : ℕ
+
 pub data Wanted : Type 0 where
   -- a track_ID and a time
   Pick : ℕ → ℕ → Wanted
@@ -174,6 +183,10 @@ pub data Wanted : Type 0 where
   Push : Text → ℕ → Text → Text → Wanted
   -- what is to be played
   Play : Plan → Wanted
+  -- what is pulled, and into which store
+  Relay : Pulling → Wanted
+  -- what is followed, and in which store
+  Standby : Pulling → Wanted
   -- a folder
   Listing : Text → Wanted
   -- the number of a world and its size
@@ -359,6 +372,57 @@ play_by x =
 abbrev pub play_of : Read → Option Wanted
 play_of r = option_and_then play_by (play_texts r)
 
+-- ---- relay and standby
+
+-- the texts that they are given, or those that stand for them
+pub record EdgeTexts : Type 0 where
+  pub host : Text
+  pub port : Text
+  pub path : Text
+  pub store : Text
+  pub rounds : Text
+  pub tries : Text
+
+-- where an option isn't given, the manifest is read 1,000,000 times, and each thing is asked for three times at most
+abbrev pub edge_words_by : List Text → Option Text → Option Text → Option EdgeTexts
+edge_words_by [] rounds tries = None
+edge_words_by (host ∷ []) rounds tries = None
+edge_words_by (host ∷ port ∷ []) rounds tries = None
+edge_words_by (host ∷ port ∷ path ∷ []) rounds tries = None
+edge_words_by (host ∷ port ∷ path ∷ store ∷ []) rounds tries = Some (record {
+  host = host;
+  port = port;
+  path = path;
+  store = store;
+  rounds = unwrap_or rounds (codes "1000000");
+  tries = unwrap_or tries (codes "3");
+})
+edge_words_by (host ∷ port ∷ path ∷ store ∷ more ∷ words) rounds tries = None
+
+abbrev pub edge_texts : Read → Option EdgeTexts
+edge_texts r =
+    option_and_then (λ rounds.
+    option_and_then (λ tries. edge_words_by r.words rounds tries)
+    (value_of Tries r))
+    (value_of Rounds r)
+
+abbrev pub pulling_by : EdgeTexts → ℕ → ℕ → ℕ → Text → Pulling
+pulling_by x port rounds tries store = record { place = record { host = x.host; port = port; path = x.path }; store = store; rounds = rounds; tries = tries }
+
+abbrev pub edge_by : EdgeTexts → Option Pulling
+edge_by x =
+    option_and_then (λ port.
+    option_and_then (λ rounds.
+    option_and_then (λ tries.
+    option_and_then (λ store. if is_host x.host && is_path x.path then Some (pulling_by x port rounds tries store) else None)
+    (filled x.store))
+    (numeral 1 16 x.tries))
+    (numeral 1 1000000 x.rounds))
+    (numeral 1 65535 x.port)
+
+abbrev pub edge_of : Read → Option Pulling
+edge_of r = option_and_then edge_by (edge_texts r)
+
 -- ---- export
 
 -- the texts that `export` is given
@@ -395,6 +459,8 @@ topic_named name =
     else if is name (codes "list") then Some topics.List
     else if is name (codes "push") then Some topics.Push
     else if is name (codes "play") then Some topics.Play
+    else if is name (codes "relay") then Some topics.Relay
+    else if is name (codes "standby") then Some topics.Standby
     else if is name (codes "pick") then Some topics.Pick
     else if is name (codes "export") then Some topics.Export
     else if is name (codes "rehearse") then Some topics.Rehearse
@@ -418,6 +484,7 @@ alone (word ∷ words) wanted = None
 -- what the words ask for: `pick TRACK TIME`, `serve STORE --port N [--ladder] [--turns N] [--bind ADDRESS] [--journal FILE]`,
 -- `push HOST PORT PATH ID`, `list STORE`,
 -- `play HOST PORT PATH STREAM... [--from N] [--count N] [--tries N] [--refresh N]`, `rehearse NUMBER SIZE`, `export STORE NAME BITRATE`,
+-- `relay HOST PORT PATH STORE [--rounds N] [--tries N]`, `standby HOST PORT PATH STORE [--rounds N] [--tries N]`,
 -- `help`, `help COMMAND`, `--help`, `version` or `--version`
 unfoldable pub asked : List Text → Option Wanted
 asked [] = None
@@ -429,6 +496,8 @@ asked (command ∷ words) =
     else if is command (codes "play") then option_and_then play_of (read play_options words)
     else if is command (codes "rehearse") then option_and_then rehearse_of (read [] words)
     else if is command (codes "export") then option_and_then export_of (read [] words)
+    else if is command (codes "relay") then option_map (λ e. Relay e) (option_and_then edge_of (read edge_options words))
+    else if is command (codes "standby") then option_map (λ e. Standby e) (option_and_then edge_of (read edge_options words))
     else if is command (codes "help") then help_by words
     else if is command (codes "--help") then alone words (Help topics.All)
     else if is command (codes "version") then alone words Version

@@ -17,13 +17,17 @@ pub fn wrong_words(topic: Topic) -> &'static str
 {
     match topic {
         Topic::All =>
-            "error: words\nusage: smooth COMMAND [WORDS], and one of\n    serve list push play pick export rehearse help version\n",
+            "error: words\nusage: smooth COMMAND [WORDS], and one of\n    serve list push play relay standby pick export rehearse help version\n",
         Topic::Serve =>
             "error: words\nusage: smooth serve STORE --port N [--bind ADDRESS] [--ladder] [--journal FILE] [--turns N]\n",
         Topic::List => "error: words\nusage: smooth list STORE\n",
         Topic::Push => "error: words\nusage: smooth push HOST PORT PATH ID < PUSH\n",
         Topic::Play =>
             "error: words\nusage: smooth play HOST PORT PATH STREAM... [--from N] [--count N] [--tries N] [--refresh N]\n",
+        Topic::Relay =>
+            "error: words\nusage: smooth relay HOST PORT PATH STORE [--rounds N] [--tries N] < LADDER\n",
+        Topic::Standby =>
+            "error: words\nusage: smooth standby HOST PORT PATH STORE [--rounds N] [--tries N] < LADDER\n",
         Topic::Pick => "error: words\nusage: smooth pick TRACK TIME < PUSH > FRAGMENT\n",
         Topic::Export => "error: words\nusage: smooth export STORE NAME BITRATE < HEADER > FILE\n",
         Topic::Rehearse => "error: words\nusage: smooth rehearse NUMBER SIZE\n",
@@ -40,6 +44,8 @@ pub fn help_text(topic: Topic) -> &'static str
         Topic::List => LIST,
         Topic::Push => PUSH,
         Topic::Play => PLAY,
+        Topic::Relay => RELAY,
+        Topic::Standby => STANDBY,
         Topic::Pick => PICK,
         Topic::Export => EXPORT,
         Topic::Rehearse => REHEARSE,
@@ -53,6 +59,10 @@ const ALL: &str = "smooth: a live origin and a client for Smooth Streaming
   smooth push HOST PORT PATH ID  sends a push to an origin
   smooth play HOST PORT PATH STREAM...
                                  plays streams of an origin into files
+  smooth relay HOST PORT PATH STORE
+                                 pulls what an origin lists into a store
+  smooth standby HOST PORT PATH STORE
+                                 rebuilds the store of an origin, to take over
   smooth pick TRACK TIME         takes one fragment out of a push
   smooth export STORE NAME BITRATE
                                  writes one quality of a store as a file
@@ -108,6 +118,32 @@ second to track-1.frag, and so on.
   --refresh N     how many manifests are read for one start, 1 to 10000; default 3
 
   smooth play localhost 8080 live video audio --count 10
+";
+
+const RELAY: &str = "usage: smooth relay HOST PORT PATH STORE [--rounds N] [--tries N] < LADDER
+
+Pulls what the origin at HOST and PORT lists of /PATH.isml into the store in the folder STORE, which is
+made where it isn't there. The ladder in the input, at most 1048576 bytes, is the tracks that are pulled;
+it is declared where the store has none. What is kept is served by serve.
+
+  PORT            1 to 65535
+  --rounds N      how often the manifest is read, 1 to 1000000; default 1000000
+  --tries N       how often each thing is asked for, 1 to 16; default 3
+
+  smooth relay origin.example.com 8080 live /var/lib/smooth/edge < ladder.xml
+";
+
+const STANDBY: &str = "usage: smooth standby HOST PORT PATH STORE [--rounds N] [--tries N] < LADDER
+
+Follows the primary at HOST and PORT: rebuilds its store of /PATH.isml, fragment by fragment in its order,
+in the folder STORE, which is made where it isn't there. The ladder in the input, at most 1048576 bytes,
+is that of the primary. Where the primary is gone, serve takes over from the store.
+
+  PORT            1 to 65535
+  --rounds N      how often the manifest is read, 1 to 1000000; default 1000000
+  --tries N       how often each thing is asked for, 1 to 16; default 3
+
+  smooth standby primary.example.com 8080 live /var/lib/smooth/store < ladder.xml
 ";
 
 const PICK: &str = "usage: smooth pick TRACK TIME < PUSH > FRAGMENT

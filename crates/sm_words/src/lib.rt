@@ -1,6 +1,7 @@
 //! The words of the commands: what they ask for, and how that is told.
 #![tactic(auto)]
 
+mod edge_order;
 mod help;
 mod line;
 mod matched;
@@ -12,6 +13,7 @@ mod put;
 mod topic;
 mod words;
 
+pub use edge_order::EdgeOrder;
 pub use help::{help_text, version_text, wrong_words};
 pub use line::{Adds, How, Line, Place, Step, Twice, option_in, placed, read_line};
 pub use option::Name;

@@ -2,11 +2,11 @@
 ghost use Rattle.std.specs.Prelude.{◌≡◌, ◌∷◌, ◌++◌, [], map, string_bytes, codes, IfOk, OnOk, Some, Option, false, true, unwrap_or};
 ghost use Rattle.std.specs.Option.{option_map};
 ghost use Rattle.clap.specs.Words.{HasMatchesOf, app_of, found_of, first_value, matched_of, new_app, raw_values, rule_of, takes, with_rule};
-ghost use Rattle.sm_words.specs.Words.{ExportTexts as Filed, PlayTexts as Played, PushTexts as Sent, ServeTexts as Asked, Text};
+ghost use Rattle.sm_words.specs.Words.{EdgeTexts as Pulled, ExportTexts as Filed, PlayTexts as Played, PushTexts as Sent, ServeTexts as Asked, Text};
 ghost use Rattle.sm_words.specs.Clapped.{list_app, list_words, option_rule, pick_app, pick_words, play_app, play_options_app, play_words, push_app, push_words};
-ghost use Rattle.sm_words.specs.Clapped.{export_app, export_words, rehearse_app, rehearse_words, serve_app, serve_place_app, serve_words};
+ghost use Rattle.sm_words.specs.Clapped.{edge_app, edge_options_app, edge_words, export_app, export_words, rehearse_app, rehearse_words, serve_app, serve_place_app, serve_words};
 ghost use Rattle.sm_words.specs.Clapped.{switch_rule, without_help, word_rule, words_rule};
-ghost use Rattle.sm_words.specs.Matched.{IsExportRead, IsPlayRead, IsPushRead, IsReadOf};
+ghost use Rattle.sm_words.specs.Matched.{IsEdgeRead, IsExportRead, IsPlayRead, IsPushRead, IsReadOf};
 
 use clap::error::ErrorKind;
 use clap::{Arg, ArgAction, ArgMatches, Command};
@@ -39,6 +39,17 @@ pub struct ExportTexts {
     pub store: Option<String>,
     pub name: Option<String>,
     pub bitrate: Option<String>,
+}
+
+/// The texts that `relay` and `standby` are given.
+#[derive(Debug, Drop)]
+pub struct EdgeTexts {
+    pub host: Option<String>,
+    pub port: Option<String>,
+    pub path: Option<String>,
+    pub store: Option<String>,
+    pub rounds: Option<String>,
+    pub tries: Option<String>,
 }
 
 /// The texts that `play` is given.
@@ -172,6 +183,23 @@ fn play_command<'w>(alloc: Global) -> Result<Command<'w>, NoMemory>
     let command = with(command, word(alloc, "PORT"))?;
     let command = with(command, word(alloc, "PATH"))?;
     with(command, words(alloc, "STREAM"))
+}
+
+// The command `relay` or `standby` with its options.
+fn edge_options<'w>(alloc: Global) -> Result<Command<'w>, NoMemory>
+    ensures { IfOk result (λ command. app_of command ≡ edge_options_app) }
+{
+    let command = with(command(alloc, "edge"), option(alloc, "rounds"))?;
+    with(command, option(alloc, "tries"))
+}
+
+fn edge_command<'w>(alloc: Global) -> Result<Command<'w>, NoMemory>
+    ensures { IfOk result (λ command. app_of command ≡ edge_app) }
+{
+    let command = with(edge_options(alloc)?, word(alloc, "HOST"))?;
+    let command = with(command, word(alloc, "PORT"))?;
+    let command = with(command, word(alloc, "PATH"))?;
+    with(command, word(alloc, "STORE"))
 }
 
 // The text that was read under that name.
@@ -312,6 +340,28 @@ pub fn read_export(alloc: Global, words: &[String]) -> Result<ExportTexts, NoMem
         store,
         name,
         bitrate,
+    })
+}
+
+/// Reads the words of `relay` and of `standby`.
+pub fn read_edge(alloc: Global, words: &[String]) -> Result<EdgeTexts, NoMemory>
+    requires put { (x : Pulled) × (map string_bytes words.now ≡ edge_words x) }
+    ensures { IfOk result (λ texts. (x : Pulled) → map string_bytes words.now ≡ edge_words x → IsEdgeRead texts x) }
+{
+    let matches = matched(edge_command(alloc)?, words)?;
+    let host = text_of(alloc, &matches, "HOST")?;
+    let port = text_of(alloc, &matches, "PORT")?;
+    let path = text_of(alloc, &matches, "PATH")?;
+    let store = text_of(alloc, &matches, "STORE")?;
+    let rounds = text_of(alloc, &matches, "rounds")?;
+    let tries = text_of(alloc, &matches, "tries")?;
+    Ok(EdgeTexts {
+        host,
+        port,
+        path,
+        store,
+        rounds,
+        tries,
     })
 }
 

@@ -23,6 +23,8 @@ pub enum Name {
     Tries,
     /// How many manifests are read for one start at most.
     Refresh,
+    /// How often the manifest is read into a store.
+    Rounds,
 }
 
 impl Name {
@@ -40,6 +42,7 @@ impl Name {
             Name::Count => "--count",
             Name::Tries => "--tries",
             Name::Refresh => "--refresh",
+            Name::Rounds => "--rounds",
         }
     }
 

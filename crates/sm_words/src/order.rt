@@ -1,22 +1,25 @@
 //! What the words of a command ask for.
 ghost use Rattle.std.specs.Prelude.{◌≡◌, ◌≤◌, ◌<◌, ◌^◌, map, string_bytes, length, IfOk, IfSome, Some, [], List, ℕ};
 ghost use Rattle.std.specs.Option.{option_map, option_and_then};
-ghost use Rattle.sm_words.specs.Options.{play_options, serve_options};
-ghost use Rattle.sm_words.specs.Words.{Listing, ExportTexts as Filed, PlayTexts as Played, PushTexts as Sent, ServeTexts as Asked, alone, asked, filled, help_by, list_of, number_or, start_by};
+ghost use Rattle.sm_words.specs.Options.{edge_options, play_options, serve_options};
+ghost use Rattle.sm_words.specs.Words.{Listing, EdgeTexts as Pulled, ExportTexts as Filed, PlayTexts as Played, PushTexts as Sent, ServeTexts as Asked, alone, asked, filled, help_by, list_of, number_or, start_by};
 ghost use Rattle.sm_words.specs.Words.{name_by, numbers_by, pick_by, pick_of, play_by, play_of, push_by, push_of, read, rehearse_by, rehearse_of, serve_by};
-ghost use Rattle.sm_words.specs.Words.{export_by, export_of, serve_of, streams_by};
-ghost use Rattle.sm_words.specs.Matched.{IsExportRead, IsPlayRead, IsPushRead, IsReadOf};
-ghost use Rattle.sm_words.specs.Orders.{numbers_of, wanted_of};
+ghost use Rattle.sm_words.specs.Words.{Relay, Standby, edge_by, edge_of, export_by, export_of, serve_of, streams_by};
+ghost use Rattle.sm_words.specs.Matched.{IsEdgeRead, IsExportRead, IsPlayRead, IsPushRead, IsReadOf};
+ghost use Rattle.sm_words.specs.Orders.{numbers_of, pulling_of, wanted_of};
 
+use crate::edge_order::EdgeOrder;
 use crate::line::read_line;
 use crate::matched::{
-    ExportTexts, PlayTexts, PushTexts, ServeTexts, read_export, read_list, read_pick, read_play,
-    read_push, read_rehearse, read_serve,
+    EdgeTexts, ExportTexts, PlayTexts, PushTexts, ServeTexts, read_edge, read_export, read_list,
+    read_pick, read_play, read_push, read_rehearse, read_serve,
 };
 use crate::option::Name;
 use crate::place::{is_host, is_path};
 use crate::play_order::PlayOrder;
-use crate::put::{export_put, list_put, pick_put, play_put, push_put, rehearse_put, serve_put};
+use crate::put::{
+    edge_put, export_put, list_put, pick_put, play_put, push_put, rehearse_put, serve_put,
+};
 use crate::topic::Topic;
 use crate::words::number;
 use sm_client::{Names, Plan};
@@ -35,6 +38,10 @@ pub enum Order {
     Push(PushOrder),
     /// To play streams of an origin.
     Play(PlayOrder),
+    /// To pull what an origin lists into a store.
+    Relay(EdgeOrder),
+    /// To follow a primary in a store.
+    Standby(EdgeOrder),
     /// The list of what the store in a folder keeps.
     List { store: String },
     /// To rehearse in the world of that number, with so many rounds of pushes.
@@ -110,6 +117,8 @@ const SERVE: [Name; 5] = [
 ];
 
 const PLAY: [Name; 4] = [Name::From, Name::Count, Name::Tries, Name::Refresh];
+
+const EDGE: [Name; 2] = [Name::Rounds, Name::Tries];
 
 // The most streams of one play.
 const STREAMS: usize = 16;
@@ -306,6 +315,44 @@ fn play_order(alloc: Global, texts: PlayTexts) -> Result<Option<Order>, NoMemory
     })))
 }
 
+fn edge_order(alloc: Global, texts: EdgeTexts) -> Result<Option<EdgeOrder>, NoMemory>
+    ensures { IfOk result (λ order. (x : Pulled) → IsEdgeRead texts x → option_map pulling_of order ≡ edge_by x) }
+{
+    let EdgeTexts {
+        host,
+        port,
+        path,
+        store,
+        rounds,
+        tries,
+    } = texts;
+    let (Some(port), Some(rounds), Some(tries)) = (
+        number_or(&port, 1, 65_535, None),
+        number_or(&rounds, 1, 1_000_000, None),
+        number_or(&tries, 1, 16, None),
+    ) else {
+        return Ok(None);
+    };
+    let (Some(host), Some(path), Some(store)) = (host, path, filled(store)) else {
+        return Ok(None);
+    };
+    if !is_host(host.as_str()) || !is_path(path.as_str()) {
+        return Ok(None);
+    }
+    let place = Place {
+        host: Bytes::from_slice(alloc, host.as_bytes())?,
+        port: port as u16,
+        path: Bytes::from_vec(path.into_bytes()),
+    };
+    Ok(Some(EdgeOrder {
+        host,
+        place,
+        store,
+        rounds,
+        tries: tries as u32,
+    }))
+}
+
 fn export_order(alloc: Global, texts: ExportTexts) -> Result<Option<Order>, NoMemory>
     ensures { IfOk result (λ order. (x : Filed) → IsExportRead texts x → option_map wanted_of order ≡ export_by x) }
 {
@@ -419,6 +466,39 @@ fn export_asked(alloc: Global, words: &[String]) -> Result<Option<Order>, NoMemo
     Ok(order)
 }
 
+// The words behind `relay` or `standby`.
+fn edge_asked(alloc: Global, words: &[String]) -> Result<Option<EdgeOrder>, NoMemory>
+    ensures { IfOk result (λ order. option_map pulling_of order ≡ option_and_then edge_of (read edge_options (map string_bytes words.now))) }
+{
+    let Some(line) = read_line(alloc, &EDGE, words)? else {
+        return Ok(None);
+    };
+    let Some(words) = edge_put(alloc, &line)? else {
+        return Ok(None);
+    };
+    let texts = read_edge(alloc, &words)?;
+    let order = edge_order(alloc, texts)?;
+    Ok(order)
+}
+
+fn relay_asked(alloc: Global, words: &[String]) -> Result<Option<Order>, NoMemory>
+    ensures { IfOk result (λ order. option_map wanted_of order ≡ option_map (λ e. Relay e) (option_and_then edge_of (read edge_options (map string_bytes words.now)))) }
+{
+    match edge_asked(alloc, words)? {
+        Some(order) => Ok(Some(Order::Relay(order))),
+        None => Ok(None),
+    }
+}
+
+fn standby_asked(alloc: Global, words: &[String]) -> Result<Option<Order>, NoMemory>
+    ensures { IfOk result (λ order. option_map wanted_of order ≡ option_map (λ e. Standby e) (option_and_then edge_of (read edge_options (map string_bytes words.now)))) }
+{
+    match edge_asked(alloc, words)? {
+        Some(order) => Ok(Some(Order::Standby(order))),
+        None => Ok(None),
+    }
+}
+
 fn help_asked(words: &[String]) -> Option<Order>
     ensures { option_map wanted_of result ≡ help_by (map string_bytes words.now) }
 {
@@ -439,7 +519,8 @@ fn alone(words: &[String], order: Order) -> Option<Order>
 /// What the words ask for: `pick TRACK TIME`, `serve STORE --port N [--ladder] [--turns N] [--bind ADDRESS] [--journal FILE]`,
 /// `push HOST PORT PATH ID`, `list STORE`,
 /// `play HOST PORT PATH STREAM... [--from N] [--count N] [--tries N] [--refresh N]`, `rehearse NUMBER SIZE`,
-/// `export STORE NAME BITRATE`, `help`, `help COMMAND`, `--help`, `version` or `--version`. None where they are none of these.
+/// `export STORE NAME BITRATE`, `relay HOST PORT PATH STORE [--rounds N] [--tries N]`,
+/// `standby HOST PORT PATH STORE [--rounds N] [--tries N]`, `help`, `help COMMAND`, `--help`, `version` or `--version`. None where they are none of these.
 #[tactic(auto, unfolding(crate::specs::Words::asked))]
 pub fn order_of(alloc: Global, words: &[String]) -> Result<Option<Order>, NoMemory>
     ensures { IfOk result (λ order. option_map wanted_of order ≡ asked (map string_bytes words.now)) }
@@ -468,6 +549,12 @@ pub fn order_of(alloc: Global, words: &[String]) -> Result<Option<Order>, NoMemo
     }
     if command == "export" {
         return export_asked(alloc, words);
+    }
+    if command == "relay" {
+        return relay_asked(alloc, words);
+    }
+    if command == "standby" {
+        return standby_asked(alloc, words);
     }
     if command == "help" {
         return Ok(help_asked(words));

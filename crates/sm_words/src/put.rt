@@ -1,10 +1,10 @@
 //! The words of a command, put as `clap` reads them: the options, as `--name=value`, before `--` and the other words.
 ghost use Rattle.std.specs.Prelude.{◌≡◌, ◌∷◌, ◌++◌, [], map, string_bytes, IfOk, OnOk, Option, List, ℕ, codes, is_some, unwrap_or};
 ghost use Rattle.std.specs.Option.{option_map};
-ghost use Rattle.sm_words.specs.Words.{ServeTexts, export_texts, only_word, value_or_empty, play_texts, push_texts, serve_texts, texts_by, two_words};
+ghost use Rattle.sm_words.specs.Words.{ServeTexts, edge_texts, export_texts, only_word, value_or_empty, play_texts, push_texts, serve_texts, texts_by, two_words};
 ghost use Rattle.sm_words.specs.Line.{read_of};
 ghost use Rattle.sm_words.specs.Clapped.{from_words, ladder_words, list_words, number_words, pick_words, play_words, push_words, rehearse_words, serve_words};
-ghost use Rattle.sm_words.specs.Clapped.{export_words, turns_words};
+ghost use Rattle.sm_words.specs.Clapped.{edge_words, export_words, turns_words};
 
 use crate::line::{Line, Twice};
 use crate::option::Name;
@@ -283,5 +283,59 @@ pub fn play_put(alloc: Global, line: &Line) -> Result<Option<Vec<String>>, NoMem
     put_play_options(alloc, &mut words, from, count, tries, refresh)?;
     put(alloc, &mut words, "--")?;
     put_all(alloc, &mut words, line.words.as_slice())?;
+    Ok(Some(words))
+}
+
+// How often a manifest is read into a store where that isn't said.
+const ROUNDS: &str = "1000000";
+
+// The words of `relay` or `standby`.
+fn put_edge(
+    alloc: Global,
+    host: &str,
+    port: &str,
+    path: &str,
+    store: &str,
+    rounds: &str,
+    tries: &str,
+) -> Result<Vec<String>, NoMemory>
+    ensures { IfOk result (λ words. map string_bytes words.items ≡ edge_words (record {
+      host = host.now;
+      port = port.now;
+      path = path.now;
+      store = store.now;
+      rounds = rounds.now;
+      tries = tries.now;
+    })) }
+{
+    let mut words = Vec::new(alloc);
+    put(alloc, &mut words, "edge")?;
+    put_value(alloc, &mut words, "--rounds=", rounds)?;
+    put_value(alloc, &mut words, "--tries=", tries)?;
+    put(alloc, &mut words, "--")?;
+    put(alloc, &mut words, host)?;
+    put(alloc, &mut words, port)?;
+    put(alloc, &mut words, path)?;
+    put(alloc, &mut words, store)?;
+    Ok(words)
+}
+
+/// The words of `relay` or `standby`; none where an option stands twice, or there aren't four other words.
+pub fn edge_put(alloc: Global, line: &Line) -> Result<Option<Vec<String>>, NoMemory>
+    ensures { IfOk result (λ words. option_map (λ w. map string_bytes w.items) words ≡ option_map edge_words (edge_texts (read_of line.now))) }
+{
+    let Ok(rounds) = line.value(Name::Rounds) else {
+        return Ok(None);
+    };
+    let Ok(tries) = line.value(Name::Tries) else {
+        return Ok(None);
+    };
+    let [host, port, path, store] = line.words.as_slice() else {
+        return Ok(None);
+    };
+    let rounds = rounds.unwrap_or(ROUNDS);
+    let tries = tries.unwrap_or(PATIENCE);
+    let (host, port, path, store) = (host.as_str(), port.as_str(), path.as_str(), store.as_str());
+    let words = put_edge(alloc, host, port, path, store, rounds, tries)?;
     Ok(Some(words))
 }

@@ -10,6 +10,8 @@ pub enum Topic {
     List,
     Push,
     Play,
+    Relay,
+    Standby,
     Pick,
     Export,
     Rehearse,
@@ -31,6 +33,12 @@ impl Topic {
         }
         if name == "play" {
             return Some(Topic::Play);
+        }
+        if name == "relay" {
+            return Some(Topic::Relay);
+        }
+        if name == "standby" {
+            return Some(Topic::Standby);
         }
         if name == "pick" {
             return Some(Topic::Pick);

@@ -50,7 +50,9 @@ fn run<I: Source, O: Sink, S: Site, C: Dial, T: Tracks>(
     policies: Vec<Box<dyn Policy>>,
 ) -> ExitCode
     requires policies { length policies.items ≡ 3 }
-    ensures ends { EndsAs S.Disk.view S.Disk.may_leave S.Disk.left_at C.store (record { pick = pick_after; retired = retired_after }) policies.items
+    ensures ends { EndsAs S.Disk.view S.Disk.may_leave S.Disk.left_at
+        (record { log = C.log; store = C.store; later = C.later; faults = C.dial_faults; chosen = C.chosen })
+        (record { pick = pick_after; retired = retired_after }) policies.items
         (option_map (λ list. map string_bytes list.items) (result_ok words))
         (record {
           input = record { told = I.left input.old; faults = I.faults input.old };

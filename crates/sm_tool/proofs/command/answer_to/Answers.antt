@@ -1,9 +1,9 @@
 use Rattle.std.proofs.Common.{map, string_bytes, Option, Some, ap, sym, ◌∙◌}
 use Rattle.std.specs.Option.{option_map}
 use Rattle.sm_words.specs.declared.order.Order.{Order}
-use Rattle.sm_words.specs.Orders.{wanted_of}
+use Rattle.sm_words.specs.Orders.{pulling_of, wanted_of}
 use Rattle.sm_tool.proofs.Idling.{idle_lasts}
-use Rattle.sm_words.proofs.Sounding.{playable, rehearsable}
+use Rattle.sm_words.proofs.Sounding.{followable, playable, rehearsable, relayable}
 use Rattle.sm_tool.proofs.command.answer_to.Goals as goal
 
 pub play-requires-clause-playable : goal.play-requires-clause-playable
@@ -47,3 +47,19 @@ returns-in-Ok-Some-Help-clause-lasts g c = idle_lasts g.S.Disk.view g.S.Disk.may
 
 pub returns-in-Ok-Some-Version-clause-lasts : goal.returns-in-Ok-Some-Version-clause-lasts
 returns-in-Ok-Some-Version-clause-lasts g c = idle_lasts g.S.Disk.view g.S.Disk.may_leave g.S.Disk.left_at g.met.S.Disk.no_later g.met.S.Disk.at_now c.args.site.now
+
+pub relay-requires : goal.relay-requires
+relay-requires g c =
+    let at = c.in-Ok-Some-Relay in
+    record {
+      pullable = relayable (pulling_of at.order) (map string_bytes c.args.words.now)
+          (sym (ap (λ (o : Option Order). option_map wanted_of o) (at.field-0-is ∙ ap (λ (o : Order). Some o) at.field-0-0-is)) ∙ at.ensures);
+    }
+
+pub standby-requires : goal.standby-requires
+standby-requires g c =
+    let at = c.in-Ok-Some-Standby in
+    record {
+      pullable = followable (pulling_of at.order) (map string_bytes c.args.words.now)
+          (sym (ap (λ (o : Option Order). option_map wanted_of o) (at.field-0-is ∙ ap (λ (o : Order). Some o) at.field-0-0-is)) ∙ at.ensures);
+    }

@@ -2,7 +2,7 @@ use Rattle.std.proofs.Common.{◌≡◌, ◌+◌, refl, sym, ◌∙◌}
 use denote.Enum.Bare.{sameb}
 use Rattle.sm_words.specs.contracts.option.Name.{the_type}
 use Rattle.sm_words.specs.declared.option.Name.{Name}
-use Rattle.sm_words.specs.declared.option.Name.TheVariants.{Port, Ladder, Turns, Bind, Journal, From, Count, Tries, Refresh}
+use Rattle.sm_words.specs.declared.option.Name.TheVariants.{Port, Ladder, Turns, Bind, Journal, From, Count, Tries, Refresh, Rounds}
 use Rattle.sm_words.specs.Options.{is_same}
 use Rattle.sm_words.proofs.Reading.{rest_whole, values_here, values_later, values_none}
 use Rattle.sm_words.proofs.line.first_value.Goals as goal
@@ -17,6 +17,7 @@ same_names Port From = refl
 same_names Port Count = refl
 same_names Port Tries = refl
 same_names Port Refresh = refl
+same_names Port Rounds = refl
 same_names Ladder Port = refl
 same_names Ladder Ladder = refl
 same_names Ladder Turns = refl
@@ -26,6 +27,7 @@ same_names Ladder From = refl
 same_names Ladder Count = refl
 same_names Ladder Tries = refl
 same_names Ladder Refresh = refl
+same_names Ladder Rounds = refl
 same_names Turns Port = refl
 same_names Turns Ladder = refl
 same_names Turns Turns = refl
@@ -35,6 +37,7 @@ same_names Turns From = refl
 same_names Turns Count = refl
 same_names Turns Tries = refl
 same_names Turns Refresh = refl
+same_names Turns Rounds = refl
 same_names Bind Port = refl
 same_names Bind Ladder = refl
 same_names Bind Turns = refl
@@ -44,6 +47,7 @@ same_names Bind From = refl
 same_names Bind Count = refl
 same_names Bind Tries = refl
 same_names Bind Refresh = refl
+same_names Bind Rounds = refl
 same_names Journal Port = refl
 same_names Journal Ladder = refl
 same_names Journal Turns = refl
@@ -53,6 +57,7 @@ same_names Journal From = refl
 same_names Journal Count = refl
 same_names Journal Tries = refl
 same_names Journal Refresh = refl
+same_names Journal Rounds = refl
 same_names From Port = refl
 same_names From Ladder = refl
 same_names From Turns = refl
@@ -62,6 +67,7 @@ same_names From From = refl
 same_names From Count = refl
 same_names From Tries = refl
 same_names From Refresh = refl
+same_names From Rounds = refl
 same_names Count Port = refl
 same_names Count Ladder = refl
 same_names Count Turns = refl
@@ -71,6 +77,7 @@ same_names Count From = refl
 same_names Count Count = refl
 same_names Count Tries = refl
 same_names Count Refresh = refl
+same_names Count Rounds = refl
 same_names Tries Port = refl
 same_names Tries Ladder = refl
 same_names Tries Turns = refl
@@ -80,6 +87,7 @@ same_names Tries From = refl
 same_names Tries Count = refl
 same_names Tries Tries = refl
 same_names Tries Refresh = refl
+same_names Tries Rounds = refl
 same_names Refresh Port = refl
 same_names Refresh Ladder = refl
 same_names Refresh Turns = refl
@@ -89,6 +97,17 @@ same_names Refresh From = refl
 same_names Refresh Count = refl
 same_names Refresh Tries = refl
 same_names Refresh Refresh = refl
+same_names Refresh Rounds = refl
+same_names Rounds Port = refl
+same_names Rounds Ladder = refl
+same_names Rounds Turns = refl
+same_names Rounds Bind = refl
+same_names Rounds Journal = refl
+same_names Rounds From = refl
+same_names Rounds Count = refl
+same_names Rounds Tries = refl
+same_names Rounds Refresh = refl
+same_names Rounds Rounds = refl
 
 pub loop-at-init : goal.loop-at-init
 loop-at-init c = refl

@@ -1,6 +1,6 @@
 use Rattle.std.proofs.Common.{◌≡◌, ◌++◌, drop}
-use Rattle.sm_tool.specs.Plays.{miss_words}
-use Rattle.sm_tool.proofs.play.end_with.Given as goal
+use Rattle.sm_tool.specs.Misses.{miss_words}
+use Rattle.sm_tool.proofs.misses.end_with.Given as goal
 
 -- what was there and the words so far, and those of the others, are all
 abbrev pub invariant-loop-miss : goal.invariant-loop-miss

@@ -1,0 +1,220 @@
+//! The commands that pull into a store.
+ghost use Rattle.std.specs.Prelude.{◌≡◌, ◌≤◌, ℕ, List, IfOk, OnErr, slice_get, string_bytes};
+ghost use Rattle.sm_command.specs.Lasting.{Lasts, NoFewer, Untouched};
+ghost use Rattle.sm_fetch.specs.Origins.{Grows};
+ghost use Rattle.sm_words.specs.Orders.{IsPullable, pulling_of};
+ghost use Rattle.sm_tool.specs.declared.answer.Answer.TheVariants as answers;
+ghost use Rattle.sm_tool.specs.Edges.{HasFollowLine, HasRelayLine, RelayMeans, StandbyMeans, TellsFollow, TellsRelay, at_edge};
+ghost use Rattle.sm_tool.specs.Edges.{followed_line, gap_line, no_track_line, other_id_line, relayed_line};
+ghost use Rattle.sm_tool.specs.Stores.{IsSelected, IsSilent};
+
+use crate::answer::Answer;
+use crate::misses::{gave_up_line, no_manifest_line};
+use crate::stores::{clash_line, or_starved, refused};
+use sm_edge::{StoreFollow, StoreRelay, follow_store, relay_store};
+use sm_ends::Source;
+use sm_fetch::Dial;
+use sm_model::{Address, Bytes, Channel, NoMemory};
+use sm_pull::PullPlan;
+use sm_relay::{RelayEnd, RelayReport};
+use sm_site::{Selection, Site};
+use sm_standby::{FollowEnd, FollowReport};
+use sm_words::EdgeOrder;
+use std::alloc::Global;
+
+fn relayed_line(alloc: Global, kept: u64) -> Result<Bytes, NoMemory>
+    ensures { IfOk result (λ line. line ≡ relayed_line kept) }
+{
+    let line = format!(in alloc; "relayed {kept}\n")?;
+    Ok(Bytes::from_vec(line.into_bytes()))
+}
+
+fn followed_line(alloc: Global, kept: u64) -> Result<Bytes, NoMemory>
+    ensures { IfOk result (λ line. line ≡ followed_line kept) }
+{
+    let line = format!(in alloc; "followed {kept}\n")?;
+    Ok(Bytes::from_vec(line.into_bytes()))
+}
+
+fn gap_line(alloc: Global, place: u64, next: u64) -> Result<Bytes, NoMemory>
+    ensures { IfOk result (λ line. line ≡ gap_line place next) }
+{
+    let line = format!(in alloc; "error: Gap {place} {next}\n")?;
+    Ok(Bytes::from_vec(line.into_bytes()))
+}
+
+// The line of the track at that place of the channel, from 0.
+fn no_track_line(alloc: Global, channel: &Channel, index: u32) -> Result<Bytes, NoMemory>
+    ensures { IfOk result (λ line. line ≡ no_track_line (slice_get channel.now index)) }
+{
+    let Some(track) = channel.as_slice().get(index as usize) else {
+        return Bytes::from_slice(alloc, b"error: NoTrack\n");
+    };
+    let name = track.name.as_str();
+    let bitrate = track.bitrate;
+    let line = format!(in alloc; "error: NoTrack {name} {bitrate}\n")?;
+    Ok(Bytes::from_vec(line.into_bytes()))
+}
+
+fn other_id_line(alloc: Global, address: &Address, id: u32) -> Result<Bytes, NoMemory>
+    ensures { IfOk result (λ line. line ≡ other_id_line address.now id) }
+{
+    let stream = address.stream.as_str();
+    let bitrate = address.bitrate;
+    let line = format!(in alloc; "error: OtherId {stream} {bitrate} {id}\n")?;
+    Ok(Bytes::from_vec(line.into_bytes()))
+}
+
+// How a relay ended.
+fn relayed(alloc: Global, relay: StoreRelay) -> Result<Answer, NoMemory>
+    ensures told { IfOk result (λ answer. TellsRelay relay.channel relay.report answer) }
+    ensures unwritten { OnErr result (HasRelayLine relay.report.end) }
+{
+    let StoreRelay {
+        report: RelayReport { kept, end },
+        channel,
+    } = relay;
+    match end {
+        RelayEnd::Done => Ok(Answer::Found(relayed_line(alloc, kept)?)),
+        RelayEnd::NoManifest { outcomes } => {
+            Ok(Answer::Undone(no_manifest_line(alloc, &outcomes)?))
+        }
+        RelayEnd::NoTrack { index } => {
+            Ok(Answer::Undone(no_track_line(alloc, &channel, index)?))
+        }
+        RelayEnd::GaveUp { address, outcomes } => {
+            Ok(Answer::Undone(gave_up_line(alloc, address.time, &outcomes)?))
+        }
+        RelayEnd::Refused { cause, .. } => Ok(Answer::Undone(clash_line(alloc, cause)?)),
+        RelayEnd::Full => Ok(Answer::Full),
+        RelayEnd::DiskFault => Ok(Answer::DiskFault),
+        RelayEnd::NoMemory => Ok(Answer::Starved),
+    }
+}
+
+// How a standby ended.
+fn followed(alloc: Global, follow: StoreFollow) -> Result<Answer, NoMemory>
+    ensures told { IfOk result (λ answer. TellsFollow follow.channel follow.report answer) }
+    ensures unwritten { OnErr result (HasFollowLine follow.report.end) }
+{
+    let StoreFollow {
+        report: FollowReport { kept, end },
+        channel,
+    } = follow;
+    match end {
+        FollowEnd::Done => Ok(Answer::Found(followed_line(alloc, kept)?)),
+        FollowEnd::Gap { place, next } => Ok(Answer::Undone(gap_line(alloc, place, next)?)),
+        FollowEnd::NoManifest { outcomes } => {
+            Ok(Answer::Undone(no_manifest_line(alloc, &outcomes)?))
+        }
+        FollowEnd::NoTrack { index } => {
+            Ok(Answer::Undone(no_track_line(alloc, &channel, index)?))
+        }
+        FollowEnd::GaveUp { address, outcomes } => {
+            Ok(Answer::Undone(gave_up_line(alloc, address.time, &outcomes)?))
+        }
+        FollowEnd::OtherId { address, id } => {
+            Ok(Answer::Undone(other_id_line(alloc, &address, id)?))
+        }
+        FollowEnd::Refused { cause, .. } => Ok(Answer::Undone(clash_line(alloc, cause)?)),
+        FollowEnd::Full => Ok(Answer::Full),
+        FollowEnd::DiskFault => Ok(Answer::DiskFault),
+        FollowEnd::NoMemory => Ok(Answer::Starved),
+    }
+}
+
+/// Pulls what an origin lists into the store that the order names, and says how that ended.
+pub fn relay<I: Source, S: Site, C: Dial>(
+    alloc: Global,
+    input: &mut I,
+    site: &mut S,
+    dial: &mut C,
+    order: EdgeOrder,
+) -> Answer
+    requires pullable { IsPullable (pulling_of order) }
+    ensures selected { IsSelected result (at_edge (string_bytes order.store)) (S.Disk.view site.new) }
+    ensures means { RelayMeans S.Disk.view S.Disk.left_at S.Disk.may_leave
+        (record { log = C.log; store = C.store; later = C.later; faults = C.dial_faults; chosen = C.chosen }) (pulling_of order)
+        (record { told = I.left input.old; faults = I.faults input.old })
+        (record { told = I.left input.new; faults = I.faults input.new }) site.old site.new dial.old dial.new result }
+    ensures later { C.dial_faults dial.old ≤ C.dial_faults dial.new }
+    ensures goes_on { C.later dial.old dial.new }
+    ensures grows { Grows (C.store dial.old) (C.store dial.new) }
+    ensures no_fewer { NoFewer (S.Disk.view site.old) (S.Disk.view site.new) }
+    ensures silent { IsSilent (S.Disk.view site.old) (S.Disk.view site.new) }
+    ensures lasts { Lasts S.Disk.view S.Disk.may_leave S.Disk.left_at site.old site.new }
+    ensures untouched { (line : List ℕ) → result ≡ answers.NotAStore line → Untouched S.Disk.view S.Disk.may_leave S.Disk.left_at site.old site.new }
+{
+    let selection = Selection {
+        store: order.store,
+        make: true,
+        port: 0,
+        bind: None,
+        journal: None,
+    };
+    let plan = PullPlan {
+        place: order.place,
+        rounds: order.rounds,
+        tries: order.tries,
+    };
+    match relay_store(
+        alloc,
+        input,
+        site,
+        dial,
+        selection,
+        order.host.as_str(),
+        &plan,
+    ) {
+        Ok(relay) => or_starved(relayed(alloc, relay)),
+        Err(fault) => or_starved(refused(alloc, fault)),
+    }
+}
+
+/// Rebuilds the log of a primary in the store that the order names, and says how that ended.
+pub fn standby<I: Source, S: Site, C: Dial>(
+    alloc: Global,
+    input: &mut I,
+    site: &mut S,
+    dial: &mut C,
+    order: EdgeOrder,
+) -> Answer
+    requires pullable { IsPullable (pulling_of order) }
+    ensures selected { IsSelected result (at_edge (string_bytes order.store)) (S.Disk.view site.new) }
+    ensures means { StandbyMeans S.Disk.view S.Disk.left_at S.Disk.may_leave
+        (record { log = C.log; store = C.store; later = C.later; faults = C.dial_faults; chosen = C.chosen }) (pulling_of order)
+        (record { told = I.left input.old; faults = I.faults input.old })
+        (record { told = I.left input.new; faults = I.faults input.new }) site.old site.new dial.old dial.new result }
+    ensures later { C.dial_faults dial.old ≤ C.dial_faults dial.new }
+    ensures goes_on { C.later dial.old dial.new }
+    ensures grows { Grows (C.store dial.old) (C.store dial.new) }
+    ensures no_fewer { NoFewer (S.Disk.view site.old) (S.Disk.view site.new) }
+    ensures silent { IsSilent (S.Disk.view site.old) (S.Disk.view site.new) }
+    ensures lasts { Lasts S.Disk.view S.Disk.may_leave S.Disk.left_at site.old site.new }
+    ensures untouched { (line : List ℕ) → result ≡ answers.NotAStore line → Untouched S.Disk.view S.Disk.may_leave S.Disk.left_at site.old site.new }
+{
+    let selection = Selection {
+        store: order.store,
+        make: true,
+        port: 0,
+        bind: None,
+        journal: None,
+    };
+    let plan = PullPlan {
+        place: order.place,
+        rounds: order.rounds,
+        tries: order.tries,
+    };
+    match follow_store(
+        alloc,
+        input,
+        site,
+        dial,
+        selection,
+        order.host.as_str(),
+        &plan,
+    ) {
+        Ok(follow) => or_starved(followed(alloc, follow)),
+        Err(fault) => or_starved(refused(alloc, fault)),
+    }
+}
