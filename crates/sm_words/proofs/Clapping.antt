@@ -160,85 +160,95 @@ pub serve_simple : is_simple serve_app ≡ true
 unfolding clap_on_literals
 serve_simple = refl
 
-abbrev with_texts : Text → Bool → Option Text → Text → Text → Text → List Text
-with_texts port ladder turns bind journal store =
-    serve_words (record { port = port; ladder = ladder; turns = turns; bind = bind; journal = journal; store = store })
+abbrev with_texts : Text → Bool → Option Text → Text → Text → Text → Text → List Text
+with_texts port ladder turns bind journal players store =
+    serve_words (record { port = port; ladder = ladder; turns = turns; bind = bind; journal = journal; players = players; store = store })
 
-serve_taken_by : (port : Text) (ladder : Bool) (turns : Option Text) (bind journal store : Text) → takes serve_app (with_texts port ladder turns bind journal store) ≡ true
+serve_taken_by : (port : Text) (ladder : Bool) (turns : Option Text) (bind journal players store : Text) → takes serve_app (with_texts port ladder turns bind journal players store) ≡ true
 unfolding clap_on_literals
-serve_taken_by port false None bind journal store = refl
-serve_taken_by port true None bind journal store = refl
-serve_taken_by port false (Some turns) bind journal store = refl
-serve_taken_by port true (Some turns) bind journal store = refl
+serve_taken_by port false None bind journal players store = refl
+serve_taken_by port true None bind journal players store = refl
+serve_taken_by port false (Some turns) bind journal players store = refl
+serve_taken_by port true (Some turns) bind journal players store = refl
 
 pub serve_taken : (x : ServeTexts) → takes serve_app (serve_words x) ≡ true
-serve_taken x = serve_taken_by x.port x.ladder x.turns x.bind x.journal x.store
+serve_taken x = serve_taken_by x.port x.ladder x.turns x.bind x.journal x.players x.store
 
-port_read_by : (port : Text) (ladder : Bool) (turns : Option Text) (bind journal store : Text) → first_of (codes "port") (matches_of serve_app (with_texts port ladder turns bind journal store)) ≡ Some port
+port_read_by : (port : Text) (ladder : Bool) (turns : Option Text) (bind journal players store : Text) → first_of (codes "port") (matches_of serve_app (with_texts port ladder turns bind journal players store)) ≡ Some port
 unfolding clap_on_literals
-port_read_by port false None bind journal store = refl
-port_read_by port true None bind journal store = refl
-port_read_by port false (Some turns) bind journal store = refl
-port_read_by port true (Some turns) bind journal store = refl
+port_read_by port false None bind journal players store = refl
+port_read_by port true None bind journal players store = refl
+port_read_by port false (Some turns) bind journal players store = refl
+port_read_by port true (Some turns) bind journal players store = refl
 
 pub port_read : (x : ServeTexts) → first_of (codes "port") (matches_of serve_app (serve_words x)) ≡ Some x.port
-port_read x = port_read_by x.port x.ladder x.turns x.bind x.journal x.store
+port_read x = port_read_by x.port x.ladder x.turns x.bind x.journal x.players x.store
 
-turns_read_by : (port : Text) (ladder : Bool) (turns : Option Text) (bind journal store : Text) → first_of (codes "turns") (matches_of serve_app (with_texts port ladder turns bind journal store)) ≡ turns
+turns_read_by : (port : Text) (ladder : Bool) (turns : Option Text) (bind journal players store : Text) → first_of (codes "turns") (matches_of serve_app (with_texts port ladder turns bind journal players store)) ≡ turns
 unfolding clap_on_literals
-turns_read_by port false None bind journal store = refl
-turns_read_by port true None bind journal store = refl
-turns_read_by port false (Some turns) bind journal store = refl
-turns_read_by port true (Some turns) bind journal store = refl
+turns_read_by port false None bind journal players store = refl
+turns_read_by port true None bind journal players store = refl
+turns_read_by port false (Some turns) bind journal players store = refl
+turns_read_by port true (Some turns) bind journal players store = refl
 
 pub turns_read : (x : ServeTexts) → first_of (codes "turns") (matches_of serve_app (serve_words x)) ≡ x.turns
-turns_read x = turns_read_by x.port x.ladder x.turns x.bind x.journal x.store
+turns_read x = turns_read_by x.port x.ladder x.turns x.bind x.journal x.players x.store
 
-bind_read_by : (port : Text) (ladder : Bool) (turns : Option Text) (bind journal store : Text) → first_of (codes "bind") (matches_of serve_app (with_texts port ladder turns bind journal store)) ≡ Some bind
+bind_read_by : (port : Text) (ladder : Bool) (turns : Option Text) (bind journal players store : Text) → first_of (codes "bind") (matches_of serve_app (with_texts port ladder turns bind journal players store)) ≡ Some bind
 unfolding clap_on_literals
-bind_read_by port false None bind journal store = refl
-bind_read_by port true None bind journal store = refl
-bind_read_by port false (Some turns) bind journal store = refl
-bind_read_by port true (Some turns) bind journal store = refl
+bind_read_by port false None bind journal players store = refl
+bind_read_by port true None bind journal players store = refl
+bind_read_by port false (Some turns) bind journal players store = refl
+bind_read_by port true (Some turns) bind journal players store = refl
 
 pub bind_read : (x : ServeTexts) → first_of (codes "bind") (matches_of serve_app (serve_words x)) ≡ Some x.bind
-bind_read x = bind_read_by x.port x.ladder x.turns x.bind x.journal x.store
+bind_read x = bind_read_by x.port x.ladder x.turns x.bind x.journal x.players x.store
 
-journal_read_by : (port : Text) (ladder : Bool) (turns : Option Text) (bind journal store : Text) → first_of (codes "journal") (matches_of serve_app (with_texts port ladder turns bind journal store)) ≡ Some journal
+journal_read_by : (port : Text) (ladder : Bool) (turns : Option Text) (bind journal players store : Text) → first_of (codes "journal") (matches_of serve_app (with_texts port ladder turns bind journal players store)) ≡ Some journal
 unfolding clap_on_literals
-journal_read_by port false None bind journal store = refl
-journal_read_by port true None bind journal store = refl
-journal_read_by port false (Some turns) bind journal store = refl
-journal_read_by port true (Some turns) bind journal store = refl
+journal_read_by port false None bind journal players store = refl
+journal_read_by port true None bind journal players store = refl
+journal_read_by port false (Some turns) bind journal players store = refl
+journal_read_by port true (Some turns) bind journal players store = refl
 
 pub journal_read : (x : ServeTexts) → first_of (codes "journal") (matches_of serve_app (serve_words x)) ≡ Some x.journal
-journal_read x = journal_read_by x.port x.ladder x.turns x.bind x.journal x.store
+journal_read x = journal_read_by x.port x.ladder x.turns x.bind x.journal x.players x.store
 
-store_read_by : (port : Text) (ladder : Bool) (turns : Option Text) (bind journal store : Text) → first_of (codes "STORE") (matches_of serve_app (with_texts port ladder turns bind journal store)) ≡ Some store
+players_read_by : (port : Text) (ladder : Bool) (turns : Option Text) (bind journal players store : Text) → first_of (codes "players") (matches_of serve_app (with_texts port ladder turns bind journal players store)) ≡ Some players
 unfolding clap_on_literals
-store_read_by port false None bind journal store = refl
-store_read_by port true None bind journal store = refl
-store_read_by port false (Some turns) bind journal store = refl
-store_read_by port true (Some turns) bind journal store = refl
+players_read_by port false None bind journal players store = refl
+players_read_by port true None bind journal players store = refl
+players_read_by port false (Some turns) bind journal players store = refl
+players_read_by port true (Some turns) bind journal players store = refl
+
+pub players_read : (x : ServeTexts) → first_of (codes "players") (matches_of serve_app (serve_words x)) ≡ Some x.players
+players_read x = players_read_by x.port x.ladder x.turns x.bind x.journal x.players x.store
+
+store_read_by : (port : Text) (ladder : Bool) (turns : Option Text) (bind journal players store : Text) → first_of (codes "STORE") (matches_of serve_app (with_texts port ladder turns bind journal players store)) ≡ Some store
+unfolding clap_on_literals
+store_read_by port false None bind journal players store = refl
+store_read_by port true None bind journal players store = refl
+store_read_by port false (Some turns) bind journal players store = refl
+store_read_by port true (Some turns) bind journal players store = refl
 
 pub store_read : (x : ServeTexts) → first_of (codes "STORE") (matches_of serve_app (serve_words x)) ≡ Some x.store
-store_read x = store_read_by x.port x.ladder x.turns x.bind x.journal x.store
+store_read x = store_read_by x.port x.ladder x.turns x.bind x.journal x.players x.store
 
-pub no_ladder_read : (port : Text) (turns : Option Text) (bind journal store : Text) → one_of (codes "ladder") (matches_of serve_app (with_texts port false turns bind journal store)) ≡ Some (codes "false")
+pub no_ladder_read : (port : Text) (turns : Option Text) (bind journal players store : Text) → one_of (codes "ladder") (matches_of serve_app (with_texts port false turns bind journal players store)) ≡ Some (codes "false")
 unfolding clap_on_literals
-no_ladder_read port None bind journal store = refl
-no_ladder_read port (Some turns) bind journal store = refl
+no_ladder_read port None bind journal players store = refl
+no_ladder_read port (Some turns) bind journal players store = refl
 
-pub ladder_read : (port : Text) (turns : Option Text) (bind journal store : Text) → one_of (codes "ladder") (matches_of serve_app (with_texts port true turns bind journal store)) ≡ Some (codes "true")
+pub ladder_read : (port : Text) (turns : Option Text) (bind journal players store : Text) → one_of (codes "ladder") (matches_of serve_app (with_texts port true turns bind journal players store)) ≡ Some (codes "true")
 unfolding clap_on_literals
-ladder_read port None bind journal store = refl
-ladder_read port (Some turns) bind journal store = refl
+ladder_read port None bind journal players store = refl
+ladder_read port (Some turns) bind journal players store = refl
 
-ladder_by : (ladder : Bool) (port : Text) (turns : Option Text) (bind journal store : Text) (f : Found) (flag : Bool) → rows_of f ≡ matches_of serve_app (with_texts port ladder turns bind journal store)
+ladder_by : (ladder : Bool) (port : Text) (turns : Option Text) (bind journal players store : Text) (f : Found) (flag : Bool) → rows_of f ≡ matches_of serve_app (with_texts port ladder turns bind journal players store)
     → (one_text f (codes "ladder") ≡ Some (codes "true") → flag ≡ true) → (one_text f (codes "ladder") ≡ Some (codes "false") → flag ≡ false) → flag ≡ ladder
-ladder_by true port turns bind journal store f flag is on off = on (one_read f _ (codes "ladder") (Some (codes "true")) is (ladder_read port turns bind journal store))
-ladder_by false port turns bind journal store f flag is on off = off (one_read f _ (codes "ladder") (Some (codes "false")) is (no_ladder_read port turns bind journal store))
+ladder_by true port turns bind journal players store f flag is on off = on (one_read f _ (codes "ladder") (Some (codes "true")) is (ladder_read port turns bind journal players store))
+ladder_by false port turns bind journal players store f flag is on off = off (one_read f _ (codes "ladder") (Some (codes "false")) is (no_ladder_read port turns bind journal players store))
 
 pub ladder_is : (x : ServeTexts) (f : Found) (flag : Bool) → rows_of f ≡ matches_of serve_app (serve_words x)
     → (one_text f (codes "ladder") ≡ Some (codes "true") → flag ≡ true) → (one_text f (codes "ladder") ≡ Some (codes "false") → flag ≡ false) → flag ≡ x.ladder
-ladder_is x f flag is on off = ladder_by x.ladder x.port x.turns x.bind x.journal x.store f flag is on off
+ladder_is x f flag is on off = ladder_by x.ladder x.port x.turns x.bind x.journal x.players x.store f flag is on off

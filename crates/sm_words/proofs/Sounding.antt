@@ -8,16 +8,17 @@ use Rattle.sm_model.specs.Digits.{is_digit, decimal_from}
 use Rattle.sm_model.specs.Names.{is_name}
 use Rattle.sm_client.specs.declared.plan.Plan.{Plan}
 use Rattle.sm_words.specs.Options.{edge_options, play_options, serve_options}
-use Rattle.sm_words.specs.Words.{Text, Read, Pulling, Wanted, Pick, Serve, Push, Play, Relay, Standby, Listing, Rehearse, Export, Help, Version, EdgeTexts, ExportTexts, PlayNumbers, PlayTexts, PushTexts, ServeTexts, asked, is, is_numeral, numeral, read}
-use Rattle.sm_words.specs.Words.{filled, list_of, number_or, numbers_by, pick_by, pick_of, plan_by, play_by, play_of, play_texts, push_by, push_of, push_texts, serve_by, serve_of}
+use Rattle.sm_words.specs.Words.{Text, Read, Pulling, Serving, Wanted, Pick, Serve, ServeShown, Push, Play, Relay, Standby, Listing, Rehearse, Export, Help, Version, EdgeTexts, ExportTexts, PlayNumbers, PlayTexts, PushTexts, ServeTexts, asked, is, is_numeral, numeral, read}
+use Rattle.sm_words.specs.Words.{filled, last_port, list_of, number_or, numbers_by, pick_by, pick_of, plan_by, play_by, play_of, play_texts, players_by, push_by, push_of, push_texts, serve_by, serve_of, served_by}
 use Rattle.sm_words.specs.declared.topic.Topic.TheVariants as topics
 use Rattle.sm_words.specs.Words.{alone, edge_by, edge_of, edge_texts, pulling_by, help_by, topic_named, export_by, export_of, export_texts, name_by, rehearse_by, rehearse_of, serve_texts, start_by, streams_by, two_words, only_word}
 use Rattle.sm_words.specs.Places.{is_host, is_path}
-use Rattle.sm_words.specs.Orders.{IsPlayable, IsPullable, IsWorld}
+use Rattle.sm_words.specs.Orders.{IsPlayable, IsPullable, IsShowable, IsWorld}
 
 abbrev IsFit : Wanted → Type 0
 IsFit (Pick track time) = Unit {0}
 IsFit (Serve s) = Unit {0}
+IsFit (ServeShown s players) = IsShowable s players
 IsFit (Push host port path id) = Unit {0}
 IsFit (Play plan) = IsPlayable plan
 IsFit (Relay e) = IsPullable e
@@ -147,16 +148,38 @@ pick_fits x =
     of_then IsFit (λ t. option_map (λ at. Pick t at) (numeral 0 (2 ^ 63 - 1) x.1)) (numeral 1 (2 ^ 32 - 1) x.0)
     (λ t p. of_map IsFit (λ at. Pick t at) (numeral 0 (2 ^ 63 - 1) x.1) (λ at q. tt))
 
+some_by : (o : Option ℕ) (n : ℕ) → option_map (λ m. Some m) o ≡ Some (Some n) → o ≡ Some n
+some_by None n e = absurd (cc)
+some_by (Some m) n e = let same : Some m ≡ Some n = cc in same
+
+players_between : (text : Option Text) (n : ℕ) → players_by text ≡ Some (Some n) → IsBetween 1 16 n
+players_between None n e = absurd (let none : Some None ≡ Some (Some n) = e in cc)
+players_between (Some text) n e = between 1 16 text n (some_by (numeral 1 16 text) n e)
+
+served : ServeTexts → Option ℕ → ℕ → ℕ → Text → Wanted
+served x players port turns store =
+    served_by (record { store = store; port = port; ladder = x.ladder; turns = turns; bind = filled x.bind; journal = filled x.journal }) players
+
+served_fits : (x : ServeTexts) (players : Option ℕ) (port turns : ℕ) (store : Text) → players_by (filled x.players) ≡ Some players → numeral 1 (last_port players) x.port ≡ Some port
+    → IsFit (served x players port turns store)
+served_fits x None port turns store q p = tt
+served_fits x (Some players) port turns store q p =
+    let count = players_between (filled x.players) players q in
+    let place = between 1 65534 x.port port p in
+    record { port = place.high_is; some_play = omega (arith, count.low_is); few_play = count.high_is }
+
 serve_fits : (x : ServeTexts) → IfSome (serve_by x) IsFit
 serve_fits x =
+    of_then IsFit (λ players.
+    option_and_then (λ port.
+    option_and_then (λ turns. option_map (λ store. served x players port turns store) (filled x.store)) (number_or 1 (2 ^ 63 - 1) (Some (2 ^ 63 - 1)) x.turns))
+    (numeral 1 (last_port players) x.port))
+    (players_by (filled x.players)) (λ players q.
     of_then IsFit (λ port.
-    option_and_then (λ turns. option_map (λ store. served port turns store) (filled x.store)) (number_or 1 (2 ^ 63 - 1) (Some (2 ^ 63 - 1)) x.turns))
-    (numeral 1 65535 x.port) (λ port p.
-    of_then IsFit (λ turns. option_map (λ store. served port turns store) (filled x.store)) (number_or 1 (2 ^ 63 - 1) (Some (2 ^ 63 - 1)) x.turns) (λ turns t.
-    of_map IsFit (λ store. served port turns store) (filled x.store) (λ store s. tt)))
-  where
-    served : ℕ → ℕ → Text → Wanted
-    served port turns store = Serve (record { store = store; port = port; ladder = x.ladder; turns = turns; bind = filled x.bind; journal = filled x.journal })
+    option_and_then (λ turns. option_map (λ store. served x players port turns store) (filled x.store)) (number_or 1 (2 ^ 63 - 1) (Some (2 ^ 63 - 1)) x.turns))
+    (numeral 1 (last_port players) x.port) (λ port p.
+    of_then IsFit (λ turns. option_map (λ store. served x players port turns store) (filled x.store)) (number_or 1 (2 ^ 63 - 1) (Some (2 ^ 63 - 1)) x.turns) (λ turns t.
+    of_map IsFit (λ store. served x players port turns store) (filled x.store) (λ store s. served_fits x players port turns store q p))))
 
 push_fits : (x : PushTexts) → IfSome (push_by x) IsFit
 push_fits x =
@@ -249,6 +272,10 @@ asked_fits (command ∷ words) =
 -- what the words ask to play may be played
 pub playable : (plan : Plan) (words : List Text) → Some (Play plan) ≡ asked words → IsPlayable plan
 playable plan words e = if_some IsFit (asked words) (Play plan) (asked_fits words) (sym e)
+
+-- and what they ask to serve with player threads may be shown by as many
+pub showable : (s : Serving) (players : ℕ) (words : List Text) → Some (ServeShown s players) ≡ asked words → IsShowable s players
+showable s players words is = if_some IsFit (asked words) (ServeShown s players) (asked_fits words) (sym is)
 
 -- and what they ask to relay or to follow may be pulled
 pub relayable : (e : Pulling) (words : List Text) → Some (Relay e) ≡ asked words → IsPullable e

@@ -59,7 +59,9 @@ abbrev pub serve_app : App
 serve_app =
     with_rule
     (with_rule
-    (with_rule serve_place_app (switch_rule (codes "ladder")))
+    (with_rule
+    (with_rule serve_place_app (option_rule (codes "players")))
+    (switch_rule (codes "ladder")))
     (option_rule (codes "turns")))
     (word_rule (codes "STORE"))
 
@@ -111,7 +113,7 @@ turns_words (Some turns) = (codes "--turns=" ++ turns) ∷ []
 abbrev pub serve_words : ServeTexts → List Text
 serve_words x =
     codes "serve" ∷ (codes "--port=" ++ x.port) ∷ (codes "--bind=" ++ x.bind) ∷ (codes "--journal=" ++ x.journal)
-    ∷ (ladder_words x.ladder ++ (turns_words x.turns ++ (codes "--" ∷ x.store ∷ [])))
+    ∷ (codes "--players=" ++ x.players) ∷ (ladder_words x.ladder ++ (turns_words x.turns ++ (codes "--" ∷ x.store ∷ [])))
 
 abbrev pub pick_words : Text × Text → List Text
 pick_words x = codes "pick" ∷ codes "--" ∷ x.0 ∷ x.1 ∷ []

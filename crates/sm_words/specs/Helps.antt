@@ -6,7 +6,7 @@ use Rattle.sm_words.specs.declared.topic.Topic.TheVariants as topic
 -- how its words stand
 abbrev pub usage_of : Topic → List ℕ
 usage_of topic.All = codes "usage: smooth COMMAND [WORDS], and one of\n    serve list push play relay standby pick export rehearse help version\n"
-usage_of topic.Serve = codes "usage: smooth serve STORE --port N [--bind ADDRESS] [--ladder] [--journal FILE] [--turns N]\n"
+usage_of topic.Serve = codes "usage: smooth serve STORE --port N [--bind ADDRESS] [--ladder] [--journal FILE] [--turns N] [--players N]\n"
 usage_of topic.List = codes "usage: smooth list STORE\n"
 usage_of topic.Push = codes "usage: smooth push HOST PORT PATH ID < PUSH\n"
 usage_of topic.Play = codes "usage: smooth play HOST PORT PATH STREAM... [--from N] [--count N] [--tries N] [--refresh N]\n"
@@ -39,18 +39,19 @@ help_of topic.All =
     ++ (codes "\n"
     ++ (codes "An option is written --name N or --name=N. Behind -- no word is an option.\n"))))))))))))))))))
 help_of topic.Serve =
-    codes "usage: smooth serve STORE --port N [--bind ADDRESS] [--ladder] [--journal FILE] [--turns N]\n"
+    codes "usage: smooth serve STORE --port N [--bind ADDRESS] [--ladder] [--journal FILE] [--turns N] [--players N]\n"
     ++ (codes "\n"
     ++ (codes "Serves the event in the folder STORE, which is made where it isn't there. Encoders push to\n"
     ++ (codes "/NAME.isml/Streams(ID), and players ask for /NAME.isml/Manifest.\n"
     ++ (codes "\n"
-    ++ (codes "  --port N        the port, 1 to 65535\n"
+    ++ (codes "  --port N        the port, 1 to 65535; with --players to 65534\n"
     ++ (codes "  --bind ADDRESS  listens at this IPv4 or IPv6 address alone; default all of the machine\n"
     ++ (codes "  --ladder        reads the tracks of the event from the input and declares them first\n"
     ++ (codes "  --journal FILE  appends a line for each connection, request and push to FILE\n"
     ++ (codes "  --turns N       ends after N events, 1 to 9223372036854775807; default the most\n"
+    ++ (codes "  --players N     answers players by N threads, 1 to 16, at the port behind; default none\n"
     ++ (codes "\n"
-    ++ (codes "  smooth serve /var/lib/smooth/store --port 8080\n")))))))))))
+    ++ (codes "  smooth serve /var/lib/smooth/store --port 8080\n"))))))))))))
 help_of topic.List =
     codes "usage: smooth list STORE\n"
     ++ (codes "\n"

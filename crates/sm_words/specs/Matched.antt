@@ -14,6 +14,7 @@ pub record IsReadOf (texts : ServeTexts) (x : Asked) : Type 0 where
   pub turns : option_map string_bytes texts.turns ≡ x.turns
   pub bind : option_map string_bytes texts.bind ≡ Some x.bind
   pub journal : option_map string_bytes texts.journal ≡ Some x.journal
+  pub players : option_map string_bytes texts.players ≡ Some x.players
   pub store : option_map string_bytes texts.store ≡ Some x.store
 
 pub record IsPushRead (texts : PushTexts) (x : Sent) : Type 0 where

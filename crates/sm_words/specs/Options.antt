@@ -1,7 +1,7 @@
 -- The options of the commands.
 use Rattle.std.specs.Prelude.{ℕ, Bool, true, false, List, codes, ◌==◌, [], ◌∷◌}
 use Rattle.sm_words.specs.declared.option.Name.{Name}
-use Rattle.sm_words.specs.declared.option.Name.TheVariants.{Port, Ladder, Turns, Bind, Journal, From, Count, Tries, Refresh, Rounds}
+use Rattle.sm_words.specs.declared.option.Name.TheVariants.{Port, Ladder, Turns, Bind, Journal, Players, From, Count, Tries, Refresh, Rounds}
 
 -- as it is written
 abbrev pub text_of : Name → List ℕ
@@ -10,6 +10,7 @@ text_of Ladder = codes "--ladder"
 text_of Turns = codes "--turns"
 text_of Bind = codes "--bind"
 text_of Journal = codes "--journal"
+text_of Players = codes "--players"
 text_of From = codes "--from"
 text_of Count = codes "--count"
 text_of Tries = codes "--tries"
@@ -23,6 +24,7 @@ has_value Ladder = false
 has_value Turns = true
 has_value Bind = true
 has_value Journal = true
+has_value Players = true
 has_value From = true
 has_value Count = true
 has_value Tries = true
@@ -40,13 +42,14 @@ number_of Refresh = 6
 number_of Bind = 7
 number_of Journal = 8
 number_of Rounds = 9
+number_of Players = 10
 
 abbrev pub is_same : Name → Name → Bool
 is_same a b = number_of a == number_of b
 
 -- the options of `serve`
 abbrev pub serve_options : List Name
-serve_options = Port ∷ Ladder ∷ Turns ∷ Bind ∷ Journal ∷ []
+serve_options = Port ∷ Ladder ∷ Turns ∷ Bind ∷ Journal ∷ Players ∷ []
 
 -- the options of `play`
 abbrev pub play_options : List Name

@@ -7,7 +7,7 @@ use Rattle.sm_words.specs.declared.order.Order.TheVariants as order
 use Rattle.sm_words.specs.declared.order.PlayNumbers.{PlayNumbers}
 use Rattle.sm_words.specs.declared.order.ServeOrder.{ServeOrder}
 use Rattle.sm_words.specs.declared.edge_order.EdgeOrder.{EdgeOrder}
-use Rattle.sm_words.specs.Words.{Pulling, Serving, Wanted, Pick, Serve, Push, Play, Relay, Standby, Listing, Rehearse, Export, Help, Version, PlayNumbers as Numbers}
+use Rattle.sm_words.specs.Words.{Pulling, Serving, Wanted, Pick, Serve, ServeShown, Push, Play, Relay, Standby, Listing, Rehearse, Export, Help, Version, PlayNumbers as Numbers}
 
 abbrev pub serving_of : ServeOrder → Serving
 serving_of s = record {
@@ -25,6 +25,7 @@ pulling_of e = record { place = e.place; store = string_bytes e.store; rounds = 
 abbrev pub wanted_of : Order → Wanted
 wanted_of (order.Pick track time) = Pick track time
 wanted_of (order.Serve s) = Serve (serving_of s)
+wanted_of (order.ServeShown s players) = ServeShown (serving_of s) players
 wanted_of (order.Push p) = Push (string_bytes p.host) p.port (string_bytes p.path) p.id
 wanted_of (order.Play p) = Play p.plan
 wanted_of (order.Relay e) = Relay (pulling_of e)
@@ -44,6 +45,12 @@ pub record IsPlayable (plan : Plan) : Type 0 where
   pub count : plan.count ≤ 1000000
   pub tries : 0 < plan.tries
   pub refresh : 0 < plan.refresh
+
+-- what threads may show beside the loop, which leaves them the next port
+pub record IsShowable (s : Serving) (players : ℕ) : Type 0 where
+  pub port : s.port ≤ 65534
+  pub some_play : 0 < players
+  pub few_play : players ≤ 16
 
 -- what may be pulled
 pub record IsPullable (e : Pulling) : Type 0 where

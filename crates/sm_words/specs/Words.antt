@@ -9,7 +9,7 @@ use Rattle.sm_model.specs.Names.{is_name}
 use Rattle.sm_client.specs.declared.plan.Plan.{Plan}
 use Rattle.sm_fetch.specs.declared.place.Place.{Place as Origin}
 use Rattle.sm_words.specs.declared.option.Name.{Name}
-use Rattle.sm_words.specs.declared.option.Name.TheVariants.{Port, Ladder, Turns, Bind, Journal, From, Count, Tries, Refresh, Rounds}
+use Rattle.sm_words.specs.declared.option.Name.TheVariants.{Port, Ladder, Turns, Bind, Journal, Players, From, Count, Tries, Refresh, Rounds}
 use Rattle.sm_words.specs.declared.line.Place.{Place}
 use Rattle.sm_words.specs.declared.line.Place.TheVariants.{Free, Behind, Bare}
 use Rattle.sm_words.specs.declared.topic.Topic.{Topic}
@@ -179,6 +179,8 @@ pub data Wanted : Type 0 where
   Pick : ℕ → ℕ → Wanted
   -- what is served, and how
   Serve : Serving → Wanted
+  -- the same, and how many threads answer viewers beside the loop
+  ServeShown : Serving → ℕ → Wanted
   -- a host, a port, the path of a channel, and the name of a stream
   Push : Text → ℕ → Text → Text → Wanted
   -- what is to be played
@@ -232,16 +234,33 @@ pub record ServeTexts : Type 0 where
   pub turns : Option Text
   pub bind : Text
   pub journal : Text
+  pub players : Text
   pub store : Text
+
+-- how many threads answer viewers, if any do
+abbrev pub players_by : Option Text → Option (Option ℕ)
+players_by None = Some None
+players_by (Some text) = option_map (λ n. Some n) (numeral 1 16 text)
+
+-- the last port that the loop may have; where threads answer viewers the next one is theirs
+abbrev pub last_port : Option ℕ → ℕ
+last_port None = 65535
+last_port (Some players) = 65534
+
+abbrev pub served_by : Serving → Option ℕ → Wanted
+served_by s None = Serve s
+served_by s (Some players) = ServeShown s players
 
 abbrev pub serve_by : ServeTexts → Option Wanted
 serve_by x =
+    option_and_then (λ players.
     option_and_then (λ port.
     option_and_then (λ turns.
-    option_map (λ store. Serve (record { store = store; port = port; ladder = x.ladder; turns = turns; bind = filled x.bind; journal = filled x.journal }))
+    option_map (λ store. served_by (record { store = store; port = port; ladder = x.ladder; turns = turns; bind = filled x.bind; journal = filled x.journal }) players)
     (filled x.store))
     (number_or 1 (2 ^ 63 - 1) (Some (2 ^ 63 - 1)) x.turns))
-    (numeral 1 65535 x.port)
+    (numeral 1 (last_port players) x.port))
+    (players_by (filled x.players))
 
 -- the port must be given
 abbrev pub serve_texts : Read → Option ServeTexts
@@ -251,8 +270,10 @@ serve_texts r =
     option_and_then (λ turns.
     option_and_then (λ bind.
     option_and_then (λ journal.
-    option_map (λ store. record { port = port; ladder = is_some ladder; turns = turns; bind = bind; journal = journal; store = store })
+    option_and_then (λ players.
+    option_map (λ store. record { port = port; ladder = is_some ladder; turns = turns; bind = bind; journal = journal; players = players; store = store })
     (only_word r.words))
+    (option_and_then value_or_empty (value_of Players r)))
     (option_and_then value_or_empty (value_of Journal r)))
     (option_and_then value_or_empty (value_of Bind r)))
     (value_of Turns r))
@@ -481,7 +502,7 @@ abbrev pub alone : List Text → Wanted → Option Wanted
 alone [] wanted = Some wanted
 alone (word ∷ words) wanted = None
 
--- what the words ask for: `pick TRACK TIME`, `serve STORE --port N [--ladder] [--turns N] [--bind ADDRESS] [--journal FILE]`,
+-- what the words ask for: `pick TRACK TIME`, `serve STORE --port N [--ladder] [--turns N] [--bind ADDRESS] [--journal FILE] [--players N]`,
 -- `push HOST PORT PATH ID`, `list STORE`,
 -- `play HOST PORT PATH STREAM... [--from N] [--count N] [--tries N] [--refresh N]`, `rehearse NUMBER SIZE`, `export STORE NAME BITRATE`,
 -- `relay HOST PORT PATH STORE [--rounds N] [--tries N]`, `standby HOST PORT PATH STORE [--rounds N] [--tries N]`,

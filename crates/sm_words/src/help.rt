@@ -19,7 +19,7 @@ pub fn wrong_words(topic: Topic) -> &'static str
         Topic::All =>
             "error: words\nusage: smooth COMMAND [WORDS], and one of\n    serve list push play relay standby pick export rehearse help version\n",
         Topic::Serve =>
-            "error: words\nusage: smooth serve STORE --port N [--bind ADDRESS] [--ladder] [--journal FILE] [--turns N]\n",
+            "error: words\nusage: smooth serve STORE --port N [--bind ADDRESS] [--ladder] [--journal FILE] [--turns N] [--players N]\n",
         Topic::List => "error: words\nusage: smooth list STORE\n",
         Topic::Push => "error: words\nusage: smooth push HOST PORT PATH ID < PUSH\n",
         Topic::Play =>
@@ -74,16 +74,17 @@ An option is written --name N or --name=N. Behind -- no word is an option.
 ";
 
 const SERVE: &str =
-    "usage: smooth serve STORE --port N [--bind ADDRESS] [--ladder] [--journal FILE] [--turns N]
+    "usage: smooth serve STORE --port N [--bind ADDRESS] [--ladder] [--journal FILE] [--turns N] [--players N]
 
 Serves the event in the folder STORE, which is made where it isn't there. Encoders push to
 /NAME.isml/Streams(ID), and players ask for /NAME.isml/Manifest.
 
-  --port N        the port, 1 to 65535
+  --port N        the port, 1 to 65535; with --players to 65534
   --bind ADDRESS  listens at this IPv4 or IPv6 address alone; default all of the machine
   --ladder        reads the tracks of the event from the input and declares them first
   --journal FILE  appends a line for each connection, request and push to FILE
   --turns N       ends after N events, 1 to 9223372036854775807; default the most
+  --players N     answers players by N threads, 1 to 16, at the port behind; default none
 
   smooth serve /var/lib/smooth/store --port 8080
 ";

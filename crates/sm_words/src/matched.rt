@@ -21,6 +21,7 @@ pub struct ServeTexts {
     pub turns: Option<String>,
     pub bind: Option<String>,
     pub journal: Option<String>,
+    pub players: Option<String>,
     pub store: Option<String>,
 }
 
@@ -161,7 +162,8 @@ fn serve_place<'w>(alloc: Global) -> Result<Command<'w>, NoMemory>
 fn serve_command<'w>(alloc: Global) -> Result<Command<'w>, NoMemory>
     ensures { IfOk result (λ command. app_of command ≡ serve_app) }
 {
-    let command = with(serve_place(alloc)?, switch(alloc, "ladder"))?;
+    let command = with(serve_place(alloc)?, option(alloc, "players"))?;
+    let command = with(command, switch(alloc, "ladder"))?;
     let command = with(command, option(alloc, "turns"))?;
     with(command, word(alloc, "STORE"))
 }
@@ -298,6 +300,7 @@ pub fn read_serve(alloc: Global, words: &[String]) -> Result<ServeTexts, NoMemor
     let turns = text_of(alloc, &matches, "turns")?;
     let bind = text_of(alloc, &matches, "bind")?;
     let journal = text_of(alloc, &matches, "journal")?;
+    let players = text_of(alloc, &matches, "players")?;
     let store = text_of(alloc, &matches, "STORE")?;
     Ok(ServeTexts {
         port,
@@ -305,6 +308,7 @@ pub fn read_serve(alloc: Global, words: &[String]) -> Result<ServeTexts, NoMemor
         turns,
         bind,
         journal,
+        players,
         store,
     })
 }

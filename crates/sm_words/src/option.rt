@@ -15,6 +15,8 @@ pub enum Name {
     Bind,
     /// The file of the journal.
     Journal,
+    /// How many threads answer viewers beside the loop.
+    Players,
     /// The first start that is played.
     From,
     /// How many fragments of each stream are played.
@@ -38,6 +40,7 @@ impl Name {
             Name::Turns => "--turns",
             Name::Bind => "--bind",
             Name::Journal => "--journal",
+            Name::Players => "--players",
             Name::From => "--from",
             Name::Count => "--count",
             Name::Tries => "--tries",

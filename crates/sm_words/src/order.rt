@@ -2,11 +2,11 @@
 ghost use Rattle.std.specs.Prelude.{◌≡◌, ◌≤◌, ◌<◌, ◌^◌, map, string_bytes, length, IfOk, IfSome, Some, [], List, ℕ};
 ghost use Rattle.std.specs.Option.{option_map, option_and_then};
 ghost use Rattle.sm_words.specs.Options.{edge_options, play_options, serve_options};
-ghost use Rattle.sm_words.specs.Words.{Listing, EdgeTexts as Pulled, ExportTexts as Filed, PlayTexts as Played, PushTexts as Sent, ServeTexts as Asked, alone, asked, filled, help_by, list_of, number_or, start_by};
+ghost use Rattle.sm_words.specs.Words.{Listing, EdgeTexts as Pulled, ExportTexts as Filed, PlayTexts as Played, PushTexts as Sent, ServeTexts as Asked, alone, asked, filled, help_by, last_port, list_of, number_or, players_by, served_by, start_by};
 ghost use Rattle.sm_words.specs.Words.{name_by, numbers_by, pick_by, pick_of, play_by, play_of, push_by, push_of, read, rehearse_by, rehearse_of, serve_by};
 ghost use Rattle.sm_words.specs.Words.{Relay, Standby, edge_by, edge_of, export_by, export_of, serve_of, streams_by};
 ghost use Rattle.sm_words.specs.Matched.{IsEdgeRead, IsExportRead, IsPlayRead, IsPushRead, IsReadOf};
-ghost use Rattle.sm_words.specs.Orders.{numbers_of, pulling_of, wanted_of};
+ghost use Rattle.sm_words.specs.Orders.{numbers_of, pulling_of, serving_of, wanted_of};
 
 use crate::edge_order::EdgeOrder;
 use crate::line::read_line;
@@ -34,6 +34,8 @@ pub enum Order {
     Pick { track: u32, time: u64 },
     /// To serve a store.
     Serve(ServeOrder),
+    /// To serve a store, with so many threads that answer viewers at the next port.
+    ServeShown { order: ServeOrder, players: u32 },
     /// To push to an origin.
     Push(PushOrder),
     /// To play streams of an origin.
@@ -108,12 +110,13 @@ struct PlayNumbers {
 // The largest number that a word may write.
 const MOST: u64 = 9_223_372_036_854_775_807;
 
-const SERVE: [Name; 5] = [
+const SERVE: [Name; 6] = [
     Name::Port,
     Name::Ladder,
     Name::Turns,
     Name::Bind,
     Name::Journal,
+    Name::Players,
 ];
 
 const PLAY: [Name; 4] = [Name::From, Name::Count, Name::Tries, Name::Refresh];
@@ -125,6 +128,9 @@ const STREAMS: usize = 16;
 
 // The greatest number of a world.
 const LAST_WORLD: u64 = 2_147_483_647;
+
+// The most threads that answer viewers.
+const MOST_PLAYERS: u64 = 16;
 
 // The most rounds of a rehearsal.
 const MOST_ROUNDS: u64 = 2_000;
@@ -171,23 +177,58 @@ fn rehearse_order(number: &Option<String>, size: &Option<String>) -> Option<Orde
     Some(Order::Rehearse { number, size })
 }
 
+// How many threads answer viewers, if any do.
+fn players_by(text: &Option<String>) -> Option<Option<u32>>
+    ensures { result ≡ players_by (option_map string_bytes text.now) }
+{
+    match text {
+        Some(text) => {
+            let players = number(text.as_str(), 1, MOST_PLAYERS)?;
+            Some(Some(players as u32))
+        }
+        None => Some(None),
+    }
+}
+
+// The last port that the loop may have: where threads answer viewers the next one is theirs.
+fn last_port(players: Option<u32>) -> u64
+    ensures value { result ≡ last_port players }
+    ensures below { result ≤ 65535 }
+{
+    match players {
+        Some(_) => 65_534,
+        None => 65_535,
+    }
+}
+
+fn served_by(order: ServeOrder, players: Option<u32>) -> Order
+    ensures { wanted_of result ≡ served_by (serving_of order) players }
+{
+    match players {
+        Some(players) => Order::ServeShown { order, players },
+        None => Order::Serve(order),
+    }
+}
+
 fn serve_order(texts: ServeTexts) -> Option<Order>
     ensures { (x : Asked) → IsReadOf texts x → option_map wanted_of result ≡ serve_by x }
 {
-    let port = number_or(&texts.port, 1, 65_535, None)?;
+    let players = players_by(&filled(texts.players))?;
+    let port = number_or(&texts.port, 1, last_port(players), None)?;
     let turns = number_or(&texts.turns, 1, MOST, Some(MOST))?;
     let ladder = texts.ladder;
     let store = filled(texts.store)?;
     let bind = filled(texts.bind);
     let journal = filled(texts.journal);
-    Some(Order::Serve(ServeOrder {
+    let order = ServeOrder {
         store,
         port: port as u16,
         ladder,
         turns,
         bind,
         journal,
-    }))
+    };
+    Some(served_by(order, players))
 }
 
 fn push_order(alloc: Global, texts: PushTexts) -> Result<Option<Order>, NoMemory>
@@ -516,7 +557,7 @@ fn alone(words: &[String], order: Order) -> Option<Order>
     if words.is_empty() { Some(order) } else { None }
 }
 
-/// What the words ask for: `pick TRACK TIME`, `serve STORE --port N [--ladder] [--turns N] [--bind ADDRESS] [--journal FILE]`,
+/// What the words ask for: `pick TRACK TIME`, `serve STORE --port N [--ladder] [--turns N] [--bind ADDRESS] [--journal FILE] [--players N]`,
 /// `push HOST PORT PATH ID`, `list STORE`,
 /// `play HOST PORT PATH STREAM... [--from N] [--count N] [--tries N] [--refresh N]`, `rehearse NUMBER SIZE`,
 /// `export STORE NAME BITRATE`, `relay HOST PORT PATH STORE [--rounds N] [--tries N]`,

@@ -53,6 +53,7 @@ fn put_serve(
     port: &str,
     bind: &str,
     journal: &str,
+    players: &str,
     ladder: bool,
     turns: Option<&str>,
     store: &str,
@@ -63,6 +64,7 @@ fn put_serve(
       turns = option_map (λ text. text.now) turns.entry;
       bind = bind.now;
       journal = journal.now;
+      players = players.now;
       store = store.now;
     })) }
 {
@@ -71,6 +73,7 @@ fn put_serve(
     put_value(alloc, &mut words, "--port=", port)?;
     put_value(alloc, &mut words, "--bind=", bind)?;
     put_value(alloc, &mut words, "--journal=", journal)?;
+    put_value(alloc, &mut words, "--players=", players)?;
     put_ladder(alloc, &mut words, ladder)?;
     put_turns(alloc, &mut words, turns)?;
     put(alloc, &mut words, "--")?;
@@ -114,11 +117,26 @@ pub fn serve_put(alloc: Global, line: &Line) -> Result<Option<Vec<String>>, NoMe
     let Some(journal) = value_or_empty(journal) else {
         return Ok(None);
     };
+    let Ok(players) = line.value(Name::Players) else {
+        return Ok(None);
+    };
+    let Some(players) = value_or_empty(players) else {
+        return Ok(None);
+    };
     let [store] = line.words.as_slice() else {
         return Ok(None);
     };
     let ladder = ladder.is_some();
-    let words = put_serve(alloc, port, bind, journal, ladder, turns, store.as_str())?;
+    let words = put_serve(
+        alloc,
+        port,
+        bind,
+        journal,
+        players,
+        ladder,
+        turns,
+        store.as_str(),
+    )?;
     Ok(Some(words))
 }
 

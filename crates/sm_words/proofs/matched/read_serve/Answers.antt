@@ -1,7 +1,7 @@
 use Rattle.std.proofs.Common.{◌∙◌, codes, Some}
 use Rattle.clap.specs.Words.{found_of, matches_of}
 use Rattle.sm_words.specs.Clapped.{serve_app, serve_words}
-use Rattle.sm_words.proofs.Clapping.{bind_read, journal_read, ladder_is, port_read, rows_read, serve_simple, serve_taken, still_taken, store_read, str_read, turns_read}
+use Rattle.sm_words.proofs.Clapping.{bind_read, journal_read, ladder_is, players_read, port_read, rows_read, serve_simple, serve_taken, still_taken, store_read, str_read, turns_read}
 use Rattle.sm_words.proofs.matched.read_serve.Goals as goal
 
 pub matched-requires : goal.matched-requires
@@ -17,5 +17,6 @@ returns c x put =
       turns = c.in_ok-turns.ensures ∙ str_read found (matches_of serve_app (serve_words x)) (codes "turns") x.turns rows (turns_read x);
       bind = c.in_ok-bind.ensures ∙ str_read found (matches_of serve_app (serve_words x)) (codes "bind") (Some x.bind) rows (bind_read x);
       journal = c.in_ok-journal.ensures ∙ str_read found (matches_of serve_app (serve_words x)) (codes "journal") (Some x.journal) rows (journal_read x);
+      players = c.in_ok-players.ensures ∙ str_read found (matches_of serve_app (serve_words x)) (codes "players") (Some x.players) rows (players_read x);
       store = c.in_ok-store.ensures ∙ str_read found (matches_of serve_app (serve_words x)) (codes "STORE") (Some x.store) rows (store_read x);
     }
