@@ -15,3 +15,4 @@ pub use fault::StoreFault;
 pub use listing::list_store;
 pub use opening::{open_archive, open_declared};
 pub use serving::serve_store;
+pub use start::{open_state, prepare};

@@ -50,7 +50,7 @@ fn start<S: Site>(alloc: Global, site: &mut S) -> Result<State, StoreFault>
 }
 
 /// Chooses the folder and the port, and opens the store there.
-pub(crate) fn open_state<S: Site>(
+pub fn open_state<S: Site>(
     alloc: Global,
     site: &mut S,
     selection: Selection,
@@ -152,7 +152,7 @@ fn declare_ladder<I: Source, S: Site>(
 }
 
 /// Declares the ladder that the input is, if one is asked for.
-pub(crate) fn prepare<I: Source, S: Site>(
+pub fn prepare<I: Source, S: Site>(
     alloc: Global,
     input: &mut I,
     site: &mut S,
