@@ -12,6 +12,13 @@ use std::alloc::Global;
 use std::collections::VecDeque;
 use std::thread::{JoinHandle, Threads};
 
+// Before any player has ended.
+const NONE: Finished = Finished {
+    done: 0,
+    faulted: 0,
+    starved: 0,
+};
+
 /// A spawner that is given the parts of its players, and takes those of one at each start.
 #[derive(Drop)]
 pub struct Crew<R: Threads + Drop, W: Drop, F: Drop, G: Drop> {
@@ -23,6 +30,7 @@ pub struct Crew<R: Threads + Drop, W: Drop, F: Drop, G: Drop> {
     handles: Vec<JoinHandle<Played>>,
     faults: u64,
     started: u64,
+    finished: Finished,
     ghost few: { vec_len handles < 2 ^ 32 },
 }
 
@@ -46,6 +54,7 @@ impl<
             handles: Vec::new(alloc),
             faults: 0,
             started: 0,
+            finished: NONE,
         }
     }
 
@@ -86,6 +95,8 @@ impl<
     ghost started = { λ c. c.started };
 
     ghost running = { λ c. vec_len c.handles };
+
+    ghost counted = { λ c. c.finished };
 
     ghost has_room = { λ c. (vec_len c.handles < vec_capacity c.handles) × (vec_len c.handles < 4294967295) × (c.started < 18446744073709551615) };
 
@@ -129,11 +140,7 @@ impl<
 
     fn finish(&mut self) -> Finished {
         self.stop.ask();
-        let mut finished = Finished {
-            done: 0,
-            faulted: 0,
-            starved: 0,
-        };
+        let mut finished = NONE;
         while let Some(handle) = self.handles.pop() {
             match handle.join(&self.rt) {
                 Played::Done { answered: _ } => finished.done += 1,
@@ -144,6 +151,7 @@ impl<
         if finished.faulted > 0 {
             self.faults = self.faults.saturating_add(1);
         }
+        self.finished = finished;
         finished
     }
 }

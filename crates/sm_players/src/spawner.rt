@@ -1,6 +1,7 @@
 //! What starts players.
 ghost use Rattle.std.specs.Prelude.{◌≡◌, ℕ, ◌+◌, ◌<◌, ◌≤◌, OnOk, OnErr, IsErrOf};
 ghost use Rattle.sm_site.specs.Clauses.{Rose};
+ghost use Rattle.sm_players.specs.declared.spawner.Finished.{Finished};
 
 use crate::forward::Forward;
 use crate::gate::Gate;
@@ -57,6 +58,9 @@ pub trait Spawner {
     /// How many of those since the last `finish`.
     ghost running: { Self → ℕ };
 
+    /// What the last `finish` counted.
+    ghost counted: { Self → Finished };
+
     /// There is room for one more handle.
     ghost has_room: { Self → Type 0 };
 
@@ -99,6 +103,7 @@ pub trait Spawner {
 
     /// Asks all players to end, and joins them. `faulted` is above 0 only where the count rose.
     fn finish(&mut self) -> Finished
+        ensures counted { counted self.new ≡ result }
         ensures all { result.done + result.faulted + result.starved ≡ running self.old }
         ensures none { running self.new ≡ 0 }
         ensures started { started self.new ≡ started self.old }
