@@ -12,7 +12,7 @@ use Rattle.sm_pick.specs.declared.picked.Picked.TheVariants as picked
 use Rattle.sm_tool.specs.declared.answer.Answer.{Answer}
 use Rattle.sm_tool.specs.declared.answer.Answer.TheVariants.{Found, Words, Unread, TooLong, LongLadder, Refused, NotKept, Clash, Undone}
 use Rattle.sm_tool.specs.declared.answer.Answer.TheVariants.{Damaged, DiskFault, LinkFault, TrackFault, Starved, Full, NotAStore, Unfinished}
-use Rattle.sm_words.specs.Words.{Wanted, Pick, Serve, Push, Play, Relay, Standby, Listing, Rehearse, Export, Help, Version, asked, topic_of}
+use Rattle.sm_words.specs.Words.{Wanted, Pick, Serve, ServeShown, Push, Play, Relay, Standby, Listing, Rehearse, Export, Help, Version, asked, topic_of}
 use Rattle.sm_pick.specs.Due.{IsAnswered, limit}
 use Rattle.sm_tool.specs.Answers.{status_of, unwritten_status_of, line_of}
 use Rattle.sm_client.specs.Pushing.{Line}
@@ -72,7 +72,8 @@ pub record IsIdle {D C : Type 0} (old new : Around) (d d' : D) (c c' : C) : Type
   pub dial_is : c' ≡ c
 
 -- The answer that words, input, dial, tracks and site have. Words that ask for nothing have no other than that, with the use of the command
--- that they begin with, but for want of memory, and leave all of them alone. A dial has logs that the origin behind it may have. `export` alone writes to the output before its answer is told.
+-- that they begin with, but for want of memory, and leave all of them alone. So do words that ask for threads, since none is started here. A dial has
+-- logs that the origin behind it may have. `export` alone writes to the output before its answer is told.
 abbrev pub MeansBy : {D C P : Type 0} (view : D → View) (leave : D → Image → Type 0) (left_at : D → ℕ → Image → Type 0) (t : Dialing C)
     → Meaning P → List P → Topic → Option Wanted → Around → Around → End → End → D → D → C → C → Answer → Type 0
 MeansBy view leave left_at t m policies topic None old new out out' d d' c c' answer = (answer ≡ Words topic) × (out' ≡ out) × IsIdle old new d d' c c'
@@ -81,6 +82,8 @@ MeansBy view leave left_at t m policies topic (Some (Pick track time)) old new o
 MeansBy view leave left_at t m policies topic (Some (Serve s)) old new out out' d d' c c' answer =
     ServeMeans view leave left_at s.ladder s.turns old.input new.input d d' answer × IsSelected answer (chosen_of s) (view d')
     × (old.input.faults ≤ new.input.faults) × (out' ≡ out) × (new.dial ≡ old.dial) × (new.tracks ≡ old.tracks) × (c' ≡ c)
+MeansBy view leave left_at t m policies topic (Some (ServeShown s players)) old new out out' d d' c c' answer =
+    (answer ≡ Words topic) × (out' ≡ out) × IsIdle old new d d' c c'
 MeansBy view leave left_at t m policies topic (Some (Push host port path id)) old new out out' d d' c c' answer =
     PushMeans (record { host = host; port = port; path = path }) id old.input new.input old.dial new.dial (t.store c) (t.store c') answer
     × (out' ≡ out) × (new.tracks ≡ old.tracks) × (d' ≡ d)

@@ -9,7 +9,7 @@ use crate::edges::{relay, standby};
 use crate::exports::export;
 use crate::origins::push;
 use crate::play::play;
-use crate::print::print;
+use crate::printing::print;
 use crate::rehearse::rehearse;
 use crate::stores::{list, serve};
 use sm_ends::{InputFault, Sink, Source, Tracks};
@@ -80,6 +80,7 @@ fn answer_to<I: Source, O: Sink, S: Site, C: Dial, T: Tracks>(
     match order_of(alloc, words) {
         Ok(Some(Order::Pick { track, time })) => picked(alloc, input, track, time),
         Ok(Some(Order::Serve(order))) => serve(alloc, input, site, order),
+        Ok(Some(Order::ServeShown { .. })) => Answer::Words(Topic::of(words)),
         Ok(Some(Order::Push(order))) => push(alloc, input, dial, &order),
         Ok(Some(Order::Play(order))) => play(alloc, dial, tracks, policies, &order),
         Ok(Some(Order::Relay(order))) => relay(alloc, input, site, dial, order),
@@ -100,7 +101,8 @@ fn answer_to<I: Source, O: Sink, S: Site, C: Dial, T: Tracks>(
 /// fragment with that track_ID and time, in ticks of its track's timescale, numbered by its place among all of them.
 /// `serve STORE --port N [--ladder] [--turns N] [--bind ADDRESS] [--journal FILE]` serves the store in that folder at that port, of all
 /// addresses or of that one, until nothing more comes or so many events were taken; with `--ladder` the input is a ladder, which is
-/// declared first; what happens is told in that file. `push HOST PORT PATH ID` sends the input,
+/// declared first; what happens is told in that file. With `--players` it is refused as words, since this call starts no threads.
+/// `push HOST PORT PATH ID` sends the input,
 /// whole and once, to the channel with that path at that origin, as a stream of that name, and writes the body of the reply.
 /// `list STORE` lists the fragments of the store in that folder.
 /// `play HOST PORT PATH STREAM... [--from N] [--count N] [--tries N] [--refresh N]` plays streams of the channel with that path at that

@@ -8,8 +8,11 @@ mod exports;
 mod misses;
 mod origins;
 mod play;
-mod print;
+mod printing;
 mod rehearse;
 mod stores;
 
+pub use answer::{Answer, Stop};
 pub use command::{starved, tool};
+pub use printing::print;
+pub use stores::{or_starved, refused};

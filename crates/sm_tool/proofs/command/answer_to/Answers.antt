@@ -36,6 +36,9 @@ returns-in-Ok-Some-Play-clause-lasts g c = idle_lasts g.S.Disk.view g.S.Disk.may
 pub returns-in-Ok-Some-Rehearse-clause-lasts : goal.returns-in-Ok-Some-Rehearse-clause-lasts
 returns-in-Ok-Some-Rehearse-clause-lasts g c = idle_lasts g.S.Disk.view g.S.Disk.may_leave g.S.Disk.left_at g.met.S.Disk.no_later g.met.S.Disk.at_now c.args.site.now
 
+pub returns-in-Ok-Some-ServeShown-clause-lasts : goal.returns-in-Ok-Some-ServeShown-clause-lasts
+returns-in-Ok-Some-ServeShown-clause-lasts g c = idle_lasts g.S.Disk.view g.S.Disk.may_leave g.S.Disk.left_at g.met.S.Disk.no_later g.met.S.Disk.at_now c.args.site.now
+
 pub returns-in-Ok-None-clause-lasts : goal.returns-in-Ok-None-clause-lasts
 returns-in-Ok-None-clause-lasts g c = idle_lasts g.S.Disk.view g.S.Disk.may_leave g.S.Disk.left_at g.met.S.Disk.no_later g.met.S.Disk.at_now c.args.site.now
 
