@@ -5,3 +5,4 @@ pub mod Taking
 pub mod Open
 pub mod Playing
 pub mod Given
+pub mod Wiring

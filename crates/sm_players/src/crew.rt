@@ -7,6 +7,7 @@ use crate::played::Played;
 use crate::spawner::{Finished, Parts, SpawnError, Spawner};
 use crate::stop::Stop;
 use crate::wire::Wire;
+use crate::wiring::Wiring;
 use sm_model::NoMemory;
 use std::alloc::Global;
 use std::collections::VecDeque;
@@ -31,6 +32,7 @@ pub struct Crew<R: Threads + Drop, W: Drop, F: Drop, G: Drop> {
     faults: u64,
     started: u64,
     finished: Finished,
+    wiring: Option<Wiring>,
     ghost few: { vec_len handles < 2 ^ 32 },
 }
 
@@ -55,6 +57,7 @@ impl<
             faults: 0,
             started: 0,
             finished: NONE,
+            wiring: None,
         }
     }
 
@@ -98,9 +101,12 @@ impl<
 
     ghost counted = { λ c. c.finished };
 
+    ghost chosen = { λ c. c.wiring };
+
     ghost has_room = { λ c. (vec_len c.handles < vec_capacity c.handles) × (vec_len c.handles < 4294967295) × (c.started < 18446744073709551615) };
 
-    fn select(&mut self, _port: u16, _players: u32) -> Result<(), SpawnError> {
+    fn select(&mut self, wiring: Wiring) -> Result<(), SpawnError> {
+        self.wiring = Some(wiring);
         Ok(())
     }
 

@@ -15,6 +15,7 @@ mod spawner;
 mod stop;
 mod telling;
 mod wire;
+mod wiring;
 
 pub use crew::Crew;
 pub use forward::{Forward, ForwardError};
@@ -24,3 +25,4 @@ pub use playing::player;
 pub use spawner::{Finished, Parts, SpawnError, Spawner};
 pub use stop::Stop;
 pub use wire::Wire;
+pub use wiring::Wiring;

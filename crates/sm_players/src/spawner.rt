@@ -1,13 +1,15 @@
 //! What starts players.
-ghost use Rattle.std.specs.Prelude.{◌≡◌, ℕ, ◌+◌, ◌<◌, ◌≤◌, OnOk, OnErr, IsErrOf};
+ghost use Rattle.std.specs.Prelude.{◌≡◌, ℕ, ◌+◌, ◌<◌, ◌≤◌, Option, Some, OnOk, OnErr, IsErrOf};
 ghost use Rattle.sm_site.specs.Clauses.{Rose};
 ghost use Rattle.sm_players.specs.declared.spawner.Finished.{Finished};
+ghost use Rattle.sm_players.specs.Wiring.{Wires};
 
 use crate::forward::Forward;
 use crate::gate::Gate;
 use crate::played::Played;
 use crate::playing::player;
 use crate::wire::Wire;
+use crate::wiring::Wiring;
 use sm_shelf::ShelfReader;
 use std::alloc::Global;
 use std::thread;
@@ -58,6 +60,9 @@ pub trait Spawner {
     /// How many of those since the last `finish`.
     ghost running: { Self → ℕ };
 
+    /// Where its wires are wanted, once it was selected.
+    ghost chosen: { Self → Option Wires };
+
     /// What the last `finish` counted.
     ghost counted: { Self → Finished };
 
@@ -65,7 +70,8 @@ pub trait Spawner {
     ghost has_room: { Self → Type 0 };
 
     /// Makes the wires ready for so many players beside a loop on that port.
-    fn select(&mut self, port: u16, players: u32) -> Result<(), SpawnError>
+    fn select(&mut self, wiring: Wiring) -> Result<(), SpawnError>
+        ensures chosen { OnOk result (chosen self.new ≡ Some wiring) }
         ensures failed { IsErrOf result SpawnError.Failed → Rose (spawn_faults self.old) (spawn_faults self.new) }
         ensures later { spawn_faults self.old ≤ spawn_faults self.new }
         ensures started { started self.new ≡ started self.old }
@@ -85,6 +91,7 @@ pub trait Spawner {
         ensures ok { OnOk result (has_room self.new) }
         ensures failed { IsErrOf result SpawnError.Failed → Rose (spawn_faults self.old) (spawn_faults self.new) }
         ensures later { spawn_faults self.old ≤ spawn_faults self.new }
+        ensures chosen { chosen self.new ≡ chosen self.old }
         ensures started { started self.new ≡ started self.old }
         ensures running { running self.new ≡ running self.old };
 
@@ -93,11 +100,13 @@ pub trait Spawner {
         requires { has_room self.old }
         ensures started { started self.new ≡ started self.old + 1 }
         ensures running { running self.new ≡ running self.old + 1 }
+        ensures chosen { chosen self.new ≡ chosen self.old }
         ensures later { spawn_faults self.old ≤ spawn_faults self.new };
 
     /// Counts a thread that could not be made.
     fn count_fault(&mut self)
         ensures rose { Rose (spawn_faults self.old) (spawn_faults self.new) }
+        ensures chosen { chosen self.new ≡ chosen self.old }
         ensures started { started self.new ≡ started self.old }
         ensures running { running self.new ≡ running self.old };
 
@@ -106,6 +115,7 @@ pub trait Spawner {
         ensures counted { counted self.new ≡ result }
         ensures all { result.done + result.faulted + result.starved ≡ running self.old }
         ensures none { running self.new ≡ 0 }
+        ensures chosen { chosen self.new ≡ chosen self.old }
         ensures started { started self.new ≡ started self.old }
         ensures faulted { 0 < result.faulted → Rose (spawn_faults self.old) (spawn_faults self.new) }
         ensures later { spawn_faults self.old ≤ spawn_faults self.new };
@@ -115,6 +125,7 @@ pub trait Spawner {
         ensures ok { OnOk result ((started self.new ≡ started self.old + 1) × (running self.new ≡ running self.old + 1)) }
         ensures err { OnErr result ((started self.new ≡ started self.old) × (running self.new ≡ running self.old)) }
         ensures failed { IsErrOf result SpawnError.Failed → Rose (spawn_faults self.old) (spawn_faults self.new) }
+        ensures chosen { chosen self.new ≡ chosen self.old }
         ensures later { spawn_faults self.old ≤ spawn_faults self.new }
     {
         let parts = self.prepare()?;
