@@ -51,6 +51,7 @@ bench: build
 	SMOOTH=$(PROGRAM) scripts/bench_rehearse
 	SMOOTH=$(PROGRAM) scripts/bench_serve
 	SMOOTH=$(PROGRAM) scripts/bench_export
+	SMOOTH=$(PROGRAM) scripts/bench_journal
 
 clean:
 	rm -rf crates/*/out
