@@ -1,6 +1,5 @@
 -- What a command answers: its status and its line.
 use Rattle.std.specs.Prelude.{◌++◌, ℕ, List, [], codes}
-use Rattle.sm_words.specs.Helps.{usage_of}
 use Rattle.sm_tool.specs.declared.answer.Answer.{Answer}
 use Rattle.sm_tool.specs.declared.answer.Answer.TheVariants.{Found, Words, Unread, TooLong, LongLadder, Refused, NotKept, Clash, Undone}
 use Rattle.sm_tool.specs.declared.answer.Answer.TheVariants.{Damaged, DiskFault, LinkFault, TrackFault, Starved, Full, NotAStore, Unfinished}
@@ -15,7 +14,7 @@ stop_status_of stops.Memory = 9
 
 abbrev pub status_of : Answer → ℕ
 status_of (Found text) = 0
-status_of (Words topic) = 2
+status_of (Words text) = 2
 status_of TooLong = 3
 status_of LongLadder = 3
 status_of (Refused line) = 3
@@ -34,7 +33,7 @@ status_of (Unfinished stop) = stop_status_of stop
 
 abbrev pub line_of : Answer → List ℕ
 line_of (Found text) = text
-line_of (Words topic) = codes "error: words\n" ++ usage_of topic
+line_of (Words text) = text
 line_of TooLong = codes "error: input at 268435456: too long\n"
 line_of LongLadder = codes "error: input at 1048576: too long\n"
 line_of (Refused line) = line
@@ -54,7 +53,7 @@ line_of (Unfinished stop) = []
 -- where what was found can't be written the status is 7; a failure keeps its own
 abbrev pub unwritten_status_of : Answer → ℕ
 unwritten_status_of (Found text) = 7
-unwritten_status_of (Words topic) = 2
+unwritten_status_of (Words text) = 2
 unwritten_status_of TooLong = 3
 unwritten_status_of LongLadder = 3
 unwritten_status_of (Refused line) = 3

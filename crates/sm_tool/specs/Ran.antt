@@ -12,14 +12,14 @@ use Rattle.sm_pick.specs.declared.picked.Picked.TheVariants as picked
 use Rattle.sm_tool.specs.declared.answer.Answer.{Answer}
 use Rattle.sm_tool.specs.declared.answer.Answer.TheVariants.{Found, Words, Unread, TooLong, LongLadder, Refused, NotKept, Clash, Undone}
 use Rattle.sm_tool.specs.declared.answer.Answer.TheVariants.{Damaged, DiskFault, LinkFault, TrackFault, Starved, Full, NotAStore, Unfinished}
-use Rattle.sm_words.specs.Words.{Wanted, Pick, Serve, ServeShown, Push, Play, Relay, Standby, Listing, Rehearse, Export, Help, Version, asked, topic_of}
+use Rattle.sm_words.specs.Words.{Wanted, Pick, Serve, ServeShown, Push, Play, Relay, Standby, Listing, Rehearse, Export, Help, Version, asked}
 use Rattle.sm_pick.specs.Due.{IsAnswered, limit}
 use Rattle.sm_tool.specs.Answers.{status_of, unwritten_status_of, line_of}
 use Rattle.sm_client.specs.Pushing.{Line}
 use Rattle.sm_tool.specs.Edges.{Dialing, RelayMeans, StandbyMeans, at_edge}
 use Rattle.sm_tool.specs.Exports.{ExportMeans}
 use Rattle.sm_words.specs.Helps.{help_of, version}
-use Rattle.sm_words.specs.declared.topic.Topic.{Topic}
+use Rattle.sm_usage.specs.Wrong.{wrong_words}
 use Rattle.sm_tool.specs.Stores.{End, IsSelected, IsSilent, ListMeans, ServeMeans, at_folder, chosen_of}
 use Rattle.sm_tool.specs.Origins.{PushMeans}
 use Rattle.sm_tool.specs.Plays.{PlayMeans, Tape}
@@ -42,7 +42,7 @@ abbrev pub PickMeans : ℕ → ℕ → End → End → Answer → Type 0
 PickMeans track time old new (Found text) = IsAnswered track time old.told new.told (picked.Found text)
 PickMeans track time old new (Refused line) = IsAnswered track time old.told new.told (picked.Refused line)
 PickMeans track time old new NotKept = IsAnswered track time old.told new.told picked.NotKept
-PickMeans track time old new (Words topic) = ⊥
+PickMeans track time old new (Words text) = ⊥
 PickMeans track time old new TooLong = IsTooLong old new
 PickMeans track time old new LongLadder = ⊥
 PickMeans track time old new (Clash line) = ⊥
@@ -71,48 +71,48 @@ pub record IsIdle {D C : Type 0} (old new : Around) (d d' : D) (c c' : C) : Type
   pub site_is : d' ≡ d
   pub dial_is : c' ≡ c
 
--- The answer that words, input, dial, tracks and site have. Words that ask for nothing have no other than that, with the use of the command
--- that they begin with, but for want of memory, and leave all of them alone. So do words that ask for threads, since none is started here. A dial has
+-- The answer that words, input, dial, tracks and site have. Words that ask for nothing have no other than that, with what is wrong in them,
+-- but for want of memory, and leave all of them alone. So do words that ask for threads, since none is started here. A dial has
 -- logs that the origin behind it may have. `export` alone writes to the output before its answer is told.
 abbrev pub MeansBy : {D C P : Type 0} (view : D → View) (leave : D → Image → Type 0) (left_at : D → ℕ → Image → Type 0) (t : Dialing C)
-    → Meaning P → List P → Topic → Option Wanted → Around → Around → End → End → D → D → C → C → Answer → Type 0
-MeansBy view leave left_at t m policies topic None old new out out' d d' c c' answer = (answer ≡ Words topic) × (out' ≡ out) × IsIdle old new d d' c c'
-MeansBy view leave left_at t m policies topic (Some (Pick track time)) old new out out' d d' c c' answer =
+    → Meaning P → List P → List ℕ → Option Wanted → Around → Around → End → End → D → D → C → C → Answer → Type 0
+MeansBy view leave left_at t m policies wrong None old new out out' d d' c c' answer = (answer ≡ Words wrong) × (out' ≡ out) × IsIdle old new d d' c c'
+MeansBy view leave left_at t m policies wrong (Some (Pick track time)) old new out out' d d' c c' answer =
     PickMeans track time old.input new.input answer × (out' ≡ out) × (new.dial ≡ old.dial) × (new.tracks ≡ old.tracks) × (d' ≡ d) × (c' ≡ c)
-MeansBy view leave left_at t m policies topic (Some (Serve s)) old new out out' d d' c c' answer =
+MeansBy view leave left_at t m policies wrong (Some (Serve s)) old new out out' d d' c c' answer =
     ServeMeans view leave left_at s.ladder s.turns old.input new.input d d' answer × IsSelected answer (chosen_of s) (view d')
     × (old.input.faults ≤ new.input.faults) × (out' ≡ out) × (new.dial ≡ old.dial) × (new.tracks ≡ old.tracks) × (c' ≡ c)
-MeansBy view leave left_at t m policies topic (Some (ServeShown s players)) old new out out' d d' c c' answer =
-    (answer ≡ Words topic) × (out' ≡ out) × IsIdle old new d d' c c'
-MeansBy view leave left_at t m policies topic (Some (Push host port path id)) old new out out' d d' c c' answer =
+MeansBy view leave left_at t m policies wrong (Some (ServeShown s players)) old new out out' d d' c c' answer =
+    (answer ≡ Words wrong) × (out' ≡ out) × IsIdle old new d d' c c'
+MeansBy view leave left_at t m policies wrong (Some (Push host port path id)) old new out out' d d' c c' answer =
     PushMeans (record { host = host; port = port; path = path }) id old.input new.input old.dial new.dial (t.store c) (t.store c') answer
     × (out' ≡ out) × (new.tracks ≡ old.tracks) × (d' ≡ d)
-MeansBy view leave left_at t m policies topic (Some (Play plan)) old new out out' d d' c c' answer =
+MeansBy view leave left_at t m policies wrong (Some (Play plan)) old new out out' d d' c c' answer =
     PlayMeans m plan policies old.dial new.dial (t.store c) (t.store c') old.tracks new.tracks answer × (out' ≡ out) × (new.input ≡ old.input) × (d' ≡ d)
-MeansBy view leave left_at t m policies topic (Some (Relay e)) old new out out' d d' c c' answer =
+MeansBy view leave left_at t m policies wrong (Some (Relay e)) old new out out' d d' c c' answer =
     RelayMeans view left_at leave t e old.input new.input d d' c c' answer × (t.faults c ≤ t.faults c') × Grows (t.store c) (t.store c')
     × IsSilent (view d) (view d') × NoFewer (view d) (view d') × IsSelected answer (at_edge e.store) (view d') × (out' ≡ out) × (new.tracks ≡ old.tracks)
-MeansBy view leave left_at t m policies topic (Some (Standby e)) old new out out' d d' c c' answer =
+MeansBy view leave left_at t m policies wrong (Some (Standby e)) old new out out' d d' c c' answer =
     StandbyMeans view left_at leave t e old.input new.input d d' c c' answer × (t.faults c ≤ t.faults c') × Grows (t.store c) (t.store c')
     × IsSilent (view d) (view d') × NoFewer (view d) (view d') × IsSelected answer (at_edge e.store) (view d') × (out' ≡ out) × (new.tracks ≡ old.tracks)
-MeansBy view leave left_at t m policies topic (Some (Listing folder)) old new out out' d d' c c' answer =
+MeansBy view leave left_at t m policies wrong (Some (Listing folder)) old new out out' d d' c c' answer =
     ListMeans view leave left_at d d' answer × IsSilent (view d) (view d') × NoFewer (view d) (view d') × IsSelected answer (at_folder folder) (view d')
     × (out' ≡ out) × (new.input ≡ old.input) × (new.dial ≡ old.dial) × (new.tracks ≡ old.tracks) × (c' ≡ c)
-MeansBy view leave left_at t m policies topic (Some (Rehearse number size)) old new out out' d d' c c' answer =
+MeansBy view leave left_at t m policies wrong (Some (Rehearse number size)) old new out out' d d' c c' answer =
     RehearseMeans m number size policies answer × (out' ≡ out) × IsIdle old new d d' c c'
-MeansBy view leave left_at t m policies topic (Some (Export folder name bitrate)) old new out out' d d' c c' answer =
+MeansBy view leave left_at t m policies wrong (Some (Export folder name bitrate)) old new out out' d d' c c' answer =
     ExportMeans name bitrate (view d) (view d') old.input new.input out out' answer × IsSilent (view d) (view d') × NoFewer (view d) (view d')
     × IsSelected answer (at_folder folder) (view d') × (old.input.faults ≤ new.input.faults) × (out.faults ≤ out'.faults)
     × (new.dial ≡ old.dial) × (new.tracks ≡ old.tracks) × (c' ≡ c)
-MeansBy view leave left_at t m policies topic (Some (Help about)) old new out out' d d' c c' answer =
+MeansBy view leave left_at t m policies wrong (Some (Help about)) old new out out' d d' c c' answer =
     (answer ≡ Found (help_of about)) × (out' ≡ out) × IsIdle old new d d' c c'
-MeansBy view leave left_at t m policies topic (Some Version) old new out out' d d' c c' answer =
+MeansBy view leave left_at t m policies wrong (Some Version) old new out out' d d' c c' answer =
     (answer ≡ Found version) × (out' ≡ out) × IsIdle old new d d' c c'
 
 abbrev pub Means : {D C P : Type 0} (view : D → View) (leave : D → Image → Type 0) (left_at : D → ℕ → Image → Type 0) (t : Dialing C)
     → Meaning P → List P → List (List ℕ) → Around → Around → End → End → D → D → C → C → Answer → Type 0
 Means view leave left_at t m policies words old new out out' d d' c c' answer =
-    MeansBy view leave left_at t m policies (topic_of words) (asked words) old new out out' d d' c c' answer
+    MeansBy view leave left_at t m policies (wrong_words words) (asked words) old new out out' d d' c c' answer
     ⊎ ((answer ≡ Starved) × (out' ≡ out) × IsIdle old new d d' c c')
 
 -- the whole line went out, or a front of it where the sink failed

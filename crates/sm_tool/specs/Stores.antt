@@ -96,7 +96,7 @@ pub record HasServed {D : Type 0} (view : D → View) (leave : D → Image → T
 abbrev pub ServeMeans : {D : Type 0} (view : D → View) (leave : D → Image → Type 0) (left_at : D → ℕ → Image → Type 0) → Bool → ℕ → End → End
     → D → D → Answer → Type 0
 ServeMeans view leave left_at ladder turns input input' d d' (Found line) = HasServed view leave left_at ladder turns input input' d d' line
-ServeMeans view leave left_at ladder turns input input' d d' (Words topic) = ⊥
+ServeMeans view leave left_at ladder turns input input' d d' (Words text) = ⊥
 ServeMeans view leave left_at ladder turns input input' d d' Unread = WhyUnready view leave left_at ladder (input_of input) (input_of input') d d' fault.Unread
 ServeMeans view leave left_at ladder turns input input' d d' TooLong = ⊥
 ServeMeans view leave left_at ladder turns input input' d d' LongLadder =
@@ -131,7 +131,7 @@ IsListed contents text = IfSome contents (λ c. (log : List Entry) × IsStore lo
 -- the lines of the log that the disk has, or why not; without memory for its line a fault is told as that
 abbrev pub ListMeans : {D : Type 0} (view : D → View) (leave : D → Image → Type 0) (left_at : D → ℕ → Image → Type 0) → D → D → Answer → Type 0
 ListMeans view leave left_at d d' (Found text) = IsListed (view d).contents text
-ListMeans view leave left_at d d' (Words topic) = ⊥
+ListMeans view leave left_at d d' (Words text) = ⊥
 ListMeans view leave left_at d d' Unread = ⊥
 ListMeans view leave left_at d d' TooLong = ⊥
 ListMeans view leave left_at d d' LongLadder = ⊥

@@ -1,7 +1,6 @@
 //! What a command answers.
 
 use sm_model::Bytes;
-use sm_words::Topic;
 
 /// Why a file that was begun in the output isn't whole.
 #[derive(Clone, Copy, Debug, PartialEq, Eq)]
@@ -21,8 +20,8 @@ pub enum Stop {
 pub enum Answer {
     /// The text that was asked for.
     Found(Bytes),
-    /// The words are none of a command. The use of this one is told, or that of all.
-    Words(Topic),
+    /// The words are none of a command. The text says so, what is wrong in them, and how those of the command stand that they begin with.
+    Words(Bytes),
     /// Reading the input failed.
     Unread,
     /// The input has more than 268,435,456 bytes.

@@ -1,6 +1,7 @@
 //! The commands.
 ghost use Rattle.std.specs.Prelude.{◌≡◌, ◌⊎◌, ℕ, List, length, map, string_bytes};
 ghost use Rattle.sm_command.specs.Lasting.{Lasts, Untouched};
+ghost use Rattle.sm_usage.specs.Wrong.{wrong_words};
 ghost use Rattle.sm_tool.specs.declared.answer.Answer.TheVariants as answers;
 ghost use Rattle.sm_tool.specs.Ran.{IsRun, Means, PickMeans, Prints};
 
@@ -18,7 +19,8 @@ use sm_model::{Bytes, NoMemory};
 use sm_pick::{Picked, pick};
 use sm_policy::Policy;
 use sm_site::Site;
-use sm_words::{Order, Topic, help_text, order_of, version_text};
+use sm_usage::wrong_words;
+use sm_words::{Order, help_text, order_of, version_text};
 use std::alloc::Global;
 
 // What the input comes to, where a fragment of it is asked for.
@@ -42,6 +44,16 @@ fn told(alloc: Global, text: &str) -> Answer
 {
     match Bytes::from_slice(alloc, text.as_bytes()) {
         Ok(text) => Answer::Found(text),
+        Err(NoMemory) => Answer::Starved,
+    }
+}
+
+// What is wrong in words that name no command.
+fn wrong(alloc: Global, words: &[String]) -> Answer
+    ensures { (result ≡ answers.Words (wrong_words (map string_bytes words.now))) ⊎ (result ≡ answers.Starved) }
+{
+    match wrong_words(alloc, words) {
+        Ok(text) => Answer::Words(text),
         Err(NoMemory) => Answer::Starved,
     }
 }
@@ -80,7 +92,7 @@ fn answer_to<I: Source, O: Sink, S: Site, C: Dial, T: Tracks>(
     match order_of(alloc, words) {
         Ok(Some(Order::Pick { track, time })) => picked(alloc, input, track, time),
         Ok(Some(Order::Serve(order))) => serve(alloc, input, site, order),
-        Ok(Some(Order::ServeShown { .. })) => Answer::Words(Topic::of(words)),
+        Ok(Some(Order::ServeShown { .. })) => wrong(alloc, words),
         Ok(Some(Order::Push(order))) => push(alloc, input, dial, &order),
         Ok(Some(Order::Play(order))) => play(alloc, dial, tracks, policies, &order),
         Ok(Some(Order::Relay(order))) => relay(alloc, input, site, dial, order),
@@ -90,7 +102,7 @@ fn answer_to<I: Source, O: Sink, S: Site, C: Dial, T: Tracks>(
         Ok(Some(Order::Export(order))) => export(alloc, input, output, site, order),
         Ok(Some(Order::Help(topic))) => told(alloc, help_text(topic)),
         Ok(Some(Order::Version)) => told(alloc, version_text()),
-        Ok(None) => Answer::Words(Topic::of(words)),
+        Ok(None) => wrong(alloc, words),
         Err(NoMemory) => Answer::Starved,
     }
 }
@@ -116,7 +128,7 @@ fn answer_to<I: Source, O: Sink, S: Site, C: Dial, T: Tracks>(
 /// `export STORE NAME BITRATE` reads a pushed header from `input`, alone or with what was pushed behind it, and writes that header and then
 /// each fragment that the store in that folder keeps of the stream of that name at that bitrate, in the order of time.
 /// `help`, `help COMMAND` and `--help` tell how the commands are used, `version` and `--version` which version this is; words that name no
-/// command are answered by the use of the one that they begin with. Every line, also that of a failure, goes to `output`; none follows where a file was begun and isn't whole.
+/// command are answered by what is wrong in them, and by the use of the one that they begin with. Every line, also that of a failure, goes to `output`; none follows where a file was begun and isn't whole.
 pub fn tool<I: Source, O: Sink, S: Site, C: Dial, T: Tracks>(
     alloc: Global,
     words: &[String],

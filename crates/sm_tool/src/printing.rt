@@ -8,7 +8,6 @@ ghost use Rattle.sm_tool.specs.Ran.{Prints};
 
 use crate::answer::{Answer, Stop};
 use sm_ends::{Failed, Sink, write_all};
-use sm_words::wrong_words;
 
 // The line of an answer.
 fn line(answer: &Answer) -> &[u8]
@@ -20,7 +19,7 @@ fn line(answer: &Answer) -> &[u8]
         Answer::Clash(line) => line.as_slice(),
         Answer::Undone(line) => line.as_slice(),
         Answer::NotAStore(line) => line.as_slice(),
-        Answer::Words(topic) => wrong_words(*topic).as_bytes(),
+        Answer::Words(text) => text.as_slice(),
         Answer::Unread => b"error: read\n",
         Answer::TooLong => b"error: input at 268435456: too long\n",
         Answer::LongLadder => b"error: input at 1048576: too long\n",

@@ -1,5 +1,5 @@
 //! How the commands are used.
-ghost use Rattle.std.specs.Prelude.{◌≡◌, ◌++◌, codes};
+ghost use Rattle.std.specs.Prelude.{◌≡◌};
 ghost use Rattle.sm_words.specs.Helps.{help_of, usage_of, version};
 
 use crate::topic::Topic;
@@ -11,26 +11,26 @@ pub fn version_text() -> &'static str
     "smooth 0.1.0\n"
 }
 
-/// The words are none of this command, or of any, whose use is told.
-pub fn wrong_words(topic: Topic) -> &'static str
-    ensures { result.now ≡ codes "error: words\n" ++ usage_of topic }
+/// How the words of a command stand, as a line.
+pub fn usage_text(topic: Topic) -> &'static str
+    ensures { result.now ≡ usage_of topic }
 {
     match topic {
         Topic::All =>
-            "error: words\nusage: smooth COMMAND [WORDS], and one of\n    serve list push play relay standby pick export rehearse help version\n",
+            "usage: smooth COMMAND [WORDS], and one of\n    serve list push play relay standby pick export rehearse help version\n",
         Topic::Serve =>
-            "error: words\nusage: smooth serve STORE --port N [--bind ADDRESS] [--ladder] [--journal FILE] [--turns N] [--players N]\n",
-        Topic::List => "error: words\nusage: smooth list STORE\n",
-        Topic::Push => "error: words\nusage: smooth push HOST PORT PATH ID < PUSH\n",
+            "usage: smooth serve STORE --port N [--bind ADDRESS] [--ladder] [--journal FILE] [--turns N] [--players N]\n",
+        Topic::List => "usage: smooth list STORE\n",
+        Topic::Push => "usage: smooth push HOST PORT PATH ID < PUSH\n",
         Topic::Play =>
-            "error: words\nusage: smooth play HOST PORT PATH STREAM... [--from N] [--count N] [--tries N] [--refresh N]\n",
+            "usage: smooth play HOST PORT PATH STREAM... [--from N] [--count N] [--tries N] [--refresh N]\n",
         Topic::Relay =>
-            "error: words\nusage: smooth relay HOST PORT PATH STORE [--rounds N] [--tries N] < LADDER\n",
+            "usage: smooth relay HOST PORT PATH STORE [--rounds N] [--tries N] < LADDER\n",
         Topic::Standby =>
-            "error: words\nusage: smooth standby HOST PORT PATH STORE [--rounds N] [--tries N] < LADDER\n",
-        Topic::Pick => "error: words\nusage: smooth pick TRACK TIME < PUSH > FRAGMENT\n",
-        Topic::Export => "error: words\nusage: smooth export STORE NAME BITRATE < HEADER > FILE\n",
-        Topic::Rehearse => "error: words\nusage: smooth rehearse NUMBER SIZE\n",
+            "usage: smooth standby HOST PORT PATH STORE [--rounds N] [--tries N] < LADDER\n",
+        Topic::Pick => "usage: smooth pick TRACK TIME < PUSH > FRAGMENT\n",
+        Topic::Export => "usage: smooth export STORE NAME BITRATE < HEADER > FILE\n",
+        Topic::Rehearse => "usage: smooth rehearse NUMBER SIZE\n",
     }
 }
 

@@ -14,7 +14,7 @@ mod topic;
 mod words;
 
 pub use edge_order::EdgeOrder;
-pub use help::{help_text, version_text, wrong_words};
+pub use help::{help_text, usage_text, version_text};
 pub use line::{Adds, How, Line, Place, Step, Twice, option_in, placed, read_line};
 pub use option::Name;
 pub use order::{ExportOrder, Order, PushOrder, ServeOrder, order_of};
