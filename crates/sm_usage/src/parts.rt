@@ -7,11 +7,17 @@ use crate::part::{Part, is_filled, is_number};
 use sm_words::{Name, Topic};
 
 const STORE: [Part; 1] = [Part::Store];
+
 const PUSH: [Part; 4] = [Part::Host, Part::Port, Part::Path, Part::Id];
+
 const PLAY: [Part; 4] = [Part::Host, Part::Port, Part::Path, Part::Stream];
+
 const EDGE: [Part; 4] = [Part::Host, Part::Port, Part::Path, Part::Store];
+
 const PICK: [Part; 2] = [Part::Track, Part::Time];
+
 const EXPORT: [Part; 3] = [Part::Store, Part::Name, Part::Bitrate];
+
 const REHEARSE: [Part; 2] = [Part::Number, Part::Size];
 
 const SERVE_OPTIONS: [Name; 6] = [
@@ -22,7 +28,9 @@ const SERVE_OPTIONS: [Name; 6] = [
     Name::Journal,
     Name::Players,
 ];
+
 const EDGE_OPTIONS: [Name; 2] = [Name::Rounds, Name::Tries];
+
 const PLAY_OPTIONS: [Name; 4] = [Name::From, Name::Count, Name::Tries, Name::Refresh];
 
 /// The words of a command that are no options, in their order.

@@ -81,9 +81,7 @@ impl<'w> Wrong<'w> {
                 alloc,
                 "--port wants a number from 1 to 65534 with --players\n",
             )?,
-            Wrong::ManyStreams => {
-                String::from_str(alloc, "STREAM stands more than 16 times\n")?
-            }
+            Wrong::ManyStreams => { String::from_str(alloc, "STREAM stands more than 16 times\n")? }
         })
     }
 }
