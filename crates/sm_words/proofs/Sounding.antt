@@ -156,7 +156,7 @@ players_between : (text : Option Text) (n : ℕ) → players_by text ≡ Some (S
 players_between None n e = absurd (let none : Some None ≡ Some (Some n) = e in cc)
 players_between (Some text) n e = between 1 16 text n (some_by (numeral 1 16 text) n e)
 
-served : ServeTexts → Option ℕ → ℕ → ℕ → Text → Wanted
+abbrev served : ServeTexts → Option ℕ → ℕ → ℕ → Text → Wanted
 served x players port turns store =
     served_by (record { store = store; port = port; ladder = x.ladder; turns = turns; bind = filled x.bind; journal = filled x.journal }) players
 
