@@ -5,6 +5,7 @@ pub mod Asks
 pub mod Ends
 pub mod Kept
 pub mod Plays
+pub mod Came
 pub mod Dials
 pub mod Served
 pub mod Origins

@@ -67,9 +67,16 @@ pub record IsUnread (input input' : Input) (dial dial' : Line) : Type 0 where
   pub taken : TakesAtMost input.told input'.told push_most
   pub log_is : dial'.log ≡ dial.log
 
+-- Memory ran out before or while the input was read, of which at most the limit was taken. Nothing was sent, and no count fell.
+pub record IsStarved (input input' : Input) (dial dial' : Line) : Type 0 where
+  pub taken : TakesAtMost input.told input'.told push_most
+  pub no_fewer : input.faults ≤ input'.faults
+  pub later : dial.faults ≤ dial'.faults
+  pub log_is : dial'.log ≡ dial.log
+
 -- why nothing was pushed
 abbrev pub WhyUnpushed : Input → Input → Line → Line → VisitFault → Type 0
 WhyUnpushed input input' dial dial' fault.LinkFault = IsUnasked input input' dial dial' × Rose dial.faults dial'.faults
 WhyUnpushed input input' dial dial' fault.Unread = IsUnread input input' dial dial'
 WhyUnpushed input input' dial dial' fault.TooLong = IsTooLong input input' dial dial'
-WhyUnpushed input input' dial dial' fault.NoMemory = dial'.log ≡ dial.log
+WhyUnpushed input input' dial dial' fault.NoMemory = IsStarved input input' dial dial'
