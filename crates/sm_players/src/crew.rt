@@ -66,6 +66,7 @@ impl<
         ensures handles { self.new.handles ≡ self.old.handles }
         ensures started { self.new.started ≡ self.old.started }
         ensures faults { self.new.faults ≡ self.old.faults }
+        ensures wiring { self.new.wiring ≡ self.old.wiring }
     {
         let parts = Parts {
             wire,

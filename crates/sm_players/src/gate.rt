@@ -8,3 +8,13 @@ pub trait Gate {
     /// It is called behind the reply to that request.
     fn after(&mut self, call: u64);
 }
+
+/// The gate of the program, which holds nobody.
+#[derive(Debug, Drop)]
+pub struct NoGate;
+
+impl Gate for NoGate {
+    fn before(&mut self, _call: u64) {}
+
+    fn after(&mut self, _call: u64) {}
+}

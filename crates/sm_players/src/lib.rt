@@ -7,6 +7,7 @@ mod forward;
 mod gate;
 pub mod law;
 mod live;
+mod memory;
 mod parts;
 mod played;
 mod playing;
@@ -19,7 +20,8 @@ mod wiring;
 
 pub use crew::Crew;
 pub use forward::{Forward, ForwardError};
-pub use gate::Gate;
+pub use gate::{Gate, NoGate};
+pub use memory::{MemorySpawner, NoForward};
 pub use played::Played;
 pub use playing::player;
 pub use spawner::{Finished, Parts, SpawnError, Spawner};

@@ -27,6 +27,11 @@ impl Stop {
         })
     }
 
+    /// The flag itself, for a wire that is to end once it is raised.
+    pub fn flag(&self) -> Result<Arc<AtomicBool>, NoMemory> {
+        Ok(Arc::try_clone(&self.flag)?)
+    }
+
     /// Raises it.
     pub fn ask(&self) {
         self.flag.store(true, Ordering::SeqCst);

@@ -1,8 +1,8 @@
 //! The connections of a player.
 
-use sm_site::{Link, MemorySite};
+use sm_site::Link;
 
-/// The connections of one player. It has no calls of its own.
+/// The connections of one player. It has no calls of its own: each link is one.
 pub trait Wire: Link {}
 
-impl Wire for MemorySite {}
+impl<L: Link> Wire for L {}

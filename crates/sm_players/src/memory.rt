@@ -1,0 +1,137 @@
+//! A spawner without a network.
+ghost use Rattle.std.specs.Prelude.{◌≡◌, ◌<◌, None, vec_len, vec_capacity};
+
+use crate::crew::Crew;
+use crate::forward::{Forward, ForwardError};
+use crate::gate::NoGate;
+use crate::played::Played;
+use crate::spawner::{Finished, Parts, SpawnError, Spawner};
+use crate::stop::Stop;
+use crate::wiring::Wiring;
+use sm_model::{Bytes, NoMemory, Target};
+use sm_site::{MemorySite, Numbers, Script};
+use std::alloc::Global;
+use std::thread::{JoinHandle, Threads};
+
+/// A forward that leads nowhere: it fails each time.
+#[derive(Debug, Drop)]
+pub struct NoForward {
+    faults: u64,
+}
+
+impl NoForward {
+    /// One that has not failed yet.
+    pub fn new() -> NoForward {
+        NoForward { faults: 0 }
+    }
+}
+
+impl Forward for NoForward {
+    ghost asked = { λ f. None };
+
+    ghost forward_faults = { λ f. f.faults };
+
+    fn ask(&mut self, _target: &Target) -> Result<Bytes, ForwardError> {
+        self.faults = self.faults.saturating_add(1);
+        Err(ForwardError::Failed)
+    }
+}
+
+/// A spawner whose players have wires to which nothing comes, so that each ends by `Done` at once. The starts of some numbers, from 1, are
+/// refused.
+#[derive(Drop)]
+pub struct MemorySpawner<R: Threads + Drop> {
+    alloc: Global,
+    refused: Numbers,
+    starts: u64,
+    crew: Crew<R, MemorySite, NoForward, NoGate>,
+}
+
+impl<R: Threads + Drop> MemorySpawner<R> {
+    /// A spawner that refuses the starts of these numbers, and has started none.
+    pub fn new(alloc: Global, rt: R, refused: Numbers) -> Result<MemorySpawner<R>, NoMemory> {
+        let stop = Stop::new(alloc)?;
+        Ok(MemorySpawner {
+            alloc,
+            refused,
+            starts: 0,
+            crew: Crew::new(alloc, rt, stop, 1),
+        })
+    }
+
+    // Adds the parts of one player more.
+    fn add(&mut self) -> Result<(), NoMemory>
+        ensures handles { self.new.crew.handles ≡ self.old.crew.handles }
+        ensures started { self.new.crew.started ≡ self.old.crew.started }
+        ensures faults { self.new.crew.faults ≡ self.old.crew.faults }
+        ensures wiring { self.new.crew.wiring ≡ self.old.crew.wiring }
+    {
+        let script = Script::from_vec(Vec::new(self.alloc));
+        let disk_failing = Numbers::from_vec(Vec::new(self.alloc));
+        let link_failing = Numbers::from_vec(Vec::new(self.alloc));
+        let wire = MemorySite::new(self.alloc, script, disk_failing, link_failing);
+        self.crew.add(wire, NoForward::new(), NoGate)
+    }
+}
+
+impl<R: Threads + Drop> Spawner for MemorySpawner<R> {
+    type Runtime = R;
+
+    type Wire = MemorySite;
+
+    type Forward = NoForward;
+
+    type Gate = NoGate;
+
+    ghost spawn_faults = { λ m. m.crew.faults };
+
+    ghost started = { λ m. m.crew.started };
+
+    ghost running = { λ m. vec_len m.crew.handles };
+
+    ghost chosen = { λ m. m.crew.wiring };
+
+    ghost counted = { λ m. m.crew.finished };
+
+    ghost has_room = { λ m. (vec_len m.crew.handles < vec_capacity m.crew.handles) × (vec_len m.crew.handles < 4294967295) × (m.crew.started < 18446744073709551615) };
+
+    fn select(&mut self, wiring: Wiring) -> Result<(), SpawnError> {
+        self.crew.select(wiring)
+    }
+
+    fn runtime(&self) -> &R {
+        self.crew.runtime()
+    }
+
+    fn allocator(&self) -> Global {
+        self.alloc
+    }
+
+    fn turns(&self) -> u64 {
+        self.crew.turns()
+    }
+
+    fn prepare(&mut self) -> Result<Parts<MemorySite, NoForward, NoGate>, SpawnError> {
+        self.starts = self.starts.saturating_add(1);
+        if self.refused.contains(self.starts) {
+            self.crew.count_fault();
+            return Err(SpawnError::Failed);
+        }
+        match self.add() {
+            Ok(()) => self.crew.prepare(),
+            Err(NoMemory) => Err(SpawnError::NoMemory),
+        }
+    }
+
+    fn keep(&mut self, handle: JoinHandle<Played>) {
+        self.crew.keep(handle);
+    }
+
+    fn count_fault(&mut self) {
+        self.crew.count_fault();
+    }
+
+    fn finish(&mut self) -> Finished {
+        self.crew.finish()
+    }
+}
