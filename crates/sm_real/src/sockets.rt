@@ -9,6 +9,7 @@ use crate::journal::{Journal, Standing};
 use crate::outgoing::copy;
 use crate::peer::{Found, Peer};
 use crate::peers::Peers;
+use crate::sharing::Sharing;
 use crate::{Doing, Patience, Trouble};
 use mio::net::{TcpListener, TcpStream};
 use mio::{Events, Interest, Poll, Token};
@@ -91,6 +92,8 @@ pub struct Sockets {
     holder: u64,
     /// Where what happens is told, if anywhere.
     pub journal: Option<Journal>,
+    /// What it has in common with others that listen at the same place, if any do.
+    pub sharing: Option<Sharing>,
     // What the system said when it couldn't be waited for any more.
     refused: Option<io::Error>,
 }
@@ -102,8 +105,19 @@ impl Sockets {
         address: SocketAddr,
         patience: Patience,
     ) -> io::Result<Sockets> {
+        let listener = TcpListener::bind(rt, address)?;
+        Sockets::over(rt, alloc, listener, patience)
+    }
+
+    /// Over a listener that doesn't wait.
+    pub fn over(
+        rt: &(impl Net + Clock),
+        alloc: Global,
+        listener: TcpListener,
+        patience: Patience,
+    ) -> io::Result<Sockets> {
         let poll = Poll::new(rt)?;
-        let mut listener = TcpListener::bind(rt, address)?;
+        let mut listener = listener;
         poll.registry()
             .register(&mut listener, LISTENER, Interest::READABLE)?;
         let now = Instant::now(rt)?;
@@ -125,6 +139,7 @@ impl Sockets {
             held: 0,
             holder: 0,
             journal: None,
+            sharing: None,
             refused: None,
             alloc,
         })
@@ -132,7 +147,13 @@ impl Sockets {
 
     /// Listens at a further address too.
     pub fn listen_too(&mut self, net: &impl Net, address: SocketAddr) -> io::Result<()> {
-        let mut second = TcpListener::bind(net, address)?;
+        let second = TcpListener::bind(net, address)?;
+        self.take_second(second)
+    }
+
+    /// Listens by a further listener too, which doesn't wait.
+    pub fn take_second(&mut self, listener: TcpListener) -> io::Result<()> {
+        let mut second = listener;
         self.poll
             .registry()
             .register(&mut second, LISTENER, Interest::READABLE)?;
@@ -196,6 +217,9 @@ impl Sockets {
         ensures held { IfPiece result (λ n piece. (n ≡ self.new.holder) × IsHead self.new.buffer.value piece) }
     {
         for _ in 0..u32::MAX {
+            if self.is_over() {
+                break;
+            }
             match self.ask(number) {
                 Asked::Nothing => {}
                 asked => return asked,
@@ -206,6 +230,25 @@ impl Sockets {
             }
         }
         Asked::Nothing
+    }
+
+    /// Whether it is to end.
+    pub fn is_over(&self) -> bool {
+        match &self.sharing {
+            Some(sharing) => sharing.is_over(),
+            None => false,
+        }
+    }
+
+    // Whether it takes one more connection.
+    fn has_room(&mut self) -> bool
+        ensures { self.new.peers ≡ self.old.peers }
+    {
+        let open = self.peers.len();
+        match &mut self.sharing {
+            Some(sharing) => sharing.takes(open),
+            None => true,
+        }
     }
 
     // Begins a round: what the system reports is noted, after a rest where the last round gave no event.
@@ -359,7 +402,7 @@ impl Sockets {
         ensures piece { IsPiece result }
         ensures no_piece { IfPiece result (λ n piece. ⊥) }
     {
-        if !self.waiting || self.peers.is_full() {
+        if !self.has_room() || !self.waiting || self.peers.is_full() {
             return Asked::Nothing;
         }
         let (mut stream, address) = match self.take() {

@@ -5,11 +5,12 @@ ghost use Rattle.sm_real.specs.Telling.{counts_alone};
 
 use crate::journal::{Journal, Opened};
 use crate::sockets::{Asked, Sockets};
-use crate::{Doing, OpenFault, Patience, Trouble};
+use crate::{Doing, OpenFault, Patience, Sharing, Trouble};
+use mio::net::TcpListener as Listener;
 use sm_site::{Event, Failed, Link, LinkError, Selection};
 use std::alloc::Global;
 use std::io::{self, ErrorKind};
-use std::net::{IpAddr, Ipv4Addr, Ipv6Addr, Net, SocketAddr};
+use std::net::{IpAddr, Ipv4Addr, Ipv6Addr, Net, SocketAddr, TcpListener};
 use std::time::{Clock, Instant};
 
 /// A link over sockets, which are asked in turn. It tells nothing of what goes over them. Until it listens each call fails.
@@ -180,6 +181,35 @@ impl<R: Net + Clock + Drop> TcpLink<R> {
         }
     }
 
+    /// Listens by these, which are those of other links too; the connections from before are dropped. What it shares with the other links says
+    /// how many connections it takes, and when nothing more comes.
+    pub fn share(
+        &mut self,
+        first: TcpListener,
+        second: Option<TcpListener>,
+        sharing: Sharing,
+    ) -> io::Result<()>
+        ensures faults { self.new.faults ≡ self.old.faults }
+        ensures send_faults { self.new.send_faults ≡ self.old.send_faults }
+        ensures numbers { self.new.next_number ≡ self.old.next_number }
+    {
+        self.sockets = None;
+        first.set_nonblocking(true)?;
+        let mut sockets = Sockets::over(
+            &self.rt,
+            self.alloc,
+            Listener::from_std(first),
+            self.patience,
+        )?;
+        if let Some(second) = second {
+            second.set_nonblocking(true)?;
+            sockets.take_second(Listener::from_std(second))?;
+        }
+        sockets.sharing = Some(sharing);
+        self.sockets = Some(sockets);
+        Ok(())
+    }
+
     /// The site brought something to rest for the piece that was given last.
     pub fn note_work(&mut self)
         ensures faults { self.new.faults ≡ self.old.faults }
@@ -314,6 +344,7 @@ impl<R: Net + Clock + Drop> Link for TcpLink<R> {
                 Asked::Piece(number, piece) => return Ok(Event::Piece(number, piece)),
                 Asked::Left(number) => return Ok(Event::Closed(number)),
                 Asked::NoMemory => return Err(LinkError::NoMemory),
+                Asked::Nothing if sockets.is_over() => return Ok(Event::Ended),
                 Asked::Nothing => self.trouble = sockets.trouble(),
             }
         }

@@ -1,0 +1,73 @@
+// What links have in common that take connections of the same listeners.
+
+use std::alloc::{AllocError, Global};
+use std::sync::Arc;
+use std::sync::atomic::{AtomicBool, AtomicU64, Ordering};
+
+/// What a link has in common with others that listen at the same place, each in a thread of its own.
+///
+/// A link takes so many connections, and leaves further ones to those that have fewer; only while all have as many it takes more. So one is
+/// refused where none of them has room, and nowhere else. Each link ends once a flag is raised.
+#[derive(Drop)]
+pub struct Sharing {
+    most: usize,
+    links: u64,
+    // How many of the links have as many connections.
+    full: Arc<AtomicU64>,
+    ending: Arc<AtomicBool>,
+    // This one counts among them.
+    counted: bool,
+}
+
+impl Sharing {
+    /// That of the first of so many links, each for so many connections at most. They end once this flag is raised.
+    pub fn new(
+        alloc: Global,
+        links: u64,
+        most: usize,
+        ending: Arc<AtomicBool>,
+    ) -> Result<Sharing, AllocError> {
+        Ok(Sharing {
+            most,
+            links,
+            full: Arc::new(alloc, AtomicU64::new(0))?,
+            ending,
+            counted: false,
+        })
+    }
+
+    /// That of one more of the links.
+    pub fn another(&self) -> Result<Sharing, AllocError> {
+        Ok(Sharing {
+            most: self.most,
+            links: self.links,
+            full: Arc::try_clone(&self.full)?,
+            ending: Arc::try_clone(&self.ending)?,
+            counted: false,
+        })
+    }
+
+    /// Whether the link is to end.
+    pub fn is_over(&self) -> bool {
+        self.ending.load(Ordering::SeqCst)
+    }
+
+    /// Whether a link that has so many connections takes one more.
+    pub fn takes(&mut self, connections: usize) -> bool {
+        let is_full = connections >= self.most;
+        if is_full != self.counted {
+            self.counted = is_full;
+            self.count(is_full);
+        }
+        !is_full || self.full.load(Ordering::SeqCst) >= self.links
+    }
+
+    // One more of the links is full, or one less.
+    fn count(&self, is_full: bool) {
+        if is_full {
+            self.full.fetch_add(1, Ordering::SeqCst);
+        } else {
+            self.full.fetch_sub(1, Ordering::SeqCst);
+        }
+    }
+}
