@@ -69,8 +69,9 @@ pub trait Spawner {
     /// There is room for one more handle.
     ghost has_room: { Self → Type 0 };
 
-    /// Makes the wires ready for so many players beside a loop on that port.
+    /// Makes the wires ready for so many players beside a loop on that port, which leaves them the next one.
     fn select(&mut self, wiring: Wiring) -> Result<(), SpawnError>
+        requires port { wiring.port ≤ 65534 }
         ensures chosen { OnOk result (chosen self.new ≡ Some wiring) }
         ensures failed { IsErrOf result SpawnError.Failed → Rose (spawn_faults self.old) (spawn_faults self.new) }
         ensures later { spawn_faults self.old ≤ spawn_faults self.new }
