@@ -21,9 +21,7 @@ mod write;
 
 pub use call::play;
 pub use fault::VisitFault;
-pub use law::{
-    fragments_are_the_origins, listings_are_the_origins, what_was_given_is_written,
-};
+pub use law::{fragments_are_the_origins, listings_are_the_origins, what_was_given_is_written};
 pub use outcomes::{Outcomes, miss_of};
 pub use plan::{Names, Plan};
 pub use pushing::push_input;
