@@ -1,5 +1,5 @@
 -- The parts of a command's words, and what each of them may be.
-use Rattle.std.specs.Prelude.{◌-◌, ◌^◌, ◌++◌, ℕ, Bool, true, false, not, List, [], ◌∷◌, codes, is_some}
+use Rattle.std.specs.Prelude.{◌-◌, ◌^◌, ℕ, Bool, true, List, [], ◌∷◌, codes, is_some}
 use Rattle.sm_model.specs.Names.{is_name}
 use Rattle.sm_words.specs.declared.option.Name.{Name}
 use Rattle.sm_words.specs.declared.option.Name.TheVariants as options

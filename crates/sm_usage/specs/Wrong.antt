@@ -11,7 +11,7 @@ use Rattle.sm_words.specs.declared.topic.Topic.{Topic}
 use Rattle.sm_words.specs.declared.topic.Topic.TheVariants as topics
 use Rattle.sm_words.specs.Options.{has_value}
 use Rattle.sm_words.specs.Helps.{usage_of}
-use Rattle.sm_words.specs.Words.{Text, Read, is, is_dashed, first_given, word_at, read, value_of, topic_named, topic_of}
+use Rattle.sm_words.specs.Words.{Text, Read, is, first_given, word_at, read, value_of, topic_named, topic_of}
 use Rattle.sm_usage.specs.declared.part.Part.{Part}
 use Rattle.sm_usage.specs.declared.part.Part.TheVariants as part
 use Rattle.sm_usage.specs.Parts.{part_fits, parts_of, is_number, option_fits, options_of}

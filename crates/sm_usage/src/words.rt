@@ -1,6 +1,6 @@
 //! What is wrong in words that name no command.
 ghost use Rattle.std.specs.Prelude.{◌≡◌, ◌++◌, codes, map, string_bytes, IfOk};
-ghost use Rattle.std.specs.Option.{option_map};
+ghost use Rattle.std.specs.Option.{option_map, option_or};
 ghost use Rattle.sm_words.specs.Line.{read_of};
 ghost use Rattle.sm_words.specs.Helps.{usage_of};
 ghost use Rattle.sm_usage.specs.Faults.{fault_of, line_of};
@@ -115,17 +115,26 @@ fn next_fault<'w>(topic: Topic, line: &Line) -> Option<Wrong<'w>>
     }
 }
 
+// The first of two that is there.
+fn first<'w>(one: Option<Wrong<'w>>, other: Option<Wrong<'w>>) -> Option<Wrong<'w>>
+    ensures { option_map fault_of result ≡ option_or (option_map fault_of one.entry) (option_map fault_of other.entry) }
+{
+    match one {
+        Some(wrong) => Some(wrong),
+        None => other,
+    }
+}
+
 // What is wrong in words that each may stand where they do.
 fn read_fault<'w>(topic: Topic, line: &'w Line) -> Option<Wrong<'w>>
     ensures { option_map fault_of result ≡ read_fault topic (read_of line.now) }
 {
     let (options, many) = (options_of(topic), is_open(topic));
-    twice_fault(options, line)
-        .or(words_fault(parts_of(topic), many, &line.words))
-        .or(many_fault(many, &line.words))
-        .or(lacks_fault(topic, line))
-        .or(values_fault(options, line))
-        .or(next_fault(topic, line))
+    let wrong = first(values_fault(options, line), next_fault(topic, line));
+    let wrong = first(lacks_fault(topic, line), wrong);
+    let wrong = first(many_fault(many, &line.words), wrong);
+    let wrong = first(words_fault(parts_of(topic), many, &line.words), wrong);
+    first(twice_fault(options, line), wrong)
 }
 
 // The line of what is wrong, if something is.
