@@ -1,7 +1,6 @@
 -- How it is told what was pulled into a store.
-use Rattle.std.proofs.Common.{◌≡◌, ◌⊎◌, inl, inr, ℕ, List, Result, Ok, Err, sym, ap, subst, ◌∙◌}
-use Rattle.std.specs.Prelude.{IfOk, OnErr, Option}
-use Rattle.sm_model.specs.declared.entry.Entry.{Entry}
+use Rattle.std.proofs.Common.{◌≡◌, ◌⊎◌, inl, inr, ℕ, List, Result, Ok, Err, sym, subst, ◌∙◌}
+use Rattle.std.specs.Prelude.{IfOk, OnErr}
 use Rattle.sm_model.specs.declared.no_memory.NoMemory.{NoMemory}
 use Rattle.sm_model.specs.declared.track.Track.{Track}
 use Rattle.sm_site.specs.Image.{Image}
@@ -18,7 +17,7 @@ use Rattle.sm_edge.specs.Relaying.{HasRelayed}
 use Rattle.sm_edge.specs.Following.{HasFollowed}
 use Rattle.sm_tool.specs.declared.answer.Answer.{Answer}
 use Rattle.sm_tool.specs.declared.answer.Answer.TheVariants.{NotAStore, Starved}
-use Rattle.sm_tool.specs.Edges.{Dialing, HasFollowLine, HasRelayLine, TellsFollow, TellsFollowEnd, TellsRelay, TellsRelayEnd}
+use Rattle.sm_tool.specs.Edges.{Dialing, TellsFollow, TellsFollowEnd, TellsRelay, TellsRelayEnd}
 use Rattle.sm_tool.specs.Stores.{or_starved}
 
 -- ---- what is told, or that there was no memory for it

@@ -1,5 +1,5 @@
 -- How it is told what came of an export.
-use Rattle.std.proofs.Common.{◌≡◌, ◌⊎◌, inl, inr, ℕ, true, false, List, [], Option, Some, None, Result, Ok, Err, refl, sym, ap, subst, ◌∙◌}
+use Rattle.std.proofs.Common.{◌≡◌, ◌⊎◌, inl, inr, ℕ, true, false, List, Result, Ok, Err, sym, ap, subst, ◌∙◌}
 use Rattle.std.specs.Prelude.{IfOk, OnErr}
 use Rattle.sm_ends.specs.declared.input.InputFault.{InputFault}
 use Rattle.sm_ends.specs.declared.input.InputFault.TheVariants as input
@@ -13,9 +13,9 @@ use Rattle.sm_export.specs.declared.exported.StoreExport.{StoreExport}
 use Rattle.sm_export.specs.declared.exported.StoreExport.TheVariants as ends
 use Rattle.sm_export.specs.Storing.{IsChosenFor}
 use Rattle.sm_tool.specs.declared.answer.Answer.{Answer}
-use Rattle.sm_tool.specs.declared.answer.Answer.TheVariants.{Found, NotAStore, Starved}
+use Rattle.sm_tool.specs.declared.answer.Answer.TheVariants.{NotAStore, Starved}
 use Rattle.sm_tool.specs.Exports.{IsUnwritten, TellsExport, TellsExported, TellsUnread}
-use Rattle.sm_tool.specs.Stores.{IsSelected, Tells, or_starved}
+use Rattle.sm_tool.specs.Stores.{IsSelected, or_starved}
 use Rattle.sm_tool.proofs.Storing.{placed, selected, told_selected}
 
 pub told_so : (comes : StoreExport) (r : Result Answer NoMemory) (answer : Answer) → IfOk r (λ a. TellsExport comes a) → OnErr r (IsUnwritten comes) → answer ≡ or_starved r

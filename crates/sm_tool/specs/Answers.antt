@@ -1,5 +1,5 @@
 -- What a command answers: its status and its line.
-use Rattle.std.specs.Prelude.{◌++◌, ℕ, List, [], codes}
+use Rattle.std.specs.Prelude.{ℕ, List, [], codes}
 use Rattle.sm_tool.specs.declared.answer.Answer.{Answer}
 use Rattle.sm_tool.specs.declared.answer.Answer.TheVariants.{Found, Words, Unread, TooLong, LongLadder, Refused, NotKept, Clash, Undone}
 use Rattle.sm_tool.specs.declared.answer.Answer.TheVariants.{Damaged, DiskFault, LinkFault, TrackFault, Starved, Full, NotAStore, Unfinished}

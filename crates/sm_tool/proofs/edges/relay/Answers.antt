@@ -11,13 +11,13 @@ use Rattle.sm_tool.proofs.edges.relay.Goals as goal
 pub returns-in-Ok-clause-selected : goal.returns-in-Ok-clause-selected
 returns-in-Ok-clause-selected g c = selected c.or_starved.result (at_edge (string_bytes c.args.order.store)) (g.S.Disk.view c.relay_store.new.site) c.in-Ok.ensures.chosen
 
-pub returns-in-Err-clause-selected : goal.returns-in-Err-clause-selected
-returns-in-Err-clause-selected g c =
+pub returns-clause-selected : goal.returns-clause-selected
+returns-clause-selected g c =
     unselected c.in-Err.fault c.refused.result c.or_starved-in-Err.result (at_edge (string_bytes c.args.order.store)) (g.S.Disk.view c.relay_store.new.site) c.refused.ensures c.or_starved-in-Err.ensures c.in-Err.ensures.chosen
 
 pub returns-in-Ok-clause-means : goal.returns-in-Ok-clause-means
 returns-in-Ok-clause-means g c =
-    let t : Dialing g.C = record { log = g.C.Dial.log; store = g.C.Dial.store; later = g.C.Dial.later; faults = g.C.Dial.dial_faults; chosen = g.C.Dial.chosen } in
+    let t : Dialing g.row.C.Denot = record { log = g.C.Dial.log; store = g.C.Dial.store; later = g.C.Dial.later; faults = g.C.Dial.dial_faults; chosen = g.C.Dial.chosen } in
     let r = c.in-Ok.relay in
     inl (
       r.channel,
@@ -27,15 +27,15 @@ returns-in-Ok-clause-means g c =
       told_or _ c.relayed.result c.or_starved.result c.relayed.ensures.told c.relayed.ensures.unwritten c.or_starved.ensures,
     )
 
-pub returns-in-Err-clause-means : goal.returns-in-Err-clause-means
-returns-in-Err-clause-means g c =
+pub returns-clause-means : goal.returns-clause-means
+returns-clause-means g c =
     inr (c.in-Err.fault, c.in-Err.ensures.why, c.in-Err.ensures.unasked, told_if (λ a. Tells c.in-Err.fault a) c.refused.result c.or_starved-in-Err.result c.refused.ensures c.or_starved-in-Err.ensures)
 
 pub returns-in-Ok-clause-untouched : goal.returns-in-Ok-clause-untouched
 returns-in-Ok-clause-untouched g c line is =
     absurd (relay_is_store c.in-Ok.relay.channel c.in-Ok.relay.report c.relayed.result c.or_starved.result line c.relayed.ensures.told c.or_starved.ensures is)
 
-pub returns-in-Err-clause-untouched : goal.returns-in-Err-clause-untouched
-returns-in-Err-clause-untouched g c line is =
+pub returns-clause-untouched : goal.returns-clause-untouched
+returns-clause-untouched g c line is =
     let p = placed_by c.in-Err.fault c.refused.result c.or_starved-in-Err.result line c.refused.ensures c.or_starved-in-Err.ensures is in
     c.in-Err.ensures.untouched p.0 (ap (λ (w : StoreFault). let r : Result StoreRelay StoreFault = Err w in r) p.1)
