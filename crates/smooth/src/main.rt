@@ -68,11 +68,13 @@ fn run<I: Source, O: Sink, S: Site, C: Dial, T: Tracks>(
         (record { told = O.held output.new; faults = O.faults output.new }) site.old site.new dial.old dial.new (exit_status result) }
     ensures goes_on { C.later dial.old dial.new }
 {
-    let status = match words {
-        Ok(words) => tool(alloc, &words, input, output, site, dial, tracks, policies),
-        Err(NoMemory) => starved(output),
-    };
-    ExitCode::from(status)
+    match words {
+        Ok(words) => {
+            let status = tool(alloc, &words, input, output, site, dial, tracks, policies);
+            ExitCode::from(status)
+        }
+        Err(NoMemory) => ExitCode::from(starved(output)),
+    }
 }
 
 // Ends where there is no memory to begin with.
