@@ -8,6 +8,8 @@ import re
 import sys
 from collections import namedtuple
 
+from reference_words import told
+
 MOST_INPUT = 268_435_456
 MOST_MOOF = 2_097_152
 MOST_HEADER = 1_048_576
