@@ -438,7 +438,7 @@ def answer(texts, data):
     """What is printed, and the status, for the words behind `pick` and an input."""
     wanted = asked(texts)
     if wanted is None:
-        return b"error: words\n", 2
+        return told(["pick", *(text.decode() for text in texts)]).encode(), 2
     if len(data) > MOST_INPUT:
         return f"error: input at {MOST_INPUT}: too long\n".encode(), 3
     try:

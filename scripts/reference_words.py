@@ -1,7 +1,6 @@
 """What is told of words that name no command, by a plain reference: the words are read from the left, then options that stand twice are
 looked for, then the other words, then the port of `serve`, then values."""
 
-
 import re
 
 NAME = "1 to 64 bytes of letters, digits, spaces and _ - ."
