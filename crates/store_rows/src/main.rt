@@ -7,6 +7,7 @@
 mod answers;
 mod caches;
 mod choices;
+mod each;
 mod ends;
 mod faults;
 mod files;
@@ -23,7 +24,7 @@ use sm_rows::{Caller, Case, run_pages};
 use std::alloc::Global;
 
 // In the order in which they are read: names and blocks of one are known in those behind it.
-const PAGES: [&str; 9] = [
+const PAGES: [&str; 10] = [
     "fixtures.txt",
     "ends.txt",
     "sites.txt",
@@ -33,6 +34,7 @@ const PAGES: [&str; 9] = [
     "caches.txt",
     "origins.txt",
     "serving.txt",
+    "each.txt",
 ];
 
 struct Rows;
@@ -42,9 +44,11 @@ impl Caller for Rows {
         match case.call() {
             "caches" => caches::play(alloc, case),
             "faults" => faults::told(alloc, case),
+            "fronts" => each::play_fronts(alloc, case),
             "inputs" => ends::play_input(alloc, case),
             "long inputs" => ends::play_counted(alloc, case),
             "outputs" => ends::play_output(alloc, case),
+            "single faults" => each::play_faults(alloc, case),
             "tracks" => ends::play_tracks(alloc, case),
             _ => stage::play(alloc, case),
         }

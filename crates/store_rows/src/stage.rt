@@ -59,9 +59,9 @@ fn part(
     Ok(site)
 }
 
-// What a row tells, where what comes is cut so.
-fn play_cut(alloc: Global, case: &Case<'_>, cut: Cut) -> Result<String> {
-    let mut site = site(alloc, case, cut)?;
+/// What the steps of a row tell on this site.
+pub fn play_on(alloc: Global, case: &Case<'_>, site: MemorySite) -> Result<String> {
+    let mut site = site;
     let mut tale = Tale::new(alloc);
     let mut rest = case.lines();
     for _ in 0..case.lines().len() {
@@ -78,6 +78,11 @@ fn play_cut(alloc: Global, case: &Case<'_>, cut: Cut) -> Result<String> {
         }
     }
     Ok(tale.into_text())
+}
+
+// What a row tells, where what comes is cut so.
+fn play_cut(alloc: Global, case: &Case<'_>, cut: Cut) -> Result<String> {
+    play_on(alloc, case, site(alloc, case, cut)?)
 }
 
 fn cut_of(words: &Words, at: usize) -> Result<Cut> {
