@@ -267,7 +267,7 @@ def is_name(value):
 
 
 def track_of(kind, attributes, params):
-    """The track_ID, name, bitrate and kind of a track with these params."""
+    """The track_ID, name, bitrate and kind of a track with these params, and what else they say: FourCC, private data and numbers."""
     said = {}
     for name, value in params:
         if name not in READ or (name == b"systemBitrate" and name in attributes):
@@ -280,13 +280,13 @@ def track_of(kind, attributes, params):
     refuse(TEXT, not is_name(name))
     refuse(TEXT, not re.fullmatch(rb"[A-Za-z0-9_ -]{0,4}", said.get(b"FourCC", b"")))
     refuse(TEXT, not re.fullmatch(rb"([0-9A-Fa-f]{2}){0,32768}", said.get(b"CodecPrivateData", b"")))
-    for key in NUMERIC:
-        numeric(said.get(key, b"0"))
-    return numeric(said[b"trackID"]), name, numeric(bitrate), kind
+    numbers = [numeric(said[key]) if key in said else None for key in NUMERIC]
+    others = said.get(b"FourCC", b""), bytes.fromhex(said.get(b"CodecPrivateData", b"").decode()), *numbers
+    return numeric(said[b"trackID"]), name, numeric(bitrate), kind, others
 
 
 def live_manifest(text):
-    """The track_IDs and names of the tracks of a live manifest."""
+    """The tracks of a live manifest, each as `track_of` gives it."""
     raw = []
     for path, attributes in elements(text):
         refuse(TEXT, path[0] != b"smil")
@@ -296,13 +296,13 @@ def live_manifest(text):
             if b"name" in attributes and b"value" in attributes:
                 raw[-1][2].append((attributes[b"name"], attributes[b"value"]))
     tracks = [track_of(*track) for track in raw]
-    ids = {identity for identity, _, _, _ in tracks}
-    keys = {(name, bitrate) for _, name, bitrate, _ in tracks}
-    kinds = {(name, kind) for _, name, _, kind in tracks}
-    names = {name for _, name, _, _ in tracks}
+    ids = {identity for identity, *_ in tracks}
+    keys = {(name, bitrate) for _, name, bitrate, *_ in tracks}
+    kinds = {(name, kind) for _, name, _, kind, _ in tracks}
+    names = {name for _, name, *_ in tracks}
     refuse(TEXT, not 1 <= len(tracks) <= 64)
     refuse(TEXT, len(ids) < len(tracks) or len(keys) < len(tracks) or len(kinds) > len(names))
-    return [(identity, name) for identity, name, _, _ in tracks]
+    return tracks
 
 
 def opened(body):
@@ -356,12 +356,12 @@ def header_of(manifest, moov_body):
     tracks = live_manifest(manifest[4:])
     heads, trexes = moov(moov_body)
     timescales = {}
-    for identity, name in tracks:
+    for identity, name, *_ in tracks:
         refuse(MOOV, identity not in heads)
         timescale, _ = heads[identity]
         refuse(MOOV, timescales.setdefault(name, timescale) != timescale)
-    refuse("Protected", any(heads[identity][1] for identity, _ in tracks))
-    return {identity: trexes.get(identity, (0, 0, 0)) for identity, _ in tracks}
+    refuse("Protected", any(heads[identity][1] for identity, *_ in tracks))
+    return {identity: trexes.get(identity, (0, 0, 0)) for identity, *_ in tracks}
 
 
 # ---- the body of a push
