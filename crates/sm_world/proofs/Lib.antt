@@ -18,6 +18,7 @@ pub mod ManifestSize
 pub mod GetText
 pub mod OriginReplies
 pub mod Fronts
+pub mod Steps
 pub mod OneRequest
 pub mod Speaking
 mod Numbers

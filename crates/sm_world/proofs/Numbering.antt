@@ -17,6 +17,7 @@ use Rattle.sm_world.specs.Saying.{IsSaid, SaysOn}
 use Rattle.sm_world.specs.Worlds.{GoesOn}
 use Rattle.sm_world.specs.declared.acted.Acted.{Acted}
 use Rattle.sm_world.specs.declared.acted.Acted.TheVariants as acted
+use Rattle.sm_world.proofs.Speaking.{said_by}
 
 -- the answer where the exchange has this number
 abbrev pub by_number : Dialing → ℕ → Acted → Answer
@@ -35,7 +36,7 @@ module _ {D : Type 0} (view : D → View) (leave : D → Image → Type 0) (left
           record { world = s.now; stands = s.stands; log_is = same },
           (
             s.until,
-            record { came = came; said = subst (λ (l : List Entry). IsSaid (l ++ s.until) request came) at.log_is s.said; answer = by },
+            record { came = came; said = subst (λ (l : List Entry). IsSaid (l ++ s.until) request came) at.log_is (said_by _ _ _ request came s.said); answer = by },
             (s.since, refl),
           ),
         );

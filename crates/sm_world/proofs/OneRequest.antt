@@ -1,5 +1,5 @@
 -- What goes out on a connection that asks once.
-use Rattle.std.proofs.Common.{◌≡◌, ◌⊎◌, inl, inr, ⊎_elim, ℕ, ◌<◌, Bool, true, false, ◌||◌, if◌then◌else◌, List, [], ◌∷◌, ◌++◌, take, drop, Option, Some, None, refl, sym, ◌∙◌, ap, subst, arith, append_assoc, take-append-drop}
+use Rattle.std.proofs.Common.{◌≡◌, ◌⊎◌, inl, inr, ⊎_elim, ℕ, ◌<◌, ◌≤◌, Bool, true, false, ◌||◌, if◌then◌else◌, List, [], ◌∷◌, ◌++◌, length, take, drop, Option, Some, None, refl, sym, ◌∙◌, ap, subst, arith, append_assoc, take-append-drop}
 use Rattle.std.specs.List.{AllByRecursion}
 use Rattle.std.proofs.lemmas.Bool.{eq-eqb, ne_eqb, cases_eq}
 use Rattle.std.proofs.lemmas.List.{append-nil}
@@ -30,39 +30,10 @@ use Rattle.sm_serve.proofs.Transcripts.{live_push}
 use Rattle.sm_fetch.specs.Requests.{get_text}
 use Rattle.sm_fetch.specs.Origins.{MayBeAsked}
 use Rattle.sm_world.specs.Replying.{IsReplyTo, IsReplyFront}
+use Rattle.sm_world.proofs.Steps.{IsAct, AreActs, acts_front, acts_last, Causes, AllCause, cause_front, cause_last}
 use Rattle.sm_world.proofs.GetText.{IsAsked, IsFew, front_gives, few_behind}
-use Rattle.sm_world.proofs.OriginReplies.{no_memory_replies, too_many_replies, asked_is_reply, refused_is_reply}
+use Rattle.sm_world.proofs.OriginReplies.{no_memory_replies, too_many_replies, asked_is_reply, refused_is_reply, replies_by}
 use Rattle.sm_world.proofs.Fronts.{begun, begun_by, begun_both, began_one, deals_both, still_out, AreFirst, first_of_first, came_by_then, begins_once, among_after}
-
--- ---- steps
-
-abbrev pub IsAct : Stepped → Type 0
-IsAct x = Step (Rose x.faults x.faults_after) x.before x.act x.after x.reply
-
-abbrev pub AreActs : List Stepped → Type 0
-AreActs steps = AllByRecursion IsAct steps
-
-acts_both : (xs ys : List Stepped) → AreActs xs → AreActs ys → AreActs (xs ++ ys)
-acts_both [] ys one two = two
-acts_both (x ∷ xs) ys one two = (one.0, acts_both xs ys one.1 two)
-
-acts_front : (xs ys : List Stepped) → AreActs (xs ++ ys) → AreActs xs
-acts_front [] ys all = tt
-acts_front (x ∷ xs) ys all = (all.0, acts_front xs ys all.1)
-
-acts_last : (xs ys : List Stepped) → AreActs (xs ++ ys) → AreActs ys
-acts_last [] ys all = all
-acts_last (x ∷ xs) ys all = acts_last xs ys all.1
-
--- each step of a run is one of the machine
-pub run_acts : (first : Machine) (begin faults : ℕ) (items : List Item) (steps : List Stepped) (p : Point) → Run true first begin faults items steps p → AreActs steps
-run_acts first begin faults [] [] p begins = tt
-run_acts first begin faults items steps q (goes_on was es items' ss xs steps' p q' run move now all) =
-    subst (λ (ys : List Stepped). AreActs ys) (sym all) (acts_both ss xs (run_acts first begin faults was ss p run) (of_kind (kind_of was p es xs q move)))
-  where
-    of_kind : Stays p xs q ⊎ StepsOn p xs q → AreActs xs
-    of_kind (inl (none, same)) = subst (λ (ys : List Stepped). AreActs ys) (sym none) tt
-    of_kind (inr (x, one, from, step, to)) = subst (λ (ys : List Stepped). AreActs ys) (sym one) (step, tt)
 
 -- ---- what was sent
 
@@ -94,7 +65,10 @@ not_continue named more (inr (item, one, inr (c, refuse, may))) = cc
 some_of : (n : ℕ) → (n ≡ 0 → ⊥) → 0 < n
 some_of n some = grind (arith, some)
 
-module _ (conn : ℕ) (request : List ℕ) (first : List Entry) (base : List Item) where
+-- ---- one connection
+
+-- the disk's failures are these, and where 64 connections are live in a front of these entries, that holds
+module _ (fails crowds : Type 0) (conn : ℕ) (request : List ℕ) (first : List Entry) (base : List Item) where
   abbrev HasBegun : List Item → Type 0
   HasBegun es = 0 < begun conn (deals_in es)
 
@@ -106,7 +80,7 @@ module _ (conn : ℕ) (request : List ℕ) (first : List Entry) (base : List Ite
     pub until : List Entry
     pub since : List Entry
     pub log_is : log ≡ (first ++ until) ++ since
-    pub says : (e : Asks request) → IsReal (first ++ until) → IsReplyFront (first ++ until) e.named text
+    pub says : (e : Asks request) → IsReal (first ++ until) → IsReplyFront fails crowds (first ++ until) e.named text
 
   good_later : (log more : List Entry) (text : List ℕ) → Good log text → Good (log ++ more) text
   good_later log more text good = record {
@@ -127,7 +101,7 @@ module _ (conn : ℕ) (request : List ℕ) (first : List Entry) (base : List Ite
   }
 
   -- a text that is a reply whatever the log
-  good_now : (log : List Entry) (text : List ℕ) → ((more : List Entry) × (log ≡ first ++ more)) → ((e : Asks request) → (l : List Entry) → IsReplyTo l e.named text) → Good log text
+  good_now : (log : List Entry) (text : List ℕ) → ((more : List Entry) × (log ≡ first ++ more)) → ((e : Asks request) → (l : List Entry) → IsReplyTo fails crowds l e.named text) → Good log text
   good_now log text (more, is) reply = record {
     until = more;
     since = [];
@@ -207,10 +181,10 @@ module _ (conn : ℕ) (request : List ℕ) (first : List Entry) (base : List Ite
     no_entry none = ap (sent_on conn) none
 
     ready_no_memory : Good p.machine.log NO_MEMORY.now
-    ready_no_memory = good_now p.machine.log NO_MEMORY.now s.grown (λ e l. no_memory_replies l e.named)
+    ready_no_memory = good_now p.machine.log NO_MEMORY.now s.grown (λ e l. no_memory_replies fails crowds l e.named)
 
-    ready_too_many : Good p.machine.log TOO_MANY.now
-    ready_too_many = good_now p.machine.log TOO_MANY.now s.grown (λ e l. too_many_replies l e.named)
+    ready_too_many : crowds → Good p.machine.log TOO_MANY.now
+    ready_too_many so = good_now p.machine.log TOO_MANY.now s.grown (λ e l. too_many_replies fails crowds l e.named so)
 
     one_deal : (m n : ℕ) → deals_in (at m (Began n)) ≡ Began n ∷ []
     unfolding deals_in
@@ -295,9 +269,9 @@ module _ (conn : ℕ) (request : List ℕ) (first : List Entry) (base : List Ite
             inr (subst (λ (t : List ℕ). Good x.after.log t) (sym same) (subst (λ (l : List Entry). Good l (sent_on conn items')) (sym on.1) (good_later p.machine.log on.0 (sent_on conn items') good)), gone over_)
 
     -- an item is acted on
-    acted : (n : ℕ) (item : WireItem) (more : List WireItem) (act : Act) (x : Stepped) (q : Point) → p.phase ≡ acting n (item ∷ more) → act_of (p.counts n) item ≡ Some act → x.act ≡ act → x.before ≡ p.machine
+    acted : (n : ℕ) (item : WireItem) (more : List WireItem) (act : Act) (x : Stepped) (q : Point) → Causes fails x → p.phase ≡ acting n (item ∷ more) → act_of (p.counts n) item ≡ Some act → x.act ≡ act → x.before ≡ p.machine
         → IsAct x → ns ≡ [] → q.machine ≡ x.after → q.phase ≡ phase_after n (sent_of x.reply) (x.reply.close || closes item) more → Next q.machine.log q.phase
-    acted n item more act x q phase does act_is before step e machine to = elim (cases_eq n conn) [
+    acted n item more act x q causes phase does act_is before step e machine to = elim (cases_eq n conn) [
       | inr other ↦ grows x q before step e now machine to (λ waits. else_waits (sent_of x.reply) (x.reply.close || closes item) other)
           (stays_gone (acting n (item ∷ more)) now phase (λ bad. cc) (λ a. away_after conn n (sent_of x.reply) (x.reply.close || closes item) more a) (still_nothing e))
       | inl same ↦ grows x q before step e now machine to (λ waits. own same (awaits_in (acting n (item ∷ more)) phase waits) (sent_of x.reply) refl)
@@ -326,15 +300,15 @@ module _ (conn : ℕ) (request : List ℕ) (first : List Entry) (base : List Ite
         closes_now : (named : List ℕ) → IsAsked named item → (x.reply.close || closes item) ≡ true
         closes_now named is = ap (λ (b : Bool). x.reply.close || b) (closing named item is) ∙ or_true x.reply.close
 
-        replies : (named : List ℕ) → IsAsked named item → (bytes : List ℕ) → sent_of x.reply ≡ Some bytes → IsReal x.before.log → IsReplyTo x.before.log named bytes
+        replies : (named : List ℕ) → IsAsked named item → (bytes : List ℕ) → sent_of x.reply ≡ Some bytes → IsReal x.before.log → IsReplyTo fails crowds x.before.log named bytes
         replies named (inl get) bytes some real =
             let which : act_of_target (target_of named) ≡ x.act = (let both : Some (act_of_target (target_of named)) ≡ Some act = sym (ap (act_of (p.counts n)) get) ∙ does in cc) in
-            asked_is_reply (Rose x.faults x.faults_after) named x.before x.after x.reply bytes real
-            (subst (λ (a : Act). Step (Rose x.faults x.faults_after) x.before a x.after x.reply) (sym which) step) some
+            replies_by x.before.log named bytes causes (λ so. so) (asked_is_reply (Rose x.faults x.faults_after) crowds named x.before x.after x.reply bytes real
+            (subst (λ (a : Act). Step (Rose x.faults x.faults_after) x.before a x.after x.reply) (sym which) step) some)
         replies named (inr (c, refuse, may)) bytes some real =
             let which : acts.Refuse (unplaced c) ≡ x.act = (let both : Some (acts.Refuse (unplaced c)) ≡ Some act = sym (ap (act_of (p.counts n)) refuse) ∙ does in cc) in
-            refused_is_reply (Rose x.faults x.faults_after) named x.before x.after c x.reply bytes may
-            (subst (λ (a : Act). Step (Rose x.faults x.faults_after) x.before a x.after x.reply) (sym which) step) some
+            replies_by x.before.log named bytes causes (λ so. so) (refused_is_reply (Rose x.faults x.faults_after) crowds named x.before x.after c x.reply bytes may
+            (subst (λ (a : Act). Step (Rose x.faults x.faults_after) x.before a x.after x.reply) (sym which) step) some)
 
         own : n ≡ conn → Awaits p.machine.log es (acting n (item ∷ more)) → (o : Option (List ℕ)) → sent_of x.reply ≡ o → Awaits x.after.log (es ++ ns) (phase_after n o (x.reply.close || closes item) more)
         own same waits None none = shut_or (x.reply.close || closes item) (λ y. closes_now y.named (asked y.named (waits y same).1))
@@ -348,7 +322,7 @@ module _ (conn : ℕ) (request : List ℕ) (first : List Entry) (base : List Ite
             since = on.0;
             log_is = on.1 ∙ ap (λ (l : List Entry). l ++ on.0) s.grown.1;
             says = λ y real.
-                let reply = subst (λ (l : List Entry). IsReplyTo l y.named bytes) was
+                let reply = subst (λ (l : List Entry). IsReplyTo fails crowds l y.named bytes) was
                 (replies y.named (asked y.named (waits y same).1) bytes some (subst (λ (l : List Entry). IsReal l) (sym was) real)) in
                 (bytes, [], reply, sym (append-nil bytes));
           },
@@ -408,59 +382,59 @@ module _ (conn : ℕ) (request : List ℕ) (first : List Entry) (base : List Ite
 
       -- ---- each move
 
-      stays_on : (xs : List Stepped) (q : Point) → AreActs xs → is_among conn (live base) ≡ false → Moves false items' p ns xs q → Next q.machine.log q.phase
-      stays_on xs q real out (opened m n phase few e none is) =
+      stays_on : (xs : List Stepped) (q : Point) → AreActs xs → AllCause fails xs → (64 ≤ length (live items') → crowds) → is_among conn (live base) ≡ false → Moves false items' p ns xs q → Next q.machine.log q.phase
+      stays_on xs q real causes crowding out (opened m n phase few e none is) =
           next q (acting n []) (ap (λ (r : Point). r.machine) is) (ap (λ (r : Point). r.phase) is) (sent_none m (Began n) e refl)
           (λ waits x same. (began_now m n e same, inl refl)) (began_live m n idle (acting n []) e phase (λ bad. cc) (λ other. other))
-      stays_on xs q real out (crowded m n phase many e none is) =
+      stays_on xs q real causes crowding out (crowded m n phase many e none is) =
           next q (sending n TOO_MANY.now true []) (ap (λ (r : Point). r.machine) is) (ap (λ (r : Point). r.phase) is) (sent_none m (Began n) e refl)
-          (λ waits same. (ready_too_many, λ x. (refl, began_now m n e same))) (began_live m n idle (sending n TOO_MANY.now true []) e phase (λ bad. cc) (λ other. other))
-      stays_on xs q real out (came m n bytes given more phase among e none one two is) =
+          (λ waits same. (ready_too_many (crowding many), λ x. (refl, began_now m n e same))) (began_live m n idle (sending n TOO_MANY.now true []) e phase (λ bad. cc) (λ other. other))
+      stays_on xs q real causes crowding out (came m n bytes given more phase among e none one two is) =
           next q (acting n more) (ap (λ (r : Point). r.machine) is) (ap (λ (r : Point). r.phase) is) (sent_none m (Came n bytes) e refl)
           (λ waits. given_few m n bytes given more e out among two) (came_live m n bytes idle (acting n more) e phase among (λ bad. cc) (λ other. other))
-      stays_on xs q real out (unread m n bytes phase among e none is) =
+      stays_on xs q real causes crowding out (unread m n bytes phase among e none is) =
           next q (sending n NO_MEMORY.now true []) (ap (λ (r : Point). r.machine) is) (ap (λ (r : Point). r.phase) is) (sent_none m (Came n bytes) e refl)
           (λ waits same. (ready_no_memory, λ x. (refl, begun_later es ns (begun_live out n among same)))) (came_live m n bytes idle (sending n NO_MEMORY.now true []) e phase among (λ bad. cc) (λ other. other))
-      stays_on xs q real out (passed m n bytes phase among e none is) =
+      stays_on xs q real causes crowding out (passed m n bytes phase among e none is) =
           next q idle (ap (λ (r : Point). r.machine) is) (ap (λ (r : Point). r.phase) is) (sent_none m (Came n bytes) e refl)
           (λ waits. tt) (stays_gone idle idle phase (λ bad. cc) (λ a. tt) (behind_entry m (Came n bytes) e refl))
-      stays_on xs q real out (left m n phase e none is) =
+      stays_on xs q real causes crowding out (left m n phase e none is) =
           next q idle (ap (λ (r : Point). r.machine) is) (ap (λ (r : Point). r.phase) is) (sent_none m (Left n) e refl)
           (λ waits. tt) (stays_gone idle idle phase (λ bad. cc) (λ a. tt) (behind_entry m (Left n) e refl))
-      stays_on xs q real out (over m phase e none is) =
+      stays_on xs q real causes crowding out (over m phase e none is) =
           next q idle (ap (λ (r : Point). r.machine) is) (ap (λ (r : Point). r.phase) is) (sent_none m Over e refl)
           (λ waits. tt) (stays_gone idle idle phase (λ bad. cc) (λ a. tt) (behind_entry m Over e refl))
-      stays_on xs q real out (continues n more phase e none is) =
+      stays_on xs q real causes crowding out (continues n more phase e none is) =
           next q (sending n CONTINUE.now false more) (ap (λ (r : Point). r.machine) is) (ap (λ (r : Point). r.phase) is) (no_entry e)
           (λ waits same. absurd_continue n more same (awaits_in (acting n (items.Continue ∷ more)) phase waits))
           (stays_gone (acting n (items.Continue ∷ more)) (sending n CONTINUE.now false more) phase (λ bad. cc) (λ a. a) (still_nothing e))
-      stays_on xs q real out (acts_on n item more act x phase does conn_is is_step e one is) =
+      stays_on xs q real causes crowding out (acts_on n item more act x phase does conn_is is_step e one is) =
           let step : IsAct x = (subst (λ (ys : List Stepped). AreActs ys) one real).0 in
-          acted n item more act x q phase does is_step.act_is is_step.before_is step e (ap (λ (r : Point). r.machine) is) (ap (λ (r : Point). r.phase) is)
-      stays_on xs q real out (wants n more phase e none is) =
+          acted n item more act x q (subst (λ (ys : List Stepped). AllCause fails ys) one causes).0 phase does is_step.act_is is_step.before_is step e (ap (λ (r : Point). r.machine) is) (ap (λ (r : Point). r.phase) is)
+      stays_on xs q real causes crowding out (wants n more phase e none is) =
           next q (sending n NO_MEMORY.now true []) (ap (λ (r : Point). r.machine) is) (ap (λ (r : Point). r.phase) is) (no_entry e)
           (λ waits same. (ready_no_memory, λ x. (refl, begun_later es ns (awaits_in (acting n more) phase waits x same).0)))
           (stays_gone (acting n more) (sending n NO_MEMORY.now true []) phase (λ bad. cc) (λ a. a) (still_nothing e))
-      stays_on xs q real out (done n phase e none is) =
+      stays_on xs q real causes crowding out (done n phase e none is) =
           next q idle (ap (λ (r : Point). r.machine) is) (ap (λ (r : Point). r.phase) is) (no_entry e)
           (λ waits. tt) (stays_gone (acting n []) idle phase (λ bad. cc) (λ a. tt) (still_nothing e))
-      stays_on xs q real out (sent m n bytes close more phase after e none is) =
+      stays_on xs q real causes crowding out (sent m n bytes close more phase after e none is) =
           sends m n bytes bytes [] close more false q (if close then shutting n else acting n more) phase (sym (append-nil bytes)) e (ap (λ (r : Point). r.machine) is) (ap (λ (r : Point). r.phase) is)
           (λ same closed. ap (λ (b : Bool). if b then shutting n else acting n more) closed ∙ ap (λ (k : ℕ). shutting k) same) (waits_else n close more) (away_after conn n None close more)
-      stays_on xs q real out (failed m n k bytes close more phase after e none is) =
+      stays_on xs q real causes crowding out (failed m n k bytes close more phase after e none is) =
           sends m n bytes (take k bytes) (drop k bytes) close more true q (shutting n) phase (sym (take-append-drop k bytes)) e (ap (λ (r : Point). r.machine) is) (ap (λ (r : Point). r.phase) is)
           (λ same closed. ap (λ (j : ℕ). shutting j) same) (λ other. tt) (λ other. other)
-      stays_on xs q real out (unsent n bytes close more phase e none is) =
+      stays_on xs q real causes crowding out (unsent n bytes close more phase e none is) =
           next q (shutting n) (ap (λ (r : Point). r.machine) is) (ap (λ (r : Point). r.phase) is) (no_entry e)
           (λ waits. tt) (stays_gone (sending n bytes close more) (shutting n) phase (λ bad. cc) (λ a. a) (still_nothing e))
-      stays_on xs q real out (shut m n phase e none is) =
+      stays_on xs q real causes crowding out (shut m n phase e none is) =
           next q idle (ap (λ (r : Point). r.machine) is) (ap (λ (r : Point). r.phase) is) (sent_none m (Shut n) e refl)
           (λ waits. tt) (shut_gone m n e phase)
-      stays_on xs q real out (declared header x phase conn_is is_step e one is) =
+      stays_on xs q real causes crowding out (declared header x phase conn_is is_step e one is) =
           let step : IsAct x = (subst (λ (ys : List Stepped). AreActs ys) one real).0 in
           grows x q is_step.before_is step e idle (ap (λ (r : Point). r.machine) is) (ap (λ (r : Point). r.phase) is) (λ waits. tt)
           (stays_gone idle idle phase (λ bad. cc) (λ a. tt) (still_nothing e))
-      stays_on xs q real out (recalled address x phase conn_is is_step e one is) =
+      stays_on xs q real causes crowding out (recalled address x phase conn_is is_step e one is) =
           let step : IsAct x = (subst (λ (ys : List Stepped). AreActs ys) one real).0 in
           grows x q is_step.before_is step e idle (ap (λ (r : Point). r.machine) is) (ap (λ (r : Point). r.phase) is) (λ waits. tt)
           (stays_gone idle idle phase (λ bad. cc) (λ a. tt) (still_nothing e))
@@ -475,7 +449,7 @@ module _ (conn : ℕ) (request : List ℕ) (first : List Entry) (base : List Ite
         since = [];
         log_is = stands.grown.1 ∙ sym (append-nil (first ++ stands.grown.0));
         says = λ e real.
-            subst (λ (t : List ℕ). IsReplyFront (first ++ stands.grown.0) e.named t) (sym silent_) (NO_MEMORY.now, NO_MEMORY.now, no_memory_replies (first ++ stands.grown.0) e.named, refl);
+            subst (λ (t : List ℕ). IsReplyFront fails crowds (first ++ stands.grown.0) e.named t) (sym silent_) (NO_MEMORY.now, NO_MEMORY.now, no_memory_replies fails crowds (first ++ stands.grown.0) e.named, refl);
       }
       go (inr (good, over_)) = good
 
@@ -488,22 +462,31 @@ module _ (conn : ℕ) (request : List ℕ) (first : List Entry) (base : List Ite
       state = inl (ap (sent_on conn) (append-nil base) ∙ silent, subst (λ (f : Phase). Awaits p.machine.log [] f) (sym phase_is) tt);
     }
 
-    pub along : (items : List Item) (ss : List Stepped) (q : Point) → LeadsTo base steps p items ss q → (es : List Item) × (items ≡ base ++ es)
-        × (AreFirst conn request (deals_in es) → AreActs ss → Stands items es q.machine.log q.phase)
-    along items ss q (rests now all q' a b c) = (
+    pub along : (whole : List Item) → ((front more : List Item) → whole ≡ front ++ more → 64 ≤ length (live front) → crowds) → (items : List Item) (ss : List Stepped) (q : Point)
+        → LeadsTo base steps p items ss q → (more : List Item) → whole ≡ items ++ more → (es : List Item) × (further : List Stepped) × (items ≡ base ++ es) × (ss ≡ steps ++ further)
+        × (AreFirst conn request (deals_in es) → AreActs ss → AllCause fails further → Stands items es q.machine.log q.phase)
+    along whole crowding items ss q (rests now all q' a b c) more rest = (
+      [],
       [],
       a ∙ sym (append-nil base),
-      λ comes real.
+      b ∙ sym (append-nil steps),
+      λ comes real causes.
           subst (λ (l : List Item). Stands l [] q.machine.log q.phase) (append-nil base ∙ sym a) (subst (λ (r : Point). Stands (base ++ []) [] r.machine.log r.phase) (sym c) here),
     )
-    along items ss q (moves_on was ns now ys xs all r q' path move a b) =
-        let before = along was ys r path in (
+    along whole crowding items ss q (moves_on was ns now ys xs all r q' path move a b) more rest =
+        let then_rest : whole ≡ was ++ (ns ++ more) = rest ∙ ap (λ (l : List Item). l ++ more) a ∙ append_assoc was ns more in
+        let before = along whole crowding was ys r path (ns ++ more) then_rest in (
           before.0 ++ ns,
-          a ∙ ap (λ (l : List Item). l ++ ns) before.1 ∙ append_assoc base before.0 ns,
-          λ comes real.
+          before.1 ++ xs,
+          a ∙ ap (λ (l : List Item). l ++ ns) before.2 ∙ append_assoc base before.0 ns,
+          b ∙ ap (λ (l : List Stepped). l ++ xs) before.3 ∙ append_assoc steps before.1 xs,
+          λ comes real causes.
               let acts_all = subst (λ (zs : List Stepped). AreActs zs) b real in
-              let then_ = before.2 (first_of_first conn request (deals_in before.0) (deals_in ns) (subst (λ (ds : List Deal). AreFirst conn request ds) (deals_both before.0 ns) comes)) (acts_front ys xs acts_all) in
-              subst (λ (l : List Item). Stands l (before.0 ++ ns) q.machine.log q.phase) (sym (a ∙ ap (λ (l : List Item). l ++ ns) before.1))
-              (stays_on before.0 ns r (subst (λ (l : List Item). Stands l before.0 r.machine.log r.phase) before.1 then_) comes xs q (acts_last ys xs acts_all) out
-              (subst (λ (l : List Item). Moves false l r ns xs q) before.1 move)),
+              let then_ = before.4 (first_of_first conn request (deals_in before.0) (deals_in ns) (subst (λ (ds : List Deal). AreFirst conn request ds) (deals_both before.0 ns) comes)) (acts_front ys xs acts_all)
+              (cause_front fails before.1 xs causes) in
+              let crowded_here : 64 ≤ length (live (base ++ before.0)) → crowds =
+              λ many. crowding was (ns ++ more) then_rest (subst (λ (l : List Item). 64 ≤ length (live l)) (sym before.2) many) in
+              subst (λ (l : List Item). Stands l (before.0 ++ ns) q.machine.log q.phase) (sym (a ∙ ap (λ (l : List Item). l ++ ns) before.2))
+              (stays_on before.0 ns r (subst (λ (l : List Item). Stands l before.0 r.machine.log r.phase) before.2 then_) comes xs q (acts_last ys xs acts_all) (cause_last fails before.1 xs causes) crowded_here out
+              (subst (λ (l : List Item). Moves false l r ns xs q) before.2 move)),
         )

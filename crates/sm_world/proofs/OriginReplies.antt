@@ -38,7 +38,7 @@ use Rattle.sm_origin.proofs.Real.{channel_writable, kept_samples}
 use Rattle.sm_serve.specs.declared.texts.TheConstants.{TOO_MANY}
 use Rattle.sm_serve.specs.Run.{act_of_target, sent_of}
 use Rattle.sm_fetch.specs.Origins.{IsKeptText, IsUnwell, IsOriginReply}
-use Rattle.sm_world.specs.Replying.{given, IsRefusable, Replaces, IsReplyTo}
+use Rattle.sm_world.specs.Replying.{given, IsRefusable, Replaces, IsReplyTo, IsReplyFront}
 use Rattle.sm_world.proofs.ManifestSize.{few_listed, manifest_size}
 
 -- ---- what is kept stands within the log
@@ -354,14 +354,14 @@ asks_for (targets.Fragment b) a is = let same : b ≡ a = cc in ap (λ (x : Addr
 asks_for (targets.Streams name) a is = absurd (cc)
 asks_for targets.Unknown a is = absurd (cc)
 
-abbrev Says : List Entry → List ℕ → List ℕ → Type 0
-Says log named bytes = (bytes ≡ given log named) ⊎ Replaces log named bytes
+abbrev Says : (failed crowded : Type 0) → List Entry → List ℕ → List ℕ → Type 0
+Says failed crowded log named bytes = (bytes ≡ given log named) ⊎ Replaces failed crowded log named bytes
 
-module _ (failed : Type 0) (named : List ℕ) (m n : Machine) (r : Reply) (bytes : List ℕ) (some : sent_of r ≡ Some bytes) where
-  wants_said : r ≡ no_memory → Says m.log named bytes
+module _ (failed crowded : Type 0) (named : List ℕ) (m n : Machine) (r : Reply) (bytes : List ℕ) (some : sent_of r ≡ Some bytes) where
+  wants_said : r ≡ no_memory → Says failed crowded m.log named bytes
   wants_said is = inr (inl (same_sent r no_memory NO_MEMORY.now bytes is refl some))
 
-  row_said : Row failed m (act_of_target (target_of named)) n r → Says m.log named bytes
+  row_said : Row failed m (act_of_target (target_of named)) n r → Says failed crowded m.log named bytes
   row_said (answered e same is) =
       inl (same_sent r (reply_of m.log (act_of_target (target_of named))) (given m.log named) bytes is (target_sent m.log (target_of named)) some)
   row_said (unread a place f asks kept same fault is) = inr (inr (inr (inl (record {
@@ -370,12 +370,13 @@ module _ (failed : Type 0) (named : List ℕ) (m n : Machine) (r : Reply) (bytes
     fragment = f;
     asks = asks_for (target_of named) a asks;
     kept = kept;
+    why = fault;
     reply_is = same_sent r (unplaced cause.DiskFault) (unplaced cause.DiskFault).bytes bytes is refl some;
   }))))
   row_said (unsettled e d entry doubt same fault is) = absurd (let bad : None ≡ Some e = sym (adds_none (target_of named)) ∙ entry in cc)
   row_said (wrote e mid entry clear by) = absurd (let bad : None ≡ Some e = sym (adds_none (target_of named)) ∙ entry in cc)
 
-  said : Step failed m (act_of_target (target_of named)) n r → Says m.log named bytes
+  said : Step failed m (act_of_target (target_of named)) n r → Says failed crowded m.log named bytes
   said (row by) = row_said by
   said (wants same is) = wants_said is
   said (untold meant by close is) = wants_said is
@@ -385,39 +386,54 @@ module _ (failed : Type 0) (named : List ℕ) (m n : Machine) (r : Reply) (bytes
   unplaced_sent c (inl (method, push)) = ap sent_of (ap unplaced method) ∙ ap (λ (k : Cause). Some (unplaced k).bytes) (sym method)
   unplaced_sent c (inr (large, long)) = ap sent_of (ap unplaced large) ∙ ap (λ (k : Cause). Some (unplaced k).bytes) (sym large)
 
-  refusal_said : (c : Cause) → IsRefusable named c → r ≡ unplaced c → Says m.log named bytes
+  refusal_said : (c : Cause) → IsRefusable named c → r ≡ unplaced c → Says failed crowded m.log named bytes
   refusal_said c may is = inr (inr (inr (inr (c, may, same_sent r (unplaced c) (unplaced c).bytes bytes is (unplaced_sent c may) some))))
 
-  refused_row : (c : Cause) → IsRefusable named c → Row failed m (acts.Refuse (record { at = 0; cause = c })) n r → Says m.log named bytes
+  refused_row : (c : Cause) → IsRefusable named c → Row failed m (acts.Refuse (record { at = 0; cause = c })) n r → Says failed crowded m.log named bytes
   refused_row c may (answered e same is) = refusal_said c may is
   refused_row c may (unread a place f asks kept same fault is) = absurd (cc)
   refused_row c may (unsettled e d entry doubt same fault is) = absurd (let bad : None ≡ Some e = entry in cc)
   refused_row c may (wrote e mid entry clear by) = absurd (let bad : None ≡ Some e = entry in cc)
 
-  refused_said : (c : Cause) → IsRefusable named c → Step failed m (acts.Refuse (record { at = 0; cause = c })) n r → Says m.log named bytes
+  refused_said : (c : Cause) → IsRefusable named c → Step failed m (acts.Refuse (record { at = 0; cause = c })) n r → Says failed crowded m.log named bytes
   refused_said c may (row by) = refused_row c may by
   refused_said c may (wants same is) = wants_said is
   refused_said c may (untold meant by close is) = wants_said is
 
 -- what is sent in answer to a GET of a target is the reply of the log that was asked
-pub asked_is_reply : (failed : Type 0) (named : List ℕ) (m n : Machine) (r : Reply) (bytes : List ℕ) → IsReal m.log → Step failed m (act_of_target (target_of named)) n r → sent_of r ≡ Some bytes
-    → IsReplyTo m.log named bytes
-asked_is_reply failed named m n r bytes real step some = (
-  said failed named m n r bytes some step,
+pub asked_is_reply : (failed crowded : Type 0) (named : List ℕ) (m n : Machine) (r : Reply) (bytes : List ℕ) → IsReal m.log → Step failed m (act_of_target (target_of named)) n r → sent_of r ≡ Some bytes
+    → IsReplyTo failed crowded m.log named bytes
+asked_is_reply failed crowded named m n r bytes real step some = (
+  said failed crowded named m n r bytes some step,
   step_replies failed named m n (act_of_target (target_of named)) (adds_none (target_of named)) (λ s is. target_replies m.log named real (target_of named) refl s is) r step bytes some,
 )
 
 -- and so is what is sent in place of one whose head is refused
-pub refused_is_reply : (failed : Type 0) (named : List ℕ) (m n : Machine) (c : Cause) (r : Reply) (bytes : List ℕ) → IsRefusable named c → Step failed m (acts.Refuse (record { at = 0; cause = c })) n r
-    → sent_of r ≡ Some bytes → IsReplyTo m.log named bytes
-refused_is_reply failed named m n c r bytes may step some = (
-  refused_said failed named m n r bytes some c may step,
+pub refused_is_reply : (failed crowded : Type 0) (named : List ℕ) (m n : Machine) (c : Cause) (r : Reply) (bytes : List ℕ) → IsRefusable named c → Step failed m (acts.Refuse (record { at = 0; cause = c })) n r
+    → sent_of r ≡ Some bytes → IsReplyTo failed crowded m.log named bytes
+refused_is_reply failed crowded named m n c r bytes may step some = (
+  refused_said failed crowded named m n r bytes some c may step,
   step_replies failed named m n (acts.Refuse (record { at = 0; cause = c })) refl (λ s is. refusal_is_reply m.log named c s may is) r step bytes some,
 )
 
 -- texts that stand ready
-pub no_memory_replies : (log : List Entry) (named : List ℕ) → IsReplyTo log named NO_MEMORY.now
-no_memory_replies log named = (inr (inl refl), no_memory_is_reply log named)
+pub no_memory_replies : (failed crowded : Type 0) (log : List Entry) (named : List ℕ) → IsReplyTo failed crowded log named NO_MEMORY.now
+no_memory_replies failed crowded log named = (inr (inl refl), no_memory_is_reply log named)
 
-pub too_many_replies : (log : List Entry) (named : List ℕ) → IsReplyTo log named TOO_MANY.now
-too_many_replies log named = (inr (inr (inl refl)), too_many_is_reply log named)
+pub too_many_replies : (failed crowded : Type 0) (log : List Entry) (named : List ℕ) → crowded → IsReplyTo failed crowded log named TOO_MANY.now
+too_many_replies failed crowded log named so = (inr (inr (inl (refl, so))), too_many_is_reply log named)
+
+-- a disk that failed and a connection too many are so by anything that follows
+pub replies_by : {f g c d : Type 0} (log : List Entry) (named bytes : List ℕ) → (f → g) → (c → d) → IsReplyTo f c log named bytes → IsReplyTo g d log named bytes
+replies_by {f = f} {g = g} {c = c} {d = d} log named bytes fails crowds (says, is) = (by says, is)
+  where
+    by : (bytes ≡ given log named) ⊎ Replaces f c log named bytes → (bytes ≡ given log named) ⊎ Replaces g d log named bytes
+    by (inl same) = inl same
+    by (inr (inl none)) = inr (inl none)
+    by (inr (inr (inl (text, so)))) = inr (inr (inl (text, crowds so)))
+    by (inr (inr (inr (inl u)))) =
+        inr (inr (inr (inl (record { address = u.address; place = u.place; fragment = u.fragment; asks = u.asks; kept = u.kept; why = fails u.why; reply_is = u.reply_is }))))
+    by (inr (inr (inr (inr refusal)))) = inr (inr (inr (inr refusal)))
+
+pub front_by : {f g c d : Type 0} (log : List Entry) (named bytes : List ℕ) → (f → g) → (c → d) → IsReplyFront f c log named bytes → IsReplyFront g d log named bytes
+front_by log named bytes fails crowds (reply, more, to, is) = (reply, more, replies_by log named reply fails crowds to, is)

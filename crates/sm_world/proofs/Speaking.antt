@@ -1,10 +1,10 @@
 -- What went out on a connection of its own is the origin's.
-use Rattle.std.proofs.Common.{◌≡◌, ◌⊎◌, inl, inr, ℕ, ◌/◌, ◌≤◌, Bool, true, false, List, [], ◌∷◌, ◌++◌, length, take, drop, Option, None, Some, refl, sym, ◌∙◌, ap, subst, append_assoc, take-append-drop}
+use Rattle.std.proofs.Common.{◌≡◌, ◌⊎◌, inl, inr, ℕ, ◌/◌, ◌≤◌, Bool, true, false, List, [], ◌∷◌, ◌++◌, length, take, drop, Option, None, Some, refl, sym, ◌∙◌, ap, subst, append_assoc, take-append-drop, arith}
 use Rattle.std.specs.Prelude.{IfSome, IsSome}
-use Rattle.std.proofs.lemmas.List.{append-nil}
+use Rattle.std.proofs.lemmas.List.{append-nil, append_cancel_left}
 use Rattle.sm_model.specs.declared.entry.Entry.{Entry}
 use Rattle.sm_site.specs.declared.event.Event.{Event}
-use Rattle.sm_site.specs.Clauses.{Both}
+use Rattle.sm_site.specs.Clauses.{Both, Rose}
 use Rattle.sm_site.specs.Image.{Image}
 use Rattle.sm_site.specs.Meanings.{View, Item, Deal, sent_on}
 use Rattle.sm_site.specs.Scripts.{deals_of, numbers_after}
@@ -18,7 +18,7 @@ use Rattle.sm_origin.proofs.Real.{real_front, spelled_fit}
 use Rattle.sm_wire.proofs.WireLaw.{same_rest}
 use Rattle.sm_serve.specs.declared.state.State.{State}
 use Rattle.sm_serve.specs.Connections.{live, is_among, deals_in}
-use Rattle.sm_serve.specs.Run.{Run}
+use Rattle.sm_serve.specs.Run.{Run, Stepped}
 use Rattle.sm_serve.specs.Standing.{History, is_told}
 use Rattle.sm_serve.specs.Serving.{Serves, Since, TurnsBy, AreTaken, numbers_of}
 use Rattle.sm_serve.proofs.Going.{run_as}
@@ -30,11 +30,13 @@ use Rattle.sm_world.specs.declared.acted.Acted.TheVariants as acted
 use Rattle.sm_world.specs.Answering.{HasSent, halved, answer_for}
 use Rattle.sm_world.specs.Bringing.{Brings}
 use Rattle.sm_world.specs.Replying.{IsReplyFront}
-use Rattle.sm_world.specs.Saying.{StandsAt, IsSaid, Says, SaysOn}
+use Rattle.sm_world.specs.Saying.{StandsAt, IsSaid, IsSaidBy, WasCrowded, Says, SaysOn}
 use Rattle.sm_world.specs.Worlds.{World, IsOpen, Stands, Grows}
 use Rattle.sm_world.proofs.Fronts.{AreFirst, begun, deals_both, none_above, taken_of}
-use Rattle.sm_world.proofs.OneRequest.{AreActs, Stands as Stood, Good, run_acts, sent_both, along, answers as spoken}
-use Rattle.sm_world.proofs.Standing.{some_of, at_some, serves_to}
+use Rattle.sm_world.proofs.Steps.{AreActs, AllCause, Counted, all_cause, path_counted, run_acts}
+use Rattle.sm_world.proofs.OneRequest.{Stands as Stood, Good, sent_both, along, answers as spoken}
+use Rattle.sm_world.proofs.OriginReplies.{front_by}
+use Rattle.sm_world.proofs.Standing.{some_of, at_some, from_some, serves_to}
 
 -- ---- logs of real entries
 
@@ -77,16 +79,16 @@ taken_in (Some a) (Some b) was deals is both = (b, (let same : a ≡ was = cc in
 
 module _ {D : Type 0} (view : D → View) (leave : D → Image → Type 0) (left_at : D → ℕ → Image → Type 0) where
   -- nothing that could be said came
-  pub says_nothing : (w : World) (request : List ℕ) (came : Acted) (state : Option State) (d : D) → ((log : List Entry) → IsSaid log request came)
-      → (now : World) × Stands view leave left_at now state d × Grows w now → Says view leave left_at w request came state d
-  says_nothing w request came state d said (now, stands, grows) = record {
+  pub says_nothing : (w : World) (before : D) (request : List ℕ) (came : Acted) (state : Option State) (d : D) → ((failed crowded : Type 0) (log : List Entry) → IsSaidBy failed crowded log request came)
+      → (now : World) × Stands view leave left_at now state d × Grows w now → Says view leave left_at w before request came state d
+  says_nothing w before request came state d said (now, stands, grows) = record {
     now = now;
     stands = stands;
     grows = grows;
     until = [];
     since = grows.more;
     log_is = grows.log ∙ ap (λ (l : List Entry). l ++ grows.more) (sym (append-nil w.log));
-    said = said (w.log ++ []);
+    said = said _ _ (w.log ++ []);
   }
 
   -- a request was brought on an unused connection, and all was served
@@ -95,15 +97,15 @@ module _ {D : Type 0} (view : D → View) (leave : D → Image → Type 0) (left
       → IfSome (view c).transcript (λ items. sent_on conn items ≡ []) → (view d).transcript ≡ (view c).transcript → Brings conn request events
       → Both (view c).script (view d).script (λ was now. now ≡ was ++ deals_of events) → HasSent conn (view e).transcript came
       → (turns : (h : History) → Serves view leave left_at h state d → (n : ℕ) × TurnsBy view leave left_at h n (view d).script new e)
-      → IsOpen view leave left_at w state d → Says view leave left_at w request came (Some new) e
-  says_sent w state c d new e from conn request events came told after pass some_script above unused unsent same brings added sent turns o = record {
+      → (view d).disk_faults ≡ (view c).disk_faults → IsOpen view leave left_at w state d → Says view leave left_at w c request came (Some new) e
+  says_sent w state c d new e from conn request events came told after pass some_script above unused unsent same brings added sent turns kept_faults o = record {
     now = on.0;
     stands = on.1;
     grows = on.2;
     until = good.until;
     since = good.since;
     log_is = on.3 ∙ good.log_is ∙ ap (λ (l : List Entry). (l ++ good.until) ++ good.since) o.log_is;
-    said = subst (λ (l : List Entry). IsSaid (l ++ good.until) request came) o.log_is (said came sent);
+    said = subst (λ (l : List Entry). IsSaidBy failed crowded (l ++ good.until) request came) o.log_is (said came sent);
   }
     where
       h : History
@@ -132,12 +134,35 @@ module _ {D : Type 0} (view : D → View) (leave : D → Image → Type 0) (left
       out : is_among conn (live h.items) ≡ false
       out = subst (λ (ns : List ℕ). is_among conn ns ≡ false) o.serves.rest.numbers unused
 
-      path : (es : List Item) × (k.items ≡ h.items ++ es)
-          × (AreFirst conn request (deals_in es) → AreActs k.steps → Stood conn request first h.items k.items es k.point.machine.log k.point.phase)
-      path = along conn request first h.items h.steps h.point refl o.serves.rest.phase_is out (nothing_behind (sent_on conn h.base) (sent_on conn h.items) none_sent) k.items k.steps k.point since.on.path
+      failed : Type 0
+      failed = Rose (view c).disk_faults (view e).disk_faults
+
+      crowded : Type 0
+      crowded = WasCrowded (view e)
+
+      crowding : (front more : List Item) → k.items ≡ front ++ more → 64 ≤ length (live front) → crowded
+      crowding front more is many = from_some (view e).transcript _ (k.base ++ k.items) t.1.turns.serves.keeps.told (k.base, front, more, ap (λ (l : List Item). k.base ++ l) is, many)
+
+      path : (es : List Item) × (further : List Stepped) × (k.items ≡ h.items ++ es) × (k.steps ≡ h.steps ++ further)
+          × (AreFirst conn request (deals_in es) → AreActs k.steps → AllCause failed further → Stood failed crowded conn request first h.items k.items es k.point.machine.log k.point.phase)
+      path =
+          along failed crowded conn request first h.items h.steps h.point refl o.serves.rest.phase_is out (nothing_behind (sent_on conn h.base) (sent_on conn h.items) none_sent)
+          k.items crowding k.items k.steps k.point since.on.path [] (sym (append-nil k.items))
+
+      counts : (further : List Stepped) × (k.steps ≡ h.steps ++ further) × Counted h.point k.point further
+      counts = path_counted h.items h.steps h.point k.items k.steps k.point since.on.path
+
+      causes : AllCause failed path.1
+      causes =
+          let same : counts.0 ≡ path.1 = append_cancel_left h.steps counts.0 path.1 (sym counts.1 ∙ path.3) in
+          let from : h.point.faults ≡ (view c).disk_faults = o.serves.keeps.counted ∙ kept_faults in
+          let to : k.point.faults ≡ (view e).disk_faults = t.1.turns.serves.keeps.counted in
+          subst (λ (xs : List Stepped). AllCause failed xs) same
+          (subst (λ (n : ℕ). AllCause (Rose n (view e).disk_faults) counts.0) from (subst (λ (n : ℕ). AllCause (Rose h.point.faults n) counts.0) to
+          (all_cause h.point.faults k.point.faults counts.0 counts.2.between)))
 
       deals_are : deals_in path.0 ≡ t.1.deals
-      deals_are = same_rest (deals_in h.items) (deals_in path.0) t.1.deals (sym (deals_both h.items path.0) ∙ sym (ap deals_in path.1) ∙ t.1.turns.taken)
+      deals_are = same_rest (deals_in h.items) (deals_in path.0) t.1.deals (sym (deals_both h.items path.0) ∙ sym (ap deals_in path.2) ∙ t.1.turns.taken)
 
       script : (was : List Deal) × ((view c).script ≡ Some was) × ((view d).script ≡ Some (was ++ deals_of events))
       script = script_on (view c).script (view d).script events some_script added
@@ -151,8 +176,8 @@ module _ {D : Type 0} (view : D → View) (leave : D → Image → Type 0) (left
       run : Run true k.first k.begin k.found.disk_faults k.items k.steps k.point
       run = run_as (is_told (view e)) true k.first k.begin k.found.disk_faults k.items k.steps k.point (sym after) t.1.turns.serves.keeps.run
 
-      good : Good conn request first h.items k.point.machine.log (sent_on conn k.items)
-      good = spoken conn request first h.items k.items k.point.machine.log k.point.phase path.0 (path.2 comes (run_acts k.first k.begin k.found.disk_faults k.items k.steps k.point run))
+      good : Good failed crowded conn request first h.items k.point.machine.log (sent_on conn k.items)
+      good = spoken failed crowded conn request first h.items k.items k.point.machine.log k.point.phase path.0 (path.4 comes (run_acts k.first k.begin k.found.disk_faults k.items k.steps k.point run) causes)
 
       real : IsReal (first ++ good.until)
       real =
@@ -164,13 +189,42 @@ module _ {D : Type 0} (view : D → View) (leave : D → Image → Type 0) (left
           at_some (view e).transcript (λ items. bytes ≡ sent_on conn items) (k.base ++ k.items) t.1.turns.serves.keeps.told is ∙ sent_both conn k.base k.items
           ∙ ap (λ (l : List ℕ). l ++ sent_on conn k.items) (ap (sent_on conn) since.base ∙ nothing_front (sent_on conn h.base) (sent_on conn h.items) none_sent)
 
-      said : (a : Acted) → HasSent conn (view e).transcript a → IsSaid (first ++ good.until) request a
+      said : (a : Acted) → HasSent conn (view e).transcript a → IsSaidBy failed crowded (first ++ good.until) request a
       said acted.Unopened is = tt
       said acted.Broken is = tt
       said acted.NoMemory is = tt
       said (acted.Sent bytes) is = λ host port named may text.
-          subst (λ (b : List ℕ). IsReplyFront (first ++ good.until) named b) (sym (sent_is bytes is))
+          subst (λ (b : List ℕ). IsReplyFront failed crowded (first ++ good.until) named b) (sym (sent_is bytes is))
           (good.says (record { host = host; port = port; named = named; may = may; text = text }) real)
+
+-- what follows of these is said too
+said_wider : {f g c d : Type 0} (log : List Entry) (request : List ℕ) (came : Acted) → (f → g) → (c → d) → IsSaidBy f c log request came → IsSaidBy g d log request came
+said_wider log request acted.Unopened fails crowds said = tt
+said_wider log request acted.Broken fails crowds said = tt
+said_wider log request acted.NoMemory fails crowds said = tt
+said_wider log request (acted.Sent bytes) fails crowds said = λ host port named may text. front_by log named bytes fails crowds (said host port named may text)
+
+pub said_by : (failed crowded : Type 0) (log : List Entry) (request : List ℕ) (came : Acted) → IsSaidBy failed crowded log request came → IsSaid log request came
+said_by failed crowded log request came said = said_wider log request came (λ f. tt) (λ c. tt) said
+
+rose_before : (a b c : ℕ) → a ≤ b → Rose b c → Rose a c
+rose_before a b c le rose =
+    let later = rose.later in
+    record { later = omega (arith, le, later); rose = λ last. (let now = rose.rose last in omega (arith, le, now)) }
+
+module _ {D : Type 0} (view : D → View) (leave : D → Image → Type 0) (left_at : D → ℕ → Image → Type 0) where
+  -- what was done before it counted no fewer faults
+  pub says_before : (w : World) (d mid e : D) (request : List ℕ) (came : Acted) (state : Option State) → (view d).disk_faults ≤ (view mid).disk_faults
+      → Says view leave left_at w mid request came state e → Says view leave left_at w d request came state e
+  says_before w d mid e request came state le s = record {
+    now = s.now;
+    stands = s.stands;
+    grows = s.grows;
+    until = s.until;
+    since = s.since;
+    log_is = s.log_is;
+    said = said_wider (w.log ++ s.until) request came (λ rose. rose_before (view d).disk_faults (view mid).disk_faults (view e).disk_faults le rose) (λ crowded. crowded) s.said;
+  }
 
 -- ---- what is answered
 
@@ -187,12 +241,12 @@ bytes_answered log request bytes cut limit from host port named may text =
     part_of log named (halved cut bytes) (take limit (halved cut bytes)) (drop limit (halved cut bytes)) (sym (take-append-drop limit (halved cut bytes)))
     (part_of log named bytes (halved cut bytes) half.0 half.1 (from host port named may text))
 
-answer_from : (log : List Entry) (request : List ℕ) (lost cut : Bool) (limit : ℕ) (came : Acted) → IsSaid log request came → FromOrigin log request (answer_for lost cut limit came)
-answer_from log request lost cut limit acted.Unopened said = tt
-answer_from log request lost cut limit acted.Broken said = tt
-answer_from log request lost cut limit acted.NoMemory said = tt
-answer_from log request true cut limit (acted.Sent bytes) said = tt
-answer_from log request false cut limit (acted.Sent bytes) said =
+answer_from : (failed crowded : Type 0) (log : List Entry) (request : List ℕ) (lost cut : Bool) (limit : ℕ) (came : Acted) → IsSaidBy failed crowded log request came → FromOrigin log request (answer_for lost cut limit came)
+answer_from failed crowded log request lost cut limit acted.Unopened said = tt
+answer_from failed crowded log request lost cut limit acted.Broken said = tt
+answer_from failed crowded log request lost cut limit acted.NoMemory said = tt
+answer_from failed crowded log request true cut limit (acted.Sent bytes) said = tt
+answer_from failed crowded log request false cut limit (acted.Sent bytes) said =
     bytes_answered log request bytes cut limit (λ host port named may text. (let s = said host port named may text in (s.0, s.1, s.2.1, s.3)))
 
 either_from : (log : List Entry) (request : List ℕ) (answer result : Answer) → (result ≡ answers.NoMemory) ⊎ (result ≡ answer) → FromOrigin log request answer → FromOrigin log request result
@@ -210,7 +264,7 @@ module _ {D : Type 0} (view : D → View) (leave : D → Image → Type 0) (left
         s.since,
         record { world = s.now; stands = s.stands; log_is = on },
         either_from (log ++ s.until) request (answer_for lost cut limit came) result either
-            (answer_from (log ++ s.until) request lost cut limit came (subst (λ (l : List Entry). IsSaid (l ++ s.until) request came) was.log_is s.said)),
+            (answer_from _ _ (log ++ s.until) request lost cut limit came (subst (λ (l : List Entry). IsSaidBy _ _ (l ++ s.until) request came) was.log_is s.said)),
       )
 
   pub stays_at : (state : Option State) (d : D) → Lasts (StandsAt view leave left_at state d) (StandsAt view leave left_at state d)

@@ -24,23 +24,25 @@ abbrev pub IsRefusable : List ℕ → Cause → Type 0
 IsRefusable named c = ((c ≡ cause.Method) × (is_push (target_of named) ≡ true)) ⊎ ((c ≡ cause.HeadTooLarge) × (7000 < length named))
 
 -- the disk failed, where a fragment that is kept was to be read
-pub record IsUnread (log : List Entry) (named reply : List ℕ) : Type 0 where
+pub record IsUnread (failed : Type 0) (log : List Entry) (named reply : List ℕ) : Type 0 where
   pub address : Address
   pub place : ℕ
   pub fragment : Fragment
   pub asks : target_of named ≡ targets.Fragment address
   pub kept : kept_at log address ≡ Some (place, fragment)
+  pub why : failed
   pub reply_is : reply ≡ (unplaced cause.DiskFault).bytes
 
 -- what comes in its place: there is no memory for it, too many connections are open, the disk failed, or the request is refused
-abbrev pub Replaces : List Entry → List ℕ → List ℕ → Type 0
-Replaces log named reply =
-    (reply ≡ NO_MEMORY.now) ⊎ ((reply ≡ TOO_MANY.now) ⊎ (IsUnread log named reply
+abbrev pub Replaces : (failed crowded : Type 0) → List Entry → List ℕ → List ℕ → Type 0
+Replaces failed crowded log named reply =
+    (reply ≡ NO_MEMORY.now) ⊎ (((reply ≡ TOO_MANY.now) × crowded) ⊎ (IsUnread failed log named reply
     ⊎ ((c : Cause) × IsRefusable named c × (reply ≡ (unplaced c).bytes))))
 
-abbrev pub IsReplyTo : List Entry → List ℕ → List ℕ → Type 0
-IsReplyTo log named reply = ((reply ≡ given log named) ⊎ Replaces log named reply) × IsOriginReply log named reply
+-- what is replied, of a disk that failed only where this holds, and to a connection too many only where that does
+abbrev pub IsReplyTo : (failed crowded : Type 0) → List Entry → List ℕ → List ℕ → Type 0
+IsReplyTo failed crowded log named reply = ((reply ≡ given log named) ⊎ Replaces failed crowded log named reply) × IsOriginReply log named reply
 
 -- the bytes are a front, perhaps all, of such a reply
-abbrev pub IsReplyFront : List Entry → List ℕ → List ℕ → Type 0
-IsReplyFront log named bytes = (reply more : List ℕ) × IsReplyTo log named reply × (reply ≡ bytes ++ more)
+abbrev pub IsReplyFront : (failed crowded : Type 0) → List Entry → List ℕ → List ℕ → Type 0
+IsReplyFront failed crowded log named bytes = (reply more : List ℕ) × IsReplyTo failed crowded log named reply × (reply ≡ bytes ++ more)

@@ -46,6 +46,7 @@ fn opened<S: Crashing>(
     // An image that has a log is a store.
     ensures never { (w : World) → Stands S.Disk.view S.Disk.may_leave S.Disk.left_at w state site.old
         → (at : ℕ) → IsErrOf result (open_fault.NotAStore at) → ⊥ }
+    ensures no_fewer { (S.Disk.view site.old).disk_faults ≤ (S.Disk.view site.new).disk_faults }
     ensures link { SameLink (S.Disk.view site.old) (S.Disk.view site.new) }
 {
     bodies_have_one_log();

@@ -46,7 +46,7 @@ returns-in-Done-clause-cause g c =
 
 pub returns-in-None-clause-says : goal.returns-in-None-clause-says
 returns-in-None-clause-says g c w open_ =
-    says_nothing g.S.Disk.view g.S.Disk.may_leave g.S.Disk.left_at w c.args.request.now acted.NoMemory (Some c.args.state.now) c.bring.new.site (λ log. tt)
+    says_nothing g.S.Disk.view g.S.Disk.may_leave g.S.Disk.left_at w c.args.site.now c.args.request.now acted.NoMemory (Some c.args.state.now) c.bring.new.site (λ failed crowded log. tt)
     (w, c.bring.ensures.stays w c.args.state.now open_, grows_not w)
 
 pub returns-in-Done-clause-says : goal.returns-in-Done-clause-says
@@ -56,18 +56,18 @@ returns-in-Done-clause-says g c w open_ =
     (g.S.Link.numbers c.args.site.now) c.in-Some.conn c.args.request.now brought.0 c.sent_on.result (g.met.S.Crashing.tells c.bring.new.site).contents
     (g.met.S.Crashing.tells c.serve.new.site).contents (g.met.S.Disk.contents_pass c.serve.new.site) (g.met.S.Crashing.tells c.args.site.now).script
     c.in-Some.ensures.above c.in-Some.ensures.live c.in-Some.ensures.sent c.bring.ensures.view.transcript brought.1 brought.2 c.sent_on.ensures
-    c.serve.ensures.goes_on (c.bring.ensures.stays w c.args.state.now open_)
+    c.serve.ensures.goes_on c.bring.ensures.view.disk_faults (c.bring.ensures.stays w c.args.state.now open_)
 
 pub returns-in-LinkFault-clause-says : goal.returns-in-LinkFault-clause-says
 returns-in-LinkFault-clause-says g c w open_ =
-    says_nothing g.S.Disk.view g.S.Disk.may_leave g.S.Disk.left_at w c.args.request.now acted.Broken (Some c.serve.new.state) c.serve.new.site (λ log. tt)
+    says_nothing g.S.Disk.view g.S.Disk.may_leave g.S.Disk.left_at w c.args.site.now c.args.request.now acted.Broken (Some c.serve.new.state) c.serve.new.site (λ failed crowded log. tt)
     (serves_on g.S.Disk.view g.S.Disk.may_leave g.S.Disk.left_at w c.args.state.now c.bring.new.site c.serve.new.state c.serve.new.site
     (g.met.S.Crashing.tells c.bring.new.site).contents (g.met.S.Crashing.tells c.serve.new.site).contents
     c.serve.ensures.goes_on (c.bring.ensures.stays w c.args.state.now open_))
 
 pub returns-in-NoMemory-clause-says : goal.returns-in-NoMemory-clause-says
 returns-in-NoMemory-clause-says g c w open_ =
-    says_nothing g.S.Disk.view g.S.Disk.may_leave g.S.Disk.left_at w c.args.request.now acted.NoMemory (Some c.serve.new.state) c.serve.new.site (λ log. tt)
+    says_nothing g.S.Disk.view g.S.Disk.may_leave g.S.Disk.left_at w c.args.site.now c.args.request.now acted.NoMemory (Some c.serve.new.state) c.serve.new.site (λ failed crowded log. tt)
     (serves_on g.S.Disk.view g.S.Disk.may_leave g.S.Disk.left_at w c.args.state.now c.bring.new.site c.serve.new.state c.serve.new.site
     (g.met.S.Crashing.tells c.bring.new.site).contents (g.met.S.Crashing.tells c.serve.new.site).contents
     c.serve.ensures.goes_on (c.bring.ensures.stays w c.args.state.now open_))
