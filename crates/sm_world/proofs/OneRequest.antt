@@ -1,6 +1,5 @@
 -- What goes out on a connection that asks once.
 use Rattle.std.proofs.Common.{◌≡◌, ◌⊎◌, inl, inr, ⊎_elim, ℕ, ◌<◌, ◌≤◌, Bool, true, false, ◌||◌, if◌then◌else◌, List, [], ◌∷◌, ◌++◌, length, take, drop, Option, Some, None, refl, sym, ◌∙◌, ap, subst, arith, append_assoc, take-append-drop}
-use Rattle.std.specs.List.{AllByRecursion}
 use Rattle.std.proofs.lemmas.Bool.{eq-eqb, ne_eqb, cases_eq}
 use Rattle.std.proofs.lemmas.List.{append-nil}
 use Rattle.sm_model.specs.declared.act.Act.{Act}
@@ -18,12 +17,11 @@ use Rattle.sm_origin.specs.Machine.{Machine, Step}
 use Rattle.sm_origin.specs.Shown.{IsReal}
 use Rattle.sm_serve.specs.declared.texts.TheConstants.{TOO_MANY}
 use Rattle.sm_serve.specs.Connections.{received, live, is_among, deals_in}
-use Rattle.sm_serve.specs.Run.{Phase, idle, acting, sending, shutting, Point, Stepped, act_of, act_of_target, closes, sent_of, phase_after, at, Moves, Run, begins, goes_on, LeadsTo, rests, moves_on}
+use Rattle.sm_serve.specs.Run.{Phase, idle, acting, sending, shutting, Point, Stepped, act_of, act_of_target, closes, sent_of, phase_after, at, Moves, LeadsTo, rests, moves_on}
 use Rattle.sm_serve.specs.Run.{opened, crowded, came, unread, passed, left, over, continues, acts_on, wants, done, sent, failed, unsent, shut, declared, recalled}
 use Rattle.sm_serve.proofs.Adding.{Extends}
 use Rattle.sm_serve.proofs.Answering.{IsAway}
 use Rattle.sm_serve.proofs.Fronts.{steps_on}
-use Rattle.sm_serve.proofs.Growing.{Stays, StepsOn, kind_of}
 use Rattle.sm_serve.proofs.Quiet.{bytes_came, not_live}
 use Rattle.sm_serve.proofs.Stepping.{away_after}
 use Rattle.sm_serve.proofs.Transcripts.{live_push}
