@@ -131,7 +131,7 @@ unput_later a b c (fault.BadLadder at) le told h = h
 unput_later a b c (fault.Refused cause) le told h = h
 unput_later a b c fault.Full le told h = h
 unput_later a b c fault.Damaged le told h = λ some. h (told ∙ some)
-unput_later a b c fault.NoMemory le told h = tt
+unput_later a b c fault.NoMemory le told h = omega (arith, le, h)
 
 pub unlisted : (a b c : View) (why : StoreFault) → a.disk_faults ≤ b.disk_faults → is_some b.contents ≡ is_some a.contents → WhyUnput b c why → UnlistedBy a c why
 unlisted a b c fault.DiskFault le told h = rose_later a.disk_faults b.disk_faults c.disk_faults le h
@@ -143,7 +143,7 @@ unlisted a b c (fault.BadLadder at) le told h = h
 unlisted a b c (fault.Refused cause) le told h = h
 unlisted a b c fault.Full le told h = h
 unlisted a b c fault.Damaged le told h = λ some. h (told ∙ some)
-unlisted a b c fault.NoMemory le told h = tt
+unlisted a b c fault.NoMemory le told h = omega (arith, le, h)
 
 pub unlisted_later : (a b c : View) (why : StoreFault) → b.contents ≡ a.contents → a.disk_faults ≤ b.disk_faults → a.link_faults ≤ b.link_faults → UnlistedBy b c why → UnlistedBy a c why
 unlisted_later a b c fault.DiskFault same disk link h = rose_later a.disk_faults b.disk_faults c.disk_faults disk h
@@ -155,7 +155,7 @@ unlisted_later a b c (fault.BadLadder at) same disk link h = h
 unlisted_later a b c (fault.Refused cause) same disk link h = h
 unlisted_later a b c fault.Full same disk link h = h
 unlisted_later a b c fault.Damaged same disk link h = λ some. h (ap (λ (x : Option Image). is_some x) same ∙ some)
-unlisted_later a b c fault.NoMemory same disk link h = tt
+unlisted_later a b c fault.NoMemory same disk link h = omega (arith, disk, h)
 
 pub unlisted_chosen : (a b : View) (why : StoreFault) → WhyUnchosen a b why → UnlistedBy a b why
 unlisted_chosen a b fault.DiskFault h = h
@@ -167,7 +167,7 @@ unlisted_chosen a b (fault.BadLadder at) h = h
 unlisted_chosen a b (fault.Refused cause) h = h
 unlisted_chosen a b fault.Full h = h
 unlisted_chosen a b fault.Damaged h = absurd h
-unlisted_chosen a b fault.NoMemory h = h
+unlisted_chosen a b fault.NoMemory h = h.disk
 
 pub unlisted_unopened : (a b : View) (why : StoreFault) → WhyUnopened a b why → UnlistedBy a b why
 unlisted_unopened a b fault.DiskFault h = h
@@ -179,7 +179,7 @@ unlisted_unopened a b (fault.BadLadder at) h = h
 unlisted_unopened a b (fault.Refused cause) h = h
 unlisted_unopened a b fault.Full h = h
 unlisted_unopened a b fault.Damaged h = absurd h
-unlisted_unopened a b fault.NoMemory h = h
+unlisted_unopened a b fault.NoMemory h = h.disk
 
 -- neither a place nor the choice of a site says that the files are no store
 pub put_is_placed : (a b : View) (r : Result (List ℕ) StoreFault) → IfErr r (λ why. WhyUnput a b why) → (at : ℕ) → IsErrOf r (fault.NotAStore at) → ⊥

@@ -11,6 +11,7 @@ use Rattle.sm_seglog.specs.Stores.{HasStore}
 use Rattle.sm_archive.specs.declared.answers.Declared.{Declared}
 use Rattle.sm_archive.specs.declared.answers.Declared.TheVariants as declared
 use Rattle.sm_archive.specs.declared.archive.Archive.{Archive}
+use Rattle.sm_archive.specs.Opening.{NotAStore}
 use Rattle.sm_archive.specs.Store.{IsStore, Spell}
 use Rattle.sm_origin.specs.Machine.{Machine}
 use Rattle.sm_origin.specs.Opening.{HasOneStore}
@@ -63,6 +64,11 @@ found {D} view leave state old new some told limits_are = by_contents (view old)
       limits_are = under h.0 h.3;
     }
 
+later_rose : (a b c : ℕ) → a ≤ b → Rose b c → Rose a c
+later_rose a b c le rose =
+    let later = rose.later in
+    record { later = omega (arith, le, later); rose = λ last. (let now = rose.rose last in omega (arith, le, now)) }
+
 pub stated_is : (why other : StoreFault) → (let r : Result State StoreFault = Err why in r) ≡ Err other → why ≡ other
 stated_is why other e = cc
 
@@ -77,6 +83,28 @@ unopened_chosen a b (fault.Refused cause) h = h
 unopened_chosen a b fault.Full h = h
 unopened_chosen a b fault.Damaged h = h
 unopened_chosen a b fault.NoMemory h = h
+
+-- a site that was chosen before counted no fewer faults, and has its contents
+unopened_later : (a b c : View) (why : StoreFault) → NoFewer a b → b.contents ≡ a.contents → WhyUnopened b c why → WhyUnopened a c why
+unopened_later a b c fault.DiskFault few same h = later_rose a.disk_faults b.disk_faults c.disk_faults few.disk h
+unopened_later a b c fault.LinkFault few same h = later_rose a.link_faults b.link_faults c.link_faults few.link h
+unopened_later a b c (fault.NotAStore at) few same h = subst (λ (o : Option Image). IfSome o (NotAStore at)) same h
+unopened_later a b c fault.Unread few same h = h
+unopened_later a b c fault.LongLadder few same h = h
+unopened_later a b c (fault.BadLadder at) few same h = h
+unopened_later a b c (fault.Refused cause) few same h = h
+unopened_later a b c fault.Full few same h = h
+unopened_later a b c fault.Damaged few same h = h
+unopened_later a b c fault.NoMemory few same h =
+    let disk = few.disk in
+    let disk_yet = h.disk in
+    let link = few.link in
+    let link_yet = h.link in
+    record { disk = omega (arith, disk, disk_yet); link = omega (arith, link, link_yet) }
+
+pub why_later : (a b c : View) (r : Result State StoreFault) → NoFewer a b → b.contents ≡ a.contents → IfErr r (λ why. WhyUnopened b c why) → IfErr r (λ why. WhyUnopened a c why)
+why_later a b c (Ok state) few same h = tt
+why_later a b c (Err why) few same h = unopened_later a b c why few same h
 
 silent_by : (answer : Declared) → Ok tt ≡ outcome_of answer → reply_to_header answer ≡ silent Neither
 silent_by declared.Fixed e = refl
@@ -139,11 +167,6 @@ stops view leave left_at true input input' state d state' d' why means = (refl, 
 stops view leave left_at false input input' state d state' d' why same = let bad = same.done in absurd cc
 
 -- ---- serving
-
-later_rose : (a b c : ℕ) → a ≤ b → Rose b c → Rose a c
-later_rose a b c le rose =
-    let later = rose.later in
-    record { later = omega (arith, le, later); rose = λ last. (let now = rose.rose last in omega (arith, le, now)) }
 
 same_rose : (a b c : ℕ) → b ≡ a → Rose b c → Rose a c
 same_rose a b c e rose = subst (λ (n : ℕ). Rose n c) e rose

@@ -4,12 +4,14 @@ use Rattle.sm_site.specs.Clauses.{Rose}
 use Rattle.sm_site.specs.Meanings.{Chosen, View}
 use Rattle.sm_command.specs.declared.fault.StoreFault.{StoreFault}
 use Rattle.sm_command.specs.declared.fault.StoreFault.TheVariants as fault
+use Rattle.sm_command.specs.Lasting.{NoFewer}
 
 -- A call that chose a site leaves it selected with this; where it answers a fault, with nothing else than this.
 abbrev pub IsChosen : {T : Type 0} → Result T StoreFault → Chosen → View → Type 0
 IsChosen (Ok x) chosen view = view.chosen ≡ Some chosen
 IsChosen (Err why) chosen view = (view.chosen ≡ Some chosen) ⊎ (view.chosen ≡ None)
 
+-- why a site was not chosen; behind want of memory no count fell
 abbrev pub WhyUnchosen : View → View → StoreFault → Type 0
 WhyUnchosen old new fault.DiskFault = Rose old.disk_faults new.disk_faults
 WhyUnchosen old new fault.LinkFault = Rose old.link_faults new.link_faults
@@ -20,4 +22,4 @@ WhyUnchosen old new (fault.BadLadder at) = ⊥
 WhyUnchosen old new (fault.Refused cause) = ⊥
 WhyUnchosen old new fault.Full = ⊥
 WhyUnchosen old new fault.Damaged = ⊥
-WhyUnchosen old new fault.NoMemory = Unit {0}
+WhyUnchosen old new fault.NoMemory = NoFewer old new

@@ -1,5 +1,5 @@
 -- The list of what a store keeps.
-use Rattle.std.specs.Prelude.{◌≡◌, ℕ, suc, List, [], ◌∷◌, ◌++◌, length, codes, decimal, Option, Some, None, IfSome, IsSome, slice_get}
+use Rattle.std.specs.Prelude.{◌≡◌, ◌≤◌, ℕ, suc, List, [], ◌∷◌, ◌++◌, length, codes, decimal, Option, Some, None, IfSome, IsSome, slice_get}
 use Rattle.sm_model.specs.declared.address.Address.{Address}
 use Rattle.sm_model.specs.declared.entry.Entry.{Entry}
 use Rattle.sm_model.specs.declared.entry.Entry.TheVariants.{Declare, Keep}
@@ -56,7 +56,7 @@ UnlistedBy old new (fault.BadLadder at) = ⊥
 UnlistedBy old new (fault.Refused cause) = ⊥
 UnlistedBy old new fault.Full = ⊥
 UnlistedBy old new fault.Damaged = IsSome old.contents → ⊥
-UnlistedBy old new fault.NoMemory = Unit {0}
+UnlistedBy old new fault.NoMemory = old.disk_faults ≤ new.disk_faults
 
 -- Why nothing was listed. What is no store wasn't written.
 pub record WhyUnlisted {D : Type 0} (view : D → View) (leave : D → Image → Type 0) (left_at : D → ℕ → Image → Type 0) (old new : D) (why : StoreFault) : Type 0 where
@@ -64,7 +64,7 @@ pub record WhyUnlisted {D : Type 0} (view : D → View) (leave : D → Image →
   pub no_fewer : NoFewer (view old) (view new)
   pub untouched : (at : ℕ) → why ≡ fault.NotAStore at → Untouched view leave left_at old new
 
--- why a place was not put into the list
+-- why a place was not put into the list; behind want of memory the disk's count didn't fall
 abbrev pub WhyUnput : View → View → StoreFault → Type 0
 WhyUnput old new fault.DiskFault = Rose old.disk_faults new.disk_faults
 WhyUnput old new fault.LinkFault = ⊥
@@ -75,4 +75,4 @@ WhyUnput old new (fault.BadLadder at) = ⊥
 WhyUnput old new (fault.Refused cause) = ⊥
 WhyUnput old new fault.Full = ⊥
 WhyUnput old new fault.Damaged = IsSome old.contents → ⊥
-WhyUnput old new fault.NoMemory = Unit {0}
+WhyUnput old new fault.NoMemory = old.disk_faults ≤ new.disk_faults

@@ -146,7 +146,7 @@ pub record Found {D : Type 0} (view : D → View) (leave : D → Image → Type 
   pub stands : StandsOn view leave machine state.origin new
   pub limits_are : machine.archive.limits ≡ standard
 
--- why no store was opened
+-- why no store was opened; behind want of memory no count fell
 abbrev pub WhyUnopened : View → View → StoreFault → Type 0
 WhyUnopened old new fault.DiskFault = site.Rose old.disk_faults new.disk_faults
 WhyUnopened old new fault.LinkFault = site.Rose old.link_faults new.link_faults
@@ -157,7 +157,7 @@ WhyUnopened old new (fault.BadLadder at) = ⊥
 WhyUnopened old new (fault.Refused cause) = ⊥
 WhyUnopened old new fault.Full = ⊥
 WhyUnopened old new fault.Damaged = ⊥
-WhyUnopened old new fault.NoMemory = Unit {0}
+WhyUnopened old new fault.NoMemory = NoFewer old new
 
 -- The store was opened, and nothing was shown by that. Then the ladder was read and declared to what was found, or wasn't read, and this
 -- is what it comes to.

@@ -77,7 +77,8 @@ unopened_later a b c (fault.BadLadder at) disk link same h = h
 unopened_later a b c (fault.Refused cause) disk link same h = h
 unopened_later a b c fault.Full disk link same h = h
 unopened_later a b c fault.Damaged disk link same h = h
-unopened_later a b c fault.NoMemory disk link same h = tt
+unopened_later a b c fault.NoMemory disk link same h =
+    let more = h.disk in let yet = h.link in record { disk = omega (arith, disk, more); link = omega (arith, link, yet) }
 
 pub chosen_comes : (name : List ℕ) (bitrate : ℕ) (old mid new : View) (input input' output output' : End) (r : StoreExport) → old.disk_faults ≤ mid.disk_faults → old.link_faults ≤ mid.link_faults
     → mid.contents ≡ old.contents → ComesTo name bitrate mid new input input' output output' r → ComesTo name bitrate old new input input' output output' r

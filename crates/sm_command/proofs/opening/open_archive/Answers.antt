@@ -1,4 +1,4 @@
-use Rattle.std.proofs.Common.{◌∙◌}
+use Rattle.std.proofs.Common.{◌∙◌, arith}
 use Rattle.sm_archive.specs.Store.{IsStore}
 use Rattle.sm_site.proofs.Moments.{weakened}
 use Rattle.sm_command.proofs.Lasting.{spelled}
@@ -49,3 +49,7 @@ returns-in-Err-NoMemory-clause-stays g c log one = record { bodies = one.bodies;
 
 pub returns-in-Err-NoMemory-clause-told : goal.returns-in-Err-NoMemory-clause-told
 returns-in-Err-NoMemory-clause-told g c = told_stays g.D.Disk.view g.met.D.Disk.calls_told c.args.disk.now c.open_store.new.disk c.in-Err-NoMemory.ensures.recorded
+
+pub returns-in-Err-NoMemory-clause-why : goal.returns-in-Err-NoMemory-clause-why
+returns-in-Err-NoMemory-clause-why g c =
+    let link = c.in-Err-NoMemory.ensures.link.link_faults in record { disk = c.in-Err-NoMemory.ensures.no_fewer; link = omega (arith, link) }

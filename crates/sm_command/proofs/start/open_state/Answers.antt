@@ -3,7 +3,7 @@ use Rattle.sm_archive.specs.Store.{IsStore}
 use Rattle.sm_command.proofs.Chosen.{chosen_still}
 use Rattle.sm_command.proofs.Lasting.{at_each, one_by_one, one_here, one_still, weaker}
 use Rattle.sm_command.proofs.Lines.{chosen_is_placed}
-use Rattle.sm_command.proofs.Starting.{stated_is, unopened_chosen}
+use Rattle.sm_command.proofs.Starting.{stated_is, unopened_chosen, why_later}
 use Rattle.sm_command.proofs.start.open_state.Goals as goal
 
 pub returns-in-Ok-clause-any_moment : goal.returns-in-Ok-clause-any_moment
@@ -32,6 +32,11 @@ returns-in-Ok-clause-untouched g c at is =
 pub returns-in-Err-clause-untouched : goal.returns-in-Err-clause-untouched
 returns-in-Err-clause-untouched g c at is =
     absurd (chosen_is_placed (g.S.Disk.view c.args.site.now) (g.S.Disk.view c.choose.new.site) c.in-Err.fault c.in-Err.ensures.why at (stated_is c.in-Err.fault _ is))
+
+pub returns-in-Ok-clause-why : goal.returns-in-Ok-clause-why
+returns-in-Ok-clause-why g c =
+    why_later (g.S.Disk.view c.args.site.now) (g.S.Disk.view c.choose.new.site) (g.S.Disk.view c.start.new.site) c.start.result
+    (record { disk = c.choose.ensures.disk_faults; link = c.choose.ensures.link_faults }) c.choose.ensures.contents c.start.ensures.why
 
 pub returns-in-Err-clause-why : goal.returns-in-Err-clause-why
 returns-in-Err-clause-why g c = unopened_chosen (g.S.Disk.view c.args.site.now) (g.S.Disk.view c.choose.new.site) c.in-Err.fault c.in-Err.ensures.why

@@ -1,6 +1,10 @@
-use Rattle.std.proofs.Common.{◌∙◌}
+use Rattle.std.proofs.Common.{◌∙◌, arith}
 use Rattle.sm_command.proofs.Starting.{found}
 use Rattle.sm_command.proofs.start.start.Goals as goal
 
 pub returns-in-Ok-clause-found : goal.returns-in-Ok-clause-found
 returns-in-Ok-clause-found g c = found g.S.Disk.view g.S.Disk.may_leave c.in-Ok.state c.args.site.now c.start.new.site c.in-Ok.ensures.opened c.in-Ok.ensures.store (c.in-Ok.ensures.limits ∙ c.standard.ensures)
+
+pub returns-in-Err-NoMemory-clause-why : goal.returns-in-Err-NoMemory-clause-why
+returns-in-Err-NoMemory-clause-why g c =
+    let link = c.in-Err-NoMemory.ensures.link.link_faults in record { disk = c.in-Err-NoMemory.ensures.no_fewer; link = omega (arith, link) }
