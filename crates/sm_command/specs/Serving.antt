@@ -225,21 +225,25 @@ abbrev pub StopsFrom : {D : Type 0} (view : D → View) (leave : D → Image →
 StopsFrom view leave left_at ladder input input' state d d' why =
     IsTrue ladder × ((after : State) × LadderMeans view leave left_at input input' state d after d' (Err why))
 
--- The loop ran from the log that was found, under the standard limits, with the ladder's step in front, to the end that it tells; where the transcript is told, that
--- is its run, and what a crash may leave at each moment fits it.
+-- The store was opened, and nothing was shown by that. Then the loop ran from the log that was found, with the ladder's step in front, to the end
+-- that it tells; where the transcript is told, that is its run, from the moment behind the opening on, and what a crash may leave at each moment
+-- fits it.
 pub record HasRun {D : Type 0} (view : D → View) (leave : D → Image → Type 0) (left_at : D → ℕ → Image → Type 0) (ladder : Bool)
     (told told' : Option (List ℕ)) (turns : ℕ) (old new : D)
     (end : Outcome) : Type 0 where
-  pub machine : Machine
-  pub settled : machine.doubt ≡ None
-  pub store : IfSome (view old).contents (IsStore machine.log)
-  pub limits_are : machine.archive.limits ≡ standard
+  pub start : State
+  pub opened : D
+  pub found : Found view leave start old opened
+  pub no_fewer : NoFewer (view old) (view opened)
+  pub silent : (view opened).transcript ≡ (view old).transcript
   pub channel : Option (List Track)
   pub input : ReadsLadder ladder told told' channel
   -- a link that failed counted it
   pub blamed : end ≡ served.LinkFault → site.Rose (view old).link_faults (view new).link_faults
   pub run : (base : List Item) → (view old).transcript ≡ Some base
-      → (h : History) × IsBegun (view old).disk_faults machine channel base h × ((state : State) × Served view leave left_at h end turns state new)
+      → (h : History) × (h.begin ≡ (view opened).moment) × IsBegun (view old).disk_faults found.machine channel base h
+      × ((state : State) × Served view leave left_at h end turns state new)
   -- Where each image that a crash might leave was one store, it is a run of the whole call: its moments begin with the call's.
   pub whole : IsSome (view old).contents → (log : List Entry) → HasOneStore log (leave old) → (base : List Item) → (view old).transcript ≡ Some base
-      → (h : History) × (h.begin ≡ (view old).moment) × IsBegun (view old).disk_faults machine channel base h × ((state : State) × Served view leave left_at h end turns state new)
+      → (h : History) × (h.begin ≡ (view old).moment) × IsBegun (view old).disk_faults found.machine channel base h
+      × ((state : State) × Served view leave left_at h end turns state new)
