@@ -1,6 +1,5 @@
 """Requests and pushes that are mutated from good ones, and what an origin is to reply to them."""
 
-import itertools
 import random
 import re
 import socket
@@ -46,7 +45,8 @@ def framed(body, chance):
     if chance.random() < 0.5:
         return head + b"Content-Length: %d\r\n\r\n" % len(body) + body
     cuts = sorted(chance.randrange(len(body) + 1) for _ in range(chance.randrange(4)))
-    parts = [body[a:b] for a, b in itertools.pairwise([0, *cuts, len(body)]) if a < b]
+    places = [0, *cuts, len(body)]
+    parts = [body[a:b] for a, b in zip(places, places[1:]) if a < b]
     return head + b"Transfer-Encoding: chunked\r\n\r\n" + b"".join(b"%x\r\n%s\r\n" % (len(part), part) for part in parts) + b"0\r\n\r\n"
 
 
