@@ -33,7 +33,7 @@ install: build
 
 # Holds the program against a plain reference in Python, on the samples and on many inputs made of them, and tries it with ffmpeg,
 # curl, nginx and strace, each where it is installed, and with the session of README; then kills, a loss of power, an hour of a push, slow
-# readers, whether memory comes back, and many clients at once. The last line says what ran. `scripts/check_kill 100` and `scripts/check_crash` are the long forms;
+# readers, whether memory comes back, many clients at once, and whoever means it ill. The last line says what ran. `scripts/check_kill 100` and `scripts/check_crash` are the long forms;
 # `scripts/check_checks` shows that the checks can fail.
 check: build
 	bash scripts/check_all $(PROGRAM)

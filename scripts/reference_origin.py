@@ -25,7 +25,7 @@ FRAGMENT = re.compile(rb"QualityLevels\(([0-9]{1,10})\)/Fragments\(([^=]*)=([0-9
 
 Track = namedtuple("Track", "kind name bitrate timescale others")
 Kept = namedtuple("Kept", "place fragment")
-# how far a request has come: `length` is that of what it takes, and None where more has to come
+# `counted` is the length of a body that isn't chunked
 Request = namedtuple("Request", "verb target chunked counted close expects")
 
 
