@@ -10,7 +10,7 @@ use mio::net::TcpListener as Listener;
 use sm_site::{Event, Failed, Link, LinkError, Selection};
 use std::alloc::Global;
 use std::io::{self, ErrorKind};
-use std::net::{IpAddr, Ipv4Addr, Ipv6Addr, Net, SocketAddr, TcpListener};
+use std::net::{IpAddr, Ipv4Addr, Ipv6Addr, Net, OpenListener, SocketAddr, TcpListener};
 use std::time::{Clock, Instant};
 
 /// A link over sockets, which are asked in turn. It tells nothing of what goes over them. Until it listens each call fails.
@@ -147,6 +147,9 @@ impl<R: Net + Clock + Drop> TcpLink<R> {
         ensures numbers { self.new.next_number ≡ self.old.next_number }
     {
         let six = SocketAddr::from((Ipv6Addr::UNSPECIFIED, port));
+        if takes_both(&self.rt) {
+            return self.listen_at(six);
+        }
         match self.listen_at(SocketAddr::from((Ipv4Addr::UNSPECIFIED, port))) {
             Ok(()) => self.widen(six),
             Err(e) if e.kind() == ErrorKind::AddrInUse => Err(e),
@@ -154,8 +157,8 @@ impl<R: Net + Clock + Drop> TcpLink<R> {
         }
     }
 
-    // Listens at all addresses of IPv6 beside those of IPv4. Where the system lets a listener of IPv6 take both, the one that is there is in
-    // its way, or another process is: so that one alone is taken, if it can be had. Where there is no IPv6 the one that is there goes on.
+    // Listens at all addresses of IPv6 beside those of IPv4. Where another process has them the one that is there is let go. Where there is no
+    // IPv6 it goes on.
     fn widen(&mut self, six: SocketAddr) -> io::Result<()>
         ensures listens { is_some self.old.sockets ≡ true → is_some self.new.sockets ≡ is_ok result }
         ensures faults { self.new.faults ≡ self.old.faults }
@@ -312,6 +315,22 @@ impl<R: Net + Clock + Drop> TcpLink<R> {
             Some(sockets) => sockets.local_addr(),
             None => Err(ErrorKind::NotConnected.into()),
         }
+    }
+}
+
+// Whether listeners of IPv6 take connections of IPv4 too, as the system has it: tried at a port that nobody was told of. To find out at the
+// port itself would let a listener go that somebody may have reached.
+fn takes_both<R: Net>(rt: &R) -> bool {
+    let Ok(six) = TcpListener::bind(rt, SocketAddr::from((Ipv6Addr::UNSPECIFIED, 0))) else {
+        return false;
+    };
+    let Ok(address) = six.local_addr() else {
+        return false;
+    };
+    let four = SocketAddr::from((Ipv4Addr::UNSPECIFIED, address.port()));
+    match TcpListener::bind(rt, four) {
+        Ok(_) => false,
+        Err(e) => e.kind() == ErrorKind::AddrInUse,
     }
 }
 
