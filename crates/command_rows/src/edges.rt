@@ -69,16 +69,30 @@ fn file(alloc: Global, site: &mut MemorySite) -> Result<Vec<u8>> {
     }
 }
 
-// Whether the first files of the two disks have the same bytes.
-fn are_equal(
+// The bytes of the first files of the two disks.
+fn files(
     alloc: Global,
     dial: OriginDial<MemorySite>,
     follower: &mut MemorySite,
-) -> Result<bool> {
+) -> Result<(Vec<u8>, Vec<u8>)> {
     let mut site = dial.into_site();
     let theirs = file(alloc, &mut site)?;
     let ours = file(alloc, follower)?;
-    Ok(theirs == ours)
+    Ok((theirs, ours))
+}
+
+// Whether a store has the bytes of another one's, but for the gates: one that a crash left is open at each value but 0, and at 1 where it was
+// written out.
+fn has_entries_of(ours: &[u8], theirs: &[u8]) -> bool {
+    if ours.len() != theirs.len() {
+        return false;
+    }
+    for (one, other) in ours.iter().zip(theirs) {
+        if one != other && !(*other == 1 && *one > 1) {
+            return false;
+        }
+    }
+    true
 }
 
 // Runs the command of these words over the input of the row, between the two, and gives its status.
@@ -140,14 +154,16 @@ pub fn play(alloc: Global, case: &Case<'_>) -> Result<String> {
         )?;
     }
     if case.has("equal") {
-        let equal = are_equal(alloc, dial, &mut follower)?;
+        let (theirs, ours) = files(alloc, dial, &mut follower)?;
+        let equal = theirs == ours;
         tale.say(if equal { "equal" } else { "not equal" })?;
     }
     Ok(tale.into_text())
 }
 
 // Runs a command over a disk that stops behind so many writes and syncs, crashes the site, and runs it again. Answers whether the disk
-// stopped, and tells where that wasn't status 5, or the other run wasn't 0 or left a disk that isn't the origin's.
+// stopped, and tells where that wasn't status 5, or the other run wasn't 0 or left a disk that isn't the origin's, but for a gate that was filled with
+// the number of the choice.
 fn stopped(
     alloc: Global,
     case: &Case<'_>,
@@ -166,10 +182,15 @@ fn stopped(
     }
     follower.crash_here(choice);
     let again = run(alloc, case, words, &mut dial, &mut follower, &mut ends)?;
-    let equal = are_equal(alloc, dial, &mut follower)?;
-    if first != 5 || again != 0 || !equal {
+    let (theirs, ours) = files(alloc, dial, &mut follower)?;
+    let same = if choice > 1 {
+        has_entries_of(&ours, &theirs)
+    } else {
+        ours == theirs
+    };
+    if first != 5 || again != 0 || !same {
         tale.say(format!(in alloc;
-            "stop {stop} choice {choice}: {first}, {again}, equal {equal}"
+            "stop {stop} choice {choice}: {first}, {again}, the same {same}"
         )?.as_str())?;
     }
     Ok(true)
