@@ -340,9 +340,18 @@ module _ {D : Type 0} (view : D → View) (leave : D → Image → Type 0) (left
     blamed = λ is. later_rose (view old).link_faults (view mid).link_faults (view new).link_faults le.link (runs.blamed is);
     run = λ base e.
         let b = begin f.machine base f.stands (same ∙ e) in
-        let h = runs.run b.0 b.6 b.4 b.5 in
-        (h.0, h.1 ∙ b.2, record { counted = (let more = h.2.counted in let same = ap (λ (v : View). v.disk_faults) b.7 in let few = le.disk in omega (arith, more, same, few)); first = h.2.first ∙ b.1;
-            base_is = h.2.base_is ∙ b.3; items = h.2.items; steps = h.2.steps }, h.3);
+        let h = runs.run b.0 b.6 b.4 b.5 in (
+          h.0,
+          h.1 ∙ b.2,
+          record {
+            counted = (let more = h.2.counted in let same = ap (λ (v : View). v.disk_faults) b.7 in let few = le.disk in omega (arith, more, same, few));
+            first = h.2.first ∙ b.1;
+            base_is = h.2.base_is ∙ b.3;
+            items = h.2.items;
+            steps = h.2.steps;
+          },
+          h.3,
+        );
     whole = λ some log one base e.
         let h = runs.run (early f.machine (view old).moment base (view mid)) (serves_early state old mid f same begin some log one (all log one) base e) refl refl in
         let more = h.2.counted in
