@@ -1,0 +1,8 @@
+use Rattle.std.proofs.Common.{refl}
+use Rattle.shelf_rows.proofs.serving.start.Goals as goal
+
+pub run-requires-clause-known : goal.run-requires-clause-known
+run-requires-clause-known g c some =
+    let machine = c.in-Ok.ensures.opened in
+    let run = c.in-Ok.ensures.begins machine.0 _ machine.2 refl in
+    (run.0, run.6)

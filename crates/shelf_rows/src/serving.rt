@@ -1,0 +1,125 @@
+//! The loop with a shelf beside it, over what a site brings.
+ghost use Rattle.std.specs.Prelude.{◌≡◌};
+ghost use Rattle.sm_site.specs.Memory.{site_view, site_may_leave, site_left_at};
+ghost use Rattle.sm_origin.specs.Machine.{Machine};
+ghost use Rattle.sm_serve.specs.Standing.{StandsOn};
+ghost use Rattle.sm_serve.specs.Serving.{Known};
+
+use crate::seats::{Seats, is_of_reader};
+use anyhow::Result;
+use sm_archive::Limits;
+use sm_rows::scripts::{Cut, is_quiet, site};
+use sm_rows::tales::Tale;
+use sm_rows::{Case, Line, Words, disks};
+use sm_serve::{Served, State, serve};
+use sm_shelf::{Readers, ShelfWriter, make};
+use sm_show::serve_shown;
+use sm_site::MemorySite;
+use std::alloc::Global;
+use std::sync::Wait;
+use std::thread::Threads;
+
+// Far more turns than a row has events.
+const TURNS: u64 = 100_000_000;
+
+// Tells how the loop ended.
+fn tell(alloc: Global, served: &Served, tale: &mut Tale) -> Result<()> {
+    match served {
+        Served::Done {
+            turns,
+            behind,
+            short,
+        } => tale.say(format!(in alloc; "turns {turns} behind {behind} short {short}")?.as_str()),
+        Served::LinkFault => tale.say("link fault"),
+        Served::NoMemory => tale.say("out of memory"),
+    }
+}
+
+// Serves until nothing more comes, beside the shelf or without it, and tells how the loop ended, how many entries the store has then, and
+// how many of these are published.
+fn run<R: Wait>(
+    rt: &R,
+    alloc: Global,
+    state: &mut State,
+    site: &mut MemorySite,
+    writer: &mut ShelfWriter,
+    is_shown: bool,
+    tale: &mut Tale,
+) -> Result<()>
+    requires stands { (m : Machine) × StandsOn site_view site_may_leave m state.old.origin site.old }
+    requires known { Known site_view site_may_leave site_left_at state.old site.old }
+{
+    let served = if is_shown {
+        serve_shown(rt, site, state, writer, TURNS)
+    } else {
+        serve(site, state, TURNS)
+    };
+    tell(alloc, &served, tale)?;
+    tale.count(state.archive().len())?;
+    tale.count(writer.height())
+}
+
+// Opens the store of the site and serves.
+fn start<R: Wait>(
+    rt: &R,
+    alloc: Global,
+    site: &mut MemorySite,
+    writer: &mut ShelfWriter,
+    is_shown: bool,
+    tale: &mut Tale,
+) -> Result<()> {
+    match State::start(alloc, site, Limits::standard()) {
+        Ok(mut state) => run(rt, alloc, &mut state, site, writer, is_shown, tale),
+        Err(fault) => tale.say(format!(in alloc; "{fault}")?.as_str()),
+    }
+}
+
+// A step: `serve`, which opens the store and serves what comes beside the shelf, `serve-alone`, which does so without it, a step of a reader,
+// or one on the site.
+fn step<R: Threads + Wait>(
+    rt: &R,
+    alloc: Global,
+    site: &mut MemorySite,
+    writer: &mut ShelfWriter,
+    seats: &mut Seats,
+    line: &Line,
+    words: &Words,
+    tale: &mut Tale,
+) -> Result<()> {
+    if is_of_reader(line.key()) {
+        return seats.step(rt, line, words, tale);
+    }
+    match line.key() {
+        "serve" => start(rt, alloc, site, writer, true, tale),
+        "serve-alone" => start(rt, alloc, site, writer, false, tale),
+        _ => disks::step(alloc, site, line, words, tale),
+    }
+}
+
+fn steps<R: Threads + Wait>(
+    rt: &R,
+    alloc: Global,
+    case: &Case<'_>,
+    site: &mut MemorySite,
+    writer: &mut ShelfWriter,
+    readers: Readers,
+) -> Result<String> {
+    let mut seats = Seats::new(alloc, readers);
+    let mut tale = Tale::new(alloc);
+    for line in case.lines() {
+        if !is_quiet(line.key()) {
+            let words = case.words(alloc, line)?;
+            step(rt, alloc, site, writer, &mut seats, line, &words, &mut tale)?;
+        }
+    }
+    Ok(tale.into_text())
+}
+
+/// Makes a site that brings what the row says, and a shelf with one reader, and makes the steps of the row.
+pub fn play<R: Threads + Wait>(rt: &R, alloc: Global, case: &Case<'_>) -> Result<String> {
+    let mut site = site(alloc, case, Cut::Of(65_536))?;
+    let (mut writer, readers) = make(rt, alloc, 1)?;
+    let told = steps(rt, alloc, case, &mut site, &mut writer, readers);
+    writer.end(rt);
+    told
+}

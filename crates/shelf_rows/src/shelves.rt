@@ -1,0 +1,177 @@
+//! A shelf on which a row lays entries itself.
+ghost use Rattle.sm_model.specs.Channels.{IsChannel};
+ghost use Rattle.sm_model.specs.Fragments.{IsValid};
+ghost use Rattle.sm_shelf.specs.Laying.{IsValidEntry};
+
+use crate::filling::Filling;
+use crate::seats::{Seats, is_of_reader};
+use crate::values::{add_to, channel, fragment};
+use anyhow::{Result, bail};
+use sm_model::{Channel, Entry, Fragment, Track};
+use sm_rows::scripts::is_quiet;
+use sm_rows::tales::Tale;
+use sm_rows::{Case, Line, Words};
+use sm_shelf::{Readers, ShelfWriter, make};
+use std::alloc::Global;
+use std::sync::Wait;
+use std::thread::Threads;
+
+// What a row lays next, and the readers.
+#[derive(Drop)]
+struct Stage {
+    alloc: Global,
+    tracks: Vec<Track>,
+    filling: Option<Filling>,
+    seats: Seats,
+}
+
+// Tells what became of a call on the shelf, where that isn't that it was done.
+fn outcome(is_done: bool, tale: &mut Tale) -> Result<()> {
+    if is_done {
+        return Ok(());
+    }
+    tale.say("out of memory")
+}
+
+fn put<R: Wait>(rt: &R, writer: &mut ShelfWriter, entry: &Entry, tale: &mut Tale) -> Result<()>
+    requires { IsValidEntry entry.now }
+{
+    let is_done = writer.put(rt, entry).is_ok();
+    outcome(is_done, tale)
+}
+
+fn declare<R: Wait>(
+    rt: &R,
+    writer: &mut ShelfWriter,
+    ladder: Channel,
+    tale: &mut Tale,
+) -> Result<()>
+    requires { IsChannel ladder }
+{
+    put(rt, writer, &Entry::Declare(ladder), tale)
+}
+
+fn keep<R: Wait>(
+    rt: &R,
+    writer: &mut ShelfWriter,
+    fragment: Fragment,
+    tale: &mut Tale,
+) -> Result<()>
+    requires { IsValid fragment }
+{
+    put(rt, writer, &Entry::Keep(fragment), tale)
+}
+
+impl Stage {
+    fn new(alloc: Global, readers: Readers) -> Stage {
+        Stage {
+            alloc,
+            tracks: Vec::new(alloc),
+            filling: None,
+            seats: Seats::new(alloc, readers),
+        }
+    }
+
+    // Begins a catalog of the tracks before it.
+    fn begin(&mut self) -> Result<()> {
+        let ladder = channel(self.alloc, &mut self.tracks)?;
+        self.filling = Some(Filling::new(self.alloc, ladder)?);
+        Ok(())
+    }
+
+    // Adds a fragment to the catalog.
+    fn add(&mut self, words: &Words) -> Result<()> {
+        let fragment = fragment(self.alloc, words)?;
+        match &mut self.filling {
+            Some(filling) => filling.add(self.alloc, fragment),
+            None => bail!("no catalog"),
+        }
+    }
+
+    // Fills the shelf with the catalog.
+    fn fill<R: Wait>(&self, rt: &R, writer: &mut ShelfWriter, tale: &mut Tale) -> Result<()> {
+        match &self.filling {
+            Some(filling) => outcome(filling.fill(rt, writer), tale),
+            None => bail!("no catalog"),
+        }
+    }
+
+    // A step of the writer: the lines of a track; `catalog` of the tracks before it, `add` and a fragment, and `fill` with both; `declare`
+    // of the tracks before it, and `keep` and a fragment, which put an entry; `height`; and `tell`, which the reader whose turn it is learns.
+    fn write<R: Threads + Wait>(
+        &mut self,
+        rt: &R,
+        writer: &mut ShelfWriter,
+        line: &Line,
+        words: &Words,
+        tale: &mut Tale,
+    ) -> Result<()> {
+        match line.key() {
+            "track" | "private" | "numbers" => {
+                add_to(self.alloc, &mut self.tracks, line.key(), words)
+            }
+            "catalog" => self.begin(),
+            "add" => self.add(words),
+            "fill" => self.fill(rt, writer, tale),
+            "declare" => {
+                let ladder = channel(self.alloc, &mut self.tracks)?;
+                declare(rt, writer, ladder, tale)
+            }
+            "keep" => {
+                let fragment = fragment(self.alloc, words)?;
+                keep(rt, writer, fragment, tale)
+            }
+            "height" => tale.count(writer.height()),
+            "tell" => self.seats.learn(writer),
+            _ => bail!("no such step"),
+        }
+    }
+
+    fn step<R: Threads + Wait>(
+        &mut self,
+        rt: &R,
+        case: &Case<'_>,
+        writer: &mut ShelfWriter,
+        line: &Line,
+        tale: &mut Tale,
+    ) -> Result<()> {
+        if is_quiet(line.key()) || line.key() == "readers" {
+            return Ok(());
+        }
+        let words = case.words(self.alloc, line)?;
+        if is_of_reader(line.key()) {
+            return self.seats.step(rt, line, &words, tale);
+        }
+        self.write(rt, writer, line, &words, tale)
+    }
+}
+
+fn steps<R: Threads + Wait>(
+    rt: &R,
+    alloc: Global,
+    case: &Case<'_>,
+    writer: &mut ShelfWriter,
+    readers: Readers,
+) -> Result<String> {
+    let mut stage = Stage::new(alloc, readers);
+    let mut tale = Tale::new(alloc);
+    for line in case.lines() {
+        stage.step(rt, case, writer, line, &mut tale)?;
+    }
+    Ok(tale.into_text())
+}
+
+/// Makes a shelf with as many readers as the line `readers` says, or one, and makes the steps of the row on it.
+pub fn play<R: Threads + Wait>(rt: &R, alloc: Global, case: &Case<'_>) -> Result<String> {
+    let mut count = 1;
+    if case.has("readers") {
+        count = case.words_of(alloc, "readers")?.short(0)?;
+    }
+    if count == 0 || count > 16 {
+        bail!("1 to 16 readers");
+    }
+    let (mut writer, readers) = make(rt, alloc, count)?;
+    let told = steps(rt, alloc, case, &mut writer, readers);
+    writer.end(rt);
+    told
+}
