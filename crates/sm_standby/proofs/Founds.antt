@@ -1,5 +1,5 @@
 -- What one request for an address and its place gives.
-use Rattle.std.proofs.Common.{◌≡◌, ◌≤◌, ◌<◌, ◌⊎◌, ℕ, Bool, true, false, cond, eqb, List, [], ◌∷◌, ◌++◌, Option, Some, None, refl, ap, sym, ◌∙◌, subst, append_assoc, arith}
+use Rattle.std.proofs.Common.{◌≡◌, ◌≤◌, ◌<◌, ℕ, cond, eqb, List, [], ◌++◌, Option, Some, None, refl, ap, sym, ◌∙◌, subst, append_assoc}
 use Rattle.std.proofs.lemmas.Bool.{eqb-true}
 use Rattle.sm_model.specs.declared.address.Address.{Address}
 use Rattle.sm_model.specs.declared.entry.Entry.{Entry}
@@ -11,7 +11,7 @@ use Rattle.sm_fetch.specs.declared.dial.Exchange.{Exchange}
 use Rattle.sm_fetch.specs.declared.place.Place.{Place}
 use Rattle.sm_fetch.specs.declared.placed.Placed.{Placed}
 use Rattle.sm_fetch.specs.declared.placed.Placed.TheVariants as placed
-use Rattle.sm_fetch.specs.Exchanges.{Peer, Rose}
+use Rattle.sm_fetch.specs.Exchanges.{Rose}
 use Rattle.sm_fetch.specs.Origins.{Grows, Answered}
 use Rattle.sm_fetch.specs.Placing.{SpellsPlaced, FetchedPlaced, GrowsPlaced, IsPlacedAt}
 use Rattle.sm_fetch.specs.Requests.{fragment_request, fragment_limit}
@@ -21,7 +21,7 @@ use Rattle.sm_client.specs.declared.report.Miss.TheVariants as miss
 use Rattle.sm_pull.specs.Asks.{Asks, Gives}
 use Rattle.sm_pull.proofs.Tried.{Tried, tried_gave, tried_stopped, try_made, try_any, few_made}
 use Rattle.sm_pull.proofs.Dials.{asks_one, made_by}
-use Rattle.sm_standby.specs.Turns.{AsksPlaced, missed, OnUpstream}
+use Rattle.sm_standby.specs.Turns.{AsksPlaced, missed}
 use Rattle.sm_standby.proofs.Opens.{by_bool}
 use Rattle.sm_standby.specs.Asked.{unsaid, IsRead, Finds, found_of}
 

@@ -8,3 +8,10 @@ pub mod Rounding
 pub mod Logs
 pub mod Bounds
 pub mod Spelling
+pub mod Primary
+pub mod Askable
+pub mod InStep
+pub mod Fronts
+pub mod Reached
+pub mod EndingWell
+pub mod Whole

@@ -1,6 +1,6 @@
 -- Logs that have their entries at the places of another.
-use Rattle.std.proofs.Common.{◌≡◌, ◌⊎◌, ◌≤◌, ◌<◌, ◌+◌, ℕ, zero, suc, Bool, true, false, cond, List, [], ◌∷◌, ◌++◌, length, length-append, slice_get, Option, Some, None, refl, ap, sym, ◌∙◌, subst}
-use Rattle.std.proofs.Common.{append_assoc, append-nil, arith, inl, inr, ⊎_elim}
+use Rattle.std.proofs.Common.{◌≡◌, ◌⊎◌, ◌+◌, ℕ, zero, suc, cond, List, [], ◌∷◌, ◌++◌, length, slice_get, Option, Some, None, refl, ap, sym, ◌∙◌, subst}
+use Rattle.std.proofs.Common.{append-nil, arith, inl, inr, ⊎_elim}
 use Rattle.std.specs.List.{AllByRecursion}
 use Rattle.sm_model.specs.declared.address.Address.{Address}
 use Rattle.sm_model.specs.declared.entry.Entry.{Entry}
@@ -21,14 +21,14 @@ use Rattle.sm_fetch.specs.Placing.{IsPlacedAt}
 use Rattle.sm_fetch.specs.Spelt.{given}
 use Rattle.sm_pull.specs.declared.plan.PullPlan.{PullPlan}
 use Rattle.sm_pull.specs.declared.stop.Stop.{Stop}
-use Rattle.sm_pull.specs.Adds.{keeps_of, IsFrontOf, LeavesFront}
+use Rattle.sm_pull.specs.Adds.{keeps_of, LeavesFront}
 use Rattle.sm_pull.specs.Below.{Places}
-use Rattle.sm_pull.proofs.Disks.{keeps_both, log_both}
+use Rattle.sm_pull.proofs.Disks.{log_both}
 use Rattle.sm_standby.specs.declared.held.Later.{Later}
 use Rattle.sm_standby.specs.declared.report.FollowEnd.{FollowEnd}
 use Rattle.sm_standby.specs.declared.report.FollowEnd.TheVariants as ends
-use Rattle.sm_standby.specs.Turns.{url_of, Whose, candidate, again, Came, absent, kept, later, dropped, Turn, passed, asked, Standing, address_for, FitsPlace, MayTurn, kept_by, after, Turns, kept_of, kept_in, IsUpstream}
-use Rattle.sm_standby.specs.Asked.{StopsAt, IsTried, CameUpstream}
+use Rattle.sm_standby.specs.Turns.{url_of, Whose, candidate, again, Came, absent, kept, later, dropped, Turn, passed, asked, Standing, address_for, FitsPlace, kept_by, after, Turns, kept_in, IsUpstream}
+use Rattle.sm_standby.specs.Asked.{StopsAt, IsTried}
 use Rattle.sm_standby.specs.Followed.{at, tried_turn, EndsTurns}
 use Rattle.sm_standby.specs.Rounds as rounds
 use Rattle.sm_standby.specs.Rounds.{Round, AreRounds, RoundsUpstream, Part, no_part, StopsRound, EndsCall, Called}
@@ -57,7 +57,7 @@ places_front log more up all = λ p f e. all p f (get_more log more p (Keep f) e
 keep-same : (f g : Fragment) → Keep f ≡ Keep g → f ≡ g
 keep-same f g e = cc
 
-places_push : (log up : List Entry) (f : Fragment) → Places log up → slice_get up (length log) ≡ Some (Keep f) → Places (log ++ Keep f ∷ []) up
+pub places_push : (log up : List Entry) (f : Fragment) → Places log up → slice_get up (length log) ≡ Some (Keep f) → Places (log ++ Keep f ∷ []) up
 places_push log up f all here = λ p g e.
     ⊎_elim (all p g) (λ r. ap (λ (i : ℕ). slice_get up i) r.0 ∙ (here ∙ ap (λ (x : Entry). Some x) r.1)) (get_push log (Keep f) p (Keep g) e)
 
@@ -71,9 +71,9 @@ what_in : Fragment → Option (ℕ × Fragment) → Fragment
 what_in f None = f
 what_in f (Some k) = k.1
 
-first : (m k : ℕ) (x y : Fragment) → ◌≡◌ {A = Option (ℕ × Fragment)} (Some (m, x)) (Some (k, y)) → m ≡ k
+pub one_place : (m k : ℕ) (x y : Fragment) → ◌≡◌ {A = Option (ℕ × Fragment)} (Some (m, x)) (Some (k, y)) → m ≡ k
 unfolding place_in
-first m k x y h = ap place_in h
+one_place m k x y h = ap place_in h
 
 second : (m k : ℕ) (x y : Fragment) → ◌≡◌ {A = Option (ℕ × Fragment)} (Some (m, x)) (Some (k, y)) → x ≡ y
 unfolding what_in
@@ -84,7 +84,7 @@ kept_get a place [] n f e = absurd (cc)
 kept_get a place (Declare tracks ∷ log) n f e = let r = kept_get a (suc place) log n f e in (suc r.0, (let s = r.1 in omega (arith, s)), r.2)
 kept_get a place (Keep g ∷ log) n f e =
     by_bool (is_kept_at a g) (λ t. cond t (Some (place, g)) (kept_from a (suc place) log) ≡ Some (n, f) → (k : ℕ) × (n ≡ place + k) × (slice_get (Keep g ∷ log) k ≡ Some (Keep f)))
-    (λ is h. (0, (let s = first place n g f h in omega (arith, s)), ap (λ (x : Fragment). Some (Keep x)) (second place n g f h)))
+    (λ is h. (0, (let s = one_place place n g f h in omega (arith, s)), ap (λ (x : Fragment). Some (Keep x)) (second place n g f h)))
     (λ is h. let r = kept_get a (suc place) log n f h in (suc r.0, (let s = r.1 in omega (arith, s)), r.2)) e
 
 pub kept_there : (up : List Entry) (a : Address) (n : ℕ) (f : Fragment) → kept_at up a ≡ Some (n, f) → slice_get up n ≡ Some (Keep f)
@@ -149,10 +149,10 @@ rounds_log plan channel log log' held held' (r ∷ rs) legal =
 
 -- ---- the end
 
-abbrev TriedIs : PullPlan → List Track → List ℕ → Address → Archive → List Entry → List Exchange → List Came → Type 0
+abbrev pub TriedIs : PullPlan → List Track → List ℕ → Address → Archive → List Entry → List Exchange → List Came → Type 0
 TriedIs plan channel url a new log made tried = (tried ≡ []) ⊎ ((why : Stop) × IsTried plan channel url a new log made tried why)
 
-tried_is : (plan : PullPlan) (channel : List Track) (url : List ℕ) (a : Address) (new : Archive) (log : List Entry) (made : List Exchange) (tried : List Came) (end : FollowEnd)
+pub tried_is : (plan : PullPlan) (channel : List Track) (url : List ℕ) (a : Address) (new : Archive) (log : List Entry) (made : List Exchange) (tried : List Came) (end : FollowEnd)
     → StopsAt plan channel url a new log made tried end → TriedIs plan channel url a new log made tried
 tried_is plan channel url a new log made tried (ends.GaveUp b outcomes) s = inl s.2
 tried_is plan channel url a new log made tried (ends.OtherId b id) s = inl s.2
@@ -166,7 +166,7 @@ tried_is plan channel url a new log made tried (ends.Gap place next) s = absurd 
 tried_is plan channel url a new log made tried (ends.NoManifest outcomes) s = absurd s
 tried_is plan channel url a new log made tried (ends.NoTrack index) s = absurd s
 
-kept_fits : (who : Whose) (next n : ℕ) (raw : RawFragment) → n ≡ next → FitsPlace who next (kept n raw)
+pub kept_fits : (who : Whose) (next n : ℕ) (raw : RawFragment) → n ≡ next → FitsPlace who next (kept n raw)
 kept_fits (candidate a) next n raw h = h
 kept_fits (again l) next n raw h = h
 
@@ -200,7 +200,7 @@ end_places plan channel listing to up new last tried end (inr (who, cs, turn, is
     (tried_places plan channel listing to.log up who new last cs (tried_is plan channel (url_of listing (address_for who)) (address_for who) new to.log last cs end stops)
     (subst (AllByRecursion (IsUpstream plan.place listing up)) is us) (subst (AllName plan.place listing) is names) all)
 
-none_kept : (log up : List Entry) (turns tried : List Turn) → turns ≡ [] → tried ≡ [] → Places log up → Places ((log ++ keeps_of (kept_in turns)) ++ keeps_of (kept_in tried)) up
+pub none_kept : (log up : List Entry) (turns tried : List Turn) → turns ≡ [] → tried ≡ [] → Places log up → Places ((log ++ keeps_of (kept_in turns)) ++ keeps_of (kept_in tried)) up
 none_kept log up turns tried e f all =
     subst (λ (ts : List Turn). Places ((log ++ keeps_of (kept_in ts)) ++ keeps_of (kept_in tried)) up) (sym e)
     (subst (λ (ts : List Turn). Places ((log ++ []) ++ keeps_of (kept_in ts)) up) (sym f) (subst (λ (l : List Entry). Places l up) (sym (append-nil (log ++ []) ∙ append-nil log)) all))
@@ -249,7 +249,7 @@ front_places before up fs t c all (after, store, front) = (
       (subst (λ (l : List Entry). Places l up) (ap (λ (gs : List Fragment). before ++ keeps_of gs) front.whole ∙ sym (log_both before front.front front.back)) all)),
 )
 
-places_grow : (log up more : List Entry) → Places log up → Places log (up ++ more)
+pub places_grow : (log up more : List Entry) → Places log up → Places log (up ++ more)
 places_grow log up more all = λ p f e. get_more up more p (Keep f) (all p f e)
 
 -- at each moment of a call

@@ -1,9 +1,8 @@
 -- Rows of candidates.
-use Rattle.std.proofs.Common.{◌≡◌, ◌||◌, ◌+◌, ◌-◌, ◌<◌, ◌≤◌, ℕ, zero, suc, List, [], ◌∷◌, ◌++◌, refl, ap, sym, ◌∙◌, Bool, true, false, cond, drop, length, map, subst, arith}
+use Rattle.std.proofs.Common.{◌≡◌, ◌||◌, ◌+◌, ◌-◌, ◌<◌, ◌≤◌, ℕ, zero, suc, List, [], ◌∷◌, ◌++◌, refl, ap, sym, ◌∙◌, Bool, cond, drop, length, map, arith}
 use Rattle.std.specs.List.{list_any}
 use Rattle.sm_model.specs.Same.{is_same}
 use Rattle.sm_log.specs.Adds.{names_from}
-use Rattle.sm_model.specs.declared.address.Address.{Address}
 use Rattle.sm_model.specs.declared.track.Track.{Track}
 use Rattle.sm_standby.specs.Candidates.{Candidates, row, rows, candidates, candidates_by, with_stream}
 use Rattle.sm_standby.proofs.Opens.{by_bool}

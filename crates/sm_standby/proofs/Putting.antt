@@ -1,21 +1,20 @@
 -- What was read at an address, put in its place.
-use Rattle.std.proofs.Common.{◌≡◌, ◌≢◌, ◌⊎◌, ◌<◌, ◌≤◌, ℕ, List, [], ◌∷◌, ◌++◌, length, Option, Some, None, refl, ap, sym, ◌∙◌, subst, append-nil, length-append, arith, inl, inr}
+use Rattle.std.proofs.Common.{◌≡◌, ◌≢◌, ◌<◌, ◌≤◌, ℕ, List, [], ◌∷◌, ◌++◌, length, Option, Some, None, refl, ap, sym, ◌∙◌, subst, length-append, arith, inl, inr}
 use Rattle.std.specs.List.{AllByRecursion}
 use Rattle.std.specs.Option.{option_map}
 use Rattle.sm_model.specs.declared.address.Address.{Address}
 use Rattle.sm_model.specs.declared.entry.Entry.{Entry}
-use Rattle.sm_model.specs.declared.entry.Entry.TheVariants.{Declare}
 use Rattle.sm_model.specs.declared.fragment.Fragment.{Fragment}
 use Rattle.sm_model.specs.declared.run.RawFragment.{RawFragment}
 use Rattle.sm_model.specs.declared.track.Track.{Track}
-use Rattle.sm_log.specs.Adds.{Add, id_in, place_of}
-use Rattle.sm_log.specs.Logs.{adds_of, adds_from, kept_at}
+use Rattle.sm_log.specs.Adds.{id_in, place_of}
+use Rattle.sm_log.specs.Logs.{adds_of, kept_at}
 use Rattle.sm_log.proofs.AllLogs.{kept_place}
 use Rattle.sm_site.specs.Image.{Image}
 use Rattle.sm_site.specs.Meanings.{View}
 use Rattle.sm_archive.specs.declared.archive.Archive.{Archive}
 use Rattle.sm_archive.specs.declared.index.Index.{Index}
-use Rattle.sm_archive.specs.Stands.{Keeps, Stands, IsIndex, IndexIs}
+use Rattle.sm_archive.specs.Stands.{Stands, IsIndex, IndexIs}
 use Rattle.sm_fetch.specs.declared.dial.Exchange.{Exchange}
 use Rattle.sm_fetch.specs.declared.place.Place.{Place}
 use Rattle.sm_fetch.specs.declared.placed.Placed.{Placed}
@@ -26,7 +25,7 @@ use Rattle.sm_pull.specs.declared.plan.PullPlan.{PullPlan}
 use Rattle.sm_pull.specs.declared.stop.Stop.{Stop}
 use Rattle.sm_pull.specs.declared.stop.Stop.TheVariants as stop
 use Rattle.sm_pull.specs.Adds.{Adds, NotKept}
-use Rattle.sm_pull.specs.Asks.{Asks, Gives, GivesNone, Tries}
+use Rattle.sm_pull.specs.Asks.{Asks, Gives, Tries}
 use Rattle.sm_pull.proofs.Disks.{adds_none}
 use Rattle.sm_pull.proofs.Tried.{both_all, misses_tried}
 use Rattle.sm_standby.specs.declared.placing.Step.{Step}
@@ -34,8 +33,8 @@ use Rattle.sm_standby.specs.declared.placing.Step.TheVariants as step
 use Rattle.sm_standby.specs.declared.report.FollowEnd.{FollowEnd}
 use Rattle.sm_standby.specs.declared.report.FollowEnd.TheVariants as ends
 use Rattle.sm_standby.specs.Ends.{end_of}
-use Rattle.sm_standby.specs.Turns.{AsksPlaced, missed, Came, absent, kept, later, dropped, placed_of, kept_by, OnUpstream}
-use Rattle.sm_standby.specs.Asked.{unsaid, IsRead, IsPut, CameUpstream, Went, IsUnkept, UnputBy, IsUnput, IsTried, IsOther, TriedUpstream, StopsAt, Stopped}
+use Rattle.sm_standby.specs.Turns.{AsksPlaced, missed, Came, absent, kept, later, dropped, placed_of}
+use Rattle.sm_standby.specs.Asked.{unsaid, IsRead, IsPut, CameUpstream, Went, IsUnkept, UnputBy, IsUnput, IsTried, TriedUpstream, StopsAt, Stopped}
 
 -- ---- tries
 

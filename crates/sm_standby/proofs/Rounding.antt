@@ -1,13 +1,11 @@
 -- Rounds, one after another.
 use Rattle.std.proofs.Common.{◌≡◌, ◌⊎◌, ◌<◌, ◌≤◌, ◌+◌, ◌^◌, ℕ, List, [], ◌∷◌, ◌++◌, length, length-append, Option, Some, None, refl, ap, sym, ◌∙◌, subst, append_assoc, append-nil, arith, inl, inr}
 use Rattle.std.specs.List.{AllByRecursion}
-use Rattle.sm_model.specs.declared.address.Address.{Address}
 use Rattle.sm_model.specs.declared.entry.Entry.{Entry}
 use Rattle.sm_model.specs.declared.fragment.Fragment.{Fragment}
 use Rattle.sm_model.specs.declared.track.Track.{Track}
 use Rattle.sm_site.specs.Image.{Image}
 use Rattle.sm_site.specs.Meanings.{View}
-use Rattle.sm_site.specs.Clauses.{Rose}
 use Rattle.sm_archive.specs.declared.archive.Archive.{Archive}
 use Rattle.sm_archive.specs.Stands.{Stands}
 use Rattle.sm_manin.specs.declared.listing.Listing.{Listing}
@@ -26,11 +24,11 @@ use Rattle.sm_pull.proofs.Disks.{adds_none, adds_then, log_both, rose_since}
 use Rattle.sm_standby.specs.declared.held.Later.{Later}
 use Rattle.sm_standby.specs.declared.report.FollowEnd.{FollowEnd}
 use Rattle.sm_standby.specs.declared.report.FollowEnd.TheVariants as ends
-use Rattle.sm_standby.specs.Waiting.{due, AreOpen, IsLeast}
-use Rattle.sm_standby.specs.Turns.{url_of, address_for, Turn, Standing, Turns, made_in, kept_in, IsUpstream, OnUpstream, AreUpstream}
+use Rattle.sm_standby.specs.Waiting.{due, AreOpen}
+use Rattle.sm_standby.specs.Turns.{url_of, address_for, Turn, Standing, made_in, kept_in, IsUpstream, OnUpstream}
 use Rattle.sm_standby.specs.Asked.{unsaid, StopsAt}
 use Rattle.sm_standby.specs.Followed.{at, Follows, EndsTurns, Ends}
-use Rattle.sm_standby.specs.Rounds.{addresses_of, Round, IsRound, AreRounds, made_by, kept_by, RoundsUpstream, Part, nothing_listed, no_part, IsBare, made_of, ReadsNone, LacksTrack, TurnsEnd, StopsRound, Rounds, RoundEnds, EndsCall, Called}
+use Rattle.sm_standby.specs.Rounds.{addresses_of, Round, AreRounds, made_by, kept_by, RoundsUpstream, Part, nothing_listed, no_part, IsBare, StopsRound, Rounds, RoundEnds, EndsCall, Called}
 use Rattle.sm_standby.proofs.Taking.{both_all, all_grown}
 
 -- ---- lists of rounds

@@ -1,5 +1,5 @@
 -- What is kept was read.
-use Rattle.std.proofs.Common.{◌≡◌, ◌⊎◌, ◌<◌, ◌≤◌, ◌+◌, ℕ, List, [], ◌∷◌, ◌++◌, length, length-append, slice_get, Option, Some, None, refl, ap, sym, ◌∙◌, subst, append-nil, arith, inl, inr, ⊎_elim}
+use Rattle.std.proofs.Common.{◌≡◌, ◌≤◌, ℕ, List, [], ◌∷◌, ◌++◌, length, length-append, slice_get, Some, None, refl, ap, sym, ◌∙◌, subst, append-nil, arith, ⊎_elim}
 use Rattle.std.specs.Prelude.{Contains}
 use Rattle.std.proofs.lemmas.List.Elements.{Contains-append_left, Contains-append_right}
 use Rattle.std.proofs.lemmas.Bool.{cases_lt}
@@ -18,7 +18,7 @@ use Rattle.sm_fetch.specs.Spelt.{given}
 use Rattle.sm_pull.specs.declared.plan.PullPlan.{PullPlan}
 use Rattle.sm_pull.specs.Adds.{keeps_of}
 use Rattle.sm_pull.specs.Asks.{Gives}
-use Rattle.sm_standby.specs.Turns.{AsksPlaced, missed, url_of, Whose, Came, absent, kept, later, dropped, Turn, passed, asked, Standing, address_for, FitsPlace, kept_by, after, Turns, made_in, kept_in}
+use Rattle.sm_standby.specs.Turns.{AsksPlaced, missed, url_of, Whose, Came, absent, kept, later, dropped, Turn, passed, asked, Standing, address_for, kept_by, after, Turns, made_in, kept_in}
 use Rattle.sm_standby.specs.Spelled.{IsSpelled}
 use Rattle.sm_standby.proofs.Waits.{get-behind}
 use Rattle.sm_standby.proofs.Taking.{came_address, read_time}

@@ -1,10 +1,9 @@
 -- Turns, one after another.
-use Rattle.std.proofs.Common.{◌≡◌, ◌≢◌, ◌⊎◌, ◌<◌, ◌≤◌, ◌||◌, ℕ, Bool, true, false, List, [], ◌∷◌, ◌++◌, length, Option, Some, None, refl, ap, sym, ◌∙◌, subst, append_assoc, append-nil, length-append, arith, inl, inr}
+use Rattle.std.proofs.Common.{◌≡◌, ◌<◌, ◌≤◌, ◌||◌, ℕ, true, false, List, [], ◌∷◌, ◌++◌, length, Option, Some, None, refl, ap, sym, ◌∙◌, subst, append_assoc, append-nil, arith, inl, inr}
 use Rattle.std.specs.Prelude.{is_some}
 use Rattle.std.specs.List.{AllByRecursion}
 use Rattle.sm_model.specs.declared.address.Address.{Address}
 use Rattle.sm_model.specs.declared.entry.Entry.{Entry}
-use Rattle.sm_model.specs.declared.entry.Entry.TheVariants.{Keep}
 use Rattle.sm_model.specs.declared.fragment.Fragment.{Fragment}
 use Rattle.sm_model.specs.declared.run.RawFragment.{RawFragment}
 use Rattle.sm_model.specs.declared.track.Track.{Track}
@@ -21,14 +20,13 @@ use Rattle.sm_fetch.specs.declared.dial.Answer.{Answer}
 use Rattle.sm_fetch.specs.declared.dial.Answer.TheVariants as answers
 use Rattle.sm_fetch.specs.declared.dial.Exchange.{Exchange}
 use Rattle.sm_fetch.specs.declared.place.Place.{Place}
-use Rattle.sm_fetch.specs.declared.placed.Placed.{Placed}
 use Rattle.sm_fetch.specs.declared.placed.Placed.TheVariants as placed
 use Rattle.sm_fetch.specs.Origins.{Grows}
 use Rattle.sm_fetch.specs.Placing.{SpellsPlaced, IsPlacedAt}
 use Rattle.sm_fetch.specs.Spelt.{given}
 use Rattle.sm_pull.specs.declared.plan.PullPlan.{PullPlan}
 use Rattle.sm_pull.specs.Adds.{Adds, keeps_of}
-use Rattle.sm_pull.specs.Asks.{Asks, Gives, Tries}
+use Rattle.sm_pull.specs.Asks.{Asks, Gives}
 use Rattle.sm_pull.proofs.Dials.{asks_same, asks_then}
 use Rattle.sm_pull.proofs.Disks.{adds_none, adds_then, log_both, rose_since}
 use Rattle.sm_standby.specs.declared.held.Later.{Later}
@@ -37,10 +35,10 @@ use Rattle.sm_standby.specs.declared.placing.Step.TheVariants as step
 use Rattle.sm_standby.specs.declared.report.FollowEnd.{FollowEnd}
 use Rattle.sm_standby.specs.declared.report.FollowEnd.TheVariants as ends
 use Rattle.sm_standby.specs.Waiting.{due, without, waits, AreOpen}
-use Rattle.sm_standby.specs.Turns.{AsksPlaced, missed, url_of, Whose, candidate, again, Came, absent, kept, later, dropped, Turn, passed, asked, Standing, address_for, placed_of, IsFirst, IsTurnOf, FitsPlace, HasId, IsAsked, IsPassed}
-use Rattle.sm_standby.specs.Turns.{kept_by, waits_by, after, Turns, made_by, made_in, kept_of, kept_in, IsUpstream, OnUpstream, AreUpstream}
-use Rattle.sm_standby.specs.Asked.{unsaid, IsStep, CameUpstream, Went, tried_by, TriedUpstream, StopsAt, Stopped}
-use Rattle.sm_standby.specs.Followed.{at, Follows, tried_turn, EndsTurns, Ends}
+use Rattle.sm_standby.specs.Turns.{AsksPlaced, missed, url_of, Whose, candidate, again, Came, absent, kept, later, dropped, Turn, passed, asked, Standing, address_for, placed_of, IsTurnOf, FitsPlace, HasId}
+use Rattle.sm_standby.specs.Turns.{kept_by, waits_by, after, Turns, made_by, made_in, kept_of, kept_in, IsUpstream, AreUpstream}
+use Rattle.sm_standby.specs.Asked.{unsaid, IsStep, CameUpstream, Went, tried_by, TriedUpstream, Stopped}
+use Rattle.sm_standby.specs.Followed.{at, Follows, tried_turn, Ends}
 use Rattle.sm_standby.proofs.Putting.{tries_of}
 use Rattle.sm_standby.proofs.Opens.{or_left, or_right, due_open, due_add, open_add, open_without, open_kept}
 

@@ -1,6 +1,6 @@
 -- Addresses that wait: the first of a place, and the others.
-use Rattle.std.proofs.Common.{◌≡◌, ◌+◌, ◌<◌, ℕ, zero, suc, ltb, ◌≤◌, Bool, true, false, cond, not, eqb, List, [], ◌∷◌, ◌++◌, length, take, drop, get_or, slice_get, Option, Some, None, refl, ap, sym, ◌∙◌, subst, arith}
-use Rattle.std.specs.List.{position, position_or_len, prefix_len, remove, find}
+use Rattle.std.proofs.Common.{◌≡◌, ◌+◌, ◌<◌, ℕ, zero, suc, ltb, ◌≤◌, Bool, true, false, cond, not, eqb, List, [], ◌∷◌, length, get_or, slice_get, Some, None, refl, ap, sym, ◌∙◌, arith}
+use Rattle.std.specs.List.{position, position_or_len, prefix_len, remove}
 use Rattle.std.proofs.lemmas.List.Folds.{find_at}
 use Rattle.std.proofs.lemmas.List.Quantifiers.{position-Some}
 use Rattle.sm_standby.specs.declared.held.Later.{Later}

@@ -1,8 +1,7 @@
 -- Turns that were taken, and how they ended.
-use Rattle.std.specs.Prelude.{◌≡◌, ◌⊎◌, ℕ, List, [], ◌∷◌, ◌++◌, length, Option, None}
+use Rattle.std.specs.Prelude.{◌≡◌, ◌⊎◌, ℕ, List, [], ◌∷◌, ◌++◌, Option}
 use Rattle.sm_model.specs.declared.address.Address.{Address}
 use Rattle.sm_model.specs.declared.entry.Entry.{Entry}
-use Rattle.sm_model.specs.declared.fragment.Fragment.{Fragment}
 use Rattle.sm_model.specs.declared.track.Track.{Track}
 use Rattle.sm_site.specs.Image.{Image}
 use Rattle.sm_site.specs.Meanings.{View}
@@ -18,7 +17,7 @@ use Rattle.sm_standby.specs.declared.report.FollowEnd.{FollowEnd}
 use Rattle.sm_standby.specs.declared.report.FollowEnd.TheVariants as ends
 use Rattle.sm_standby.specs.Waiting.{AreOpen}
 use Rattle.sm_standby.specs.Turns.{url_of, Whose, address_for, Came, Turn, asked, Standing, IsTurnOf, Turns, made_in, kept_in, AreUpstream}
-use Rattle.sm_standby.specs.Asked.{unsaid, StopsAt, tried_by}
+use Rattle.sm_standby.specs.Asked.{unsaid, StopsAt}
 
 abbrev pub at : List Entry → List Later → List Address → Standing
 at log held rest = record { log = log; held = held; rest = rest }

@@ -5,5 +5,6 @@ pub mod Ends
 pub mod Asked
 pub mod Followed
 pub mod Rounds
+pub mod Served
 pub mod Placed
 pub mod Spelled

@@ -1,10 +1,11 @@
 -- A log that has the entries of another at their places.
-use Rattle.std.specs.Prelude.{◌≡◌, ℕ, List, ◌++◌, length, Option, IsSome}
+use Rattle.std.specs.Prelude.{◌≡◌, ◌<◌, ℕ, List, ◌∷◌, ◌++◌, length, Option, Some, IsSome}
 use Rattle.std.specs.List.{AllByRecursion}
 use Rattle.sm_model.specs.declared.address.Address.{Address}
 use Rattle.sm_model.specs.declared.entry.Entry.{Entry}
 use Rattle.sm_model.specs.declared.track.Track.{Track}
 use Rattle.sm_model.specs.declared.target.Target.TheVariants as target
+use Rattle.sm_log.specs.Logs.{channel_of}
 use Rattle.sm_addr.specs.Targets.{target_of}
 use Rattle.sm_site.specs.Image.{Image}
 use Rattle.sm_site.specs.Meanings.{View}
@@ -21,6 +22,7 @@ use Rattle.sm_pull.specs.Below.{Places}
 use Rattle.sm_standby.specs.Turns.{url_of, address_for, Turn, passed, asked, kept_in}
 use Rattle.sm_standby.specs.declared.report.FollowReport.{FollowReport}
 use Rattle.sm_standby.specs.Rounds.{Round, Part, kept_by, Called}
+use Rattle.sm_standby.specs.Served.{IsServed, moment_of, IsPatient, LeadsToAll, LeavesStart, Reaches, EndsRounds, EndsWell}
 
 -- ---- what a target names
 
@@ -59,7 +61,7 @@ StaysPlaced view left_at store disk disk' dial dial' place before rounds part =
     (up : List Entry) → store dial up → (more : List Entry) × store dial' (up ++ more)
     × (RoundsName place rounds → PartNames place part → Places before up → IsSome (view disk).contents → Throughout view left_at disk disk' (LeavesPlaces (up ++ more)))
 
--- What a call did, how many fragments were kept, and that these stand at their places.
+-- What a call did, how many fragments were kept, and that these stand at their places; and what it comes to over a primary that keeps a log.
 pub record Followed {D C : Type 0} (view : D → View) (left_at : D → ℕ → Image → Type 0) (leave : D → Image → Type 0) (told : C → Option (List Exchange))
     (store : C → List Entry → Type 0)
     (goes_on : C → C → Type 0) (faults : C → ℕ) (disk disk' : D) (dial dial' : C) (plan : PullPlan) (channel : List Track) (old new : Archive)
@@ -67,3 +69,16 @@ pub record Followed {D C : Type 0} (view : D → View) (left_at : D → ℕ → 
   pub called : Called view left_at leave told store goes_on faults disk disk' dial dial' plan channel old new before report.end
   pub kept : report.kept ≡ length (kept_by called.rounds ++ kept_in called.part.turns)
   pub placed : StaysPlaced view left_at store disk disk' dial dial' plan.place before called.rounds called.part
+  -- Where the primary's log has the store's entries at their places, it has those of each store that a crash may leave.
+  pub stays : (up : List Track) (first last : List Entry) (made : List Exchange) → IsServed told dial dial' plan.place up first last made → Places before first
+      → IsSome (view disk).contents → Throughout view left_at disk disk' (LeavesPlaces last)
+  -- And where the primary's channel is the store's, each such store is a front of the primary's log;
+  pub starts : (first last : List Entry) (made : List Exchange) → IsServed told dial dial' plan.place channel first last made → channel_of first ≡ Some channel
+      → Places before first → IsSome (view disk).contents → Throughout view left_at disk disk' (LeavesStart last)
+  -- where it answers each request, no answer of it ends the call;
+  pub well : (first last : List Entry) (made : List Exchange) → IsServed told dial dial' plan.place channel first last made → Places before first
+      → 0 < plan.tries → IsPatient made → EndsWell report.end
+  -- and once all rounds have ended, the store has as many entries as the primary had at its first manifest, if that led to each of them.
+  pub reaches : (first last : List Entry) (x : Exchange) (made : List Exchange) → (s : IsServed told dial dial' plan.place channel first last (x ∷ made))
+      → Places before first → IsPatient (x ∷ made) → LeadsToAll channel (moment_of s) → EndsRounds report.end
+      → Reaches (leave disk') new last (length (moment_of s))

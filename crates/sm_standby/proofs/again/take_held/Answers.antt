@@ -1,4 +1,4 @@
-use Rattle.std.proofs.Common.{[], Bool, Ok, ap}
+use Rattle.std.proofs.Common.{[]}
 use Rattle.sm_standby.proofs.Taking.{follows_none, follows_then, follows_stands, ends_then}
 use Rattle.sm_standby.proofs.again.take_held.Goals as goal
 

@@ -1,4 +1,4 @@
-use Rattle.std.proofs.Common.{◌≡◌, List, None, length}
+use Rattle.std.proofs.Common.{List, None, length}
 use Rattle.sm_model.specs.declared.address.Address.{Address}
 use Rattle.sm_model.specs.declared.entry.Entry.{Entry}
 use Rattle.sm_archive.specs.Stands.{Stands}

@@ -1,6 +1,4 @@
-use Rattle.std.proofs.Common.{◌≡◌, ◌∙◌, List, None, Some, sym, subst}
-use Rattle.sm_model.specs.declared.track.Track.{Track}
-use Rattle.sm_standby.proofs.Rounding.{called_none, one_channel}
+use Rattle.sm_standby.proofs.Rounding.{called_none}
 use Rattle.sm_standby.proofs.call.follow_store.Goals as goal
 
 pub returns-in-Err : goal.returns-in-Err

@@ -1,4 +1,4 @@
-use Rattle.std.proofs.Common.{◌≡◌, ◌+◌, ◌-◌, ◌++◌, [], sym, arith}
+use Rattle.std.proofs.Common.{◌+◌, ◌-◌, ◌++◌, [], sym, arith}
 use Rattle.sm_standby.specs.Candidates.{row, rows, longest, addresses_by}
 use Rattle.sm_standby.proofs.Plans.{rows_start, rows_next, rows_end}
 use Rattle.sm_standby.proofs.Taking.{follows_start, follows_stands, follows_next, follows_end, ends_next}

@@ -1,4 +1,4 @@
-use Rattle.std.proofs.Common.{◌≡◌, [], ◌∷◌, None, Err, refl, ap, sym, ◌∙◌}
+use Rattle.std.proofs.Common.{[], ◌∷◌, None, Err, ap, sym, ◌∙◌}
 use Rattle.std.specs.Prelude.{is_some}
 use Rattle.sm_standby.specs.declared.report.FollowEnd.{FollowEnd}
 use Rattle.sm_log.specs.Logs.{kept_at}
@@ -6,7 +6,7 @@ use Rattle.sm_standby.specs.declared.placing.Step.TheVariants as step
 use Rattle.sm_standby.specs.Waiting.{waits}
 use Rattle.sm_standby.specs.Turns.{candidate}
 use Rattle.sm_standby.proofs.Opens.{or_left}
-use Rattle.sm_standby.proofs.Taking.{follows_passed, follows_then, follows_on, follows_stands, follows_settled, follows_dropped, follows_later, ends_none, ends_one, ends_then, ends_wanting, went_at}
+use Rattle.sm_standby.proofs.Taking.{follows_passed, follows_on, follows_stands, follows_settled, follows_dropped, follows_later, ends_none, ends_one, ends_then, ends_wanting, went_at}
 use Rattle.sm_standby.proofs.Taking.{stopped_at, open_turn, no_some, later_kept}
 use Rattle.sm_standby.proofs.following.follow_one.Goals as goal
 

@@ -2,8 +2,8 @@ use Rattle.std.proofs.Common.{◌≡◌, ◌+◌, ◌∷◌, List, drop, map, ap
 use Rattle.std.proofs.lemmas.List.{drop_more}
 use Rattle.sm_model.specs.declared.track.Track.{Track}
 use Rattle.sm_client.specs.Stands.{listed, times_of}
-use Rattle.sm_log.specs.Adds.{names_from, names_of}
-use Rattle.sm_standby.specs.Candidates.{Candidates, candidates_by, with_stream}
+use Rattle.sm_log.specs.Adds.{names_from}
+use Rattle.sm_standby.specs.Candidates.{Candidates, candidates_by}
 use Rattle.sm_standby.proofs.Plans.{with_names, with_times, drop_all}
 use Rattle.sm_standby.proofs.listed.candidates_of.Goals as goal
 

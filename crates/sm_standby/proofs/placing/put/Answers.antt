@@ -1,4 +1,4 @@
-use Rattle.std.proofs.Common.{◌≡◌, None, ap, sym, ◌∙◌, arith}
+use Rattle.std.proofs.Common.{None, ap, sym, ◌∙◌, arith}
 use Rattle.sm_model.specs.Entries.{address_of}
 use Rattle.sm_log.specs.Logs.{kept_at}
 use Rattle.sm_standby.proofs.Taking.{came_address}

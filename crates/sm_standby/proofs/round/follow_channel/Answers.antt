@@ -1,4 +1,4 @@
-use Rattle.std.proofs.Common.{◌≡◌, None, refl, sym, subst}
+use Rattle.std.proofs.Common.{None, refl}
 use Rattle.sm_standby.specs.declared.report.FollowEnd.TheVariants as ends
 use Rattle.sm_standby.proofs.Rounding.{rounds_stand, called_whole}
 use Rattle.sm_standby.proofs.round.follow_channel.Goals as goal

@@ -1,5 +1,5 @@
-use Rattle.std.proofs.Common.{◌≡◌, ap, sym, ◌∙◌, List}
-use Rattle.sm_standby.specs.Candidates.{Candidates, addresses_by}
+use Rattle.std.proofs.Common.{ap, sym, ◌∙◌}
+use Rattle.sm_standby.specs.Candidates.{addresses_by}
 use Rattle.sm_standby.specs.Rounds.{addresses_of}
 use Rattle.sm_standby.proofs.Taking.{follows_stands, follows_next, ends_none, ends_next}
 use Rattle.sm_standby.proofs.round.follow_listing.Goals as goal

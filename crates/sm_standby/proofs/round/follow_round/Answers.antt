@@ -1,4 +1,4 @@
-use Rattle.std.proofs.Common.{refl, inl, inr}
+use Rattle.std.proofs.Common.{inl, inr}
 use Rattle.sm_standby.specs.declared.report.FollowEnd.TheVariants as ends
 use Rattle.sm_standby.specs.Rounds.{nothing_listed}
 use Rattle.sm_standby.proofs.Rounding.{asks_unsaid, rounds_one, ends_bare, bare, ends_turns}

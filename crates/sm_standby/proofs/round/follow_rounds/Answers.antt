@@ -1,4 +1,4 @@
-use Rattle.std.proofs.Common.{◌≡◌, ◌+◌, [], refl, sym, subst, arith}
+use Rattle.std.proofs.Common.{◌+◌, [], refl, arith}
 use Rattle.sm_standby.proofs.Rounding.{rounds_none, rounds_then, rounds_stand, rounds_at, called_early}
 use Rattle.sm_standby.proofs.round.follow_rounds.Goals as goal
 

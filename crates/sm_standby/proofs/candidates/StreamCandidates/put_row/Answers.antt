@@ -1,5 +1,4 @@
-use Rattle.std.proofs.Common.{◌≡◌, ◌++◌, List, Option, None, ap, sym, ◌∙◌, append-nil, slice_get}
-use Rattle.sm_model.specs.declared.address.Address.{Address}
+use Rattle.std.proofs.Common.{◌++◌, ap, sym, ◌∙◌, append-nil}
 use Rattle.sm_standby.specs.Candidates.{addresses_at}
 use Rattle.sm_standby.proofs.Waits.{row-none}
 use Rattle.sm_standby.proofs.candidates.StreamCandidates.put_row.Goals as goal

@@ -1,4 +1,3 @@
-use Rattle.std.proofs.Common.{◌∙◌, ap, sym}
 use Rattle.sm_standby.proofs.Waits.{taken-due, taken-rest, nothing-due}
 use Rattle.sm_standby.proofs.held.Held.take.Goals as goal
 
