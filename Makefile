@@ -52,6 +52,7 @@ bench: build
 	SMOOTH=$(PROGRAM) scripts/bench_serve
 	SMOOTH=$(PROGRAM) scripts/bench_export
 	SMOOTH=$(PROGRAM) scripts/bench_journal
+	SMOOTH=$(PROGRAM) scripts/bench_relay
 
 clean:
 	rm -rf crates/*/out
