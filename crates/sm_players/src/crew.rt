@@ -36,12 +36,7 @@ pub struct Crew<R: Threads + Drop, W: Drop, F: Drop, G: Drop> {
     ghost few: { vec_len handles < 2 ^ 32 },
 }
 
-impl<
-    R: Threads + Drop,
-    W: Wire + Drop + Send + 'static,
-    F: Forward + Drop + Send + 'static,
-    G: Gate + Drop + Send + 'static,
-> Crew<R, W, F, G> {
+impl<R: Threads + Drop, W: Drop, F: Drop, G: Drop> Crew<R, W, F, G> {
     /// A crew without parts. Its players take so many events at most, and `finish` raises that flag.
     pub fn new(alloc: Global, rt: R, stop: Stop, turns: u64) -> Crew<R, W, F, G>
         ensures handles { vec_len result.handles ≡ 0 }
