@@ -1,0 +1,166 @@
+-- From a store that was opened to a run beside players.
+use Rattle.std.proofs.Common.{inl, inr, ◌≡◌, ◌⊎◌, ◌≤◌, ℕ, Bool, true, false, List, [], ◌++◌, Option, Some, None, Result, Ok, Err, refl, sym, ap, subst, ◌∙◌, arith}
+use Rattle.std.specs.Prelude.{IfSome, IsSome, IfOk, IfErr, OnErr, IsTrue, is_some}
+use Rattle.sm_model.specs.declared.entry.Entry.{Entry}
+use Rattle.sm_model.specs.declared.track.Track.{Track}
+use Rattle.sm_site.specs.Clauses.{Rose}
+use Rattle.sm_site.specs.Image.{Image}
+use Rattle.sm_site.specs.Meanings.{Chosen, View, Item}
+use Rattle.sm_seglog.specs.Stores.{HasStore}
+use Rattle.sm_archive.specs.Store.{IsStore, Spell}
+use Rattle.sm_origin.specs.Machine.{Machine}
+use Rattle.sm_origin.specs.Opening.{HasOneStore}
+use Rattle.sm_serve.specs.declared.state.State.{State}
+use Rattle.sm_serve.specs.declared.outcome.Served.{Served as Outcome}
+use Rattle.sm_serve.specs.declared.outcome.Served.TheVariants as served
+use Rattle.sm_serve.specs.Standing.{History, StandsOn, is_told}
+use Rattle.sm_serve.specs.Serving.{Begins, Serves, Served}
+use Rattle.sm_command.specs.declared.fault.StoreFault.{StoreFault}
+use Rattle.sm_command.specs.Lasting.{AtEachMoment, NoFewer}
+use Rattle.sm_command.specs.Serving.{Input, Found, IsBegun, PrepareMeans, RunLasts}
+use Rattle.sm_command.proofs.Starting.{IsPrepared, early, serves_early, why_stopped}
+use Rattle.sm_shelf.specs.Laying.{nothing}
+use Rattle.sm_shelf.specs.Shelf.{Belongs, Desk}
+use Rattle.sm_show.specs.Marks.{HasShown}
+use Rattle.sm_players.specs.Wiring.{Wires}
+use Rattle.sm_run.specs.declared.fault.ShowFault.{ShowFault}
+use Rattle.sm_run.specs.declared.fault.ShowFault.TheVariants as fault
+use Rattle.sm_run.specs.declared.showing.Ended.{Ended}
+use Rattle.sm_run.specs.Showing.{IsReady, IsSelectedWith, RunsShown, ShownFrom, StopsShort, WhyUnshown}
+use Rattle.sm_run.specs.Staff.{IsUnstaffed, Staff}
+
+-- a shelf with nothing belongs to each log
+pub nothing_belongs : (log : List Entry) → Belongs log (record { published = nothing; pending = [] })
+nothing_belongs log = ((0, omega arith, refl), λ k op below. absurd (omega (arith, below)))
+
+some_told : (a b : Option Image) → is_some a ≡ is_some b → IsSome a → IsSome b
+some_told None b e some = absurd (cc)
+some_told (Some x) None e some = absurd (cc)
+some_told (Some x) (Some y) e some = cc
+
+same_rose : (a b c : ℕ) → b ≡ a → Rose b c → Rose a c
+same_rose a b c e rose = subst (λ (n : ℕ). Rose n c) e rose
+
+later_rose : (a b c : ℕ) → a ≤ b → Rose b c → Rose a c
+later_rose a b c le rose =
+    let later = rose.later in
+    record { later = omega (arith, le, later); rose = λ last. (let now = rose.rose last in omega (arith, le, now)) }
+
+-- a run that began here began so on a site with fewer faults too
+begun_since : (old mid found : View) (first m : Machine) (channel : Option (List Track)) (base was : List Item) (h : History) → NoFewer old mid → found ≡ mid → first ≡ m → was ≡ base
+    → IsBegun found.disk_faults first channel was h → IsBegun old.disk_faults m channel base h
+begun_since old mid found first m channel base was h few is is_first is_base b = record {
+  counted = (let more = b.counted in let same = ap (λ (v : View). v.disk_faults) is in let less = few.disk in omega (arith, more, same, less));
+  first = b.first ∙ is_first;
+  base_is = b.base_is ∙ is_base;
+  items = b.items;
+  steps = b.steps;
+}
+
+-- from a state that is prepared the loop ran, and this was shown
+pub shown_from : {D : Type 0} (view : D → View) (leave : D → Image → Type 0) (left_at : D → ℕ → Image → Type 0) (ladder : Bool) (told told' : Option (List ℕ)) (turns : ℕ) (state : State) (d : D)
+    (state' : State) (d' : D) (after : State) (e : D) (end : Outcome) → IsPrepared view leave left_at ladder told told' state d state' d' → (view d').link_faults ≡ (view d).link_faults
+    → (end ≡ served.LinkFault → Rose (view d').link_faults (view e).link_faults)
+    → ((h : History) → Serves view leave left_at h state' d' → Served view leave left_at h end turns after e)
+    → ((h : History) → Serves view leave left_at h state' d' → IsSome (view d').contents → (desk : Desk) × (run : Served view leave left_at h end turns after e) × HasShown h end run.later desk)
+    → ShownFrom view leave left_at ladder told told' turns state d e end
+shown_from view leave left_at ladder told told' turns state d state' d' after e end p same blamed runs shows = record {
+  from = record {
+    channel = p.channel;
+    input = p.input;
+    blamed = λ is. same_rose (view d).link_faults (view d').link_faults (view e).link_faults same (blamed is);
+    run = λ b serves none no_step. (let h = p.begun b serves none no_step in (h.0, h.1, h.2, (after, runs h.0 h.3)));
+  };
+  shown = λ some b serves none no_step.
+      let h = p.begun b serves none no_step in
+      let s = runs h.0 h.3 in
+      let here : is_told (view e) ≡ is_told (view d') = s.still_told ∙ ap (λ (v : View). is_told v) s.since.found ∙ sym h.3.keeps.still_told in
+      let x = shows h.0 h.3 (some_told (view e).contents (view d').contents here some) in
+      (h.0, h.1, h.2, (after, x.0, x.1, x.2));
+}
+
+-- ---- the whole
+
+pub runs_shown : {D : Type 0} (view : D → View) (leave : D → Image → Type 0) (left_at : D → ℕ → Image → Type 0) (pass : (d : D) → IfSome (view d).contents (leave d))
+    (at_now : (d : D) (c : Image) → left_at d (view d).moment c → leave d c) (now_at : (d : D) (c : Image) → leave d c → left_at d (view d).moment c)
+    (one_list : (xs ys : List (List ℕ)) (image : Image) → HasStore xs image → HasStore ys image → xs ≡ ys)
+    (one_log : (bodies : List (List ℕ)) (a b : List Entry) → Spell bodies a → Spell bodies b → a ≡ b)
+    (ladder : Bool) (told told' : Option (List ℕ)) (turns : ℕ) (state : State) (old mid new : D) (r : Result Ended ShowFault) → Found view leave state old mid
+    → Begins view leave left_at state mid → ((log : List Entry) → HasOneStore log (leave old) → AtEachMoment view left_at old mid (IsStore log))
+    → (view mid).transcript ≡ (view old).transcript → NoFewer (view old) (view mid)
+    → IfOk r (λ e. ShownFrom view leave left_at ladder told told' turns state mid new e.served) → IfOk r (λ e. RunsShown view leave left_at ladder told told' turns old new e.served)
+runs_shown view leave left_at pass at_now now_at one_list one_log ladder told told' turns state old mid new (Err why) f begin all same le s = tt
+runs_shown view leave left_at pass at_now now_at one_list one_log ladder told told' turns state old mid new (Ok e) f begin all same le s =
+    let early_is = λ (some : IsSome (view old).contents) (log : List Entry) (one : HasOneStore log (leave old)) (base : List Item) (is : (view old).transcript ≡ Some base).
+    serves_early view leave left_at pass at_now now_at one_list one_log state old mid f same begin some log one (all log one) base is in
+    record {
+      run = record {
+        machine = f.machine;
+        settled = f.settled;
+        store = f.store;
+        limits_are = f.limits_are;
+        channel = s.from.channel;
+        input = s.from.input;
+        blamed = λ is. later_rose (view old).link_faults (view mid).link_faults (view new).link_faults le.link (s.from.blamed is);
+        run = λ base is.
+            let b = begin f.machine base f.stands (same ∙ is) in
+            let h = s.from.run b.0 b.6 b.4 b.5 in
+            (h.0, begun_since (view old) (view mid) b.0.found b.0.first f.machine s.from.channel base b.0.base h.0 le b.7 b.1 b.3 h.2, h.3);
+        whole = λ some log one base is.
+            let h = s.from.run (early f.machine (view old).moment base (view mid)) (early_is some log one base is) refl refl in
+            (h.0, h.1, begun_since (view old) (view mid) (view mid) f.machine f.machine s.from.channel base base h.0 le refl refl refl h.2, h.3);
+      };
+      shown = λ some base is.
+          let b = begin f.machine base f.stands (same ∙ is) in
+          let h = s.shown some b.0 b.6 b.4 b.5 in
+          (h.0, begun_since (view old) (view mid) b.0.found b.0.first f.machine s.from.channel base b.0.base h.0 le b.7 b.1 b.3 h.2, h.3);
+      whole = λ some some_new log one base is.
+          let h = s.shown some_new (early f.machine (view old).moment base (view mid)) (early_is some log one base is) refl refl in
+          (h.0, h.1, begun_since (view old) (view mid) (view mid) f.machine f.machine s.from.channel base base h.0 le refl refl refl h.2, h.3);
+    }
+
+-- ---- a site that stays
+
+pub prepared_still : {D : Type 0} (view : D → View) (leave : D → Image → Type 0) (left_at : D → ℕ → Image → Type 0) (ladder : Bool) (input input' : Input) (state : State) (d : D) (after : State) (mid new : D)
+    → new ≡ mid → PrepareMeans view leave left_at ladder input input' state d after mid (Ok tt) → (x : State) × PrepareMeans view leave left_at ladder input input' state d x new (Ok tt)
+prepared_still {D} view leave left_at ladder input input' state d after mid new is means =
+    (after, subst (λ (x : D). PrepareMeans view leave left_at ladder input input' state d after x (Ok tt)) (sym is) means)
+
+pub lasts_still : {D : Type 0} (view : D → View) (left_at : D → ℕ → Image → Type 0) (h : History) (mid new : D) → new ≡ mid → RunLasts view left_at h mid → RunLasts view left_at h new
+lasts_still {D} view left_at h mid new is lasts = subst (λ (x : D). RunLasts view left_at h x) (sym is) lasts
+
+more_counts : (a b c : View) → NoFewer a b → NoFewer b c → NoFewer a c
+more_counts a b c first second =
+    let disk = first.disk in
+    let disk_yet = second.disk in
+    let link = first.link in
+    let link_yet = second.link in
+    record { disk = omega (arith, disk, disk_yet); link = omega (arith, link, link_yet) }
+
+-- behind the opening no event was waited for
+pub why_short : {D : Type 0} (view : D → View) (leave : D → Image → Type 0) (left_at : D → ℕ → Image → Type 0) (ladder : Bool) (wires : Wires) (input input' : Input) (staff staff' : Staff) (state : State) (old mid new : D)
+    (r : Result Ended ShowFault) → Found view leave state old mid → NoFewer (view old) (view mid) → (view mid).transcript ≡ (view old).transcript → Begins view leave left_at state mid
+    → IfErr r (λ why. StopsShort view leave left_at ladder wires input input' staff staff' state mid new why) → OnErr r ((view new).transcript ≡ (view mid).transcript) → OnErr r (NoFewer (view mid) (view new))
+    → input.faults ≤ input'.faults → IfErr r (λ why. WhyUnshown view leave left_at ladder wires input input' staff staff' old new why)
+why_short view leave left_at ladder wires input input' staff staff' state old mid new (Ok e) f few silent begin h still counts counted = tt
+why_short view leave left_at ladder wires input input' staff staff' state old mid new (Err (fault.Store why)) f few silent begin h still counts counted =
+    (why_stopped view leave left_at ladder input input' state old mid new (Err why) f few silent begin h.0 still counts counted, h.1)
+why_short view leave left_at ladder wires input input' staff staff' state old mid new (Err (fault.Spawn why)) f few silent begin h still counts counted = (
+  record {
+    state = state;
+    opened = mid;
+    found = f;
+    begins = begin;
+    after = h.0.0;
+    means = h.0.1;
+    silent = still ∙ silent;
+    no_fewer = more_counts (view old) (view mid) (view new) few counts;
+  },
+  h.1,
+)
+
+-- what was chosen stays
+pub selected_with : (r : Result Ended ShowFault) (chosen : Chosen) (v w : View) → v.chosen ≡ Some chosen → w.chosen ≡ v.chosen → IsSelectedWith r chosen w
+selected_with (Ok e) chosen v w is same = same ∙ is
+selected_with (Err (fault.Spawn why)) chosen v w is same = same ∙ is
+selected_with (Err (fault.Store why)) chosen v w is same = inl (same ∙ is)

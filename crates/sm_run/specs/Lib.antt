@@ -1,0 +1,4 @@
+pub mod Staff
+pub mod Showing
+pub mod Telling
+pub mod Runs

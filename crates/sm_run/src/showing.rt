@@ -1,0 +1,138 @@
+//! The loop beside player threads.
+ghost use Rattle.std.specs.Prelude.{◌≡◌, ◌≤◌, ◌<◌, ◌⊎◌, ◌+◌, ℕ, Some, IfOk, IfErr, IsErrOf, OnErr, OnOk, IsSome, is_some, length};
+ghost use Rattle.sm_site.specs.Clauses.{Rose};
+ghost use Rattle.sm_origin.specs.Machine.{Machine};
+ghost use Rattle.sm_serve.specs.Standing.{History, StandsOn};
+ghost use Rattle.sm_serve.specs.Serving.{Known, Serves, Served as HasServed};
+ghost use Rattle.sm_serve.specs.declared.outcome.Served.TheVariants as served;
+ghost use Rattle.sm_shelf.specs.Shelf.{Belongs, Desk};
+ghost use Rattle.sm_show.specs.Marks.{HasShown};
+ghost use Rattle.sm_players.specs.declared.spawner.SpawnError.TheVariants.{Failed};
+ghost use Rattle.sm_run.specs.Staff.{IsStaffed, IsUnstaffed};
+
+use crate::staffing::start_all;
+use sm_model::NoMemory;
+use sm_players::{Finished, SpawnError, Spawner, Wiring};
+use sm_serve::{Served, State};
+use sm_shelf::{Readers, ShelfWriter, make};
+use sm_show::serve_shown;
+use sm_site::Site;
+use std::alloc::Global;
+use std::sync::Wait;
+
+/// How the loop ended, and how its players did.
+#[derive(Debug, Drop)]
+pub struct Ended {
+    pub served: Served,
+    pub finished: Finished,
+}
+
+// Starts the players, and serves beside them.
+fn serve_beside<R: Wait, S: Site, P: Spawner>(
+    rt: &R,
+    site: &mut S,
+    state: &mut State,
+    spawner: &mut P,
+    writer: &mut ShelfWriter,
+    readers: Readers,
+    wiring: Wiring,
+    turns: u64,
+) -> Result<Served, SpawnError>
+    requires stands { (m : Machine) × StandsOn S.Disk.view S.Disk.may_leave m state.old.origin site.old }
+    requires known { Known S.Disk.view S.Disk.may_leave S.Disk.left_at state.old site.old }
+    requires port { wiring.port ≤ 65534 }
+    requires some { 0 < length readers }
+    ensures runs { IfOk result (λ end. (h : History) → Serves S.Disk.view S.Disk.may_leave S.Disk.left_at h state.old site.old
+        → HasServed S.Disk.view S.Disk.may_leave S.Disk.left_at h end turns state.new site.new) }
+    ensures shown { IfOk result (λ end. (h : History) → Serves S.Disk.view S.Disk.may_leave S.Disk.left_at h state.old site.old → IsSome (S.Disk.view site.old).contents
+        → Belongs h.point.machine.log writer.old
+        → (run : HasServed S.Disk.view S.Disk.may_leave S.Disk.left_at h end turns state.new site.new) × HasShown h end run.later writer.new) }
+    ensures link_faults { (S.Disk.view site.old).link_faults ≤ (S.Disk.view site.new).link_faults }
+    ensures link_fault { IfOk result (λ end. end ≡ served.LinkFault → Rose (S.Disk.view site.old).link_faults (S.Disk.view site.new).link_faults) }
+    ensures site_chosen { (S.Disk.view site.new).chosen ≡ (S.Disk.view site.old).chosen }
+    ensures started { OnOk result (P.started spawner.new ≡ P.started spawner.old + length readers) }
+    ensures wires { OnOk result (P.chosen spawner.new ≡ Some wiring) }
+    ensures few { OnErr result (P.started spawner.new < P.started spawner.old + length readers) }
+    ensures no_fewer { P.started spawner.old ≤ P.started spawner.new }
+    ensures running { P.running spawner.new + P.started spawner.old ≡ P.running spawner.old + P.started spawner.new }
+    ensures failed { IsErrOf result Failed → Rose (P.spawn_faults spawner.old) (P.spawn_faults spawner.new) }
+    ensures later { P.spawn_faults spawner.old ≤ P.spawn_faults spawner.new }
+    ensures idle { OnErr result ((site.new ≡ site.old) × (state.new ≡ state.old)) }
+{
+    spawner.select(wiring)?;
+    start_all(spawner, readers)?;
+    Ok(serve_shown(rt, site, state, writer, turns))
+}
+
+/// Serves a store that is ready, beside so many players: they are started before the first event, and asked to end and joined behind the last
+/// one. Where not all of them start, those that run are joined, and no event is waited for.
+pub fn show<R: Wait, S: Site, P: Spawner>(
+    rt: &R,
+    alloc: Global,
+    site: &mut S,
+    state: &mut State,
+    spawner: &mut P,
+    wiring: Wiring,
+    turns: u64,
+) -> Result<Ended, SpawnError>
+    requires stands { (m : Machine) × StandsOn S.Disk.view S.Disk.may_leave m state.old.origin site.old }
+    requires known { Known S.Disk.view S.Disk.may_leave S.Disk.left_at state.old site.old }
+    requires port { wiring.port ≤ 65534 }
+    requires players { (0 < wiring.players) × (wiring.players ≤ 16) }
+    ensures runs { IfOk result (λ e. (h : History) → Serves S.Disk.view S.Disk.may_leave S.Disk.left_at h state.old site.old
+        → HasServed S.Disk.view S.Disk.may_leave S.Disk.left_at h e.served turns state.new site.new) }
+    ensures shown { IfOk result (λ e. (h : History) → Serves S.Disk.view S.Disk.may_leave S.Disk.left_at h state.old site.old → IsSome (S.Disk.view site.old).contents
+        → (desk : Desk) × (run : HasServed S.Disk.view S.Disk.may_leave S.Disk.left_at h e.served turns state.new site.new) × HasShown h e.served run.later desk) }
+    ensures link_fault { IfOk result (λ e. e.served ≡ served.LinkFault → Rose (S.Disk.view site.old).link_faults (S.Disk.view site.new).link_faults) }
+    ensures staffed { IfOk result (λ e. IsStaffed wiring
+        (record {
+          faults = P.spawn_faults spawner.old;
+          started = P.started spawner.old;
+          running = P.running spawner.old;
+          chosen = P.chosen spawner.old;
+          counted = P.counted spawner.old;
+        })
+        (record {
+          faults = P.spawn_faults spawner.new;
+          started = P.started spawner.new;
+          running = P.running spawner.new;
+          chosen = P.chosen spawner.new;
+          counted = P.counted spawner.new;
+        }) e.finished) }
+    ensures why { IfErr result (λ why. IsUnstaffed wiring
+        (record {
+          faults = P.spawn_faults spawner.old;
+          started = P.started spawner.old;
+          running = P.running spawner.old;
+          chosen = P.chosen spawner.old;
+          counted = P.counted spawner.old;
+        })
+        (record {
+          faults = P.spawn_faults spawner.new;
+          started = P.started spawner.new;
+          running = P.running spawner.new;
+          chosen = P.chosen spawner.new;
+          counted = P.counted spawner.new;
+        }) why) }
+    ensures idle { OnErr result ((site.new ≡ site.old) × (state.new ≡ state.old)) }
+    ensures site_chosen { (S.Disk.view site.new).chosen ≡ (S.Disk.view site.old).chosen }
+{
+    let Ok((writer, readers)) = make(rt, alloc, wiring.players) else {
+        return Err(SpawnError::NoMemory);
+    };
+    let mut writer = writer;
+    let ended = serve_beside(
+        rt,
+        site,
+        state,
+        spawner,
+        &mut writer,
+        readers,
+        wiring,
+        turns,
+    );
+    let finished = spawner.finish();
+    writer.end(rt);
+    let served = ended?;
+    Ok(Ended { served, finished })
+}
