@@ -1,0 +1,194 @@
+//! The spawner over sockets.
+ghost use Rattle.std.specs.Prelude.{◌≡◌, ◌≤◌, ◌<◌, IsErrOf, vec_len, vec_capacity};
+ghost use Rattle.sm_site.specs.Clauses.{Rose};
+
+use crate::listeners::Listeners;
+use crate::loop_forward::LoopForward;
+use sm_model::NoMemory;
+use sm_players::{Crew, Finished, NoGate, Parts, Played, SpawnError, Spawner, Stop, Wiring};
+use sm_real::{Doing, OpenFault, Sharing, TcpLink, Trouble};
+use std::alloc::Global;
+use std::io;
+use std::net::{Net, TcpListener, TcpStream};
+use std::thread::{JoinHandle, Threads};
+use std::time::Clock;
+
+/// The connections of one player.
+const MOST: usize = 16;
+
+/// The most events of a player: no run uses them up.
+const TURNS: u64 = 9_223_372_036_854_775_807;
+
+/// A spawner whose players answer viewers at the port behind the loop's. All of them take connections of the same listener, each up to 16, and
+/// further ones only while every one has as many: then a player refuses them. What isn't published any more they ask at the loop's port.
+///
+/// It serves one selection: once `finish` has asked its players to end, those that are started later end too.
+#[derive(Drop)]
+pub struct RealCrew<
+    R: Threads + Net<Listener = TcpListener, Stream = TcpStream> + Clock + Copy + Drop,
+> {
+    rt: R,
+    alloc: Global,
+    stop: Stop,
+    crew: Crew<R, TcpLink<R>, LoopForward<R>, NoGate>,
+    trouble: Option<Trouble>,
+}
+
+impl<R: Threads + Net<Listener = TcpListener, Stream = TcpStream> + Clock + Copy + Drop> RealCrew<
+    R,
+> {
+    /// Without wires, as it is before `select`.
+    pub fn new(rt: R, alloc: Global) -> Result<RealCrew<R>, NoMemory> {
+        let stop = Stop::new(alloc)?;
+        let crew = Crew::new(alloc, rt, stop.copy()?, TURNS);
+        Ok(RealCrew {
+            rt,
+            alloc,
+            stop,
+            crew,
+            trouble: None,
+        })
+    }
+
+    /// What the system refused when wires were wanted.
+    pub fn trouble(&self) -> Option<Trouble> {
+        self.trouble
+    }
+
+    // What an error of the system comes to; what it said is kept.
+    fn refused(&mut self, port: u16, error: io::Error) -> OpenFault
+        ensures crew { self.new.crew ≡ self.old.crew }
+    {
+        let fault = OpenFault::of(&error);
+        self.trouble = Some(Trouble::new(Doing::Listening(port), error));
+        fault
+    }
+
+    // Listens at the port behind that of the loop.
+    fn listen(&mut self, wiring: &Wiring, port: u16) -> Result<Listeners, OpenFault>
+        ensures crew { self.new.crew ≡ self.old.crew }
+    {
+        match Listeners::open(&self.rt, wiring.bind.as_deref(), port) {
+            Ok(listeners) => Ok(listeners),
+            Err(e) => Err(self.refused(port, e)),
+        }
+    }
+}
+
+impl<R: Threads + Net<Listener = TcpListener, Stream = TcpStream> + Clock + Copy + Drop> RealCrew<
+    R,
+> {
+    // Makes the parts of one player.
+    fn add(
+        &mut self,
+        wiring: &Wiring,
+        port: u16,
+        listeners: Listeners,
+        sharing: Sharing,
+    ) -> Result<(), OpenFault>
+        ensures started { self.new.crew.started ≡ self.old.crew.started }
+        ensures handles { self.new.crew.handles ≡ self.old.crew.handles }
+        ensures faults { self.new.crew.faults ≡ self.old.crew.faults }
+    {
+        let mut link = TcpLink::new(self.rt, self.alloc);
+        if let Err(e) = link.share(listeners.first, listeners.second, sharing) {
+            return Err(self.refused(port, e));
+        }
+        let forward = LoopForward::new(self.rt, self.alloc, wiring.bind.as_deref(), wiring.port)?;
+        Ok(self.crew.add(link, forward, NoGate)?)
+    }
+}
+
+impl<R: Threads + Net<Listener = TcpListener, Stream = TcpStream> + Clock + Copy + Drop> RealCrew<
+    R,
+> {
+    // Makes the parts of all players.
+    fn wire(&mut self, wiring: &Wiring) -> Result<(), OpenFault>
+        requires { wiring.now.port ≤ 65534 }
+        ensures started { self.new.crew.started ≡ self.old.crew.started }
+        ensures handles { self.new.crew.handles ≡ self.old.crew.handles }
+        ensures faults { self.new.crew.faults ≡ self.old.crew.faults }
+    {
+        let port = wiring.port + 1;
+        let listeners = self.listen(wiring, port)?;
+        let players = u64::from(wiring.players);
+        let sharing = Sharing::new(self.alloc, players, MOST, self.stop.flag()?)?;
+        for _ in 0..wiring.players {
+            let copy = match listeners.copy() {
+                Ok(copy) => copy,
+                Err(e) => return Err(self.refused(port, e)),
+            };
+            self.add(wiring, port, copy, sharing.another()?)?;
+        }
+        Ok(())
+    }
+}
+
+impl<
+    R: Threads
+        + Net<Listener = TcpListener, Stream = TcpStream>
+        + Clock
+        + Copy
+        + Drop
+        + Send
+        + 'static,
+> Spawner for RealCrew<R> {
+    type Runtime = R;
+
+    type Wire = TcpLink<R>;
+
+    type Forward = LoopForward<R>;
+
+    type Gate = NoGate;
+
+    ghost spawn_faults = { λ c. c.crew.faults };
+
+    ghost started = { λ c. c.crew.started };
+
+    ghost running = { λ c. vec_len c.crew.handles };
+
+    ghost chosen = { λ c. c.crew.wiring };
+
+    ghost counted = { λ c. c.crew.finished };
+
+    ghost has_room = { λ c. (vec_len c.crew.handles < vec_capacity c.crew.handles) × (vec_len c.crew.handles < 4294967295) × (c.crew.started < 18446744073709551615) };
+
+    fn select(&mut self, wiring: Wiring) -> Result<(), SpawnError> {
+        match self.wire(&wiring) {
+            Ok(()) => self.crew.select(wiring),
+            Err(OpenFault::NoMemory) => Err(SpawnError::NoMemory),
+            Err(OpenFault::Failed) => {
+                self.crew.count_fault();
+                Err(SpawnError::Failed)
+            }
+        }
+    }
+
+    fn runtime(&self) -> &R {
+        &self.rt
+    }
+
+    fn allocator(&self) -> Global {
+        self.alloc
+    }
+
+    fn turns(&self) -> u64 {
+        TURNS
+    }
+
+    fn prepare(&mut self) -> Result<Parts<TcpLink<R>, LoopForward<R>, NoGate>, SpawnError> {
+        self.crew.prepare()
+    }
+
+    fn keep(&mut self, handle: JoinHandle<Played>) {
+        self.crew.keep(handle);
+    }
+
+    fn count_fault(&mut self) {
+        self.crew.count_fault();
+    }
+
+    fn finish(&mut self) -> Finished {
+        self.crew.finish()
+    }
+}
