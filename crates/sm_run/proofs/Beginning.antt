@@ -95,17 +95,18 @@ runs_shown view leave left_at pass at_now now_at one_list one_log ladder told to
     serves_early view leave left_at pass at_now now_at one_list one_log state old mid f same begin some log one (all log one) base is in
     record {
       run = record {
-        machine = f.machine;
-        settled = f.settled;
-        store = f.store;
-        limits_are = f.limits_are;
+        start = state;
+        opened = mid;
+        found = f;
+        no_fewer = le;
+        silent = same;
         channel = s.from.channel;
         input = s.from.input;
         blamed = λ is. later_rose (view old).link_faults (view mid).link_faults (view new).link_faults le.link (s.from.blamed is);
         run = λ base is.
             let b = begin f.machine base f.stands (same ∙ is) in
             let h = s.from.run b.0 b.6 b.4 b.5 in
-            (h.0, begun_since (view old) (view mid) b.0.found b.0.first f.machine s.from.channel base b.0.base h.0 le b.7 b.1 b.3 h.2, h.3);
+            (h.0, h.1 ∙ b.2, begun_since (view old) (view mid) b.0.found b.0.first f.machine s.from.channel base b.0.base h.0 le b.7 b.1 b.3 h.2, h.3);
         whole = λ some log one base is.
             let h = s.from.run (early f.machine (view old).moment base (view mid)) (early_is some log one base is) refl refl in
             (h.0, h.1, begun_since (view old) (view mid) (view mid) f.machine f.machine s.from.channel base base h.0 le refl refl refl h.2, h.3);
@@ -113,7 +114,7 @@ runs_shown view leave left_at pass at_now now_at one_list one_log ladder told to
       shown = λ some base is.
           let b = begin f.machine base f.stands (same ∙ is) in
           let h = s.shown some b.0 b.6 b.4 b.5 in
-          (h.0, begun_since (view old) (view mid) b.0.found b.0.first f.machine s.from.channel base b.0.base h.0 le b.7 b.1 b.3 h.2, h.3);
+          (h.0, h.1 ∙ b.2, begun_since (view old) (view mid) b.0.found b.0.first f.machine s.from.channel base b.0.base h.0 le b.7 b.1 b.3 h.2, h.3);
       whole = λ some some_new log one base is.
           let h = s.shown some_new (early f.machine (view old).moment base (view mid)) (early_is some log one base is) refl refl in
           (h.0, h.1, begun_since (view old) (view mid) (view mid) f.machine f.machine s.from.channel base base h.0 le refl refl refl h.2, h.3);

@@ -49,10 +49,11 @@ pub record RunsShown {D : Type 0} (view : D → View) (leave : D → Image → T
     (told told' : Option (List ℕ)) (turns : ℕ) (old new : D) (end : Outcome) : Type 0 where
   pub run : HasRun view leave left_at ladder told told' turns old new end
   pub shown : IsSome (view new).contents → (base : List Item) → (view old).transcript ≡ Some base
-      → (h : History) × IsBegun (view old).disk_faults run.machine run.channel base h × ShowsRun view leave left_at h end turns new
+      → (h : History) × (h.begin ≡ (view run.opened).moment) × IsBegun (view old).disk_faults run.found.machine run.channel base h
+      × ShowsRun view leave left_at h end turns new
   pub whole : IsSome (view old).contents → IsSome (view new).contents → (log : List Entry) → HasOneStore log (leave old) → (base : List Item)
       → (view old).transcript ≡ Some base → (h : History) × (h.begin ≡ (view old).moment)
-      × IsBegun (view old).disk_faults run.machine run.channel base h × ShowsRun view leave left_at h end turns new
+      × IsBegun (view old).disk_faults run.found.machine run.channel base h × ShowsRun view leave left_at h end turns new
 
 -- The store was opened, and what was asked of a ladder was done. Nothing was taken from the link, and nothing was sent.
 pub record IsReady {D : Type 0} (view : D → View) (leave : D → Image → Type 0) (left_at : D → ℕ → Image → Type 0) (ladder : Bool) (input input' : Input)
