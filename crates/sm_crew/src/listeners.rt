@@ -48,9 +48,12 @@ fn alone(net: &impl Net, address: SocketAddr) -> io::Result<Listeners> {
     })
 }
 
-// At all addresses of IPv4, and at those of IPv6 beside them. Where there is no IPv4 those of IPv6 alone are taken.
+// At all addresses of IPv4, and at those of IPv6 beside them, by one listener where it takes both. Where there is no IPv4 those of IPv6 alone are taken.
 fn everywhere(net: &impl Net, port: u16) -> io::Result<Listeners> {
     let six = SocketAddr::from((Ipv6Addr::UNSPECIFIED, port));
+    if takes_both(net) {
+        return alone(net, six);
+    }
     match bound(net, SocketAddr::from((Ipv4Addr::UNSPECIFIED, port))) {
         Ok(first) => widened(net, first, six),
         Err(e) if e.kind() == ErrorKind::AddrInUse => Err(e),
@@ -58,22 +61,30 @@ fn everywhere(net: &impl Net, port: u16) -> io::Result<Listeners> {
     }
 }
 
-// Where the system lets a listener of IPv6 take both, the one of IPv4 is in its way: so that of IPv6 alone is taken, if it can be had. Where
-// there is no IPv6 the one of IPv4 goes on.
+// Where another process has the addresses of IPv6 that is a failure. Where there is no IPv6 the listener of IPv4 goes on.
 fn widened(net: &impl Net, first: TcpListener, six: SocketAddr) -> io::Result<Listeners> {
-    match bound(net, six) {
-        Ok(second) => Ok(Listeners {
-            first,
-            second: Some(second),
-        }),
-        Err(e) if e.kind() == ErrorKind::AddrInUse => {
-            drop(first);
-            alone(net, six)
-        }
-        Err(_) => Ok(Listeners {
-            first,
-            second: None,
-        }),
+    let second = match bound(net, six) {
+        Ok(second) => Some(second),
+        Err(e) if e.kind() == ErrorKind::AddrInUse => return Err(e),
+        Err(_) => None,
+    };
+    Ok(Listeners { first, second })
+}
+
+// Whether listeners of IPv6 take connections of IPv4 too, as the system has it: tried at a port that nobody was told of.
+fn takes_both(net: &impl Net) -> bool {
+    let Ok(six) = bound(net, SocketAddr::from((Ipv6Addr::UNSPECIFIED, 0))) else {
+        return false;
+    };
+    let Ok(address) = six.local_addr() else {
+        return false;
+    };
+    match bound(
+        net,
+        SocketAddr::from((Ipv4Addr::UNSPECIFIED, address.port())),
+    ) {
+        Ok(_) => false,
+        Err(e) => e.kind() == ErrorKind::AddrInUse,
     }
 }
 
