@@ -1,26 +1,30 @@
-//! The program `smooth`: a live origin and client for Smooth Streaming. It picks a fragment out of an input, serves a store and
-//! lists it, pushes an input to an origin, plays streams of one, and rehearses both together.
+//! The program `smooth`: a live origin and client for Smooth Streaming. It picks a fragment out of an input, serves a store, beside player
+//! threads if asked for, and lists it, pushes an input to an origin, plays streams of one, and rehearses both together.
 #![tactic(auto)]
 
 ghost use Rattle.std.specs.Prelude.{◌≡◌, length, map, string_bytes};
 ghost use Rattle.std.specs.Option.{option_map};
 ghost use Rattle.std.specs.Process.{exit_status};
 ghost use Rattle.std.specs.Result.{result_ok};
-ghost use Rattle.sm_tool.specs.Ran.{EndsAs};
+ghost use Rattle.sm_run.specs.Runs.{EndsAs};
 
 mod std_ends;
 
+use sm_crew::RealCrew;
 use sm_ends::{Sink, Source, Tracks};
 use sm_fetch::Dial;
 use sm_model::NoMemory;
+use sm_players::Spawner;
 use sm_policy::{Fixed, Ladder, Policy, Steps};
 use sm_real::{FileTracks, RealSite, TcpDial, Trouble};
+use sm_run::run;
 use sm_site::Site;
-use sm_tool::{starved, tool};
+use sm_tool::starved;
 use std::alloc::Global;
 use std::env;
 use std::io::ErrorKind;
 use std::process::ExitCode;
+use std::sync::Wait;
 use std_ends::{StdSink, StdSource};
 
 // The words behind the program's name. Where one of them is no text they are none of a command, and so are no words at all.
@@ -39,7 +43,8 @@ fn words_of(rt: &HostRuntime) -> Result<Vec<String>, NoMemory> {
 }
 
 // Runs the command that the words name, and ends with its status. Without memory for the words that alone is told.
-fn run<I: Source, O: Sink, S: Site, C: Dial, T: Tracks>(
+fn run_words<R: Wait, I: Source, O: Sink, S: Site, C: Dial, T: Tracks, P: Spawner>(
+    rt: &R,
     alloc: Global,
     words: Result<Vec<String>, NoMemory>,
     input: &mut I,
@@ -47,6 +52,7 @@ fn run<I: Source, O: Sink, S: Site, C: Dial, T: Tracks>(
     site: &mut S,
     dial: &mut C,
     tracks: &mut T,
+    crew: &mut P,
     policies: Vec<Box<dyn Policy>>,
 ) -> ExitCode
     requires policies { length policies.items ≡ 3 }
@@ -65,12 +71,28 @@ fn run<I: Source, O: Sink, S: Site, C: Dial, T: Tracks>(
           tracks = record { held = T.held tracks.new; faults = T.faults tracks.new };
         })
         (record { told = O.held output.old; faults = O.faults output.old })
-        (record { told = O.held output.new; faults = O.faults output.new }) site.old site.new dial.old dial.new (exit_status result) }
+        (record { told = O.held output.new; faults = O.faults output.new }) site.old site.new dial.old dial.new
+        (record {
+          faults = P.spawn_faults crew.old;
+          started = P.started crew.old;
+          running = P.running crew.old;
+          chosen = P.chosen crew.old;
+          counted = P.counted crew.old;
+        })
+        (record {
+          faults = P.spawn_faults crew.new;
+          started = P.started crew.new;
+          running = P.running crew.new;
+          chosen = P.chosen crew.new;
+          counted = P.counted crew.new;
+        }) (exit_status result) }
     ensures goes_on { C.later dial.old dial.new }
 {
     match words {
         Ok(words) => {
-            let status = tool(alloc, &words, input, output, site, dial, tracks, policies);
+            let status = run(
+                rt, alloc, &words, input, output, site, dial, tracks, crew, policies,
+            );
             ExitCode::from(status)
         }
         Err(NoMemory) => ExitCode::from(starved(output)),
@@ -100,6 +122,10 @@ fn main(rt: HostRuntime) -> ExitCode {
     let mut site = RealSite::new(&rt, rt.alloc());
     let mut dial = TcpDial::new(&rt, rt.alloc());
     let mut tracks = FileTracks::new(&rt, rt.alloc());
+    let Ok(crew) = RealCrew::new(rt, rt.alloc()) else {
+        return end_starved(&mut output);
+    };
+    let mut crew = crew;
     let words = words_of(&rt);
     let Ok(steps) = Box::new(rt.alloc(), Steps::new()) else {
         return end_starved(&mut output);
@@ -116,7 +142,8 @@ fn main(rt: HostRuntime) -> ExitCode {
     let Ok(policies) = vec![in rt.alloc(); steps, ladder, fixed] else {
         return end_starved(&mut output);
     };
-    let status = run(
+    let status = run_words(
+        &rt,
         rt.alloc(),
         words,
         &mut input,
@@ -124,6 +151,7 @@ fn main(rt: HostRuntime) -> ExitCode {
         &mut site,
         &mut dial,
         &mut tracks,
+        &mut crew,
         policies,
     );
     site.end();
@@ -134,6 +162,7 @@ fn main(rt: HostRuntime) -> ExitCode {
         (7, output.trouble()),
         (7, tracks.trouble()),
         (8, site.link_trouble()),
+        (8, crew.trouble()),
         (8, dial.trouble()),
     ];
     tell(&rt, status, &troubles);
