@@ -9,6 +9,8 @@ use Rattle.sm_serve.specs.Connections.{deals_in}
 use Rattle.sm_serve.specs.Standing.{History}
 use Rattle.sm_serve.specs.Serving.{Since}
 use Rattle.sm_shelf.specs.Shelf.{Desk, Belongs, IsFront}
+use Rattle.sm_show.specs.declared.outcome.Lack.{Lack}
+use Rattle.sm_show.specs.declared.outcome.Lack.TheVariants as lack
 use Rattle.sm_show.specs.declared.outcome.Up.{Up}
 use Rattle.sm_show.specs.declared.outcome.Up.TheVariants.{Whole, Behind, Short}
 
@@ -34,6 +36,11 @@ abbrev pub Follow : History → List Mark → History → Type 0
 Follow from [] to = to ≡ from
 Follow from (m ∷ ms) to =
     Since from m.turned × ((deal : Deal) × (deals_in m.turned.items ≡ deals_in from.items ++ deal ∷ [])) × IsMark m × Follow m.behind ms to
+
+-- what a lack makes of the shelf
+abbrev pub up_by : Lack → Up
+up_by lack.Disk = Behind
+up_by lack.NoMemory = Short
 
 abbrev pub behind_by : Up → ℕ
 behind_by Whole = 0

@@ -1,5 +1,5 @@
 -- What reading back does to a run, and what it gives.
-use Rattle.std.specs.Prelude.{◌≡◌, ◌≤◌, ◌<◌, ◌⊎◌, ◌++◌, ℕ, List, [], All, Option, Some, IsSome, is_some, IsTrue, length, map, slice_get}
+use Rattle.std.specs.Prelude.{◌≡◌, ◌≤◌, ◌<◌, ◌⊎◌, ◌++◌, ℕ, List, [], All, Option, Some, IsSome, is_some, IsTrue, length, map, slice_get, Result, Ok, Err}
 use Rattle.sm_model.specs.declared.entry.Entry.{Entry}
 use Rattle.sm_model.specs.declared.entry.Entry.TheVariants.{Keep}
 use Rattle.sm_model.specs.declared.fragment.Fragment.{Fragment}
@@ -11,12 +11,16 @@ use Rattle.sm_catalog.specs.Content.{Content}
 use Rattle.sm_site.specs.Image.{Image}
 use Rattle.sm_site.specs.Meanings.{View, SameLink}
 use Rattle.sm_archive.specs.declared.archive.Archive.{Archive}
+use Rattle.sm_archive.specs.declared.fetch.Fetched.{Fetched}
+use Rattle.sm_archive.specs.declared.fetch.Fetched.TheVariants as fetched
 use Rattle.sm_archive.specs.Stands.{Keeps}
 use Rattle.sm_archive.specs.Looking.{ShowsCatalog}
 use Rattle.sm_serve.specs.declared.state.State.{State}
 use Rattle.sm_serve.specs.Standing.{History, is_told}
 use Rattle.sm_serve.specs.Serving.{Serves, Since}
 use Rattle.sm_shelf.specs.Parts.{IsEnd, addresses_in}
+use Rattle.sm_show.specs.declared.outcome.Lack.{Lack}
+use Rattle.sm_show.specs.declared.outcome.Lack.TheVariants as lack
 
 -- The run goes on by steps alone that no connection asks for. They leave the log, where the disk tells its contents.
 pub record Rests {D : Type 0} (view : D → View) (leave : D → Image → Type 0) (left_at : D → ℕ → Image → Type 0) (h : History) (state : State) (d : D)
@@ -57,3 +61,11 @@ pub record IsEndOf {D : Type 0} (view : D → View) (leave : D → Image → Typ
   pub last : IsEnd (addresses_in adds) (map address_of fs)
   pub kept : (h : History) → Serves view leave left_at h state old → IsSome (view old).contents → (front : List Fragment)
       × (keeps_of h.point.machine.log ≡ front ++ fs) × ((front ≡ []) ⊎ (67108864 < bytes_of fs))
+
+-- what was fetched, or why it isn't there; one that is absent is not asked for
+abbrev pub had_of : Fetched → Result Fragment Lack
+had_of (fetched.Found place f) = Ok f
+had_of fetched.Absent = Err lack.NoMemory
+had_of fetched.DiskFault = Err lack.Disk
+had_of fetched.Damaged = Err lack.Disk
+had_of fetched.NoMemory = Err lack.NoMemory

@@ -4,7 +4,8 @@ ghost use Rattle.sm_model.specs.declared.fragment.Fragment.{Fragment};
 ghost use Rattle.sm_archive.specs.declared.fetch.Fetched.TheVariants.{Found, DiskFault, Damaged};
 ghost use Rattle.sm_show.specs.declared.outcome.Lack.TheVariants as lack;
 ghost use Rattle.sm_show.specs.declared.outcome.Up.TheVariants.{Whole, Behind};
-ghost use Rattle.sm_show.specs.Marks.{behind_by, short_by};
+ghost use Rattle.sm_show.specs.Marks.{behind_by, short_by, up_by};
+ghost use Rattle.sm_show.specs.Recalling.{had_of};
 
 use sm_archive::Fetched;
 use sm_model::Fragment;
@@ -31,6 +32,7 @@ pub enum Up {
 
 /// What a lack makes of the shelf.
 pub fn up_of(why: Lack) -> Up
+    ensures value { result ≡ up_by why }
     ensures lacks { result ≢ Whole }
     ensures behind { result ≡ Behind → why ≡ lack.Disk }
 {
@@ -42,6 +44,7 @@ pub fn up_of(why: Lack) -> Up
 
 /// The fragment that was fetched. One that is absent is not asked for.
 pub fn fragment_in(fetched: Fetched) -> Result<Fragment, Lack>
+    ensures value { result ≡ had_of fetched }
     ensures found { (f : Fragment) → result ≡ Ok f → (place : ℕ) × (fetched ≡ Found place f) }
     ensures disk { IsErrOf result lack.Disk → (fetched ≡ DiskFault) ⊎ (fetched ≡ Damaged) }
 {
