@@ -14,14 +14,17 @@ use Rattle.sm_serve.specs.declared.state.State.{State}
 use Rattle.sm_serve.specs.declared.outcome.Served.{Served as Outcome}
 use Rattle.sm_serve.specs.declared.outcome.Served.TheVariants as served
 use Rattle.sm_serve.specs.Standing.{History, StandsOn, is_told}
-use Rattle.sm_serve.specs.Serving.{Begins, Serves, Served}
+use Rattle.sm_serve.specs.Connections.{deals_in, events_in}
+use Rattle.sm_serve.specs.Serving.{Begins, EndsAs, Known, Serves, Served}
 use Rattle.sm_command.specs.declared.fault.StoreFault.{StoreFault}
 use Rattle.sm_command.specs.Lasting.{AtEachMoment, NoFewer}
-use Rattle.sm_command.specs.Serving.{Input, Found, IsBegun, PrepareMeans, RunLasts}
+use Rattle.sm_command.specs.Serving.{Input, Found, GoesUnseen, IsBegun}
 use Rattle.sm_command.proofs.Starting.{IsPrepared, early, serves_early, why_stopped}
 use Rattle.sm_shelf.specs.Laying.{nothing}
 use Rattle.sm_shelf.specs.Shelf.{Belongs, Desk}
 use Rattle.sm_show.specs.Marks.{HasShown}
+use Rattle.sm_show.specs.Recalling.{Recalls, Rests}
+use Rattle.sm_show.proofs.Resting.{since_then}
 use Rattle.sm_players.specs.Wiring.{Wires}
 use Rattle.sm_run.specs.declared.fault.ShowFault.{ShowFault}
 use Rattle.sm_run.specs.declared.fault.ShowFault.TheVariants as fault
@@ -38,8 +41,8 @@ some_told None b e some = absurd (cc)
 some_told (Some x) None e some = absurd (cc)
 some_told (Some x) (Some y) e some = cc
 
-same_rose : (a b c : ℕ) → b ≡ a → Rose b c → Rose a c
-same_rose a b c e rose = subst (λ (n : ℕ). Rose n c) e rose
+pub link_before : (a b c : ℕ) → b ≡ a → Rose b c → Rose a c
+link_before a b c e rose = subst (λ (n : ℕ). Rose n c) e rose
 
 later_rose : (a b c : ℕ) → a ≤ b → Rose b c → Rose a c
 later_rose a b c le rose =
@@ -68,7 +71,7 @@ shown_from view leave left_at ladder told told' turns state d state' d' after e 
   from = record {
     channel = p.channel;
     input = p.input;
-    blamed = λ is. same_rose (view d).link_faults (view d').link_faults (view e).link_faults same (blamed is);
+    blamed = λ is. link_before (view d).link_faults (view d').link_faults (view e).link_faults same (blamed is);
     run = λ b serves none no_step. (let h = p.begun b serves none no_step in (h.0, h.1, h.2, (after, runs h.0 h.3)));
   };
   shown = λ some b serves none no_step.
@@ -120,15 +123,65 @@ runs_shown view leave left_at pass at_now now_at one_list one_log ladder told to
           (h.0, h.1, begun_since (view old) (view mid) (view mid) f.machine f.machine s.from.channel base base h.0 le refl refl refl h.2, h.3);
     }
 
--- ---- a site that stays
+-- ---- what is read back before the players start
 
-pub prepared_still : {D : Type 0} (view : D → View) (leave : D → Image → Type 0) (left_at : D → ℕ → Image → Type 0) (ladder : Bool) (input input' : Input) (state : State) (d : D) (after : State) (mid new : D)
-    → new ≡ mid → PrepareMeans view leave left_at ladder input input' state d after mid (Ok tt) → (x : State) × PrepareMeans view leave left_at ladder input input' state d x new (Ok tt)
-prepared_still {D} view leave left_at ladder input input' state d after mid new is means =
-    (after, subst (λ (x : D). PrepareMeans view leave left_at ladder input input' state d after x (Ok tt)) (sym is) means)
+pub on_err : {T E : Type 0} (r : Result T E) (P : Type 0) → P → OnErr r P
+on_err (Ok x) P p = tt
+on_err (Err e) P p = p
 
-pub lasts_still : {D : Type 0} (view : D → View) (left_at : D → ℕ → Image → Type 0) (h : History) (mid new : D) → new ≡ mid → RunLasts view left_at h mid → RunLasts view left_at h new
-lasts_still {D} view left_at h mid new is lasts = subst (λ (x : D). RunLasts view left_at h x) (sym is) lasts
+module _ {D : Type 0} (view : D → View) (leave : D → Image → Type 0) (left_at : D → ℕ → Image → Type 0) where
+  pub known_before : (state : State) (old mid : D) → Recalls view leave left_at state old mid → Known view leave left_at state old → Known view leave left_at state mid
+  known_before state old mid r known some =
+      let k = known (subst (λ (o : Option (List Item)). IsSome o) r.link.transcript some) in
+      let u = r.rests k.0 k.1 in
+      (u.later, u.serves)
+
+  -- the loop that ran behind it ran from before
+  unfoldable pub served_before : (h : History) (state : State) (mid : D) (end : Outcome) (turns : ℕ) (after : State) (e : D) (u : Rests view leave left_at h state mid)
+      → Served view leave left_at u.later end turns after e → Served view leave left_at h end turns after e
+  served_before h state mid end turns after e u s = record {
+    later = s.later;
+    since = since_then h u.later s.later u.since s.since;
+    deals = s.deals;
+    taken = s.taken ∙ ap (λ (is : List Item). deals_in is ++ s.deals) u.same;
+    ended = subst (λ (is : List Item). EndsAs turns end (view e).transcript (events_in is) (events_in s.later.items) s.deals) u.same s.ended;
+    run = s.run;
+    awaits = s.awaits;
+    told = s.told;
+    stands = s.stands;
+    recorded = s.recorded;
+    blamed = s.blamed;
+    counted = s.counted;
+    still_told = s.still_told;
+    crash = s.crash;
+    survives = s.survives;
+  }
+
+  pub shown_before : (h : History) (state : State) (mid : D) (end : Outcome) (later : History) (desk : Desk) (u : Rests view leave left_at h state mid) → IsSome (view mid).contents
+      → HasShown u.later end later desk → HasShown h end later desk
+  shown_before h state mid (served.Done taken behind short) later desk u told s = (
+    s.0,
+    record {
+      begun = s.1.begun;
+      since = since_then h u.later s.1.begun u.since s.1.since;
+      same = s.1.same ∙ u.same;
+      log = s.1.log ∙ u.log told;
+      first = s.1.first;
+      front = s.1.front;
+      counted = s.1.counted;
+      belongs = s.1.belongs;
+    },
+    s.2,
+    s.3,
+  )
+  shown_before h state mid served.LinkFault later desk u told s = s
+  shown_before h state mid served.NoMemory later desk u told s = s
+
+  -- a run that went on unseen up to it goes on unseen behind it
+  pub unseen_behind : (h : History) (state : State) (mid new : D) → Recalls view leave left_at state mid new → GoesUnseen view leave left_at h state mid → GoesUnseen view leave left_at h state new
+  unseen_behind h state mid new r u =
+      let k = r.rests u.later u.serves in
+      record { later = k.later; serves = k.serves; since = since_then h u.later k.later u.since k.since; same = k.same ∙ u.same }
 
 more_counts : (a b c : View) → NoFewer a b → NoFewer b c → NoFewer a c
 more_counts a b c first second =
@@ -153,7 +206,9 @@ why_short view leave left_at ladder wires input input' staff staff' state old mi
     found = f;
     begins = begin;
     after = h.0.0;
-    means = h.0.1;
+    prepared = h.0.1;
+    means = h.0.2;
+    reads = h.0.3;
     silent = still ∙ silent;
     no_fewer = more_counts (view old) (view mid) (view new) few counts;
   },

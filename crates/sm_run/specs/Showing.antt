@@ -12,6 +12,7 @@ use Rattle.sm_command.specs.Lasting.{NoFewer}
 use Rattle.sm_command.specs.Serving.{Found, HasRun, Input, IsBegun, PrepareMeans, RunsFrom, StopsFrom, WhyUnready}
 use Rattle.sm_shelf.specs.Shelf.{Desk}
 use Rattle.sm_show.specs.Marks.{HasShown}
+use Rattle.sm_show.specs.Recalling.{Recalls}
 use Rattle.sm_players.specs.Wiring.{Wires}
 use Rattle.sm_run.specs.declared.fault.ShowFault.{ShowFault}
 use Rattle.sm_run.specs.declared.fault.ShowFault.TheVariants as fault
@@ -32,13 +33,15 @@ pub record ShownFrom {D : Type 0} (view : D → View) (leave : D → Image → T
   pub shown : IsSome (view d').contents → (b : History) → Serves view leave left_at b state d → b.items ≡ [] → b.steps ≡ []
       → (h : History) × (h.begin ≡ b.begin) × IsBegun b.found.disk_faults b.first from.channel b.base h × ShowsRun view leave left_at h end turns d'
 
--- no ladder was read or it was refused, and nothing was asked of the spawner; or what was asked of a ladder was done, and players are lacking
+-- no ladder was read or it was refused, and nothing was asked of the spawner; or what was asked of a ladder was done, what is to be shown was read back,
+-- and players are lacking
 abbrev pub StopsShort : {D : Type 0} (view : D → View) (leave : D → Image → Type 0) (left_at : D → ℕ → Image → Type 0) → Bool → Wires → Input → Input
     → Staff → Staff → State → D → D → ShowFault → Type 0
-StopsShort view leave left_at ladder wires input input' staff staff' state d d' (fault.Store why) =
+StopsShort {D} view leave left_at ladder wires input input' staff staff' state d d' (fault.Store why) =
     StopsFrom view leave left_at ladder input input' state d d' why × (staff' ≡ staff)
-StopsShort view leave left_at ladder wires input input' staff staff' state d d' (fault.Spawn why) =
-    ((after : State) × PrepareMeans view leave left_at ladder input input' state d after d' (Ok tt)) × IsUnstaffed wires staff staff' why
+StopsShort {D} view leave left_at ladder wires input input' staff staff' state d d' (fault.Spawn why) =
+    ((after : State) × (mid : D) × PrepareMeans view leave left_at ladder input input' state d after mid (Ok tt) × Recalls view leave left_at after mid d')
+    × IsUnstaffed wires staff staff' why
 
 -- ---- the whole
 
@@ -55,7 +58,8 @@ pub record RunsShown {D : Type 0} (view : D → View) (leave : D → Image → T
       → (view old).transcript ≡ Some base → (h : History) × (h.begin ≡ (view old).moment)
       × IsBegun (view old).disk_faults run.found.machine run.channel base h × ShowsRun view leave left_at h end turns new
 
--- The store was opened, and what was asked of a ladder was done. Nothing was taken from the link, and nothing was sent.
+-- The store was opened, what was asked of a ladder was done, and what is to be shown was read back. Nothing was taken from the link, and nothing was
+-- sent.
 pub record IsReady {D : Type 0} (view : D → View) (leave : D → Image → Type 0) (left_at : D → ℕ → Image → Type 0) (ladder : Bool) (input input' : Input)
     (old new : D) : Type 0 where
   pub state : State
@@ -63,7 +67,9 @@ pub record IsReady {D : Type 0} (view : D → View) (leave : D → Image → Typ
   pub found : Found view leave state old opened
   pub begins : Begins view leave left_at state opened
   pub after : State
-  pub means : PrepareMeans view leave left_at ladder input input' state opened after new (Ok tt)
+  pub prepared : D
+  pub means : PrepareMeans view leave left_at ladder input input' state opened after prepared (Ok tt)
+  pub reads : Recalls view leave left_at after prepared new
   pub silent : (view new).transcript ≡ (view old).transcript
   pub no_fewer : NoFewer (view old) (view new)
 

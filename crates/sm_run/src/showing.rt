@@ -7,6 +7,7 @@ ghost use Rattle.sm_serve.specs.Serving.{Known, Serves, Served as HasServed};
 ghost use Rattle.sm_serve.specs.declared.outcome.Served.TheVariants as served;
 ghost use Rattle.sm_shelf.specs.Shelf.{Belongs, Desk};
 ghost use Rattle.sm_show.specs.Marks.{HasShown};
+ghost use Rattle.sm_show.specs.Recalling.{Recalls};
 ghost use Rattle.sm_players.specs.declared.spawner.SpawnError.TheVariants.{Failed};
 ghost use Rattle.sm_run.specs.Staff.{IsStaffed, IsUnstaffed};
 
@@ -15,7 +16,7 @@ use sm_model::NoMemory;
 use sm_players::{Finished, SpawnError, Spawner, Wiring};
 use sm_serve::{Served, State};
 use sm_shelf::{Readers, ShelfWriter, make};
-use sm_show::serve_shown;
+use sm_show::{catch_up, serve_shown};
 use sm_site::Site;
 use std::alloc::Global;
 use std::sync::Wait;
@@ -27,7 +28,7 @@ pub struct Ended {
     pub finished: Finished,
 }
 
-// Starts the players, and serves beside them.
+// Starts the players, once they have something to show, and serves beside them.
 fn serve_beside<R: Wait, S: Site, P: Spawner>(
     rt: &R,
     site: &mut S,
@@ -57,15 +58,16 @@ fn serve_beside<R: Wait, S: Site, P: Spawner>(
     ensures running { P.running spawner.new + P.started spawner.old ≡ P.running spawner.old + P.started spawner.new }
     ensures failed { IsErrOf result Failed → Rose (P.spawn_faults spawner.old) (P.spawn_faults spawner.new) }
     ensures later { P.spawn_faults spawner.old ≤ P.spawn_faults spawner.new }
-    ensures idle { OnErr result ((site.new ≡ site.old) × (state.new ≡ state.old)) }
+    ensures idle { OnErr result (Recalls S.Disk.view S.Disk.may_leave S.Disk.left_at state.old site.old site.new) }
 {
     spawner.select(wiring)?;
+    let _ = catch_up(rt, site, state, writer);
     start_all(spawner, readers)?;
     Ok(serve_shown(rt, site, state, writer, turns))
 }
 
-/// Serves a store that is ready, beside so many players: they are started before the first event, and asked to end and joined behind the last
-/// one. Where not all of them start, those that run are joined, and no event is waited for.
+/// Serves a store that is ready, beside so many players: they are started before the first event, once the shelf was brought up to the log, and asked
+/// to end and joined behind the last one. Where not all of them start, those that run are joined, and no event is waited for.
 pub fn show<R: Wait, S: Site, P: Spawner>(
     rt: &R,
     alloc: Global,
@@ -114,7 +116,7 @@ pub fn show<R: Wait, S: Site, P: Spawner>(
           chosen = P.chosen spawner.new;
           counted = P.counted spawner.new;
         }) why) }
-    ensures idle { OnErr result ((site.new ≡ site.old) × (state.new ≡ state.old)) }
+    ensures idle { OnErr result (Recalls S.Disk.view S.Disk.may_leave S.Disk.left_at state.old site.old site.new) }
     ensures site_chosen { (S.Disk.view site.new).chosen ≡ (S.Disk.view site.old).chosen }
 {
     let Ok((writer, readers)) = make(rt, alloc, wiring.players) else {

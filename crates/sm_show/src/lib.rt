@@ -6,5 +6,6 @@ mod outcome;
 mod reading;
 mod showing;
 
+pub use catching::catch_up;
 pub use outcome::{Lack, Up};
 pub use showing::serve_shown;

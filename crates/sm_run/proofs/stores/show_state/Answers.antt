@@ -1,6 +1,6 @@
 use Rattle.std.proofs.Common.{refl}
 use Rattle.sm_command.proofs.Starting.{known, prepared, served_lasts, stopped_lasts, stops}
-use Rattle.sm_run.proofs.Beginning.{lasts_still, prepared_still, shown_from}
+use Rattle.sm_run.proofs.Beginning.{shown_from, unseen_behind}
 use Rattle.sm_run.proofs.stores.show_state.Goals as goal
 
 pub show-requires-clause-known : goal.show-requires-clause-known
@@ -21,16 +21,12 @@ returns-in-Ok-show-clause-lasts g c h serves =
     (c.in-Ok-show.ensures.runs u.later u.serves)
 
 pub returns-in-Err-show-clause-why : goal.returns-in-Err-show-clause-why
-returns-in-Err-show-clause-why g c = (
-  prepared_still g.S.Disk.view g.S.Disk.may_leave g.S.Disk.left_at c.args.ladder _ _ c.args.state.now c.args.site.now c.prepare.new.state c.prepare.new.site c.show.new.site c.in-Err-show.ensures.idle.0
-      c.in-Ok.ensures.means,
-  c.in-Err-show.ensures.why,
-)
+returns-in-Err-show-clause-why g c = ((c.prepare.new.state, c.prepare.new.site, c.in-Ok.ensures.means, c.in-Err-show.ensures.idle), c.in-Err-show.ensures.why)
 
 pub returns-in-Err-show-clause-lasts : goal.returns-in-Err-show-clause-lasts
 returns-in-Err-show-clause-lasts g c h serves =
-    lasts_still g.S.Disk.view g.S.Disk.left_at h c.prepare.new.site c.show.new.site c.in-Err-show.ensures.idle.0
-    (stopped_lasts g.S.Disk.view g.S.Disk.may_leave g.S.Disk.left_at g.met.S.Disk.told c.crashes_hold_what_was_shown.ensures h c.prepare.new.state c.prepare.new.site (c.in-Ok.ensures.unseen h serves))
+    stopped_lasts g.S.Disk.view g.S.Disk.may_leave g.S.Disk.left_at g.met.S.Disk.told c.crashes_hold_what_was_shown.ensures h c.prepare.new.state c.show.new.site
+    (unseen_behind g.S.Disk.view g.S.Disk.may_leave g.S.Disk.left_at h c.prepare.new.state c.prepare.new.site c.show.new.site c.in-Err-show.ensures.idle (c.in-Ok.ensures.unseen h serves))
 
 pub returns-in-Err-clause-why : goal.returns-in-Err-clause-why
 returns-in-Err-clause-why g c =
