@@ -50,6 +50,7 @@ bench: build
 	scripts/bench_shelf crates/shelf_bench/out/shelf_bench
 	SMOOTH=$(PROGRAM) scripts/bench_rehearse
 	SMOOTH=$(PROGRAM) scripts/bench_serve
+	SMOOTH=$(PROGRAM) scripts/bench_players
 	SMOOTH=$(PROGRAM) scripts/bench_export
 	SMOOTH=$(PROGRAM) scripts/bench_journal
 	SMOOTH=$(PROGRAM) scripts/bench_relay

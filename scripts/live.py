@@ -173,25 +173,65 @@ def read(fragment):
     return int.from_bytes(first[at : at + 8], "big"), int.from_bytes(first[at + 8 : at + 16], "big"), second[8:]
 
 
-def spent(pid):
-    """The processor time that a process has taken, in seconds."""
-    with open(f"/proc/{pid}/stat") as stat:
-        fields = stat.read().rsplit(")", 1)[1].split()
-    return (int(fields[11]) + int(fields[12])) / os.sysconf("SC_CLK_TCK")
+def spent(*pids):
+    """The processor time that these processes have taken, in seconds."""
+    took = 0
+    for pid in pids:
+        with open(f"/proc/{pid}/stat") as stat:
+            fields = stat.read().rsplit(")", 1)[1].split()
+        took += int(fields[11]) + int(fields[12])
+    return took / os.sysconf("SC_CLK_TCK")
 
 
-def load(pid, url, connections, seconds, script=None):
-    """Requests a second of wrk, and requests for each second of the server's processor time."""
+def load(pids, url, connections, seconds, script=None):
+    """Requests a second of wrk, and requests for each second of the servers' processor time."""
     words = ["wrk", "-t2", f"-c{connections}", f"-d{seconds}s"] + (["-s", script] if script else []) + [url]
-    before = spent(pid)
+    before = spent(*pids)
     told = subprocess.run(words, stdout=subprocess.PIPE).stdout.decode()
-    took = spent(pid) - before
+    took = spent(*pids) - before
     bad = re.search(r"Non-2xx or 3xx responses: (\d+)", told)
     test(not bad, f"{url}: {bad and bad.group(1)} answers are refusals")
     broken = re.search(r"Socket errors: (.*)", told)
     test(not broken, f"{url}: {broken and broken.group(1)}")
     count = int(re.search(r"(\d+) requests in", told).group(1))
     return float(re.search(r"Requests/sec:\s+([\d.]+)", told).group(1)), count / took
+
+
+class Nginx:
+    """An nginx on a folder of files, with so many workers; uploads by PUT are stored."""
+
+    def __init__(self, files, sendfile, at=None, workers=1):
+        self.folder = tempfile.mkdtemp(prefix="nginx-", dir=at)
+        self.port = free_port()
+        os.chmod(self.folder, 0o777)
+        with open(os.path.join(self.folder, "conf"), "w") as conf:
+            conf.write(f"""worker_processes {workers}; daemon off; pid {self.folder}/pid; error_log {self.folder}/log;
+{'user root;' if os.getuid() == 0 else ''}
+events {{ worker_connections 512; }}
+http {{
+    access_log off; sendfile {'on' if sendfile else 'off'}; tcp_nopush off; tcp_nodelay on; keepalive_requests 1000000000;
+    client_body_temp_path {self.folder}/body; client_max_body_size 0; proxy_temp_path {self.folder}/a; fastcgi_temp_path {self.folder}/b;
+    uwsgi_temp_path {self.folder}/c; scgi_temp_path {self.folder}/d;
+    server {{
+        listen 127.0.0.1:{self.port};
+        location / {{ root {files}; default_type video/mp4; }}
+        location /up/ {{ root {self.folder}; dav_methods PUT; create_full_put_path on; }}
+    }}
+}}""")
+        self.process = subprocess.Popen(["nginx", "-c", os.path.join(self.folder, "conf")], stderr=subprocess.DEVNULL)
+        for _ in range(500):
+            try:
+                socket.create_connection(("127.0.0.1", self.port)).close()
+                break
+            except OSError:
+                time.sleep(0.01)
+        children = subprocess.run(["pgrep", "-P", str(self.process.pid)], stdout=subprocess.PIPE).stdout.split()
+        self.workers = [int(child) for child in children]
+
+    def stop(self):
+        self.process.terminate()
+        self.process.wait()
+        shutil.rmtree(self.folder, ignore_errors=True)
 
 
 def encode(target, groups, rate=8, first=0, beside=None):
