@@ -1,0 +1,79 @@
+//! Plays each row in the files of `data/`, players over wires in memory and the top call with players, and prints how what it gives differs
+//! from what it has to give.
+//!
+//! A last line says how many rows there are. `sm_rows` says how a row is written.
+#![tactic(auto)]
+
+mod counting;
+mod meeting;
+mod playing;
+mod publishing;
+mod running;
+
+use anyhow::{Result, bail};
+use sm_rows::{Case, Page};
+use std::alloc::Global;
+use std::fs;
+use std::rt::Files;
+use std::sync::Wait;
+use std::thread::Threads;
+
+// In the order in which they are read: names and blocks of one are known in those behind it.
+const PAGES: [&str; 3] = ["fixtures.txt", "players.txt", "runs.txt"];
+
+fn answer<R: Threads + Wait + Copy + Drop>(
+    rt: &R,
+    alloc: Global,
+    case: &Case<'_>,
+) -> Result<String> {
+    match case.call() {
+        "player" => playing::play(rt, alloc, case),
+        "two players" => playing::play_two(rt, alloc, case),
+        "run" => running::play(rt, alloc, case),
+        _ => bail!("no such call"),
+    }
+}
+
+// How a row differs: a line to print, or nothing.
+fn difference<R: Threads + Wait + Copy + Drop>(
+    rt: &R,
+    alloc: Global,
+    case: &Case<'_>,
+) -> Result<Option<String>> {
+    let gave = match answer(rt, alloc, case) {
+        Ok(gave) => gave,
+        Err(fault) => format!(in alloc; "{fault}")?,
+    };
+    Ok(case.difference(alloc, gave.as_str())?)
+}
+
+// Makes the calls of all rows of a file, and answers how many they are.
+fn run<R: Threads + Wait + Files + Print + AllocGlobal + Copy + Drop>(
+    rt: &R,
+    page: &mut Page,
+    name: &str,
+) -> Result<usize> {
+    let text = fs::read_to_string(rt, name)?;
+    if let Err(fault) = page.read(rt.alloc(), text.as_str()) {
+        println!(rt; "{name}: {fault}")?;
+    }
+    for at in 0..page.len() {
+        let Some(case) = page.case(at) else {
+            break;
+        };
+        if let Some(line) = difference(rt, rt.alloc(), &case)? {
+            print!(rt; "{line}")?;
+        }
+    }
+    Ok(page.len())
+}
+
+fn main(rt: HostRuntime) -> Result<()> {
+    let mut page = Page::new(rt.alloc());
+    let mut rows = 0usize;
+    for name in PAGES {
+        rows = rows.saturating_add(run(&rt, &mut page, name)?);
+    }
+    println!(rt; "{rows} rows")?;
+    Ok(())
+}
