@@ -181,3 +181,12 @@ some_one (Some c) v old list cut sure opened = opened_one list cut v old sure c 
 
 pub place_is : {A : Type 0} (a b : ℕ) → (let failed : ℕ → Result A OpenFault = λ n. Err (open_fault.NotAStore n) in failed a ≡ failed b) → a ≡ b
 place_is a b e = cc
+
+-- without bodies it is the store of an empty log
+pub empty_store : (c : Image) → HasStore [] c → IsStore [] c
+empty_store c has = record { bodies = []; has = has; spell = tt; sound = empty_sound }
+
+-- what was said of a disk that isn't an empty store, of its bodies and of its entries
+pub spared_by : (o : Option Image) (P Q : Type 0) → IfSome o (λ c. (HasStore [] c → ⊥) → P) → (P → Q) → IfSome o (λ c. (IsStore [] c → ⊥) → Q)
+spared_by None P Q is so = tt
+spared_by (Some c) P Q is so = λ filled. so (is (λ has. filled (empty_store c has)))

@@ -121,6 +121,7 @@ impl Archive {
         ensures fault { result ≡ DiskFault → Rose (D.view disk.old).disk_faults (D.view disk.new).disk_faults }
         ensures no_more { (c : Image) → D.may_leave disk.new c → D.may_leave disk.old c }
         ensures any_moment { Throughout D.view D.left_at disk.old disk.new (λ t c. D.may_leave disk.old c) }
+        ensures contents { (D.view disk.new).contents ≡ (D.view disk.old).contents }
         ensures recorded { Recorded (D.view disk.old) (D.view disk.new) }
         ensures no_fewer { (D.view disk.old).disk_faults ≤ (D.view disk.new).disk_faults }
         ensures link { SameLink (D.view disk.old) (D.view disk.new) }
@@ -154,6 +155,7 @@ impl Archive {
         ensures stands { (log : List Entry) (doubt : Option Entry) → Stands self.now log doubt (D.may_leave disk.old)
             → Stands self.now log doubt (D.may_leave disk.new) }
         ensures any_moment { Throughout D.view D.left_at disk.old disk.new (λ t c. D.may_leave disk.old c) }
+        ensures contents { (D.view disk.new).contents ≡ (D.view disk.old).contents }
         ensures recorded { Recorded (D.view disk.old) (D.view disk.new) }
         ensures no_fewer { (D.view disk.old).disk_faults ≤ (D.view disk.new).disk_faults }
         ensures link { SameLink (D.view disk.old) (D.view disk.new) }

@@ -1,5 +1,5 @@
 //! Opening a store.
-ghost use Rattle.std.specs.Prelude.{◌≡◌, ◌++◌, ℕ, ◌≤◌, ◌<◌, ◌^◌, List, None, Some, IfOk, IfSome, IsSome, IsErrOf, slice_get};
+ghost use Rattle.std.specs.Prelude.{◌≡◌, ◌++◌, ℕ, ◌≤◌, ◌<◌, ◌^◌, List, [], None, Some, IfOk, IfSome, IsSome, IsErrOf, slice_get};
 ghost use Rattle.sm_model.specs.declared.entry.Entry.{Entry};
 ghost use Rattle.sm_site.specs.Image.{Image};
 ghost use Rattle.sm_site.specs.Meanings.{SameLink};
@@ -95,6 +95,9 @@ pub fn open_store<D: Disk>(
     // A store that is refused isn't written: the contents stay, and at no moment a crash leaves what it couldn't leave before.
     ensures untouched { (at : ℕ) → IsErrOf result (open_fault.NotAStore at) → ((D.view disk.new).contents ≡ (D.view disk.old).contents)
         × NoMore (D.may_leave disk.old) (D.may_leave disk.new) × Throughout D.view D.left_at disk.old disk.new (λ t c. D.may_leave disk.old c) }
+    // Only the store of an empty log is written, whatever the answer.
+    ensures spared { IfSome (D.view disk.old).contents (λ c. (IsStore [] c → ⊥) → ((D.view disk.new).contents ≡ (D.view disk.old).contents)
+        × NoMore (D.may_leave disk.old) (D.may_leave disk.new) × Throughout D.view D.left_at disk.old disk.new (λ t c. D.may_leave disk.old c)) }
     ensures limits { IfOk result (λ a. a.limits ≡ limits) }
     // Where every image is a store of the same bodies, it stays one at each moment.
     ensures stays { (bodies : List (List ℕ)) → ((c : Image) → D.may_leave disk.old c → HasStore bodies c) → (c : Image) → D.may_leave disk.new c

@@ -1,5 +1,5 @@
 //! Catalogs.
-ghost use Rattle.std.specs.Prelude.{◌≡◌, ◌≤◌, ◌+◌, ◌-◌, ◌^◌, ◌++◌, ◌∷◌, [], ℕ, false, true, IfOk, OnOk, OnErr, is_some, length, min, slice_get, List};
+ghost use Rattle.std.specs.Prelude.{◌≡◌, ◌≤◌, ◌<◌, ◌+◌, ◌-◌, ◌^◌, ◌++◌, ◌∷◌, [], ℕ, false, true, IfOk, IfSome, OnOk, OnErr, is_some, length, min, slice_get, List};
 ghost use Rattle.sm_log.specs.declared.verdict.Judged.TheVariants as judged;
 ghost use Rattle.sm_model.specs.Channels.{IsChannel};
 ghost use Rattle.sm_model.specs.Same.{is_same};
@@ -126,7 +126,8 @@ impl Catalog {
 
     /// What was added at that index, counted from 0 in the order of adding.
     pub fn added(&self, index: u64) -> Option<Added>
-        ensures { option_map (add_in self.now.channel) result ≡ slice_get self.now.adds index }
+        ensures add { option_map (add_in self.now.channel) result ≡ slice_get self.now.adds index }
+        ensures track { IfSome result (λ a. a.track < length self.now.channel) }
     {
         self.adds.get(index as usize).copied()
     }

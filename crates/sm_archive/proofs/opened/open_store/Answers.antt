@@ -8,7 +8,7 @@ use Rattle.sm_archive.specs.Bodies as seg
 use Rattle.sm_archive.specs.declared.archive.Archive.{Archive}
 use Rattle.sm_archive.specs.Store.{Spell}
 use Rattle.sm_archive.specs.Stands.{Stands}
-use Rattle.sm_archive.proofs.Walking.{stands_read, spelled_read, opened_has, opened_store, opened_no_entry, opened_no_log, opened_stands, some_one}
+use Rattle.sm_archive.proofs.Walking.{stands_read, spelled_read, opened_has, opened_store, opened_no_entry, opened_no_log, opened_stands, some_one, spared_by}
 use Rattle.sm_archive.proofs.opened.open_store.Goals as goal
 
 pub returns-in-Ok-walk-clause-opened : goal.returns-in-Ok-walk-clause-opened
@@ -100,3 +100,26 @@ pub returns-in-Ok-walk-clause-any_moment : goal.returns-in-Ok-walk-clause-any_mo
 returns-in-Ok-walk-clause-any_moment g c = λ bodies each.
     and_then g.D.Disk.view g.D.Disk.left_at _ _ _ _ (c.open_log.ensures.images bodies each).moments
     (weakened g.D.Disk.view g.D.Disk.left_at _ _ _ _ c.walk.ensures.any_moment (λ t x left. (c.open_log.ensures.images bodies each).now x left))
+
+pub returns-in-Err-DiskFault-clause-spared : goal.returns-in-Err-DiskFault-clause-spared
+returns-in-Err-DiskFault-clause-spared g c = spared_by _ _ _ c.open_log.ensures.spared (λ looks. (looks.contents, looks.crash, looks.moments))
+
+pub returns-in-Err-NotAStore-clause-spared : goal.returns-in-Err-NotAStore-clause-spared
+returns-in-Err-NotAStore-clause-spared g c = spared_by _ _ _ c.open_log.ensures.spared (λ looks. (looks.contents, looks.crash, looks.moments))
+
+pub returns-in-Err-NoMemory-clause-spared : goal.returns-in-Err-NoMemory-clause-spared
+returns-in-Err-NoMemory-clause-spared g c = spared_by _ _ _ c.open_log.ensures.spared (λ looks. (looks.contents, looks.crash, looks.moments))
+
+pub returns-in-Err-clause-spared : goal.returns-in-Err-clause-spared
+returns-in-Err-clause-spared g c = spared_by _ _ _ c.open_log.ensures.spared (λ looks. (
+  c.walk.ensures.contents ∙ looks.contents,
+  λ x left. looks.crash x (c.walk.ensures.no_more x left),
+  and_then g.D.Disk.view g.D.Disk.left_at _ _ _ _ looks.moments (weakened g.D.Disk.view g.D.Disk.left_at _ _ _ _ c.walk.ensures.any_moment (λ t x left. looks.crash x left)),
+))
+
+pub returns-in-Ok-walk-clause-spared : goal.returns-in-Ok-walk-clause-spared
+returns-in-Ok-walk-clause-spared g c = spared_by _ _ _ c.open_log.ensures.spared (λ looks. (
+  c.walk.ensures.contents ∙ looks.contents,
+  λ x left. looks.crash x (c.walk.ensures.no_more x left),
+  and_then g.D.Disk.view g.D.Disk.left_at _ _ _ _ looks.moments (weakened g.D.Disk.view g.D.Disk.left_at _ _ _ _ c.walk.ensures.any_moment (λ t x left. looks.crash x left)),
+))
