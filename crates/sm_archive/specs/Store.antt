@@ -17,3 +17,7 @@ pub record IsStore (log : List Entry) (c : Image) : Type 0 where
   pub has : HasStore bodies c
   pub spell : Spell bodies log
   pub sound : IsSound log
+
+-- the image is the store of no log
+abbrev pub IsNoStore : Image → Type 0
+IsNoStore c = (log : List Entry) → IsStore log c → ⊥
