@@ -17,7 +17,8 @@ use Rattle.sm_relay.specs.declared.report.RelayReport.{RelayReport}
 use Rattle.sm_relay.specs.declared.report.RelayEnd.TheVariants as ends
 use Rattle.sm_relay.specs.Rounds.{kept_in}
 use Rattle.sm_relay.specs.Ends.{Relayed, KeepsListed}
-use Rattle.sm_relay.specs.Served.{Serves, IsPatient, IsOffered, LeavesBelow, EndsWell}
+use Rattle.sm_relay.specs.Served.{Serves, IsOffered, LeavesBelow, EndsWell}
+use Rattle.sm_pull.specs.Patience.{IsPatient}
 use Rattle.sm_edge.specs.Opening.{IsEdge}
 
 -- The store was opened, no exchange was made before it was, and then a relay pulled into it from the origin that the dial was turned to.

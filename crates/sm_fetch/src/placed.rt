@@ -94,6 +94,7 @@ pub fn get_placed<C: Dial>(
     ensures asked { FetchedPlaced place.now url.now address.now (C.log dial.old) (C.log dial.new) result }
     ensures later { C.dial_faults dial.old ≤ C.dial_faults dial.new }
     ensures goes_on { C.later dial.old dial.new }
+    ensures chosen { C.chosen dial.new ≡ C.chosen dial.old }
     ensures lost { result ≡ Placed.Lost → Rose (C.dial_faults dial.old) (C.dial_faults dial.new) }
     ensures grows { Grows (C.store dial.old) (C.store dial.new) }
     ensures answered { Answered (C.log dial.old) (C.log dial.new) (C.store dial.old) (C.store dial.new) }

@@ -5,3 +5,4 @@ pub mod Judging
 pub mod Finding
 pub mod BelowStays
 pub mod Offered
+pub mod Moments

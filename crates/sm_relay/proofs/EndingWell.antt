@@ -37,7 +37,8 @@ use Rattle.sm_relay.specs.Wants.{Want}
 use Rattle.sm_relay.specs.Pulls.{Fails}
 use Rattle.sm_relay.specs.Rounds.{IsNoTrack, IsBroken, RoundStops}
 use Rattle.sm_relay.specs.Ends.{end_of}
-use Rattle.sm_relay.specs.Served.{Serves, IsPatient, IsOffered, EndsWell}
+use Rattle.sm_relay.specs.Served.{Serves, IsOffered, EndsWell}
+use Rattle.sm_pull.specs.Patience.{IsPatient}
 use Rattle.sm_relay.proofs.Upstream.{Lasts, new_upstream}
 use Rattle.sm_relay.proofs.Origin.{Broke, broke, read_at, reads_had, later_listed}
 

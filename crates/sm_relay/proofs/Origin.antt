@@ -1,5 +1,5 @@
 -- What is pulled of an origin that keeps a log is kept by it.
-use Rattle.std.proofs.Common.{◌≡◌, ◌<◌, ℕ, Bool, true, false, cond, eqb, List, [], ◌∷◌, ◌++◌, Option, Some, None, refl, ap, sym, ◌∙◌, subst, append_assoc, append-nil, inl, inr}
+use Rattle.std.proofs.Common.{◌≡◌, ◌<◌, ℕ, Bool, true, false, cond, eqb, List, [], ◌∷◌, ◌++◌, Option, Some, None, refl, ap, sym, ◌∙◌, subst, append_assoc, inl, inr}
 use Rattle.std.specs.Prelude.{All, is_some, map, filter}
 use Rattle.std.specs.List.{AllByRecursion, list_any, flat_map}
 use Rattle.std.proofs.lemmas.Bool.{eqb-true, eq-eqb, and_parts}
@@ -41,6 +41,7 @@ use Rattle.sm_pull.specs.Tracks.{address_at, has_quality, has_track, HasTracks}
 use Rattle.sm_pull.specs.Below.{IsKeptIn}
 use Rattle.sm_pull.proofs.Tried.{both_all}
 use Rattle.sm_pull.proofs.BelowStays.{kept_on}
+use Rattle.sm_pull.proofs.Moments.{answered_split, answered_grows, last_at}
 use Rattle.sm_relay.specs.Wants.{Want, wants_at, stream_wants, wants_of}
 use Rattle.sm_relay.specs.Pulls.{Reads, IsStep, Fails, StopsAt, Walks}
 use Rattle.sm_relay.specs.Rounds.{Round, IsRound, AreRounds, made_in, kept_in, IsBroken, RoundStops}
@@ -55,41 +56,6 @@ same_is a b e = (bytes_eq-Decides a b).0 e
 
 is_the_same : (a b : List ℕ) → a ≡ b → is_same a b ≡ true
 is_the_same a b e = (bytes_eq-Decides a b).1 e
-
--- ---- moments
-
-pub answered_split : (up : List Track) (log later : List Entry) (xs ys : List Exchange) → AnsweredBy up log (xs ++ ys) later → (mid : List Entry) × AnsweredBy up log xs mid × AnsweredBy up mid ys later
-answered_split up log later [] ys a = (log, ([], sym (append-nil log)), a)
-answered_split up log later (x ∷ xs) ys a = let r = answered_split up (log ++ a.0) later xs ys a.3 in (r.0, (a.0, a.1, a.2, r.1), r.2)
-
-pub answered_grows : (up : List Track) (log later : List Entry) (xs : List Exchange) → AnsweredBy up log xs later → (more : List Entry) × (later ≡ log ++ more)
-answered_grows up log later [] a = a
-answered_grows up log later (x ∷ xs) a = let r = answered_grows up (log ++ a.0) later xs a.3 in (a.0 ++ r.0, r.1 ∙ append_assoc log a.0 r.0)
-
--- a moment of the log at which an exchange was answered
-pub record At (up : List Track) (log later : List Entry) (x : Exchange) : Type 0 where
-  pub moment : List Entry
-  pub is : IsMoment up moment
-  pub from : FromOrigin moment x.request x.answer
-  pub since : List Entry
-  pub moment_is : moment ≡ log ++ since
-  pub until : List Entry
-  pub later_is : later ≡ moment ++ until
-
-last_at : (up : List Track) (log later : List Entry) (xs : List Exchange) (x : Exchange) → AnsweredBy up log (xs ++ x ∷ []) later → At up log later x
-last_at up log later xs x a =
-    let s = answered_split up log later xs (x ∷ []) a in
-    let before = answered_grows up log s.0 xs s.1 in
-    let one = s.2 in
-    record {
-      moment = s.0 ++ one.0;
-      is = one.1;
-      from = one.2;
-      since = before.0 ++ one.0;
-      moment_is = ap (λ (l : List Entry). l ++ one.0) before.1 ∙ append_assoc log before.0 one.0;
-      until = one.3.0;
-      later_is = one.3.1;
-    }
 
 -- ---- a manifest
 

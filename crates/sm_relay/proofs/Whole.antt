@@ -39,8 +39,10 @@ use Rattle.sm_relay.specs.Wants.{Want, wants_of}
 use Rattle.sm_relay.specs.Pulls.{Reads, IsStep, Walks}
 use Rattle.sm_relay.specs.Rounds.{Round, AreRounds, made_in, kept_in, RoundStops}
 use Rattle.sm_relay.specs.Ends.{end_of, Ran, RanOut, IsDone, IsStopped, EndsWith, Relayed, KeepsListed}
-use Rattle.sm_relay.specs.Served.{Serves, IsPatient, IsOffered, LeavesBelow, EndsWell}
-use Rattle.sm_relay.proofs.Origin.{answered_split, answered_grows, all_on, rounds_kept, stops_kept, all_with}
+use Rattle.sm_relay.specs.Served.{Serves, IsOffered, LeavesBelow, EndsWell}
+use Rattle.sm_pull.specs.Patience.{IsPatient}
+use Rattle.sm_relay.proofs.Origin.{all_on, rounds_kept, stops_kept, all_with}
+use Rattle.sm_pull.proofs.Moments.{answered_split, answered_grows}
 use Rattle.sm_relay.proofs.EndingWell.{below_added, back_all, channel_stays, stops_well}
 
 -- ---- ends

@@ -8,7 +8,7 @@ use Rattle.sm_site.specs.Image.{Image}
 use Rattle.sm_archive.specs.Store.{IsStore}
 use Rattle.sm_fetch.specs.declared.dial.Exchange.{Exchange}
 use Rattle.sm_fetch.specs.declared.place.Place.{Place}
-use Rattle.sm_client.specs.Served.{IsPlace, AnsweredBy, IsWhole, IsUnrefused}
+use Rattle.sm_client.specs.Served.{IsPlace, AnsweredBy}
 use Rattle.sm_pull.specs.Below.{Below}
 use Rattle.sm_relay.specs.declared.report.RelayEnd.{RelayEnd}
 use Rattle.sm_relay.specs.declared.report.RelayEnd.TheVariants as ends
@@ -19,10 +19,6 @@ pub record Serves (place : Place) (channel : List Track) (first last : List Entr
   pub tracks : All IsNarrowTrack channel
   pub names : AllByRecursion (λ t. All (λ b. b < 256) t.name) channel
   pub answered : AnsweredBy channel first xs last
-
--- each answer is a whole reply that is no 500 and no 503
-abbrev pub IsPatient : List Exchange → Type 0
-IsPatient xs = AllByRecursion (λ x. IsWhole x.answer × IsUnrefused x.answer) xs
 
 -- the origin's channel has the track, with its timescale
 pub record IsOffered (channel : List Track) (t : Track) : Type 0 where

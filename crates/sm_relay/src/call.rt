@@ -17,7 +17,8 @@ ghost use Rattle.sm_pull.specs.Below.{Below};
 ghost use Rattle.sm_relay.specs.Rounds.{kept_in};
 ghost use Rattle.sm_relay.specs.Ends.{Relayed, KeepsListed};
 ghost use Rattle.sm_relay.specs.Read.{carried};
-ghost use Rattle.sm_relay.specs.Served.{Serves, IsPatient, IsOffered, LeavesBelow, EndsWell};
+ghost use Rattle.sm_relay.specs.Served.{Serves, IsOffered, LeavesBelow, EndsWell};
+ghost use Rattle.sm_pull.specs.Patience.{IsPatient};
 ghost use Rattle.sm_relay.specs.declared.report.RelayEnd.TheVariants as ends;
 
 use crate::rounds::pull_rounds;

@@ -40,13 +40,15 @@ use Rattle.sm_standby.specs.declared.report.FollowEnd.TheVariants as ends
 use Rattle.sm_standby.specs.Asked.{IsOther, IsTried}
 use Rattle.sm_standby.specs.Followed.{at, tried_turn, EndsTurns}
 use Rattle.sm_standby.specs.Rounds.{addresses_of, Part, made_of, ReadsNone, LacksTrack, TurnsEnd, StopsRound}
-use Rattle.sm_standby.specs.Served.{IsPatient, EndsWell}
+use Rattle.sm_standby.specs.Served.{EndsWell}
+use Rattle.sm_pull.specs.Patience.{IsPatient}
 use Rattle.sm_standby.specs.Turns.{AsksPlaced, missed, url_of, Whose, Came, kept, Turn, Standing, address_for, IsTurnOf, kept_by, kept_in, made_in}
 use Rattle.sm_standby.proofs.Askable.{url_there}
 use Rattle.sm_standby.proofs.Fronts.{IsLogOf, is_front, log_more, new_behind}
 use Rattle.sm_standby.proofs.InStep.{HeldIs, InStep, in_step_on, ReadAt, CameAt, read_at, begins_in, turns_in, turn_askable, turn_came, came_places, places_on}
 use Rattle.sm_standby.proofs.Logs.{TriedIs, tried_is, kept_fits, none_kept, kept_there, turns_log}
-use Rattle.sm_standby.proofs.Primary.{answered_split, answered_grows, last_at, IsAskable, placed_read, placed_given}
+use Rattle.sm_standby.proofs.Primary.{IsAskable, placed_read, placed_given}
+use Rattle.sm_pull.proofs.Moments.{answered_split, answered_grows, last_at}
 
 -- ---- a miss
 

@@ -32,14 +32,15 @@ use Rattle.sm_pull.proofs.Tried.{both_all}
 use Rattle.sm_standby.specs.declared.held.Later.{Later}
 use Rattle.sm_standby.specs.Followed.{at}
 use Rattle.sm_standby.specs.Rounds as rounds
-use Rattle.sm_standby.specs.Rounds.{addresses_of, Round, IsRound, AreRounds}
+use Rattle.sm_standby.specs.Rounds.{addresses_of, Round, AreRounds}
 use Rattle.sm_standby.specs.Turns as turns
-use Rattle.sm_standby.specs.Turns.{AsksPlaced, missed, url_of, Whose, candidate, again as anew, Came, absent, kept, later, dropped, Turn, passed, asked, Standing, address_for, placed_of, IsTurnOf, FitsPlace, IsAsked, MayTurn, kept_by, waits_by, behind, after, Turns, made_in}
+use Rattle.sm_standby.specs.Turns.{AsksPlaced, missed, url_of, Whose, candidate, again as anew, Came, absent, kept, later, dropped, Turn, passed, asked, Standing, address_for, placed_of, IsTurnOf, FitsPlace, MayTurn, kept_by, waits_by, behind, after, Turns, made_in}
 use Rattle.sm_standby.specs.Waiting.{due, without}
 use Rattle.sm_standby.proofs.Askable.{all_to, leads_to_askable, url_there}
 use Rattle.sm_standby.proofs.Logs.{get_more, places_push, kept_there, fits_next}
 use Rattle.sm_standby.proofs.Opens.{by_bool}
-use Rattle.sm_standby.proofs.Primary.{answered_split, answered_grows, last_at, IsAskable, placed_read, placed_absent}
+use Rattle.sm_standby.proofs.Primary.{IsAskable, placed_read, placed_absent}
+use Rattle.sm_pull.proofs.Moments.{answered_split, answered_grows, last_at}
 
 -- ---- what waits
 

@@ -1,5 +1,5 @@
 -- What a primary that keeps a log answers to who asks for a fragment and its place.
-use Rattle.std.proofs.Common.{◌≡◌, ◌≢◌, ◌<◌, ◌≤◌, ◌^◌, ◌⊎◌, ◌&&◌, ℕ, Bool, true, false, cond, eqb, List, [], ◌∷◌, ◌++◌, length, Option, Some, None, refl, ap, sym, ◌∙◌, subst, append_assoc, append-nil, arith, inl, inr}
+use Rattle.std.proofs.Common.{◌≡◌, ◌≢◌, ◌<◌, ◌≤◌, ◌^◌, ◌⊎◌, ◌&&◌, ℕ, Bool, true, false, cond, eqb, List, [], ◌∷◌, length, Option, Some, None, refl, ap, sym, ◌∙◌, subst, arith, inl, inr}
 use Rattle.std.specs.Prelude.{codes, is_some, All}
 use Rattle.std.specs.List.{AllByRecursion}
 use Rattle.std.proofs.lemmas.Bool.{eqb-true, eq-eqb}
@@ -29,7 +29,6 @@ use Rattle.sm_addr.specs.Written.{target_written, IsNamed}
 use Rattle.sm_addr.proofs.RoundTrip.{target_again}
 use Rattle.sm_fetch.specs.declared.dial.Answer.{Answer}
 use Rattle.sm_fetch.specs.declared.dial.Answer.TheVariants as answers
-use Rattle.sm_fetch.specs.declared.dial.Exchange.{Exchange}
 use Rattle.sm_fetch.specs.declared.place.Place.{Place}
 use Rattle.sm_fetch.specs.declared.placed.Placed.{Placed}
 use Rattle.sm_fetch.specs.declared.placed.Placed.TheVariants as placed
@@ -42,45 +41,10 @@ use Rattle.sm_fetch.specs.Spelt.{IsFragmentAt, given}
 use Rattle.sm_fetch.proofs.OneReply.{one_whole, whole_isnt_cut, whole_isnt_none}
 use Rattle.sm_fetch.proofs.Origin.{own_body, kept_again, placed_is_read}
 use Rattle.sm_fetch.proofs.Urls.{url_names}
-use Rattle.sm_client.specs.Served.{IsMoment, AnsweredBy, IsPlace, IsStream, IsWhole, IsUnrefused}
+use Rattle.sm_client.specs.Served.{IsPlace, IsStream, IsWhole, IsUnrefused}
 use Rattle.sm_client.proofs.Asked.{may-ask, short-fragment}
 use Rattle.sm_standby.specs.Placed.{NamesItself}
 use Rattle.sm_standby.specs.Turns.{missed}
-
--- ---- moments
-
-pub answered_split : (up : List Track) (log later : List Entry) (xs ys : List Exchange) → AnsweredBy up log (xs ++ ys) later → (mid : List Entry) × AnsweredBy up log xs mid × AnsweredBy up mid ys later
-answered_split up log later [] ys a = (log, ([], sym (append-nil log)), a)
-answered_split up log later (x ∷ xs) ys a = let r = answered_split up (log ++ a.0) later xs ys a.3 in (r.0, (a.0, a.1, a.2, r.1), r.2)
-
-pub answered_grows : (up : List Track) (log later : List Entry) (xs : List Exchange) → AnsweredBy up log xs later → (more : List Entry) × (later ≡ log ++ more)
-answered_grows up log later [] a = a
-answered_grows up log later (x ∷ xs) a = let r = answered_grows up (log ++ a.0) later xs a.3 in (a.0 ++ r.0, r.1 ∙ append_assoc log a.0 r.0)
-
--- a moment of the log at which an exchange was answered
-pub record At (up : List Track) (log later : List Entry) (x : Exchange) : Type 0 where
-  pub moment : List Entry
-  pub is : IsMoment up moment
-  pub from : FromOrigin moment x.request x.answer
-  pub since : List Entry
-  pub moment_is : moment ≡ log ++ since
-  pub until : List Entry
-  pub later_is : later ≡ moment ++ until
-
-pub last_at : (up : List Track) (log later : List Entry) (xs : List Exchange) (x : Exchange) → AnsweredBy up log (xs ++ x ∷ []) later → At up log later x
-last_at up log later xs x a =
-    let s = answered_split up log later xs (x ∷ []) a in
-    let before = answered_grows up log s.0 xs s.1 in
-    let one = s.2 in
-    record {
-      moment = s.0 ++ one.0;
-      is = one.1;
-      from = one.2;
-      since = before.0 ++ one.0;
-      moment_is = ap (λ (l : List Entry). l ++ one.0) before.1 ∙ append_assoc log before.0 one.0;
-      until = one.3.0;
-      later_is = one.3.1;
-    }
 
 -- ---- what may be asked for
 

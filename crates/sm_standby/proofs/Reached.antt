@@ -23,12 +23,12 @@ use Rattle.sm_pull.specs.declared.plan.PullPlan.{PullPlan}
 use Rattle.sm_pull.specs.Adds.{keeps_of}
 use Rattle.sm_standby.specs.declared.held.Later.{Later}
 use Rattle.sm_standby.specs.Turns as turns
-use Rattle.sm_standby.specs.Turns.{Whose, candidate, again as anew, Came, absent, kept, later, dropped, Turn, passed, asked, Standing, IsAsked, IsPassed, MayTurn, kept_by, waits_by, behind, after, Turns, made_in}
+use Rattle.sm_standby.specs.Turns.{Whose, candidate, again as anew, Came, absent, kept, later, dropped, Turn, passed, asked, Standing, IsPassed, MayTurn, kept_by, waits_by, behind, after, Turns, made_in}
 use Rattle.sm_standby.specs.Waiting.{due, is_of, waits, without}
 use Rattle.sm_standby.proofs.InStep.{HeldIs, InStep, due_has, CameIs, CameAt, turn_came, turn_in}
 use Rattle.sm_standby.proofs.Logs.{kept_there, one_place, after_log}
 use Rattle.sm_standby.proofs.Opens.{by_bool, is_of-same}
-use Rattle.sm_standby.proofs.Primary.{answered_split, answered_grows}
+use Rattle.sm_pull.proofs.Moments.{answered_split, answered_grows}
 
 -- ---- members
 

@@ -37,14 +37,15 @@ use Rattle.sm_standby.specs.declared.report.FollowEnd.TheVariants as ends
 use Rattle.sm_standby.specs.Followed.{at}
 use Rattle.sm_standby.specs.Placed.{LeavesPlaces}
 use Rattle.sm_standby.specs.Rounds.{addresses_of, Round, AreRounds, made_by, kept_by, Part, no_part, made_of, StopsRound, EndsCall, Called}
-use Rattle.sm_standby.specs.Served.{IsServed, moment_of, IsPatient, LeadsToAll, IsFront, LeavesStart, Reaches, EndsRounds, EndsWell}
+use Rattle.sm_standby.specs.Served.{IsServed, moment_of, LeadsToAll, IsFront, LeavesStart, Reaches, EndsRounds, EndsWell}
+use Rattle.sm_pull.specs.Patience.{IsPatient}
 use Rattle.sm_standby.specs.Turns.{Standing, kept_in, made_in}
 use Rattle.sm_standby.proofs.Askable.{leads_to_askable}
 use Rattle.sm_standby.proofs.EndingWell.{bare_places, stops_placed, stops_well}
 use Rattle.sm_standby.proofs.Fronts.{IsLogOf, log_of, log_more, log_some, is_front, channel_on}
 use Rattle.sm_standby.proofs.InStep.{HeldIs, InStep, places_on, rounds_in}
 use Rattle.sm_standby.proofs.Logs.{front_places, places_front, rounds_log, turns_log}
-use Rattle.sm_standby.proofs.Primary.{answered_split, answered_grows}
+use Rattle.sm_pull.proofs.Moments.{answered_split, answered_grows}
 use Rattle.sm_standby.proofs.Reached.{in_of, IsLeft, turns_left, nothing_left}
 
 -- ---- the exchanges that were told

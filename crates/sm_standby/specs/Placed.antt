@@ -22,7 +22,8 @@ use Rattle.sm_pull.specs.Below.{Places}
 use Rattle.sm_standby.specs.Turns.{url_of, address_for, Turn, passed, asked, kept_in}
 use Rattle.sm_standby.specs.declared.report.FollowReport.{FollowReport}
 use Rattle.sm_standby.specs.Rounds.{Round, Part, kept_by, Called}
-use Rattle.sm_standby.specs.Served.{IsServed, moment_of, IsPatient, LeadsToAll, LeavesStart, Reaches, EndsRounds, EndsWell}
+use Rattle.sm_standby.specs.Served.{IsServed, moment_of, LeadsToAll, LeavesStart, Reaches, EndsRounds, EndsWell}
+use Rattle.sm_pull.specs.Patience.{IsPatient}
 
 -- ---- what a target names
 

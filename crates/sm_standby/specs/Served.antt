@@ -14,7 +14,7 @@ use Rattle.sm_archive.specs.Stands.{Stands}
 use Rattle.sm_fetch.specs.declared.dial.Exchange.{Exchange}
 use Rattle.sm_fetch.specs.declared.place.Place.{Place}
 use Rattle.sm_client.specs.Origins.{again}
-use Rattle.sm_client.specs.Served.{IsPlace, AnsweredBy, IsWhole, IsUnrefused}
+use Rattle.sm_client.specs.Served.{IsPlace, AnsweredBy}
 use Rattle.sm_standby.specs.declared.report.FollowEnd.{FollowEnd}
 use Rattle.sm_standby.specs.declared.report.FollowEnd.TheVariants as ends
 use Rattle.sm_standby.specs.Rounds.{addresses_of}
@@ -37,10 +37,6 @@ pub record IsServed {C : Type 0} (told : C → Option (List Exchange)) (dial dia
 abbrev pub moment_of : {C : Type 0} {told : C → Option (List Exchange)} {dial dial' : C} {place : Place} {channel : List Track} {first last : List Entry}
     {x : Exchange} {made : List Exchange} → IsServed told dial dial' place channel first last (x ∷ made) → List Entry
 moment_of {first = first} s = first ++ s.answered.0
-
--- each answer is a whole reply that is no 500 and no 503
-abbrev pub IsPatient : List Exchange → Type 0
-IsPatient xs = AllByRecursion (λ x. IsWhole x.answer × IsUnrefused x.answer) xs
 
 -- each fragment that the log keeps stands at an address to which its manifest leads
 abbrev pub LeadsToAll : List Track → List Entry → Type 0
