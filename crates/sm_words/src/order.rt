@@ -1,25 +1,16 @@
 //! What the words of a command ask for.
-ghost use Rattle.std.specs.Prelude.{◌≡◌, ◌≤◌, ◌<◌, ◌^◌, map, string_bytes, length, IfOk, IfSome, Some, [], List, ℕ};
+ghost use Rattle.std.specs.Prelude.{◌≡◌, ◌≤◌, ◌<◌, ◌^◌, map, string_bytes, IfOk, IfSome, Some, List, ℕ};
 ghost use Rattle.std.specs.Option.{option_map, option_and_then};
-ghost use Rattle.sm_words.specs.Options.{edge_options, play_options, serve_options};
-ghost use Rattle.sm_words.specs.Words.{Listing, EdgeTexts as Pulled, ExportTexts as Filed, PlayTexts as Played, PushTexts as Sent, ServeTexts as Asked, alone, asked, filled, help_by, last_port, list_of, number_or, players_by, served_by, start_by};
-ghost use Rattle.sm_words.specs.Words.{name_by, numbers_by, pick_by, pick_of, play_by, play_of, push_by, push_of, read, rehearse_by, rehearse_of, serve_by};
-ghost use Rattle.sm_words.specs.Words.{Relay, Standby, edge_by, edge_of, export_by, export_of, serve_of, streams_by};
+ghost use Rattle.sm_words.specs.Words.{Listing, EdgeTexts as Pulled, ExportTexts as Filed, PlayTexts as Played, PushTexts as Sent, ServeTexts as Asked, filled, last_port, number_or, players_by, served_by, start_by};
+ghost use Rattle.sm_words.specs.Words.{name_by, numbers_by, pick_by, play_by, push_by, read, rehearse_by, serve_by};
+ghost use Rattle.sm_words.specs.Words.{Relay, Standby, edge_by, export_by, streams_by};
 ghost use Rattle.sm_words.specs.Matched.{IsEdgeRead, IsExportRead, IsPlayRead, IsPushRead, IsReadOf};
 ghost use Rattle.sm_words.specs.Orders.{numbers_of, pulling_of, serving_of, wanted_of};
 
 use crate::edge_order::EdgeOrder;
-use crate::line::read_line;
-use crate::matched::{
-    EdgeTexts, ExportTexts, PlayTexts, PushTexts, ServeTexts, read_edge, read_export, read_list,
-    read_pick, read_play, read_push, read_rehearse, read_serve,
-};
-use crate::option::Name;
+use crate::matched::{EdgeTexts, ExportTexts, PlayTexts, PushTexts, ServeTexts};
 use crate::place::{is_host, is_path};
 use crate::play_order::PlayOrder;
-use crate::put::{
-    edge_put, export_put, list_put, pick_put, play_put, push_put, rehearse_put, serve_put,
-};
 use crate::topic::Topic;
 use crate::words::number;
 use sm_client::{Names, Plan};
@@ -110,19 +101,6 @@ struct PlayNumbers {
 // The largest number that a word may write.
 const MOST: u64 = 9_223_372_036_854_775_807;
 
-const SERVE: [Name; 6] = [
-    Name::Port,
-    Name::Ladder,
-    Name::Turns,
-    Name::Bind,
-    Name::Journal,
-    Name::Players,
-];
-
-const PLAY: [Name; 4] = [Name::From, Name::Count, Name::Tries, Name::Refresh];
-
-const EDGE: [Name; 2] = [Name::Rounds, Name::Tries];
-
 // The most streams of one play.
 const STREAMS: usize = 16;
 
@@ -156,7 +134,7 @@ fn filled(text: Option<String>) -> Option<String>
     if text.is_empty() { None } else { Some(text) }
 }
 
-fn pick_order(track: &Option<String>, time: &Option<String>) -> Option<Order>
+pub(crate) fn pick_order(track: &Option<String>, time: &Option<String>) -> Option<Order>
     ensures { (x : List ℕ × List ℕ) → option_map string_bytes track.now ≡ Some x.0 → option_map string_bytes time.now ≡ Some x.1
         → option_map wanted_of result ≡ pick_by x.0 x.1 }
 {
@@ -168,7 +146,7 @@ fn pick_order(track: &Option<String>, time: &Option<String>) -> Option<Order>
     })
 }
 
-fn rehearse_order(number: &Option<String>, size: &Option<String>) -> Option<Order>
+pub(crate) fn rehearse_order(number: &Option<String>, size: &Option<String>) -> Option<Order>
     ensures { (x : List ℕ × List ℕ) → option_map string_bytes number.now ≡ Some x.0 → option_map string_bytes size.now ≡ Some x.1
         → option_map wanted_of result ≡ rehearse_by x.0 x.1 }
 {
@@ -210,7 +188,7 @@ fn served_by(order: ServeOrder, players: Option<u32>) -> Order
     }
 }
 
-fn serve_order(texts: ServeTexts) -> Option<Order>
+pub(crate) fn serve_order(texts: ServeTexts) -> Option<Order>
     ensures { (x : Asked) → IsReadOf texts x → option_map wanted_of result ≡ serve_by x }
 {
     let players = players_by(&filled(texts.players))?;
@@ -231,7 +209,7 @@ fn serve_order(texts: ServeTexts) -> Option<Order>
     Some(served_by(order, players))
 }
 
-fn push_order(alloc: Global, texts: PushTexts) -> Result<Option<Order>, NoMemory>
+pub(crate) fn push_order(alloc: Global, texts: PushTexts) -> Result<Option<Order>, NoMemory>
     ensures { IfOk result (λ order. (x : Sent) → IsPushRead texts x → option_map wanted_of order ≡ push_by x) }
 {
     let PushTexts {
@@ -261,7 +239,7 @@ fn push_order(alloc: Global, texts: PushTexts) -> Result<Option<Order>, NoMemory
     }
 }
 
-fn list_order(store: Option<String>) -> Option<Order>
+pub(crate) fn list_order(store: Option<String>) -> Option<Order>
     ensures { option_map wanted_of result ≡ option_and_then (λ text. option_map Listing (filled text)) (option_map string_bytes store) }
 {
     let store = filled(store)?;
@@ -323,7 +301,7 @@ fn streams(alloc: Global, texts: &[String]) -> Result<Option<Names>, NoMemory>
     Ok(Some(Names::from_vec(names)))
 }
 
-fn play_order(alloc: Global, texts: PlayTexts) -> Result<Option<Order>, NoMemory>
+pub(crate) fn play_order(alloc: Global, texts: PlayTexts) -> Result<Option<Order>, NoMemory>
     ensures { IfOk result (λ order. (x : Played) → IsPlayRead texts x → option_map wanted_of order ≡ play_by x) }
 {
     let Some(numbers) = play_numbers(&texts) else {
@@ -356,7 +334,7 @@ fn play_order(alloc: Global, texts: PlayTexts) -> Result<Option<Order>, NoMemory
     })))
 }
 
-fn edge_order(alloc: Global, texts: EdgeTexts) -> Result<Option<EdgeOrder>, NoMemory>
+pub(crate) fn edge_order(alloc: Global, texts: EdgeTexts) -> Result<Option<EdgeOrder>, NoMemory>
     ensures { IfOk result (λ order. (x : Pulled) → IsEdgeRead texts x → option_map pulling_of order ≡ edge_by x) }
 {
     let EdgeTexts {
@@ -394,7 +372,7 @@ fn edge_order(alloc: Global, texts: EdgeTexts) -> Result<Option<EdgeOrder>, NoMe
     }))
 }
 
-fn export_order(alloc: Global, texts: ExportTexts) -> Result<Option<Order>, NoMemory>
+pub(crate) fn export_order(alloc: Global, texts: ExportTexts) -> Result<Option<Order>, NoMemory>
     ensures { IfOk result (λ order. (x : Filed) → IsExportRead texts x → option_map wanted_of order ≡ export_by x) }
 {
     let Some(bitrate) = number_or(&texts.bitrate, 0, 4_294_967_295, None) else {
@@ -411,203 +389,4 @@ fn export_order(alloc: Global, texts: ExportTexts) -> Result<Option<Order>, NoMe
         name,
         bitrate: bitrate as u32,
     })))
-}
-
-fn pick_asked(alloc: Global, words: &[String]) -> Result<Option<Order>, NoMemory>
-    ensures { IfOk result (λ order. option_map wanted_of order ≡ option_and_then pick_of (read [] (map string_bytes words.now))) }
-{
-    let Some(line) = read_line(alloc, &[], words)? else {
-        return Ok(None);
-    };
-    let Some(words) = pick_put(alloc, &line)? else {
-        return Ok(None);
-    };
-    let (track, time) = read_pick(alloc, &words)?;
-    Ok(pick_order(&track, &time))
-}
-
-fn rehearse_asked(alloc: Global, words: &[String]) -> Result<Option<Order>, NoMemory>
-    ensures { IfOk result (λ order. option_map wanted_of order ≡ option_and_then rehearse_of (read [] (map string_bytes words.now))) }
-{
-    let Some(line) = read_line(alloc, &[], words)? else {
-        return Ok(None);
-    };
-    let Some(words) = rehearse_put(alloc, &line)? else {
-        return Ok(None);
-    };
-    let (number, size) = read_rehearse(alloc, &words)?;
-    Ok(rehearse_order(&number, &size))
-}
-
-fn serve_asked(alloc: Global, words: &[String]) -> Result<Option<Order>, NoMemory>
-    ensures { IfOk result (λ order. option_map wanted_of order ≡ option_and_then serve_of (read serve_options (map string_bytes words.now))) }
-{
-    let Some(line) = read_line(alloc, &SERVE, words)? else {
-        return Ok(None);
-    };
-    let Some(words) = serve_put(alloc, &line)? else {
-        return Ok(None);
-    };
-    let texts = read_serve(alloc, &words)?;
-    Ok(serve_order(texts))
-}
-
-fn push_asked(alloc: Global, words: &[String]) -> Result<Option<Order>, NoMemory>
-    ensures { IfOk result (λ order. option_map wanted_of order ≡ option_and_then push_of (read [] (map string_bytes words.now))) }
-{
-    let Some(line) = read_line(alloc, &[], words)? else {
-        return Ok(None);
-    };
-    let Some(words) = push_put(alloc, &line)? else {
-        return Ok(None);
-    };
-    let texts = read_push(alloc, &words)?;
-    let order = push_order(alloc, texts)?;
-    Ok(order)
-}
-
-fn play_asked(alloc: Global, words: &[String]) -> Result<Option<Order>, NoMemory>
-    ensures { IfOk result (λ order. option_map wanted_of order ≡ option_and_then play_of (read play_options (map string_bytes words.now))) }
-{
-    let Some(line) = read_line(alloc, &PLAY, words)? else {
-        return Ok(None);
-    };
-    let Some(words) = play_put(alloc, &line)? else {
-        return Ok(None);
-    };
-    let texts = read_play(alloc, &words)?;
-    let order = play_order(alloc, texts)?;
-    Ok(order)
-}
-
-fn list_asked(alloc: Global, words: &[String]) -> Result<Option<Order>, NoMemory>
-    ensures { IfOk result (λ order. option_map wanted_of order ≡ option_and_then list_of (read [] (map string_bytes words.now))) }
-{
-    let Some(line) = read_line(alloc, &[], words)? else {
-        return Ok(None);
-    };
-    let Some(words) = list_put(alloc, &line)? else {
-        return Ok(None);
-    };
-    let store = read_list(alloc, &words)?;
-    Ok(list_order(store))
-}
-
-fn export_asked(alloc: Global, words: &[String]) -> Result<Option<Order>, NoMemory>
-    ensures { IfOk result (λ order. option_map wanted_of order ≡ option_and_then export_of (read [] (map string_bytes words.now))) }
-{
-    let Some(line) = read_line(alloc, &[], words)? else {
-        return Ok(None);
-    };
-    let Some(words) = export_put(alloc, &line)? else {
-        return Ok(None);
-    };
-    let texts = read_export(alloc, &words)?;
-    let order = export_order(alloc, texts)?;
-    Ok(order)
-}
-
-// The words behind `relay` or `standby`.
-fn edge_asked(alloc: Global, words: &[String]) -> Result<Option<EdgeOrder>, NoMemory>
-    ensures { IfOk result (λ order. option_map pulling_of order ≡ option_and_then edge_of (read edge_options (map string_bytes words.now))) }
-{
-    let Some(line) = read_line(alloc, &EDGE, words)? else {
-        return Ok(None);
-    };
-    let Some(words) = edge_put(alloc, &line)? else {
-        return Ok(None);
-    };
-    let texts = read_edge(alloc, &words)?;
-    let order = edge_order(alloc, texts)?;
-    Ok(order)
-}
-
-fn relay_asked(alloc: Global, words: &[String]) -> Result<Option<Order>, NoMemory>
-    ensures { IfOk result (λ order. option_map wanted_of order ≡ option_map (λ e. Relay e) (option_and_then edge_of (read edge_options (map string_bytes words.now)))) }
-{
-    match edge_asked(alloc, words)? {
-        Some(order) => Ok(Some(Order::Relay(order))),
-        None => Ok(None),
-    }
-}
-
-fn standby_asked(alloc: Global, words: &[String]) -> Result<Option<Order>, NoMemory>
-    ensures { IfOk result (λ order. option_map wanted_of order ≡ option_map (λ e. Standby e) (option_and_then edge_of (read edge_options (map string_bytes words.now)))) }
-{
-    match edge_asked(alloc, words)? {
-        Some(order) => Ok(Some(Order::Standby(order))),
-        None => Ok(None),
-    }
-}
-
-fn help_asked(words: &[String]) -> Option<Order>
-    ensures { option_map wanted_of result ≡ help_by (map string_bytes words.now) }
-{
-    match words {
-        [] => Some(Order::Help(Topic::All)),
-        [name] => Some(Order::Help(Topic::named(name.as_str())?)),
-        _ => None,
-    }
-}
-
-// What is asked by a command without any word.
-fn alone(words: &[String], order: Order) -> Option<Order>
-    ensures { option_map wanted_of result ≡ alone (map string_bytes words.now) (wanted_of order) }
-{
-    if words.is_empty() { Some(order) } else { None }
-}
-
-/// What the words ask for: `pick TRACK TIME`, `serve STORE --port N [--ladder] [--turns N] [--bind ADDRESS] [--journal FILE] [--players N]`,
-/// `push HOST PORT PATH ID`, `list STORE`,
-/// `play HOST PORT PATH STREAM... [--from N] [--count N] [--tries N] [--refresh N]`, `rehearse NUMBER SIZE`,
-/// `export STORE NAME BITRATE`, `relay HOST PORT PATH STORE [--rounds N] [--tries N]`,
-/// `standby HOST PORT PATH STORE [--rounds N] [--tries N]`, `help`, `help COMMAND`, `--help`, `version` or `--version`. None where they are none of these.
-#[tactic(auto, unfolding(crate::specs::Words::asked))]
-pub fn order_of(alloc: Global, words: &[String]) -> Result<Option<Order>, NoMemory>
-    ensures { IfOk result (λ order. option_map wanted_of order ≡ asked (map string_bytes words.now)) }
-{
-    let [command, words @ ..] = words else {
-        return Ok(None);
-    };
-    let command = command.as_str();
-    if command == "pick" {
-        return pick_asked(alloc, words);
-    }
-    if command == "serve" {
-        return serve_asked(alloc, words);
-    }
-    if command == "push" {
-        return push_asked(alloc, words);
-    }
-    if command == "list" {
-        return list_asked(alloc, words);
-    }
-    if command == "play" {
-        return play_asked(alloc, words);
-    }
-    if command == "rehearse" {
-        return rehearse_asked(alloc, words);
-    }
-    if command == "export" {
-        return export_asked(alloc, words);
-    }
-    if command == "relay" {
-        return relay_asked(alloc, words);
-    }
-    if command == "standby" {
-        return standby_asked(alloc, words);
-    }
-    if command == "help" {
-        return Ok(help_asked(words));
-    }
-    if command == "--help" {
-        return Ok(alone(words, Order::Help(Topic::All)));
-    }
-    if command == "version" {
-        return Ok(alone(words, Order::Version));
-    }
-    if command == "--version" {
-        return Ok(alone(words, Order::Version));
-    }
-    Ok(None)
 }

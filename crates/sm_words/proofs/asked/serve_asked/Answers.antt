@@ -3,7 +3,7 @@ use Rattle.sm_words.specs.Words.{serve_by, serve_texts}
 use Rattle.sm_words.specs.Line.{read_of}
 use Rattle.sm_words.specs.Clapped.{serve_words}
 use Rattle.sm_words.proofs.Asking.{asked_by, line_is, put_of}
-use Rattle.sm_words.proofs.order.serve_asked.Goals as goal
+use Rattle.sm_words.proofs.asked.serve_asked.Goals as goal
 
 pub read_serve-requires : goal.read_serve-requires
 read_serve-requires c =

@@ -1,6 +1,6 @@
 use Rattle.sm_words.specs.Clapped.{list_words}
 use Rattle.sm_words.proofs.Asking.{put_of}
-use Rattle.sm_words.proofs.order.list_asked.Goals as goal
+use Rattle.sm_words.proofs.asked.list_asked.Goals as goal
 
 pub read_list-requires : goal.read_list-requires
 read_list-requires c =

@@ -3,7 +3,7 @@ use Rattle.sm_words.specs.Words.{edge_by, edge_texts}
 use Rattle.sm_words.specs.Line.{read_of}
 use Rattle.sm_words.specs.Clapped.{edge_words}
 use Rattle.sm_words.proofs.Asking.{asked_by, line_is, put_of}
-use Rattle.sm_words.proofs.order.edge_asked.Goals as goal
+use Rattle.sm_words.proofs.asked.edge_asked.Goals as goal
 
 pub read_edge-requires : goal.read_edge-requires
 read_edge-requires c =

@@ -3,7 +3,7 @@ use Rattle.sm_words.specs.Words.{play_by, play_texts}
 use Rattle.sm_words.specs.Line.{read_of}
 use Rattle.sm_words.specs.Clapped.{play_words}
 use Rattle.sm_words.proofs.Asking.{asked_by, line_is, put_of}
-use Rattle.sm_words.proofs.order.play_asked.Goals as goal
+use Rattle.sm_words.proofs.asked.play_asked.Goals as goal
 
 pub read_play-requires : goal.read_play-requires
 read_play-requires c =

@@ -3,7 +3,7 @@ use Rattle.sm_words.specs.Words.{Read, push_by, push_texts}
 use Rattle.sm_words.specs.Line.{read_of}
 use Rattle.sm_words.specs.Clapped.{push_words}
 use Rattle.sm_words.proofs.Asking.{asked_by, line_is, put_of}
-use Rattle.sm_words.proofs.order.push_asked.Goals as goal
+use Rattle.sm_words.proofs.asked.push_asked.Goals as goal
 
 pub read_push-requires : goal.read_push-requires
 read_push-requires c =

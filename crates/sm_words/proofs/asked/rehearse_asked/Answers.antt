@@ -3,7 +3,7 @@ use Rattle.sm_words.specs.Words.{Text, Read, rehearse_by, two_words}
 use Rattle.sm_words.specs.Line.{read_of}
 use Rattle.sm_words.specs.Clapped.{rehearse_words}
 use Rattle.sm_words.proofs.Asking.{asked_by, line_is, put_of}
-use Rattle.sm_words.proofs.order.rehearse_asked.Goals as goal
+use Rattle.sm_words.proofs.asked.rehearse_asked.Goals as goal
 
 pub read_rehearse-requires : goal.read_rehearse-requires
 read_rehearse-requires c =

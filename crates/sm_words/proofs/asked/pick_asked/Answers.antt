@@ -3,7 +3,7 @@ use Rattle.sm_words.specs.Words.{Text, Read, pick_by, two_words}
 use Rattle.sm_words.specs.Line.{read_of}
 use Rattle.sm_words.specs.Clapped.{pick_words}
 use Rattle.sm_words.proofs.Asking.{asked_by, line_is, put_of}
-use Rattle.sm_words.proofs.order.pick_asked.Goals as goal
+use Rattle.sm_words.proofs.asked.pick_asked.Goals as goal
 
 pub read_pick-requires : goal.read_pick-requires
 read_pick-requires c =

@@ -3,7 +3,7 @@ use Rattle.sm_words.specs.Words.{Read, export_by, export_texts}
 use Rattle.sm_words.specs.Line.{read_of}
 use Rattle.sm_words.specs.Clapped.{export_words}
 use Rattle.sm_words.proofs.Asking.{asked_by, line_is, put_of}
-use Rattle.sm_words.proofs.order.export_asked.Goals as goal
+use Rattle.sm_words.proofs.asked.export_asked.Goals as goal
 
 pub read_export-requires : goal.read_export-requires
 read_export-requires c =
