@@ -81,18 +81,39 @@ fn files(
     Ok((theirs, ours))
 }
 
-// Whether a store has the bytes of another one's, but for the gates: one that a crash left is open at each value but 0, and at 1 where it was
-// written out.
-fn has_entries_of(ours: &[u8], theirs: &[u8]) -> bool {
+// The number in the four bytes at a place, of which those count that are there.
+fn length_at(bytes: &[u8], place: usize) -> usize {
+    let mut length: u32 = 0;
+    for byte in bytes.iter().skip(place).take(4) {
+        length = (length << 8) | u32::from(*byte);
+    }
+    length as usize
+}
+
+// How many gates of the first file are another value than the origin's, where all other bytes are the same: a crash fills the gate that is being
+// opened with its choice, which opens it too. None where the files differ otherwise.
+fn filled_gates(ours: &[u8], theirs: &[u8], choice: u8) -> Option<u64> {
     if ours.len() != theirs.len() {
-        return false;
+        return None;
     }
+    let mut filled: u64 = 0;
+    let mut place: usize = 0;
+    let mut next_record: usize = 13;
     for (one, other) in ours.iter().zip(theirs) {
-        if one != other && !(*other == 1 && *one > 1) {
-            return false;
+        let is_gate = place == 0 || place == next_record;
+        if place == next_record {
+            let length = length_at(theirs, place.saturating_add(1));
+            next_record = place.saturating_add(length.saturating_add(5));
         }
+        if one != other {
+            if !is_gate || *other != 1 || *one != choice {
+                return None;
+            }
+            filled = filled.saturating_add(1);
+        }
+        place = place.saturating_add(1);
     }
-    true
+    Some(filled)
 }
 
 // Runs the command of these words over the input of the row, between the two, and gives its status.
@@ -161,9 +182,17 @@ pub fn play(alloc: Global, case: &Case<'_>) -> Result<String> {
     Ok(tale.into_text())
 }
 
-// Runs a command over a disk that stops behind so many writes and syncs, crashes the site, and runs it again. Answers whether the disk
-// stopped, and tells where that wasn't status 5, or the other run wasn't 0 or left a disk that isn't the origin's, but for a gate that was filled with
-// the number of the choice.
+// What a stop led to.
+#[derive(Clone, Copy, Debug)]
+enum Stopped {
+    // The command ended before it.
+    Past,
+    // The command was run again, behind a crash that left so many gates filled.
+    Here(u64),
+}
+
+// Runs a command over a disk that stops behind so many writes and syncs, crashes the site, and runs it again. Tells where the first run wasn't
+// status 5, or the other one wasn't 0 or left a disk that isn't the origin's, but for gates that the crash has filled.
 fn stopped(
     alloc: Global,
     case: &Case<'_>,
@@ -171,34 +200,30 @@ fn stopped(
     stop: u64,
     choice: u8,
     tale: &mut Tale,
-) -> Result<bool> {
+) -> Result<Stopped> {
     let mut dial = primary(alloc, case)?;
     let mut follower = site(alloc, case, Cut::Of(65_536))?;
     let mut ends = Ends::new(alloc, case)?;
     follower.stop_after(stop);
     let first = run(alloc, case, words, &mut dial, &mut follower, &mut ends)?;
     if first == 0 {
-        return Ok(false);
+        return Ok(Stopped::Past);
     }
     follower.crash_here(choice);
     let again = run(alloc, case, words, &mut dial, &mut follower, &mut ends)?;
     let (theirs, ours) = files(alloc, dial, &mut follower)?;
-    let same = if choice > 1 {
-        has_entries_of(&ours, &theirs)
-    } else {
-        ours == theirs
-    };
-    if first != 5 || again != 0 || !same {
+    let filled = filled_gates(&ours, &theirs, choice);
+    if first != 5 || again != 0 || filled.is_none() {
         tale.say(format!(in alloc;
-            "stop {stop} choice {choice}: {first}, {again}, the same {same}"
+            "stop {stop} choice {choice}: {first}, {again}, {filled:?}"
         )?.as_str())?;
     }
-    Ok(true)
+    Ok(Stopped::Here(filled.unwrap_or(0)))
 }
 
 /// Runs the command of the line `tool` with a disk that stops behind each number of writes and syncs, from that of the line `behind` on, until
 /// it doesn't come to the stop; crashes the site by each choice of the line `choices`, and runs the command again. Tells how many stops
-/// there were for each choice.
+/// there were for each choice, and how many gates the crashes have left filled.
 pub fn play_stops(alloc: Global, case: &Case<'_>) -> Result<String> {
     let words = case.words_of(alloc, "tool")?;
     let choices = case.words_of(alloc, "choices")?;
@@ -207,14 +232,19 @@ pub fn play_stops(alloc: Global, case: &Case<'_>) -> Result<String> {
     for at in 0..choices.len() {
         let choice = u8::try_from(choices.number(at)?)?;
         let mut count = 0;
+        let mut filled: u64 = 0;
         for stop in 0..STOPS {
             let calls = behind.saturating_add(stop);
-            if !stopped(alloc, case, &words, calls, choice, &mut tale)? {
-                break;
+            match stopped(alloc, case, &words, calls, choice, &mut tale)? {
+                Stopped::Past => break,
+                Stopped::Here(gates) => {
+                    count = stop + 1;
+                    filled = filled.saturating_add(gates);
+                }
             }
-            count = stop + 1;
         }
         tale.count(count)?;
+        tale.count(filled)?;
     }
     Ok(tale.into_text())
 }
