@@ -184,7 +184,7 @@ pub fn play(alloc: Global, case: &Case<'_>) -> Result<String> {
 
 // What a stop led to.
 #[derive(Clone, Copy, Debug)]
-enum Stopped {
+enum StopEnd {
     // The command ended before it.
     Past,
     // The command was run again, behind a crash that left so many gates filled.
@@ -193,21 +193,21 @@ enum Stopped {
 
 // Runs a command over a disk that stops behind so many writes and syncs, crashes the site, and runs it again. Tells where the first run wasn't
 // status 5, or the other one wasn't 0 or left a disk that isn't the origin's, but for gates that the crash has filled.
-fn stopped(
+fn try_stop(
     alloc: Global,
     case: &Case<'_>,
     words: &Words,
     stop: u64,
     choice: u8,
     tale: &mut Tale,
-) -> Result<Stopped> {
+) -> Result<StopEnd> {
     let mut dial = primary(alloc, case)?;
     let mut follower = site(alloc, case, Cut::Of(65_536))?;
     let mut ends = Ends::new(alloc, case)?;
     follower.stop_after(stop);
     let first = run(alloc, case, words, &mut dial, &mut follower, &mut ends)?;
     if first == 0 {
-        return Ok(Stopped::Past);
+        return Ok(StopEnd::Past);
     }
     follower.crash_here(choice);
     let again = run(alloc, case, words, &mut dial, &mut follower, &mut ends)?;
@@ -218,7 +218,7 @@ fn stopped(
             "stop {stop} choice {choice}: {first}, {again}, {filled:?}"
         )?.as_str())?;
     }
-    Ok(Stopped::Here(filled.unwrap_or(0)))
+    Ok(StopEnd::Here(filled.unwrap_or(0)))
 }
 
 /// Runs the command of the line `tool` with a disk that stops behind each number of writes and syncs, from that of the line `behind` on, until
@@ -235,9 +235,9 @@ pub fn play_stops(alloc: Global, case: &Case<'_>) -> Result<String> {
         let mut filled: u64 = 0;
         for stop in 0..STOPS {
             let calls = behind.saturating_add(stop);
-            match stopped(alloc, case, &words, calls, choice, &mut tale)? {
-                Stopped::Past => break,
-                Stopped::Here(gates) => {
+            match try_stop(alloc, case, &words, calls, choice, &mut tale)? {
+                StopEnd::Past => break,
+                StopEnd::Here(gates) => {
                     count = stop + 1;
                     filled = filled.saturating_add(gates);
                 }
