@@ -11,7 +11,7 @@ use Rattle.sm_model.specs.declared.act.Act.{Act}
 use Rattle.sm_model.specs.declared.no_memory.NoMemory.{NoMemory}
 use Rattle.sm_site.specs.Image.{Image}
 use Rattle.sm_site.specs.Meanings.{View, DiskCall}
-use Rattle.sm_site.specs.Clauses.{Both, Rose, Recorded, Acted, Throughout, last_moment}
+use Rattle.sm_site.specs.Clauses.{Both, Rose, Recorded, Acted, NoMore, Throughout, last_moment}
 use Rattle.sm_log.specs.Adds.{place_of}
 use Rattle.sm_log.specs.Logs.{adds_of, kept_at}
 use Rattle.sm_archive.specs.Steps.{Settles, Grows}
@@ -26,6 +26,7 @@ use Rattle.sm_origin.specs.Machine.{Machine, SameLog, answered, Step, row, wants
 use Rattle.sm_origin.specs.Stores.{IsPartOf, Fits, FitsInside}
 use Rattle.sm_origin.specs.Acting.{IsHeld, AreHeld, StandsFor, ActGives}
 use Rattle.sm_origin.specs.Caching.{with_kept}
+use Rattle.sm_origin.specs.Opening.{WritesEmptyAlone}
 use Rattle.sm_origin.proofs.Steps.{Stepped, fragment_step, kept_log}
 use Rattle.sm_reply.specs.Replies.{silent}
 use Rattle.sm_reply.specs.declared.reply.Counted.TheVariants as counted
@@ -36,7 +37,7 @@ use Rattle.sm_archive.specs.declared.archive.Archive.{Archive}
 use Rattle.sm_model.specs.Entries.{address_of}
 use Rattle.sm_model.specs.Fragments.{IsValid}
 use Rattle.sm_cache.specs.Pairs.{is_one_address}
-use Rattle.sm_site.proofs.Moments.{weakened}
+use Rattle.sm_site.proofs.Moments.{no_call, weakened}
 use Rattle.lru.specs.LruCache.{LruCache, lru_cache}
 use Rattle.lru.proofs.Splits.{Contains-nil}
 use Rattle.lru.proofs.CallerLemmas.{Contains-put_entries, IsPut}
@@ -323,7 +324,18 @@ pub if_some : {A : Type 0} (o : Option A) (P Q : A → Type 0) → ((c : A) → 
 if_some None P Q so is = tt
 if_some (Some c) P Q so is = so c is
 
+pub some_of : {A : Type 0} (o : Option A) (P : A → Type 0) → ((c : A) → P c) → IfSome o P
+some_of None P all = tt
+some_of (Some c) P all = all c
+
 module _ {D : Type 0} (view : D → View) (may_leave : D → Image → Type 0) (left_at : D → ℕ → Image → Type 0) where
+  -- a call that does nothing
+  pub idle_writes : ((d : D) (t : ℕ) (c : Image) → left_at d t c → t ≤ (view d).moment) → (d : D) → WritesEmptyAlone view may_leave left_at d d
+  idle_writes no_later d =
+      some_of (view d).contents
+      (λ c. (IsStore [] c → ⊥) → ((view d).contents ≡ (view d).contents) × NoMore (may_leave d) (may_leave d) × Throughout view left_at d d (λ t x. may_leave d x))
+      (λ c filled. (refl, λ x left. left, no_call view left_at d (λ t x. may_leave d x) (no_later d)))
+
   -- the law of images, for a machine
   pub images : (Law : (a : Archive) (log : List Entry) (doubt : Option Entry) (d : D) (c : Image) → Stands a log doubt (may_leave d) → may_leave d c
       → IsStore log c ⊎ ((x : Entry) × (doubt ≡ Some x) × IsStore (log ++ x ∷ []) c))

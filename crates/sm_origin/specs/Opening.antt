@@ -1,10 +1,12 @@
 -- What an origin is opened on.
-use Rattle.std.specs.Prelude.{ℕ, List}
+use Rattle.std.specs.Prelude.{◌≡◌, ℕ, List, [], IfSome}
 use Rattle.sm_model.specs.declared.entry.Entry.{Entry}
 use Rattle.sm_site.specs.Image.{Image}
+use Rattle.sm_site.specs.Meanings.{View}
+use Rattle.sm_site.specs.Clauses.{NoMore, Throughout}
 use Rattle.sm_seglog.specs.Stores.{HasStore}
 use Rattle.sm_log.specs.Logs.{IsSound}
-use Rattle.sm_archive.specs.Store.{Spell}
+use Rattle.sm_archive.specs.Store.{IsStore, Spell}
 
 -- each image that a crash may leave has the same bodies, which are those of this log
 pub record HasOneStore (log : List Entry) (outcomes : Image → Type 0) : Type 0 where
@@ -12,3 +14,9 @@ pub record HasOneStore (log : List Entry) (outcomes : Image → Type 0) : Type 0
   pub each : (image : Image) → outcomes image → HasStore bodies image
   pub spell : Spell bodies log
   pub sound : IsSound log
+
+-- Only the store of an empty log is written: any other contents stayed, and at no moment of the call a crash leaves what it couldn't leave
+-- before.
+abbrev pub WritesEmptyAlone : {D : Type 0} (view : D → View) (leave : D → Image → Type 0) (left_at : D → ℕ → Image → Type 0) → D → D → Type 0
+WritesEmptyAlone view leave left_at old new = IfSome (view old).contents (λ c. (IsStore [] c → ⊥) → ((view new).contents ≡ (view old).contents)
+    × NoMore (leave old) (leave new) × Throughout view left_at old new (λ t image. leave old image))

@@ -3,7 +3,7 @@ use Rattle.sm_model.specs.declared.entry.Entry.{Entry}
 use Rattle.sm_site.proofs.Moments.{weakened}
 use Rattle.sm_archive.specs.Store.{IsStore}
 use Rattle.sm_archive.specs.Stands.{Stands}
-use Rattle.sm_origin.proofs.Acts.{none_held, a_store, if_some}
+use Rattle.sm_origin.proofs.Acts.{none_held, a_store, if_some, idle_writes}
 use Rattle.sm_origin.proofs.origin.Origin.open_origin.Goals as goal
 
 pub returns-in-Ok-open_store-clause-opened : goal.returns-in-Ok-open_store-clause-opened
@@ -32,3 +32,6 @@ returns-in-Ok-open_store-clause-any_moment g c = λ log one.
     weakened g.S.Disk.view g.S.Disk.left_at c.args.site.now c.open_store.new.disk _ (λ t x. IsStore log x)
     (c.in-Ok-open_store.ensures.any_moment one.bodies one.each)
     (λ t x has. record { bodies = one.bodies; has = has; spell = one.spell; sound = one.sound })
+
+pub returns-in-Err-clause-spared : goal.returns-in-Err-clause-spared
+returns-in-Err-clause-spared g c = idle_writes g.S.Disk.view g.S.Disk.may_leave g.S.Disk.left_at g.met.S.Disk.no_later c.args.site.now
