@@ -16,7 +16,7 @@ ghost use Rattle.sm_archive.specs.Store.{IsStore};
 ghost use Rattle.sm_archive.specs.Opening.{NotAStore};
 ghost use Rattle.sm_origin.specs.Machine.{Machine};
 ghost use Rattle.sm_origin.specs.Acting.{IsHeld};
-ghost use Rattle.sm_origin.specs.Opening.{HasOneStore};
+ghost use Rattle.sm_origin.specs.Opening.{HasOneStore, WritesEmptyAlone};
 ghost use Rattle.sm_serve.specs.Standing.{History, StandsOn};
 
 use crate::Live;
@@ -54,6 +54,8 @@ impl State {
         ensures untouched { (at : ℕ) → IsErrOf result (open_fault.NotAStore at) → ((S.Disk.view site.new).contents ≡ (S.Disk.view site.old).contents)
             × NoMore (S.Disk.may_leave site.old) (S.Disk.may_leave site.new)
             × Throughout S.Disk.view S.Disk.left_at site.old site.new (λ t c. S.Disk.may_leave site.old c) }
+        // Only the store of an empty log is written, whatever the answer.
+        ensures spared { WritesEmptyAlone S.Disk.view S.Disk.may_leave S.Disk.left_at site.old site.new }
         // Where every image is one store, it stays that at each moment.
         ensures any_moment { (log : List Entry) → HasOneStore log (S.Disk.may_leave site.old)
             → Throughout S.Disk.view S.Disk.left_at site.old site.new (λ t c. IsStore log c) }
