@@ -1,6 +1,7 @@
 //! Where viewers are listened for.
 
 use mio::net::TcpListener as Listener;
+use sm_real::{no_address, takes_both};
 use std::io::{self, ErrorKind};
 use std::net::{IpAddr, Ipv4Addr, Ipv6Addr, Net, SocketAddr, TcpListener};
 
@@ -69,26 +70,4 @@ fn widened(net: &impl Net, first: TcpListener, six: SocketAddr) -> io::Result<Li
         Err(_) => None,
     };
     Ok(Listeners { first, second })
-}
-
-// Whether listeners of IPv6 take connections of IPv4 too, as the system has it: tried at a port that nobody was told of.
-fn takes_both(net: &impl Net) -> bool {
-    let Ok(six) = bound(net, SocketAddr::from((Ipv6Addr::UNSPECIFIED, 0))) else {
-        return false;
-    };
-    let Ok(address) = six.local_addr() else {
-        return false;
-    };
-    match bound(
-        net,
-        SocketAddr::from((Ipv4Addr::UNSPECIFIED, address.port())),
-    ) {
-        Ok(_) => false,
-        Err(e) => e.kind() == ErrorKind::AddrInUse,
-    }
-}
-
-// What is said of a text that is no address.
-fn no_address() -> io::Error {
-    io::Error::new(ErrorKind::InvalidInput, "no address of IPv4 or IPv6")
 }

@@ -6,7 +6,7 @@ use crate::listeners::Listeners;
 use crate::loop_forward::LoopForward;
 use sm_model::NoMemory;
 use sm_players::{Crew, Finished, NoGate, Parts, Played, SpawnError, Spawner, Stop, Wiring};
-use sm_real::{Doing, OpenFault, Sharing, TcpLink, Trouble};
+use sm_real::{Doing, OpenFault, Sharing, TcpLink, Trouble, Viewers};
 use std::alloc::Global;
 use std::io;
 use std::net::{Net, TcpListener, TcpStream};
@@ -32,13 +32,14 @@ pub struct RealCrew<
     stop: Stop,
     crew: Crew<R, TcpLink<R>, LoopForward<R>, NoGate>,
     trouble: Option<Trouble>,
+    viewers: Viewers,
 }
 
 impl<R: Threads + Net<Listener = TcpListener, Stream = TcpStream> + Clock + Copy + Drop> RealCrew<
     R,
 > {
-    /// Without wires, as it is before `select`.
-    pub fn new(rt: R, alloc: Global) -> Result<RealCrew<R>, NoMemory> {
+    /// Without wires, as it is before `select`. Whom its players answer is counted there.
+    pub fn new(rt: R, alloc: Global, viewers: Viewers) -> Result<RealCrew<R>, NoMemory> {
         let stop = Stop::new(alloc)?;
         let crew = Crew::new(alloc, rt, stop.copy()?, TURNS);
         Ok(RealCrew {
@@ -47,11 +48,14 @@ impl<R: Threads + Net<Listener = TcpListener, Stream = TcpStream> + Clock + Copy
             stop,
             crew,
             trouble: None,
+            viewers,
         })
     }
 
     /// What the system refused when wires were wanted.
-    pub fn trouble(&self) -> Option<Trouble> {
+    pub fn trouble(&self) -> Option<Trouble>
+        ensures { result ≡ self.now.trouble }
+    {
         self.trouble
     }
 
@@ -112,7 +116,9 @@ impl<R: Threads + Net<Listener = TcpListener, Stream = TcpStream> + Clock + Copy
         let port = wiring.port + 1;
         let listeners = self.listen(wiring, port)?;
         let players = u64::from(wiring.players);
-        let sharing = Sharing::new(self.alloc, players, MOST, self.stop.flag()?)?;
+        let ending = self.stop.flag()?;
+        let viewers = self.viewers.copy()?;
+        let sharing = Sharing::new(self.alloc, players, MOST, ending, viewers)?;
         for _ in 0..wiring.players {
             let copy = match listeners.copy() {
                 Ok(copy) => copy,

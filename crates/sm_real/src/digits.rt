@@ -1,17 +1,15 @@
 // Numbers as text.
+ghost use Rattle.std.specs.Prelude.{◌≡◌, ◌++◌, decimal, OnOk};
 
+use itoa::Buffer;
 use std::alloc::AllocError;
 
 /// Puts a number behind a line, in decimal.
-pub fn put_number(line: &mut Vec<u8>, number: u64) -> Result<(), AllocError> {
-    let mut digits = [b'0'; 20];
-    let mut left = number;
-    for digit in digits.iter_mut().rev() {
-        *digit = b'0'.wrapping_add((left % 10) as u8);
-        left /= 10;
-    }
-    let first = digits.iter().position(|digit| *digit != b'0').unwrap_or(19);
-    line.extend_from_slice(&digits[first.min(19)..])
+pub fn put_number(line: &mut Vec<u8>, number: u64) -> Result<(), AllocError>
+    ensures { OnOk result (line.new.items ≡ line.old.items ++ decimal number) }
+{
+    let mut digits = Buffer::new();
+    line.extend_from_slice(digits.format(number).as_bytes())
 }
 
 /// Puts so many milliseconds behind a line, as seconds with three digits behind a point.

@@ -1,4 +1,7 @@
 // Why a folder or a port can't be had.
+ghost use Rattle.std.specs.Prelude.{◌≡◌, ◌↔◌};
+ghost use Rattle.std.specs.IoError.{error_kind};
+
 use sm_model::NoMemory;
 use std::alloc::AllocError;
 use std::io::{Error as IoError, ErrorKind};
@@ -17,7 +20,9 @@ pub enum OpenFault {
 
 impl OpenFault {
     /// What an error of the system comes to.
-    pub fn of(error: &IoError) -> OpenFault {
+    pub fn of(error: &IoError) -> OpenFault
+        ensures { (result ≡ OpenFault.NoMemory) ↔ (error_kind error.now ≡ ErrorKind.OutOfMemory) }
+    {
         match error.kind() {
             ErrorKind::OutOfMemory => OpenFault::NoMemory,
             _ => OpenFault::Failed,

@@ -1,5 +1,5 @@
 // The disk in a folder.
-ghost use Rattle.std.specs.Prelude.{◌≡◌, ◌≤◌, false, refl, IsErrOf, None, is_ok, is_some};
+ghost use Rattle.std.specs.Prelude.{◌≡◌, ◌≤◌, false, refl, IsErrOf, None, Some, is_ok, is_some};
 ghost use Rattle.sm_site.specs.Clauses.{Rose};
 ghost use Rattle.sm_real.specs.Telling.{counts_alone};
 
@@ -26,7 +26,12 @@ pub struct FileDisk<R: Files<File = File> + Drop> {
 
 impl<R: Files<File = File> + Drop> FileDisk<R> {
     /// Without a folder.
-    pub fn new(rt: R, alloc: Global) -> FileDisk<R> {
+    pub fn new(rt: R, alloc: Global) -> FileDisk<R>
+        ensures faults { result.faults ≡ 0 }
+        ensures reads { result.reads ≡ 0 }
+        ensures folder { is_some result.folder ≡ false }
+        ensures trouble { result.trouble ≡ None }
+    {
         FileDisk {
             rt,
             alloc,
@@ -57,6 +62,7 @@ impl<R: Files<File = File> + Drop> FileDisk<R> {
 
     /// What a file that can't be opened comes to; a failure of the system is counted.
     pub fn refused(&mut self, trouble: Trouble) -> OpenFault
+        ensures kept { result ≡ OpenFault.Failed → self.new.trouble ≡ Some trouble }
         ensures failed { result ≡ OpenFault.Failed → Rose self.old.faults self.new.faults }
         ensures faults { self.old.faults ≤ self.new.faults }
         ensures reads { self.new.reads ≡ self.old.reads }
@@ -79,12 +85,15 @@ impl<R: Files<File = File> + Drop> FileDisk<R> {
     }
 
     /// What the system refused last.
-    pub fn trouble(&self) -> Option<Trouble> {
+    pub fn trouble(&self) -> Option<Trouble>
+        ensures { result ≡ self.now.trouble }
+    {
         self.trouble
     }
 
     // A call failed, so the count rises.
     fn fail(&mut self, trouble: Trouble) -> Failed
+        ensures kept { self.new.trouble ≡ Some trouble }
         ensures rose { Rose self.old.faults self.new.faults }
         ensures reads { self.new.reads ≡ self.old.reads }
         ensures folder { self.new.folder ≡ self.old.folder }
@@ -96,6 +105,7 @@ impl<R: Files<File = File> + Drop> FileDisk<R> {
 
     // Keeps what the system said, and nothing else changes.
     fn keep(&mut self, trouble: Trouble)
+        ensures kept { self.new.trouble ≡ Some trouble }
         ensures faults { self.new.faults ≡ self.old.faults }
         ensures reads { self.new.reads ≡ self.old.reads }
         ensures folder { self.new.folder ≡ self.old.folder }

@@ -29,7 +29,10 @@ struct Track {
 
 impl<R: Files<File = File> + Drop> FileTracks<R> {
     /// Without any file yet.
-    pub fn new(rt: R, alloc: Global) -> FileTracks<R> {
+    pub fn new(rt: R, alloc: Global) -> FileTracks<R>
+        ensures faults { result.faults ≡ 0 }
+        ensures trouble { result.trouble ≡ None }
+    {
         FileTracks {
             rt,
             alloc,
@@ -40,7 +43,9 @@ impl<R: Files<File = File> + Drop> FileTracks<R> {
     }
 
     /// What the system refused last.
-    pub fn trouble(&self) -> Option<Trouble> {
+    pub fn trouble(&self) -> Option<Trouble>
+        ensures { result ≡ self.now.trouble }
+    {
         self.trouble
     }
 

@@ -5,6 +5,7 @@ use crate::digits::{put_number, put_seconds};
 use crate::outlet::Outlet;
 use crate::talk::{Asked, Talk};
 use crate::tally::Tally;
+use crate::viewers::Viewers;
 use std::alloc::{AllocError, Global};
 use std::fs::File;
 use std::io;
@@ -30,9 +31,13 @@ pub struct Journal {
     // The line that is being made.
     line: Vec<u8>,
     talks: Vec<Talk>,
+    // The place of the one that was looked for last: the next one that is looked for is mostly there, or next to it.
+    last: usize,
     // Since the last line of counts, and up to that line.
     tally: Tally,
     before: Tally,
+    // Those of players, if there may be any.
+    viewers: Option<Viewers>,
     // When the journal was opened.
     begun: Instant,
     // Milliseconds since 1970, at the last round.
@@ -67,6 +72,7 @@ impl Journal {
         rt: &(impl Files<File = File> + Net + Clock),
         alloc: Global,
         path: &str,
+        viewers: Option<Viewers>,
     ) -> io::Result<Journal> {
         let now = Instant::now(rt)?;
         Ok(Journal {
@@ -74,8 +80,10 @@ impl Journal {
             outlet: Outlet::open(rt, alloc, path)?,
             line: Vec::new(alloc),
             talks: Vec::new(alloc),
+            last: 0,
             tally: Tally::new(),
             before: Tally::new(),
+            viewers,
             begun: now,
             stamp: stamp_of(rt),
             written: now,
@@ -139,25 +147,29 @@ impl Journal {
         put_text(&mut self.line, text.as_bytes())
     }
 
-    /// A round of the link is at its end. The standing of its peers is asked for only where counts are due.
-    pub fn turn(&mut self, rt: &impl Clock, standing: Standing) {
-        let Ok(now) = Instant::now(rt) else {
-            return;
-        };
+    /// A round of the link begins at this moment.
+    pub fn turn(&mut self, rt: &impl Clock, now: Instant) {
         self.stamp = stamp_of(rt);
-        if now.saturating_duration_since(self.counted).as_millis() >= APART {
-            self.counted = now;
-            let made = self.tell_counts(standing);
-            self.put(made);
-            self.before.join(&self.tally);
-            self.tally = Tally::new();
-        }
         if now.saturating_duration_since(self.written).as_millis() >= WAIT
             || self.outlet.is_long()
         {
             self.written = now;
             self.outlet.write();
         }
+    }
+
+    /// Whether a line of counts is due.
+    pub fn is_due(&self, now: Instant) -> bool {
+        now.saturating_duration_since(self.counted).as_millis() >= APART
+    }
+
+    /// Tells the counts since the last such line.
+    pub fn count(&mut self, now: Instant, standing: Standing) {
+        self.counted = now;
+        let made = self.tell_counts(standing);
+        self.put(made);
+        self.before.join(&self.tally);
+        self.tally = Tally::new();
     }
 
     fn tell_counts(&mut self, standing: Standing) -> Result<(), AllocError> {
@@ -172,7 +184,11 @@ impl Journal {
             (" syncs ", self.tally.syncs),
             (" longest ", self.tally.longest),
         ];
-        put_counts(&mut self.line, &counts)
+        put_counts(&mut self.line, &counts)?;
+        match &self.viewers {
+            Some(viewers) => put_viewers(&mut self.line, viewers),
+            None => Ok(()),
+        }
     }
 
     /// A file of the store was brought to rest, which took so long.
@@ -202,10 +218,12 @@ impl Journal {
 
     /// These bytes came on a connection.
     pub fn came(&mut self, number: u64, bytes: &[u8], now: Instant) {
-        let Some(talk) = self.talks.iter_mut().find(|talk| talk.number == number) else {
+        let Some(place) = self.place(number) else {
             return;
         };
-        if talk.note(self.alloc, bytes, now).is_err() {
+        if let Some(talk) = self.talks.get_mut(place)
+            && talk.note(self.alloc, bytes, now).is_err()
+        {
             self.outlet.lose();
         }
     }
@@ -215,7 +233,10 @@ impl Journal {
         if head.starts_with(b"HTTP/1.1 1") {
             return;
         }
-        let Some(talk) = self.talks.iter_mut().find(|talk| talk.number == number) else {
+        let Some(place) = self.place(number) else {
+            return;
+        };
+        let Some(talk) = self.talks.get_mut(place) else {
             return;
         };
         let asked = talk.answered(self.alloc, now);
@@ -224,13 +245,16 @@ impl Journal {
             self.tally.pushes = self.tally.pushes.saturating_add(1);
         }
         let bytes = (head.len() as u64).saturating_add(tail.len() as u64);
-        let made = self.tell_reply(number, &asked, head, bytes, now, went);
+        let made = self.tell_reply(place, &asked, head, bytes, now, went);
         self.put(made);
+        if let Some(talk) = self.talks.get_mut(place) {
+            talk.give_back(asked);
+        }
     }
 
     fn tell_reply(
         &mut self,
-        number: u64,
+        place: usize,
         asked: &Asked,
         head: &[u8],
         bytes: u64,
@@ -238,7 +262,7 @@ impl Journal {
         went: bool,
     ) -> Result<(), AllocError> {
         self.head(if asked.is_push { b"push" } else { b"reply" })?;
-        if let Some(talk) = self.talks.iter().find(|talk| talk.number == number) {
+        if let Some(talk) = self.talks.get(place) {
             put_talk(&mut self.line, talk)?;
         }
         self.line.push(b' ')?;
@@ -286,8 +310,20 @@ impl Journal {
     }
 
     // The place of a connection among those that are told.
-    fn place(&self, number: u64) -> Option<usize> {
-        self.talks.iter().position(|talk| talk.number == number)
+    fn place(&mut self, number: u64) -> Option<usize> {
+        let found = match self.place_from(self.last, number) {
+            Some(place) => Some(place),
+            None => self.place_from(0, number),
+        };
+        self.last = found.unwrap_or(0);
+        found
+    }
+
+    // The place of a connection among those from a place on.
+    fn place_from(&self, first: usize, number: u64) -> Option<usize> {
+        let talks = self.talks.get(first..)?;
+        let behind = talks.iter().position(|talk| talk.number == number)?;
+        Some(first.saturating_add(behind))
     }
 
     // Begins a line.
@@ -331,6 +367,15 @@ fn put_counts(line: &mut Vec<u8>, counts: &[(&str, u64)]) -> Result<(), AllocErr
     Ok(())
 }
 
+// What players tell, where there are any.
+fn put_viewers(line: &mut Vec<u8>, viewers: &Viewers) -> Result<(), AllocError> {
+    let Some(seen) = viewers.seen() else {
+        return Ok(());
+    };
+    let counts = [(" viewers ", seen.connections), (" answers ", seen.replies)];
+    put_counts(line, &counts)
+}
+
 fn put_time(line: &mut Vec<u8>, time: Duration) -> Result<(), AllocError> {
     line.extend_from_slice(b" seconds ")?;
     put_seconds(line, millis(time))
@@ -359,11 +404,20 @@ fn put_request(line: &mut Vec<u8>, request: &[u8]) -> Result<(), AllocError> {
 
 // Bytes of others: what is no plain character of ASCII, and a quote, is told as a question mark.
 fn put_text(line: &mut Vec<u8>, text: &[u8]) -> Result<(), AllocError> {
-    for byte in text {
-        let is_plain = (b' '..=b'~').contains(byte) && *byte != b'"';
-        line.push(if is_plain { *byte } else { b'?' })?;
+    let first = line.len();
+    line.extend_from_slice(text)?;
+    for byte in line[first..].iter_mut() {
+        *byte = plain(*byte);
     }
     Ok(())
+}
+
+fn plain(byte: u8) -> u8 {
+    if byte < b' ' || byte > b'~' || byte == b'"' {
+        b'?'
+    } else {
+        byte
+    }
 }
 
 // The first line of a reply's body, which begins behind an empty line.

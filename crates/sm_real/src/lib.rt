@@ -5,6 +5,7 @@
 
 mod budget;
 mod digits;
+mod families;
 mod fault;
 mod file_disk;
 mod file_limit;
@@ -27,7 +28,9 @@ mod tcp_link;
 mod tests;
 mod trickle;
 mod trouble;
+mod viewers;
 
+pub use families::{no_address, takes_both};
 pub use fault::OpenFault;
 pub use file_disk::FileDisk;
 pub use file_tracks::FileTracks;
@@ -37,3 +40,4 @@ pub use sharing::Sharing;
 pub use tcp_dial::TcpDial;
 pub use tcp_link::TcpLink;
 pub use trouble::{Doing, Trouble};
+pub use viewers::Viewers;

@@ -122,12 +122,15 @@ impl Outlet {
     // Writes one piece to a pipe, and says whether there may be more to write.
     fn write_piece(&mut self) -> bool {
         let count = self.lines.len().min(AT_ONCE);
+        if count == 0 {
+            return false;
+        }
         let fd = self.file.as_raw_fd();
         let has_room = match &mut self.room {
             Some(room) => room.is_there(&fd),
             None => false,
         };
-        if count == 0 || !has_room {
+        if !has_room {
             return false;
         }
         match (&self.file).write(&self.lines.as_slice()[..count]) {

@@ -1,10 +1,10 @@
 // The site of a machine: the disk in a folder and the link over sockets.
-ghost use Rattle.std.specs.Prelude.{◌≡◌, ◌≤◌, refl, IsErrOf};
+ghost use Rattle.std.specs.Prelude.{◌≡◌, ◌≤◌, refl, IsErrOf, None};
 ghost use Rattle.sm_site.specs.Clauses.{Rose};
 ghost use Rattle.sm_real.specs.Telling.{counts_alone};
 
 use crate::journal::{Journal, Opened};
-use crate::{Doing, FileDisk, OpenFault, TcpLink, Trouble};
+use crate::{Doing, FileDisk, OpenFault, TcpLink, Trouble, Viewers};
 use sm_site::{Disk, Event, Failed, Link, LinkError, Selection, Site, SiteError};
 use std::alloc::Global;
 use std::fs::File;
@@ -26,6 +26,8 @@ pub struct RealSite<R: Files<File = File> + Net + Clock + Drop> {
     selection: Option<Selection>,
     // The store is being opened, which the journal tells once the first event is waited for.
     opening: Option<Opening>,
+    // Whom players answer, for the journal.
+    viewers: Option<Viewers>,
 }
 
 // Since when a store has been opened, and what was read of it.
@@ -61,7 +63,14 @@ impl Opening {
 
 impl<R: Files<File = File> + Net + Clock + Copy + Drop> RealSite<R> {
     /// Without a folder and a port, as it is before `select`.
-    pub fn new(rt: R, alloc: Global) -> RealSite<R> {
+    pub fn new(rt: R, alloc: Global) -> RealSite<R>
+        ensures reads { result.disk.reads ≡ 0 }
+        ensures disk_faults { result.disk.faults ≡ 0 }
+        ensures link_faults { result.link.faults ≡ 0 }
+        ensures send_faults { result.link.send_faults ≡ 0 }
+        ensures numbers { result.link.next_number ≡ 1 }
+        ensures unchosen { result.selection ≡ None }
+    {
         RealSite {
             disk: FileDisk::new(rt, alloc),
             link: TcpLink::new(rt, alloc),
@@ -69,6 +78,7 @@ impl<R: Files<File = File> + Net + Clock + Copy + Drop> RealSite<R> {
             alloc,
             selection: None,
             opening: None,
+            viewers: None,
         }
     }
 }
@@ -113,7 +123,8 @@ impl<R: Files<File = File> + Net + Clock + Drop> RealSite<R> {
         let Some(path) = &selection.journal else {
             return Ok(());
         };
-        match Journal::open(&self.rt, self.alloc, path.as_str()) {
+        let viewers = self.viewers.take();
+        match Journal::open(&self.rt, self.alloc, path.as_str(), viewers) {
             Ok(journal) => self.link.tell_in(journal),
             Err(e) => {
                 return match self.disk.refused(Trouble::new(Doing::Telling, e)) {
@@ -128,13 +139,26 @@ impl<R: Files<File = File> + Net + Clock + Drop> RealSite<R> {
         Ok(())
     }
 
+    /// A journal that is opened from now on tells of these viewers too.
+    pub fn tell_of(&mut self, viewers: Viewers)
+        ensures disk { self.new.disk ≡ self.old.disk }
+        ensures link { self.new.link ≡ self.old.link }
+        ensures selection { self.new.selection ≡ self.old.selection }
+    {
+        self.viewers = Some(viewers);
+    }
+
     /// What the system refused last of the disk.
-    pub fn disk_trouble(&self) -> Option<Trouble> {
+    pub fn disk_trouble(&self) -> Option<Trouble>
+        ensures { result ≡ self.now.disk.trouble }
+    {
         self.disk.trouble()
     }
 
     /// What the system refused last of the link, but for what could not be sent.
-    pub fn link_trouble(&self) -> Option<Trouble> {
+    pub fn link_trouble(&self) -> Option<Trouble>
+        ensures { result ≡ self.now.link.trouble }
+    {
         self.link.trouble()
     }
 

@@ -1,5 +1,6 @@
 // What links have in common that take connections of the same listeners.
 
+use crate::Viewers;
 use std::alloc::{AllocError, Global};
 use std::sync::Arc;
 use std::sync::atomic::{AtomicBool, AtomicU64, Ordering};
@@ -17,22 +18,31 @@ pub struct Sharing {
     ending: Arc<AtomicBool>,
     // This one counts among them.
     counted: bool,
+    viewers: Viewers,
+    // What was told of this one's connections, and what is still to be told of its replies.
+    told: u64,
+    replies: u64,
 }
 
 impl Sharing {
-    /// That of the first of so many links, each for so many connections at most. They end once this flag is raised.
+    /// That of the first of so many links, each for so many connections at most. They end once this flag is raised, and are counted there.
     pub fn new(
         alloc: Global,
         links: u64,
         most: usize,
         ending: Arc<AtomicBool>,
+        viewers: Viewers,
     ) -> Result<Sharing, AllocError> {
+        viewers.begin(links);
         Ok(Sharing {
             most,
             links,
             full: Arc::new(alloc, AtomicU64::new(0))?,
             ending,
             counted: false,
+            viewers,
+            told: 0,
+            replies: 0,
         })
     }
 
@@ -44,6 +54,9 @@ impl Sharing {
             full: Arc::try_clone(&self.full)?,
             ending: Arc::try_clone(&self.ending)?,
             counted: false,
+            viewers: self.viewers.copy()?,
+            told: 0,
+            replies: 0,
         })
     }
 
@@ -60,6 +73,19 @@ impl Sharing {
             self.count(is_full);
         }
         !is_full || self.full.load(Ordering::SeqCst) >= self.links
+    }
+
+    /// A reply went out.
+    pub fn replied(&mut self) {
+        self.replies = self.replies.saturating_add(1);
+    }
+
+    /// The link has so many connections, which is told with its replies.
+    pub fn tell(&mut self, connections: usize) {
+        let open = connections as u64;
+        self.viewers.tell(self.told, open, self.replies);
+        self.told = open;
+        self.replies = 0;
     }
 
     // One more of the links is full, or one less.

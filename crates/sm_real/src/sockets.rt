@@ -275,14 +275,21 @@ impl Sockets {
         Ok(())
     }
 
-    // A round is over for the journal too.
+    // A round begins for the journal too, which counts the peers now and then, and for those that listen at the same place.
     fn tell(&mut self, rt: &impl Clock) {
-        if let Some(journal) = &mut self.journal {
+        if let Some(sharing) = &mut self.sharing {
+            sharing.tell(self.peers.len());
+        }
+        let Some(journal) = &mut self.journal else {
+            return;
+        };
+        journal.turn(rt, self.now);
+        if journal.is_due(self.now) {
             let standing = Standing {
                 connections: self.peers.len(),
                 waiting: self.peers.waiting(),
             };
-            journal.turn(rt, standing);
+            journal.count(self.now, standing);
         }
     }
 
@@ -459,6 +466,9 @@ impl Sockets {
         ensures peers { self.new.peers ≡ self.old.peers }
         ensures patience { self.new.patience ≡ self.old.patience }
     {
+        if let Some(sharing) = &mut self.sharing {
+            sharing.replied();
+        }
         if let Some(journal) = &mut self.journal
             && let Ok(now) = Instant::now(rt)
         {

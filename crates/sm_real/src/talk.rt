@@ -1,5 +1,6 @@
 // What one connection asks, as the journal tells it.
 
+use memchr::memchr_iter;
 use std::alloc::{AllocError, Global};
 use std::collections::VecDeque;
 use std::time::Instant;
@@ -29,6 +30,8 @@ pub struct Talk {
     pub peer: String,
     // The first line of the head that is coming.
     first: Vec<u8>,
+    // Room for that of the next one.
+    spare: Vec<u8>,
     // How many lines of that head are whole, and whether the one that is coming has a byte.
     lines: u64,
     is_empty: bool,
@@ -43,6 +46,7 @@ impl Talk {
             number,
             peer,
             first: Vec::new(alloc),
+            spare: Vec::new(alloc),
             lines: 0,
             is_empty: true,
             in_body: false,
@@ -57,27 +61,34 @@ impl Talk {
 
     /// These bytes came.
     pub fn note(&mut self, alloc: Global, bytes: &[u8], now: Instant) -> Result<(), AllocError> {
-        for part in bytes.split_inclusive(|byte| *byte == b'\n') {
-            if self.in_body {
-                break;
-            }
-            self.take(alloc, part, now)?;
-        }
-        Ok(())
-    }
-
-    // Takes a line of a head, or as much of it as came.
-    fn take(&mut self, alloc: Global, part: &[u8], now: Instant) -> Result<(), AllocError> {
-        let is_whole = part.ends_with(b"\n");
-        let text = without_end(part);
-        if self.lines == 0 {
-            let room = TOLD.saturating_sub(self.first.len());
-            self.first.extend_from_slice(&text[..text.len().min(room)])?;
-        }
-        self.is_empty = self.is_empty && text.is_empty();
-        if !is_whole {
+        if self.in_body {
             return Ok(());
         }
+        let mut from = 0;
+        for end in memchr_iter(b'\n', bytes) {
+            self.take(bytes.get(from..end).unwrap_or(b""))?;
+            self.end_line(alloc, now)?;
+            if self.in_body {
+                return Ok(());
+            }
+            from = end.saturating_add(1);
+        }
+        self.take(bytes.get(from..).unwrap_or(b""))
+    }
+
+    // Takes as much of a line of a head as came.
+    fn take(&mut self, part: &[u8]) -> Result<(), AllocError> {
+        let text = part.strip_suffix(b"\r").unwrap_or(part);
+        self.is_empty = self.is_empty && text.is_empty();
+        if self.lines > 0 {
+            return Ok(());
+        }
+        let room = TOLD.saturating_sub(self.first.len());
+        self.first.extend_from_slice(&text[..text.len().min(room)])
+    }
+
+    // A line of a head is whole.
+    fn end_line(&mut self, alloc: Global, now: Instant) -> Result<(), AllocError> {
         if !self.is_empty {
             self.lines = self.lines.saturating_add(1);
             self.is_empty = true;
@@ -101,7 +112,8 @@ impl Talk {
 
     // The head that is coming, which ends here.
     fn begun(&mut self, alloc: Global, now: Instant) -> Asked {
-        let line = std::mem::replace(&mut self.first, Vec::new(alloc));
+        let room = std::mem::replace(&mut self.spare, Vec::new(alloc));
+        let line = std::mem::replace(&mut self.first, room);
         self.lines = 0;
         self.is_empty = true;
         let is_push = line.starts_with(b"POST ");
@@ -124,6 +136,13 @@ impl Talk {
         asked
     }
 
+    /// A request is told: what its line took is room for the next one.
+    pub fn give_back(&mut self, asked: Asked) {
+        let Asked { line, .. } = asked;
+        self.spare = line;
+        self.spare.clear();
+    }
+
     /// The line of the last request that waits for its reply.
     pub fn last(&self) -> &[u8] {
         match self.asked.back() {
@@ -131,10 +150,4 @@ impl Talk {
             None => b"",
         }
     }
-}
-
-// A line without the bytes that end it.
-fn without_end(part: &[u8]) -> &[u8] {
-    let text = part.strip_suffix(b"\n").unwrap_or(part);
-    text.strip_suffix(b"\r").unwrap_or(text)
 }

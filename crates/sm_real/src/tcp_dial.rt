@@ -65,7 +65,11 @@ pub struct TcpDial<R: Net<Stream = TcpStream> + Clock + Drop> {
 
 impl<R: Net<Stream = TcpStream> + Clock + Drop> TcpDial<R> {
     /// Without a host.
-    pub fn new(rt: R, alloc: Global) -> TcpDial<R> {
+    pub fn new(rt: R, alloc: Global) -> TcpDial<R>
+        ensures faults { result.faults ≡ 0 }
+        ensures turned_to { result.turned_to ≡ None }
+        ensures trouble { result.trouble ≡ None }
+    {
         TcpDial {
             rt,
             alloc,
@@ -77,7 +81,9 @@ impl<R: Net<Stream = TcpStream> + Clock + Drop> TcpDial<R> {
     }
 
     /// What the system refused last, where the last exchange was lost or the host that was wanted last could not be found.
-    pub fn trouble(&self) -> Option<Trouble> {
+    pub fn trouble(&self) -> Option<Trouble>
+        ensures { result ≡ self.now.trouble }
+    {
         self.trouble
     }
 

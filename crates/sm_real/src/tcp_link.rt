@@ -1,8 +1,9 @@
 // The link over sockets.
-ghost use Rattle.std.specs.Prelude.{◌≡◌, ◌≢◌, ◌≤◌, IsErrOf, None, is_ok, is_some, true, false};
+ghost use Rattle.std.specs.Prelude.{◌≡◌, ◌≢◌, ◌≤◌, IsErrOf, None, Some, is_ok, is_some, true, false};
 ghost use Rattle.sm_site.specs.Clauses.{Rose};
 ghost use Rattle.sm_real.specs.Telling.{counts_alone};
 
+use crate::families::{no_address, takes_both};
 use crate::journal::{Journal, Opened};
 use crate::sockets::{Asked, Sockets};
 use crate::{Doing, OpenFault, Patience, Sharing, Trouble};
@@ -10,7 +11,7 @@ use mio::net::TcpListener as Listener;
 use sm_site::{Event, Failed, Link, LinkError, Selection};
 use std::alloc::Global;
 use std::io::{self, ErrorKind};
-use std::net::{IpAddr, Ipv4Addr, Ipv6Addr, Net, OpenListener, SocketAddr, TcpListener};
+use std::net::{IpAddr, Ipv4Addr, Ipv6Addr, Net, SocketAddr, TcpListener};
 use std::time::{Clock, Instant};
 
 /// A link over sockets, which are asked in turn. It tells nothing of what goes over them. Until it listens each call fails.
@@ -35,12 +36,25 @@ pub struct TcpLink<R: Net + Clock + Drop> {
 
 impl<R: Net + Clock + Drop> TcpLink<R> {
     /// Listening nowhere.
-    pub fn new(rt: R, alloc: Global) -> TcpLink<R> {
+    pub fn new(rt: R, alloc: Global) -> TcpLink<R>
+        ensures faults { result.faults ≡ 0 }
+        ensures send_faults { result.send_faults ≡ 0 }
+        ensures numbers { result.next_number ≡ 1 }
+        ensures nowhere { is_some result.sockets ≡ false }
+        ensures trouble { result.trouble ≡ None }
+    {
         TcpLink::with(rt, alloc, Patience::USUAL)
     }
 
     /// Listening nowhere, with other limits than the usual ones.
-    pub fn with(rt: R, alloc: Global, patience: Patience) -> TcpLink<R> {
+    pub fn with(rt: R, alloc: Global, patience: Patience) -> TcpLink<R>
+        ensures faults { result.faults ≡ 0 }
+        ensures send_faults { result.send_faults ≡ 0 }
+        ensures numbers { result.next_number ≡ 1 }
+        ensures nowhere { is_some result.sockets ≡ false }
+        ensures patience { result.patience ≡ patience }
+        ensures trouble { result.trouble ≡ None }
+    {
         TcpLink {
             rt,
             alloc,
@@ -54,7 +68,9 @@ impl<R: Net + Clock + Drop> TcpLink<R> {
     }
 
     /// What the system refused last, but for what could not be sent.
-    pub fn trouble(&self) -> Option<Trouble> {
+    pub fn trouble(&self) -> Option<Trouble>
+        ensures { result ≡ self.now.trouble }
+    {
         self.trouble
     }
 
@@ -132,6 +148,7 @@ impl<R: Net + Clock + Drop> TcpLink<R> {
 
     // Keeps what the system said, and nothing else changes.
     fn keep(&mut self, trouble: Trouble)
+        ensures kept { self.new.trouble ≡ Some trouble }
         ensures faults { self.new.faults ≡ self.old.faults }
         ensures send_faults { self.new.send_faults ≡ self.old.send_faults }
         ensures numbers { self.new.next_number ≡ self.old.next_number }
@@ -215,6 +232,8 @@ impl<R: Net + Clock + Drop> TcpLink<R> {
 
     /// The site brought something to rest for the piece that was given last.
     pub fn note_work(&mut self)
+        ensures listens { is_some self.new.sockets ≡ is_some self.old.sockets }
+        ensures trouble { self.new.trouble ≡ self.old.trouble }
         ensures faults { self.new.faults ≡ self.old.faults }
         ensures send_faults { self.new.send_faults ≡ self.old.send_faults }
         ensures numbers { self.new.next_number ≡ self.old.next_number }
@@ -226,6 +245,8 @@ impl<R: Net + Clock + Drop> TcpLink<R> {
 
     /// Tells what happens from now on in a journal.
     pub fn tell_in(&mut self, journal: Journal)
+        ensures listens { is_some self.new.sockets ≡ is_some self.old.sockets }
+        ensures trouble { self.new.trouble ≡ self.old.trouble }
         ensures faults { self.new.faults ≡ self.old.faults }
         ensures send_faults { self.new.send_faults ≡ self.old.send_faults }
         ensures numbers { self.new.next_number ≡ self.old.next_number }
@@ -237,6 +258,8 @@ impl<R: Net + Clock + Drop> TcpLink<R> {
 
     /// The origin begins to serve this store, for the journal.
     pub fn note_begin(&mut self, selection: &Selection, opened: Opened)
+        ensures listens { is_some self.new.sockets ≡ is_some self.old.sockets }
+        ensures trouble { self.new.trouble ≡ self.old.trouble }
         ensures faults { self.new.faults ≡ self.old.faults }
         ensures send_faults { self.new.send_faults ≡ self.old.send_faults }
         ensures numbers { self.new.next_number ≡ self.old.next_number }
@@ -250,6 +273,8 @@ impl<R: Net + Clock + Drop> TcpLink<R> {
 
     /// The disk refused something, for the journal.
     pub fn note_fault(&mut self, trouble: &Trouble)
+        ensures listens { is_some self.new.sockets ≡ is_some self.old.sockets }
+        ensures trouble { self.new.trouble ≡ self.old.trouble }
         ensures faults { self.new.faults ≡ self.old.faults }
         ensures send_faults { self.new.send_faults ≡ self.old.send_faults }
         ensures numbers { self.new.next_number ≡ self.old.next_number }
@@ -263,6 +288,8 @@ impl<R: Net + Clock + Drop> TcpLink<R> {
 
     /// A file of the store was brought to rest, for the journal, since this moment.
     pub fn note_sync(&mut self, since: Option<Instant>)
+        ensures listens { is_some self.new.sockets ≡ is_some self.old.sockets }
+        ensures trouble { self.new.trouble ≡ self.old.trouble }
         ensures faults { self.new.faults ≡ self.old.faults }
         ensures send_faults { self.new.send_faults ≡ self.old.send_faults }
         ensures numbers { self.new.next_number ≡ self.old.next_number }
@@ -278,6 +305,8 @@ impl<R: Net + Clock + Drop> TcpLink<R> {
 
     /// An entry of the store was kept, for the journal.
     pub fn note_kept(&mut self)
+        ensures listens { is_some self.new.sockets ≡ is_some self.old.sockets }
+        ensures trouble { self.new.trouble ≡ self.old.trouble }
         ensures faults { self.new.faults ≡ self.old.faults }
         ensures send_faults { self.new.send_faults ≡ self.old.send_faults }
         ensures numbers { self.new.next_number ≡ self.old.next_number }
@@ -291,6 +320,8 @@ impl<R: Net + Clock + Drop> TcpLink<R> {
 
     /// The origin of this store ends, for the journal.
     pub fn note_end(&mut self, selection: &Selection)
+        ensures listens { is_some self.new.sockets ≡ is_some self.old.sockets }
+        ensures trouble { self.new.trouble ≡ self.old.trouble }
         ensures faults { self.new.faults ≡ self.old.faults }
         ensures send_faults { self.new.send_faults ≡ self.old.send_faults }
         ensures numbers { self.new.next_number ≡ self.old.next_number }
@@ -303,7 +334,9 @@ impl<R: Net + Clock + Drop> TcpLink<R> {
     }
 
     /// This moment, where a journal wants it.
-    pub fn moment(&self) -> Option<Instant> {
+    pub fn moment(&self) -> Option<Instant>
+        ensures { is_some self.now.sockets ≡ false → result ≡ None }
+    {
         let sockets = self.sockets.as_ref()?;
         let _journal = sockets.journal.as_ref()?;
         Instant::now(&self.rt).ok()
@@ -316,27 +349,6 @@ impl<R: Net + Clock + Drop> TcpLink<R> {
             None => Err(ErrorKind::NotConnected.into()),
         }
     }
-}
-
-// Whether listeners of IPv6 take connections of IPv4 too, as the system has it: tried at a port that nobody was told of. To find out at the
-// port itself would let a listener go that somebody may have reached.
-fn takes_both<R: Net>(rt: &R) -> bool {
-    let Ok(six) = TcpListener::bind(rt, SocketAddr::from((Ipv6Addr::UNSPECIFIED, 0))) else {
-        return false;
-    };
-    let Ok(address) = six.local_addr() else {
-        return false;
-    };
-    let four = SocketAddr::from((Ipv4Addr::UNSPECIFIED, address.port()));
-    match TcpListener::bind(rt, four) {
-        Ok(_) => false,
-        Err(e) => e.kind() == ErrorKind::AddrInUse,
-    }
-}
-
-// What is said of a text that is no address.
-fn no_address() -> io::Error {
-    io::Error::new(ErrorKind::InvalidInput, "no address of IPv4 or IPv6")
 }
 
 impl<R: Net + Clock + Drop> Link for TcpLink<R> {

@@ -1,4 +1,5 @@
 // What the system refused, for people.
+ghost use Rattle.std.specs.Prelude.{◌≡◌};
 
 use std::io;
 use thiserror::Error;
@@ -47,7 +48,10 @@ pub struct Trouble {
 }
 
 impl Trouble {
-    pub fn new(doing: Doing, error: io::Error) -> Trouble {
+    pub fn new(doing: Doing, error: io::Error) -> Trouble
+        ensures doing { result.doing ≡ doing }
+        ensures error { result.error ≡ error }
+    {
         Trouble { doing, error }
     }
 }

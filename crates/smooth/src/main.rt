@@ -16,7 +16,7 @@ use sm_fetch::Dial;
 use sm_model::NoMemory;
 use sm_players::Spawner;
 use sm_policy::{Fixed, Ladder, Policy, Steps};
-use sm_real::{FileTracks, RealSite, TcpDial, Trouble};
+use sm_real::{FileTracks, RealSite, TcpDial, Trouble, Viewers};
 use sm_run::run;
 use sm_site::Site;
 use sm_tool::starved;
@@ -122,7 +122,14 @@ fn main(rt: HostRuntime) -> ExitCode {
     let mut site = RealSite::new(&rt, rt.alloc());
     let mut dial = TcpDial::new(&rt, rt.alloc());
     let mut tracks = FileTracks::new(&rt, rt.alloc());
-    let Ok(crew) = RealCrew::new(rt, rt.alloc()) else {
+    let Ok(viewers) = Viewers::new(rt.alloc()) else {
+        return end_starved(&mut output);
+    };
+    let Ok(copy) = viewers.copy() else {
+        return end_starved(&mut output);
+    };
+    site.tell_of(copy);
+    let Ok(crew) = RealCrew::new(rt, rt.alloc(), viewers) else {
         return end_starved(&mut output);
     };
     let mut crew = crew;

@@ -1,5 +1,6 @@
 //! Readers and writers as ends. They tell the bytes that their reader or writer tells: the standard streams tell none, since
 //! no contract knows what reaches or leaves the system.
+ghost use Rattle.std.specs.Prelude.{◌≡◌, None};
 
 use sm_ends::{Failed, Sink, Source};
 use sm_real::{Doing, Trouble};
@@ -14,7 +15,11 @@ pub struct StdSource<R> {
 }
 
 impl<R: Read> StdSource<R> {
-    pub fn new(reader: R) -> StdSource<R> {
+    pub fn new(reader: R) -> StdSource<R>
+        ensures reader { result.reader ≡ reader }
+        ensures faults { result.faults ≡ 0 }
+        ensures trouble { result.trouble ≡ None }
+    {
         StdSource {
             reader,
             faults: 0,
@@ -23,7 +28,9 @@ impl<R: Read> StdSource<R> {
     }
 
     /// What the system refused last.
-    pub fn trouble(&self) -> Option<Trouble> {
+    pub fn trouble(&self) -> Option<Trouble>
+        ensures { result ≡ self.now.trouble }
+    {
         self.trouble
     }
 }
@@ -54,7 +61,11 @@ pub struct StdSink<W> {
 }
 
 impl<W: Write> StdSink<W> {
-    pub fn new(writer: W) -> StdSink<W> {
+    pub fn new(writer: W) -> StdSink<W>
+        ensures writer { result.writer ≡ writer }
+        ensures faults { result.faults ≡ 0 }
+        ensures trouble { result.trouble ≡ None }
+    {
         StdSink {
             writer,
             faults: 0,
@@ -63,7 +74,9 @@ impl<W: Write> StdSink<W> {
     }
 
     /// What the system refused last.
-    pub fn trouble(&self) -> Option<Trouble> {
+    pub fn trouble(&self) -> Option<Trouble>
+        ensures { result ≡ self.now.trouble }
+    {
         self.trouble
     }
 }
