@@ -84,7 +84,7 @@ fn channel_for(alloc: Global, catalog: &Catalog, knows: bool) -> Result<Option<C
 // Whether what the one has added goes on from what the other has, in one channel.
 fn go_on(a: &Catalog, b: &Catalog) -> bool
     requires { length b.now.adds < 2 ^ 32 }
-    ensures { IsTrue result → (a.now.channel ≡ b.now.channel) × ((more : List Add) × (a.now.adds ≡ b.now.adds ++ more)) }
+    ensures { IsTrue result ↔ ((a.now.channel ≡ b.now.channel) × ((more : List Add) × (a.now.adds ≡ b.now.adds ++ more))) }
 {
     if !a.channel().is_same(b.channel()) {
         return false;
@@ -184,7 +184,7 @@ impl Stock {
 
     /// Whether it goes on from the other. It looks at all that the other has added.
     pub fn goes_on(&self, other: &Stock) -> bool
-        ensures { IsTrue result → Extends self.now other.now }
+        ensures { IsTrue result ↔ Extends self.now other.now }
     {
         match (&self.catalog, &other.catalog) {
             (_, None) => true,
