@@ -9,6 +9,7 @@ mod filling;
 mod seats;
 mod serving;
 mod shelves;
+mod teaching;
 mod values;
 mod watching;
 

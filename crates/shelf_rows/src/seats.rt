@@ -1,12 +1,13 @@
 //! The readers of a row.
 use crate::asking::{Answered, ask_fragment, ask_manifest};
+use crate::teaching::teach;
 use crate::values::address;
 use crate::watching::{Sight, Watched, start};
 use anyhow::{Result, bail};
 use sm_model::Text;
 use sm_rows::tales::Tale;
 use sm_rows::{Line, Words};
-use sm_shelf::{Readers, ShelfReader, ShelfWriter, Shown};
+use sm_shelf::{Readers, ShelfReader, Shown, Told};
 use std::alloc::Global;
 use std::thread::{JoinHandle, Threads};
 
@@ -60,11 +61,10 @@ impl Seats {
         }
     }
 
-    /// Tells the reader whose turn it is what is published. It learns here, and sees it in the thread in which it is asked next.
-    pub fn learn(&mut self, writer: &mut ShelfWriter) -> Result<()> {
-        let mut reader = self.reader()?;
-        reader.learn(writer.tell());
-        self.idle.push(reader)?;
+    /// Lets the reader whose turn it is learn what was told, in a thread of its own.
+    pub fn learn<R: Threads>(&mut self, rt: &R, told: Told) -> Result<()> {
+        let reader = self.reader()?;
+        self.idle.push(teach(rt, reader, told)?)?;
         Ok(())
     }
 

@@ -11,17 +11,18 @@ use sm_model::{Channel, Entry, Fragment, Track};
 use sm_rows::scripts::is_quiet;
 use sm_rows::tales::Tale;
 use sm_rows::{Case, Line, Words};
-use sm_shelf::{Readers, ShelfWriter, make};
+use sm_shelf::{Readers, ShelfWriter, Told, make};
 use std::alloc::Global;
 use std::sync::Wait;
 use std::thread::Threads;
 
-// What a row lays next, and the readers.
+// What a row lays next, what the writer told and isn't learnt yet, and the readers.
 #[derive(Drop)]
 struct Stage {
     alloc: Global,
     tracks: Vec<Track>,
     filling: Option<Filling>,
+    notes: Vec<Told>,
     seats: Seats,
 }
 
@@ -68,6 +69,7 @@ impl Stage {
             alloc,
             tracks: Vec::new(alloc),
             filling: None,
+            notes: Vec::new(alloc),
             seats: Seats::new(alloc, readers),
         }
     }
@@ -96,8 +98,35 @@ impl Stage {
         }
     }
 
+    // Tells what is published so many times, to be learnt later.
+    fn note(&mut self, writer: &mut ShelfWriter, times: u32) -> Result<()> {
+        for _ in 0..times {
+            self.notes.push(writer.tell())?;
+        }
+        Ok(())
+    }
+
+    // Lets a reader learn what was told last.
+    fn learn<R: Threads>(&mut self, rt: &R) -> Result<()> {
+        match self.notes.pop() {
+            Some(told) => self.seats.learn(rt, told),
+            None => bail!("nothing was told"),
+        }
+    }
+
+    // Lets a reader learn what another shelf tells, on which the tracks before it are declared.
+    fn stray<R: Threads + Wait>(&mut self, rt: &R, tale: &mut Tale) -> Result<()> {
+        let ladder = channel(self.alloc, &mut self.tracks)?;
+        let (mut writer, _readers) = make(rt, self.alloc, 1)?;
+        let declared = declare(rt, &mut writer, ladder, tale);
+        let learnt = self.seats.learn(rt, writer.tell());
+        writer.end(rt);
+        declared?;
+        learnt
+    }
+
     // A step of the writer: the lines of a track; `catalog` of the tracks before it, `add` and a fragment, and `fill` with both; `declare`
-    // of the tracks before it, and `keep` and a fragment, which put an entry; `height`; and `tell`, which the reader whose turn it is learns.
+    // of the tracks before it, and `keep` and a fragment, which put an entry; and `height`.
     fn write<R: Threads + Wait>(
         &mut self,
         rt: &R,
@@ -122,7 +151,26 @@ impl Stage {
                 keep(rt, writer, fragment, tale)
             }
             "height" => tale.count(writer.height()),
-            "tell" => self.seats.learn(writer),
+            _ => self.tell(rt, writer, line, words, tale),
+        }
+    }
+
+    // A step of what is told: `tell`, which the reader whose turn it is learns at once; `note N`, which tells N times, and `learn`, by which
+    // the reader learns what was told last and isn't learnt yet; and `stray`, by which it learns what another shelf tells, on which the
+    // tracks before it are declared.
+    fn tell<R: Threads + Wait>(
+        &mut self,
+        rt: &R,
+        writer: &mut ShelfWriter,
+        line: &Line,
+        words: &Words,
+        tale: &mut Tale,
+    ) -> Result<()> {
+        match line.key() {
+            "tell" => self.seats.learn(rt, writer.tell()),
+            "note" => self.note(writer, words.short(0)?),
+            "learn" => self.learn(rt),
+            "stray" => self.stray(rt, tale),
             _ => bail!("no such step"),
         }
     }
