@@ -22,10 +22,9 @@ returns-in-Some-Some c =
     let dc = sym (ap (λ (d : Digest). d.channel) c.self.view_is) in
     let da = sym (ap (λ (d : Digest). d.adds) c.self.view_is) in
     let oc = sym (ap (λ (d : Digest). d.channel) c.other.view_is) in
-    let oa = sym (ap (λ (d : Digest). d.adds) c.other.view_is) in
-    (
+    let oa = sym (ap (λ (d : Digest). d.adds) c.other.view_is) in (
       λ holds. let on = c.go_on.ensures.0 holds in
-      digests_go c.args.self.now c.args.other.now c.self.inside.catalog c.other.inside.catalog c.in-Some-Some.a c.in-Some-Some.b dc da oc oa c.in-Some-Some.is-0 c.in-Some-Some.is-1 on.0 on.1,
+          digests_go c.args.self.now c.args.other.now c.self.inside.catalog c.other.inside.catalog c.in-Some-Some.a c.in-Some-Some.b dc da oc oa c.in-Some-Some.is-0 c.in-Some-Some.is-1 on.0 on.1,
       λ on. c.go_on.ensures.1 (catalogs_go c.args.self.now c.args.other.now c.self.inside.catalog c.other.inside.catalog c.in-Some-Some.a c.in-Some-Some.b dc da oc oa c.in-Some-Some.is-0 c.in-Some-Some.is-1
           c.self.invariant.listing c.other.invariant.listing on),
     )
