@@ -4,18 +4,19 @@ use Rattle.std.specs.Prelude.{IfSome, slice_get}
 use Rattle.std.proofs.lemmas.List.{append-nil}
 use Rattle.std.proofs.lemmas.Bool.{cases_lt}
 use Rattle.sm_model.specs.declared.entry.Entry.{Entry}
-use Rattle.sm_site.specs.Clauses.{Elapses, SameOutcomes, Throughout}
+use Rattle.sm_site.specs.Clauses.{Elapses, NoMore, SameOutcomes, Throughout}
 use Rattle.sm_site.specs.Image.{Image}
 use Rattle.sm_site.specs.Meanings.{View, Item}
 use Rattle.sm_site.proofs.Moments.{and_then, weakened}
 use Rattle.sm_seglog.specs.Stores.{HasStore}
-use Rattle.sm_archive.specs.Store.{IsStore, Spell}
+use Rattle.sm_archive.specs.Store.{IsNoStore, IsStore, Spell}
 use Rattle.sm_origin.specs.Machine.{Machine}
-use Rattle.sm_origin.specs.Opening.{HasOneStore}
+use Rattle.sm_origin.specs.Opening.{HasOneStore, WritesEmptyAlone}
 use Rattle.sm_origin.specs.Shown.{Claim}
 use Rattle.sm_origin.specs.Stores.{Fits}
+use Rattle.sm_origin.proofs.Acts.{if_some, some_of}
 use Rattle.sm_serve.specs.Shown.{Shown, replies}
-use Rattle.sm_command.specs.Lasting.{AtEachMoment, NoFewer, Outlasts}
+use Rattle.sm_command.specs.Lasting.{AtEachMoment, NoFewer, Outlasts, Spared, Untouched}
 
 -- ---- one part, and then another
 
@@ -102,6 +103,48 @@ module _ {D : Type 0} (view : D → View) (leave : D → Image → Type 0) (left
   no_other now_at old mid new first second =
       and_then view left_at old mid new (λ t c. leave old c) first
       (weakened view left_at mid new (λ t c. leave mid c) (λ t c. leave old c) second (λ t c left. no_more now_at old mid first c left))
+
+-- ---- what is no store
+
+-- a store was there
+a_store : (contents : Option Image) (P : Type 0) (log : List Entry) → IfSome contents (IsStore log) → IfSome contents (λ c. IsNoStore c → P)
+a_store None P log store = tt
+a_store (Some c) P log store = λ none. absurd (none log store)
+
+module _ {D : Type 0} (view : D → View) (leave : D → Image → Type 0) (left_at : D → ℕ → Image → Type 0) where
+  -- a call that writes nothing
+  pub unwritten_spared : (old new : D) → Untouched view leave left_at old new → Spared view leave left_at old new
+  unwritten_spared old new same = some_of (view old).contents (λ c. IsNoStore c → Untouched view leave left_at old new) (λ c none. same)
+
+  -- a call that found a store
+  pub found_spared : (log : List Entry) (old new : D) → IfSome (view old).contents (IsStore log) → Spared view leave left_at old new
+  found_spared log old new store = a_store (view old).contents (Untouched view leave left_at old new) log store
+
+  alone : (old new : D) → ((view new).contents ≡ (view old).contents) × NoMore (leave old) (leave new) × Throughout view left_at old new (λ t c. leave old c)
+      → Untouched view leave left_at old new
+  alone old new is = record { contents = is.0; each = at_each view left_at old new (λ t c. leave old c) (leave old) is.2 (λ t c left. left) }
+
+  -- a call that writes the store of an empty log alone
+  pub opened_spared : (old new : D) → WritesEmptyAlone view leave left_at old new → Spared view leave left_at old new
+  opened_spared old new is =
+      if_some (view old).contents
+      (λ c. (IsStore [] c → ⊥) → ((view new).contents ≡ (view old).contents) × NoMore (leave old) (leave new) × Throughout view left_at old new (λ t c. leave old c))
+      (λ c. IsNoStore c → Untouched view leave left_at old new) (λ c spares none. alone old new (spares (none []))) is
+
+  behind : (old mid new : D) → (view mid).contents ≡ (view old).contents → AtEachMoment view left_at old mid (leave old) → SameOutcomes (leave old) (leave mid)
+      → Untouched view leave left_at mid new → Untouched view leave left_at old new
+  behind old mid new is first same u = record {
+    contents = u.contents ∙ is;
+    each = one_by_one view left_at old mid new (leave old) first (weaker view left_at mid new (leave mid) (leave old) u.each (λ c left. (same c).0 left));
+  }
+
+  -- a site was chosen, and then a call was made on it
+  pub chosen_spared : (old mid new : D) → (view mid).contents ≡ (view old).contents → AtEachMoment view left_at old mid (leave old) → SameOutcomes (leave old) (leave mid)
+      → Spared view leave left_at mid new → Spared view leave left_at old new
+  chosen_spared old mid new is first same yet =
+      if_some (view old).contents (λ c. IsNoStore c → Untouched view leave left_at mid new) (λ c. IsNoStore c → Untouched view leave left_at old new)
+      (λ c spares none. behind old mid new is first same (spares none))
+      (subst (λ (o : Option Image). IfSome o (λ c. IsNoStore c → Untouched view leave left_at mid new)) is yet)
 
 -- ---- nothing was shown
 

@@ -1,9 +1,9 @@
 -- What a crash leaves at the moments of a command on a store.
-use Rattle.std.specs.Prelude.{◌≡◌, ◌≤◌, ◌<◌, ◌↔◌, ◌++◌, ℕ, List, Some, IsSome}
+use Rattle.std.specs.Prelude.{◌≡◌, ◌≤◌, ◌<◌, ◌↔◌, ◌++◌, ℕ, List, Some, IfSome, IsSome}
 use Rattle.sm_model.specs.declared.entry.Entry.{Entry}
 use Rattle.sm_site.specs.Image.{Image}
 use Rattle.sm_site.specs.Meanings.{View, Item}
-use Rattle.sm_archive.specs.Store.{IsStore}
+use Rattle.sm_archive.specs.Store.{IsNoStore, IsStore}
 use Rattle.sm_origin.specs.Opening.{HasOneStore}
 use Rattle.sm_origin.specs.Shown.{Claim, Holds}
 use Rattle.sm_serve.specs.Shown.{Shown}
@@ -18,6 +18,10 @@ pub record AtEachMoment {D : Type 0} (view : D → View) (left_at : D → ℕ �
 pub record Untouched {D : Type 0} (view : D → View) (leave : D → Image → Type 0) (left_at : D → ℕ → Image → Type 0) (old new : D) : Type 0 where
   pub contents : (view new).contents ≡ (view old).contents
   pub each : AtEachMoment view left_at old new (leave old)
+
+-- Files that are no store weren't written, whatever was answered.
+abbrev pub Spared : {D : Type 0} (view : D → View) (leave : D → Image → Type 0) (left_at : D → ℕ → Image → Type 0) → D → D → Type 0
+Spared view leave left_at old new = IfSome (view old).contents (λ c. IsNoStore c → Untouched view leave left_at old new)
 
 -- no count of faults of the disk or of the link fell
 pub record NoFewer (old new : View) : Type 0 where

@@ -8,7 +8,7 @@ ghost use Rattle.sm_archive.specs.Store.{IsStore};
 ghost use Rattle.sm_origin.specs.Opening.{HasOneStore};
 ghost use Rattle.sm_command.specs.declared.fault.StoreFault.TheVariants as fault;
 ghost use Rattle.sm_command.specs.Choosing.{IsChosen};
-ghost use Rattle.sm_command.specs.Lasting.{AtEachMoment, Lasts, NoFewer};
+ghost use Rattle.sm_command.specs.Lasting.{AtEachMoment, Lasts, NoFewer, Spared};
 ghost use Rattle.sm_command.specs.Listing.{kept_line, line_in, place_text, span_text, lines_of, AddressIs, UnlistedBy, WhyUnlisted, WhyUnput};
 
 use crate::StoreFault;
@@ -150,6 +150,7 @@ fn list_disk<D: Disk>(alloc: Global, disk: &mut D) -> Result<Bytes, StoreFault>
         → Throughout D.view D.left_at disk.old disk.new (λ t c. IsStore log c) }
     ensures untouched { (at : ℕ) → IsErrOf result (fault.NotAStore at) → ((D.view disk.new).contents ≡ (D.view disk.old).contents)
         × NoMore (D.may_leave disk.old) (D.may_leave disk.new) × Throughout D.view D.left_at disk.old disk.new (λ t c. D.may_leave disk.old c) }
+    ensures spared { Spared D.view D.may_leave D.left_at disk.old disk.new }
     ensures link { SameLink (D.view disk.old) (D.view disk.new) }
 {
     match open_archive(alloc, disk) {
@@ -172,6 +173,8 @@ pub fn list_store<S: Site>(alloc: Global, site: &mut S, store: String) -> Result
         → AtEachMoment S.Disk.view S.Disk.left_at site.old site.new (IsStore log) }
     // So the store that was there outlasts the call.
     ensures lasts { Lasts S.Disk.view S.Disk.may_leave S.Disk.left_at site.old site.new }
+    // Files that are no store aren't written, whatever the answer.
+    ensures spared { Spared S.Disk.view S.Disk.may_leave S.Disk.left_at site.old site.new }
     // Nothing is taken from the link, and nothing is sent.
     ensures transcript { (S.Disk.view site.new).transcript ≡ (S.Disk.view site.old).transcript }
     ensures send_faults { (S.Disk.view site.new).send_faults ≡ (S.Disk.view site.old).send_faults }

@@ -8,6 +8,7 @@ ghost use Rattle.sm_archive.specs.Stands.{Stands};
 ghost use Rattle.sm_archive.specs.Store.{IsStore};
 ghost use Rattle.sm_origin.specs.Opening.{HasOneStore};
 ghost use Rattle.sm_command.specs.declared.fault.StoreFault.TheVariants as fault;
+ghost use Rattle.sm_command.specs.Lasting.{Spared};
 ghost use Rattle.sm_command.specs.Opening.{Agrees, BeginsWith, IsDeclared, IsOpened, WhyUndeclared};
 ghost use Rattle.sm_command.specs.Serving.{IsLadderInput, NotRead, WhyUnopened};
 
@@ -32,6 +33,7 @@ pub fn open_archive<D: Disk>(alloc: Global, disk: &mut D) -> Result<Archive, Sto
     // What is no store isn't written: the contents stay, and at no moment a crash leaves what it couldn't leave before.
     ensures untouched { (at : ℕ) → IsErrOf result (fault.NotAStore at) → ((D.view disk.new).contents ≡ (D.view disk.old).contents)
         × NoMore (D.may_leave disk.old) (D.may_leave disk.new) × Throughout D.view D.left_at disk.old disk.new (λ t c. D.may_leave disk.old c) }
+    ensures spared { Spared D.view D.may_leave D.left_at disk.old disk.new }
     ensures told { is_some (D.view disk.new).contents ≡ is_some (D.view disk.old).contents }
     ensures no_fewer { (D.view disk.old).disk_faults ≤ (D.view disk.new).disk_faults }
     ensures link { SameLink (D.view disk.old) (D.view disk.new) }
@@ -110,6 +112,7 @@ pub fn open_declared<I: Source, D: Disk>(
     // What is no store isn't written: the contents stay, and at no moment a crash leaves what it couldn't leave before.
     ensures untouched { (at : ℕ) → IsErrOf result (fault.NotAStore at) → ((D.view disk.new).contents ≡ (D.view disk.old).contents)
         × NoMore (D.may_leave disk.old) (D.may_leave disk.new) × Throughout D.view D.left_at disk.old disk.new (λ t c. D.may_leave disk.old c) }
+    ensures spared { Spared D.view D.may_leave D.left_at disk.old disk.new }
     ensures no_fewer { (D.view disk.old).disk_faults ≤ (D.view disk.new).disk_faults }
     ensures link { SameLink (D.view disk.old) (D.view disk.new) }
 {

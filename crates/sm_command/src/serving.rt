@@ -4,7 +4,7 @@ ghost use Rattle.sm_origin.specs.Machine.{Machine};
 ghost use Rattle.sm_serve.specs.Serving.{Begins, Serves, CountsNone};
 ghost use Rattle.sm_serve.specs.Standing.{History, StandsOn};
 ghost use Rattle.sm_command.specs.Choosing.{IsChosen};
-ghost use Rattle.sm_command.specs.Lasting.{Lasts, NoFewer};
+ghost use Rattle.sm_command.specs.Lasting.{Lasts, NoFewer, Spared};
 ghost use Rattle.sm_command.specs.Serving.{HasRun, RunLasts, RunsFrom, StopsFrom, WhyUnready};
 
 use crate::StoreFault;
@@ -70,6 +70,8 @@ pub fn serve_store<I: Source, S: Site>(
     // However it ends, on a disk that tells its contents: where each image that a crash might have left was one store, what a crash may leave
     // at any moment since the call began is a store whose log begins with that one, and holds what the call had shown by then.
     ensures any_moment { Lasts S.Disk.view S.Disk.may_leave S.Disk.left_at site.old site.new }
+    // Files that are no store aren't written, whatever the answer.
+    ensures spared { Spared S.Disk.view S.Disk.may_leave S.Disk.left_at site.old site.new }
     ensures counted { I.faults input.old ≤ I.faults input.new }
 {
     bodies_have_one_log();

@@ -5,20 +5,23 @@ use Rattle.std.proofs.lemmas.List.{append-nil, append_assoc}
 use Rattle.std.proofs.lemmas.Bool.{cases_lt}
 use Rattle.sm_model.specs.declared.entry.Entry.{Entry}
 use Rattle.sm_model.specs.declared.fragment.Fragment.{Fragment}
+use Rattle.sm_model.specs.declared.track.Track.{Track}
 use Rattle.sm_site.specs.Clauses.{SameOutcomes, Throughout}
 use Rattle.sm_site.specs.Image.{Image}
-use Rattle.sm_site.specs.Meanings.{View, Item}
+use Rattle.sm_site.specs.Meanings.{Chosen, View, Item}
 use Rattle.sm_seglog.specs.Stores.{HasStore}
 use Rattle.sm_archive.specs.declared.archive.Archive.{Archive}
 use Rattle.sm_archive.specs.Store.{IsStore, Spell}
 use Rattle.sm_origin.specs.Opening.{HasOneStore}
 use Rattle.sm_origin.specs.Shown.{Claim}
 use Rattle.sm_serve.specs.Shown.{Shown, replies}
-use Rattle.sm_command.specs.Lasting.{AtEachMoment, Outlasts}
+use Rattle.sm_command.specs.Lasting.{AtEachMoment, Outlasts, Spared}
 use Rattle.sm_command.specs.Opening.{BeginsWith}
-use Rattle.sm_command.proofs.Lasting.{at_each, one_by_one, one_here, one_still, weaker}
+use Rattle.sm_command.specs.Serving.{Input}
+use Rattle.sm_command.proofs.Lasting.{at_each, found_spared, one_by_one, one_here, one_still, weaker}
 use Rattle.sm_command.proofs.Opened.{begins_so}
 use Rattle.sm_pull.specs.Adds.{Adds, LeavesFront, keeps_of}
+use Rattle.sm_edge.specs.Opening.{IsEdge}
 
 -- ---- nothing was shown
 
@@ -65,6 +68,13 @@ module _ {D : Type 0} (view : D → View) (leave : D → Image → Type 0) (left
   opened_begins log old mid new one first same second =
       one_by_one view left_at old mid new (BeginsWith log) (chosen_begins log old mid one first)
       (at_each view left_at mid new (λ t c. BeginsWith log c) (BeginsWith log) (second log (one_still log (leave old) (leave mid) same one)) (λ t c b. b))
+
+-- a call that found the store of an edge
+pub edge_spared : {D : Type 0} (view : D → View) (leave : D → Image → Type 0) (left_at : D → ℕ → Image → Type 0) {input input' : Input} {archive : Archive} {channel : List Track}
+    {selection : Chosen} (old opened new : D) → IsEdge view leave input input' archive channel selection old opened → Spared view leave left_at old new
+edge_spared view leave left_at old opened new edge =
+    let found = edge.store.declared.tries.found in
+    found_spared view leave left_at found.log old new (subst (λ (o : Option Image). IfSome o (IsStore found.log)) edge.site.contents found.store)
 
 -- ---- a store that is added to
 

@@ -9,7 +9,7 @@ ghost use Rattle.sm_archive.specs.Stands.{Stands};
 ghost use Rattle.sm_origin.specs.Opening.{HasOneStore};
 ghost use Rattle.sm_command.specs.declared.fault.StoreFault.TheVariants as fault;
 ghost use Rattle.sm_command.specs.Choosing.{IsChosen};
-ghost use Rattle.sm_command.specs.Lasting.{AtEachMoment, NoFewer, Untouched};
+ghost use Rattle.sm_command.specs.Lasting.{AtEachMoment, NoFewer, Spared, Untouched};
 ghost use Rattle.sm_command.specs.Opening.{BeginsWith};
 ghost use Rattle.sm_fetch.specs.Exchanges.{IsTurnedTo};
 ghost use Rattle.sm_fetch.specs.Origins.{Grows};
@@ -75,6 +75,7 @@ fn open_beside<I: Source, D: Disk>(
         → Throughout D.view D.left_at disk.old disk.new (λ t c. BeginsWith log c) }
     ensures untouched { (at : ℕ) → IsErrOf result (fault.NotAStore at) → ((D.view disk.new).contents ≡ (D.view disk.old).contents)
         × NoMore (D.may_leave disk.old) (D.may_leave disk.new) × Throughout D.view D.left_at disk.old disk.new (λ t c. D.may_leave disk.old c) }
+    ensures spared { Spared D.view D.may_leave D.left_at disk.old disk.new }
     ensures no_fewer { (D.view disk.old).disk_faults ≤ (D.view disk.new).disk_faults }
     ensures link { SameLink (D.view disk.old) (D.view disk.new) }
 {
@@ -116,6 +117,8 @@ pub fn open_edge<I: Source, S: Site, C: Dial>(
         → AtEachMoment S.Disk.view S.Disk.left_at site.old site.new (BeginsWith log) }
     // What is no store isn't written.
     ensures untouched { (at : ℕ) → IsErrOf result (fault.NotAStore at) → Untouched S.Disk.view S.Disk.may_leave S.Disk.left_at site.old site.new }
+    // Files that are no store aren't written, whatever the answer.
+    ensures spared { Spared S.Disk.view S.Disk.may_leave S.Disk.left_at site.old site.new }
     ensures no_fewer { NoFewer (S.Disk.view site.old) (S.Disk.view site.new) }
     ensures transcript { (S.Disk.view site.new).transcript ≡ (S.Disk.view site.old).transcript }
     ensures send_faults { (S.Disk.view site.new).send_faults ≡ (S.Disk.view site.old).send_faults }

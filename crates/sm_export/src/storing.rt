@@ -7,7 +7,7 @@ ghost use Rattle.sm_archive.specs.Stands.{Stands};
 ghost use Rattle.sm_archive.specs.Store.{IsStore};
 ghost use Rattle.sm_origin.specs.Opening.{HasOneStore};
 ghost use Rattle.sm_command.specs.declared.fault.StoreFault.TheVariants as fault;
-ghost use Rattle.sm_command.specs.Lasting.{AtEachMoment, Lasts, NoFewer, Untouched};
+ghost use Rattle.sm_command.specs.Lasting.{AtEachMoment, Lasts, NoFewer, Spared, Untouched};
 ghost use Rattle.sm_export.specs.declared.exported.StoreExport.TheVariants as ends;
 ghost use Rattle.sm_export.specs.Storing.{ComesTo, IsChosenFor, TakesTo};
 
@@ -70,6 +70,7 @@ fn export_disk<I: Source, O: Sink, D: Disk>(
         → Throughout D.view D.left_at disk.old disk.new (λ t c. IsStore log c) }
     ensures untouched { (at : ℕ) → result ≡ ends.Unopened (fault.NotAStore at) → ((D.view disk.new).contents ≡ (D.view disk.old).contents)
         × NoMore (D.may_leave disk.old) (D.may_leave disk.new) × Throughout D.view D.left_at disk.old disk.new (λ t c. D.may_leave disk.old c) }
+    ensures spared { Spared D.view D.may_leave D.left_at disk.old disk.new }
     ensures no_fewer { (D.view disk.old).disk_faults ≤ (D.view disk.new).disk_faults }
     ensures link { SameLink (D.view disk.old) (D.view disk.new) }
 {
@@ -106,6 +107,8 @@ pub fn export_store<I: Source, O: Sink, S: Site>(
     ensures lasts { Lasts S.Disk.view S.Disk.may_leave S.Disk.left_at site.old site.new }
     // What is found to be no store isn't written.
     ensures untouched { (at : ℕ) → result ≡ ends.Unopened (fault.NotAStore at) → Untouched S.Disk.view S.Disk.may_leave S.Disk.left_at site.old site.new }
+    // Files that are no store aren't written, whatever the answer.
+    ensures spared { Spared S.Disk.view S.Disk.may_leave S.Disk.left_at site.old site.new }
     // Nothing is taken from the link, and nothing is sent.
     ensures transcript { (S.Disk.view site.new).transcript ≡ (S.Disk.view site.old).transcript }
     ensures send_faults { (S.Disk.view site.new).send_faults ≡ (S.Disk.view site.old).send_faults }

@@ -12,7 +12,7 @@ use Rattle.sm_players.specs.declared.spawner.Finished.{Finished}
 use Rattle.sm_players.specs.declared.spawner.SpawnError.TheVariants as spawn
 use Rattle.sm_players.specs.Wiring.{Wires}
 use Rattle.sm_command.specs.declared.fault.StoreFault.{StoreFault}
-use Rattle.sm_command.specs.Lasting.{Lasts, Untouched}
+use Rattle.sm_command.specs.Lasting.{Lasts, Spared, Untouched}
 use Rattle.sm_command.specs.Serving.{Input}
 use Rattle.sm_tool.specs.declared.answer.Answer.{Answer}
 use Rattle.sm_tool.specs.declared.answer.Answer.TheVariants.{Found, LinkFault, NotAStore, Starved}
@@ -127,8 +127,8 @@ fits_by (Some x) words e = showable (serving_of x.0) x.1 words (shown_back (aske
 
 pub starved_runs : {D C P : Type 0} (view : D → View) (leave : D → Image → Type 0) (left_at : D → ℕ → Image → Type 0) (t : Dialing C) (m : Meaning P) (policies : List P) (words : List (List ℕ))
     (o : Option (Serving × ℕ)) (around : Around) (output output' : End) (d : D) (c : C) (staff : Staff) (status : ℕ) → Prints Starved output output' status → Lasts view leave left_at d d
-    → RunsBy view leave left_at t m policies words o around around output output' d d c c staff staff status
-starved_runs view leave left_at t m policies words None around output output' d c staff status prints lasts = (
+    → Spared view leave left_at d d → RunsBy view leave left_at t m policies words o around around output output' d d c c staff staff status
+starved_runs view leave left_at t m policies words None around output output' d c staff status prints lasts spared = (
   record {
     answer = Starved;
     written = output;
@@ -136,10 +136,11 @@ starved_runs view leave left_at t m policies words None around output output' d 
     prints = prints;
     lasts = lasts;
     untouched = λ line is. absurd (cc);
+    spared = spared;
   },
   refl,
 )
-starved_runs view leave left_at t m policies words (Some x) around output output' d c staff status prints lasts = record {
+starved_runs view leave left_at t m policies words (Some x) around output output' d c staff status prints lasts spared = record {
   answer = Starved;
   means = inr (refl, refl, refl, refl);
   prints = prints;
@@ -149,6 +150,7 @@ starved_runs view leave left_at t m policies words (Some x) around output output
   dial_is = refl;
   lasts = lasts;
   untouched = λ line is. absurd (cc);
+  spared = spared;
 }
 
 -- ---- with players

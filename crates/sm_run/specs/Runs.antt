@@ -5,7 +5,7 @@ use Rattle.sm_site.specs.Meanings.{View}
 use Rattle.sm_client.specs.Turns.{Meaning}
 use Rattle.sm_serve.specs.declared.outcome.Served.{Served as Outcome}
 use Rattle.sm_players.specs.declared.spawner.Finished.{Finished}
-use Rattle.sm_command.specs.Lasting.{Lasts, Untouched}
+use Rattle.sm_command.specs.Lasting.{Lasts, Spared, Untouched}
 use Rattle.sm_tool.specs.declared.answer.Answer.{Answer}
 use Rattle.sm_tool.specs.declared.answer.Answer.TheVariants.{NotAStore, Starved}
 use Rattle.sm_tool.specs.Edges.{Dialing}
@@ -53,6 +53,8 @@ pub record IsShown {D C : Type 0} (view : D → View) (leave : D → Image → T
   pub lasts : Lasts view leave left_at d d'
   -- files that are said to be no store weren't written
   pub untouched : (line : List ℕ) → answer ≡ NotAStore line → Untouched view leave left_at d d'
+  -- and none that are no store were, however it ended
+  pub spared : Spared view leave left_at d d'
 
 -- Where players are asked for they are shown to; else the run is the tool's, and nothing is asked of the spawner.
 abbrev pub RunsBy : {D C P : Type 0} (view : D → View) (leave : D → Image → Type 0) (left_at : D → ℕ → Image → Type 0) (t : Dialing C)

@@ -3,7 +3,7 @@ ghost use Rattle.std.specs.Prelude.{◌≡◌, ◌≤◌, ◌<◌, IfOk, IfErr, 
 ghost use Rattle.sm_origin.specs.Machine.{Machine};
 ghost use Rattle.sm_serve.specs.Standing.{History, StandsOn};
 ghost use Rattle.sm_serve.specs.Serving.{Begins, Serves};
-ghost use Rattle.sm_command.specs.Lasting.{Lasts, NoFewer};
+ghost use Rattle.sm_command.specs.Lasting.{Lasts, NoFewer, Spared};
 ghost use Rattle.sm_command.specs.Serving.{RunLasts};
 ghost use Rattle.sm_run.specs.Staff.{IsStaffed};
 ghost use Rattle.sm_run.specs.Showing.{IsSelectedWith, RunsShown, ShownFrom, StopsShort, WhyUnshown};
@@ -141,6 +141,8 @@ pub fn show_store<R: Wait, I: Source, S: Site, P: Spawner>(
     // However it ends, what a crash may leave at any moment since the call began is the store that was there, gone on, and holds what the
     // call had shown by then.
     ensures any_moment { Lasts S.Disk.view S.Disk.may_leave S.Disk.left_at site.old site.new }
+    // Files that are no store aren't written, whatever the answer.
+    ensures spared { Spared S.Disk.view S.Disk.may_leave S.Disk.left_at site.old site.new }
 {
     bodies_have_one_log();
     stores_have_one_reading();

@@ -5,7 +5,7 @@ use Rattle.sm_ends.specs.Faults.{Rose}
 use Rattle.sm_ends.specs.Moves.{TakesCount, TakesAtMost, AppendsFront}
 use Rattle.sm_fetch.specs.Origins.{Grows}
 use Rattle.sm_client.specs.Turns.{Meaning}
-use Rattle.sm_command.specs.Lasting.{Lasts, NoFewer, Untouched}
+use Rattle.sm_command.specs.Lasting.{Lasts, NoFewer, Spared, Untouched}
 use Rattle.sm_site.specs.Image.{Image}
 use Rattle.sm_site.specs.Meanings.{View}
 use Rattle.sm_pick.specs.declared.picked.Picked.TheVariants as picked
@@ -134,6 +134,8 @@ pub record IsRun {D C P : Type 0} (view : D → View) (leave : D → Image → T
   pub lasts : Lasts view leave left_at d d'
   -- files that are said to be no store weren't written
   pub untouched : (line : List ℕ) → answer ≡ NotAStore line → Untouched view leave left_at d d'
+  -- and none that are no store were, however it ended
+  pub spared : Spared view leave left_at d d'
 
 -- A program ended with the status of a run; where there was no memory for its words, that alone was told.
 abbrev pub EndsAs : {D C P : Type 0} (view : D → View) (leave : D → Image → Type 0) (left_at : D → ℕ → Image → Type 0) (t : Dialing C)

@@ -1,6 +1,6 @@
 //! The commands.
 ghost use Rattle.std.specs.Prelude.{◌≡◌, ◌⊎◌, ℕ, List, length, map, string_bytes};
-ghost use Rattle.sm_command.specs.Lasting.{Lasts, Untouched};
+ghost use Rattle.sm_command.specs.Lasting.{Lasts, Spared, Untouched};
 ghost use Rattle.sm_usage.specs.Wrong.{wrong_words};
 ghost use Rattle.sm_tool.specs.declared.answer.Answer.TheVariants as answers;
 ghost use Rattle.sm_tool.specs.Ran.{IsRun, Means, PickMeans, Prints};
@@ -87,6 +87,7 @@ fn answer_to<I: Source, O: Sink, S: Site, C: Dial, T: Tracks>(
         (record { told = O.held output.new; faults = O.faults output.new }) site.old site.new dial.old dial.new result }
     ensures lasts { Lasts S.Disk.view S.Disk.may_leave S.Disk.left_at site.old site.new }
     ensures untouched { (line : List ℕ) → result ≡ answers.NotAStore line → Untouched S.Disk.view S.Disk.may_leave S.Disk.left_at site.old site.new }
+    ensures spared { Spared S.Disk.view S.Disk.may_leave S.Disk.left_at site.old site.new }
     ensures goes_on { C.later dial.old dial.new }
 {
     match order_of(alloc, words) {

@@ -1,6 +1,6 @@
 //! The commands that pull into a store.
 ghost use Rattle.std.specs.Prelude.{◌≡◌, ◌≤◌, ℕ, List, IfOk, OnErr, slice_get, string_bytes};
-ghost use Rattle.sm_command.specs.Lasting.{Lasts, NoFewer, Untouched};
+ghost use Rattle.sm_command.specs.Lasting.{Lasts, NoFewer, Spared, Untouched};
 ghost use Rattle.sm_fetch.specs.Origins.{Grows};
 ghost use Rattle.sm_words.specs.Orders.{IsPullable, pulling_of};
 ghost use Rattle.sm_tool.specs.declared.answer.Answer.TheVariants as answers;
@@ -144,6 +144,7 @@ pub fn relay<I: Source, S: Site, C: Dial>(
     ensures silent { IsSilent (S.Disk.view site.old) (S.Disk.view site.new) }
     ensures lasts { Lasts S.Disk.view S.Disk.may_leave S.Disk.left_at site.old site.new }
     ensures untouched { (line : List ℕ) → result ≡ answers.NotAStore line → Untouched S.Disk.view S.Disk.may_leave S.Disk.left_at site.old site.new }
+    ensures spared { Spared S.Disk.view S.Disk.may_leave S.Disk.left_at site.old site.new }
 {
     let selection = Selection {
         store: order.store,
@@ -192,6 +193,7 @@ pub fn standby<I: Source, S: Site, C: Dial>(
     ensures silent { IsSilent (S.Disk.view site.old) (S.Disk.view site.new) }
     ensures lasts { Lasts S.Disk.view S.Disk.may_leave S.Disk.left_at site.old site.new }
     ensures untouched { (line : List ℕ) → result ≡ answers.NotAStore line → Untouched S.Disk.view S.Disk.may_leave S.Disk.left_at site.old site.new }
+    ensures spared { Spared S.Disk.view S.Disk.may_leave S.Disk.left_at site.old site.new }
 {
     let selection = Selection {
         store: order.store,

@@ -1,6 +1,6 @@
 //! Exporting from a store.
 ghost use Rattle.std.specs.Prelude.{◌≡◌, ◌≤◌, ℕ, List, IfOk, OnErr, string_bytes};
-ghost use Rattle.sm_command.specs.Lasting.{Lasts, NoFewer, Untouched};
+ghost use Rattle.sm_command.specs.Lasting.{Lasts, NoFewer, Spared, Untouched};
 ghost use Rattle.sm_export.specs.declared.exported.StoreExport.TheVariants as ends;
 ghost use Rattle.sm_tool.specs.declared.answer.Answer.TheVariants as answers;
 ghost use Rattle.sm_tool.specs.Exports.{ExportMeans, IsUnwritten, TellsExport};
@@ -75,6 +75,7 @@ pub fn export<I: Source, O: Sink, S: Site>(
     ensures silent { IsSilent (S.Disk.view site.old) (S.Disk.view site.new) }
     ensures lasts { Lasts S.Disk.view S.Disk.may_leave S.Disk.left_at site.old site.new }
     ensures untouched { (line : List ℕ) → result ≡ answers.NotAStore line → Untouched S.Disk.view S.Disk.may_leave S.Disk.left_at site.old site.new }
+    ensures spared { Spared S.Disk.view S.Disk.may_leave S.Disk.left_at site.old site.new }
 {
     let ExportOrder {
         store,

@@ -1,6 +1,6 @@
 //! The commands on a store.
 ghost use Rattle.std.specs.Prelude.{◌≡◌, ◌≤◌, ℕ, List, IfOk, string_bytes};
-ghost use Rattle.sm_command.specs.Lasting.{Lasts, NoFewer, Untouched};
+ghost use Rattle.sm_command.specs.Lasting.{Lasts, NoFewer, Spared, Untouched};
 ghost use Rattle.sm_tool.specs.declared.answer.Answer.TheVariants as answers;
 ghost use Rattle.sm_words.specs.Orders.{serving_of};
 ghost use Rattle.sm_tool.specs.Stores.{IsSelected, IsSilent, ListMeans, ServeMeans, Tells, at_folder, chosen_of, TellsEnd, clash_line, ladder_line, or_starved, store_line, turns_line};
@@ -99,6 +99,7 @@ pub fn serve<I: Source, S: Site>(
     ensures counted { I.faults input.old ≤ I.faults input.new }
     ensures lasts { Lasts S.Disk.view S.Disk.may_leave S.Disk.left_at site.old site.new }
     ensures untouched { (line : List ℕ) → result ≡ answers.NotAStore line → Untouched S.Disk.view S.Disk.may_leave S.Disk.left_at site.old site.new }
+    ensures spared { Spared S.Disk.view S.Disk.may_leave S.Disk.left_at site.old site.new }
 {
     let selection = Selection {
         store: order.store,
@@ -121,6 +122,7 @@ pub fn list<S: Site>(alloc: Global, site: &mut S, store: String) -> Answer
     ensures silent { IsSilent (S.Disk.view site.old) (S.Disk.view site.new) }
     ensures lasts { Lasts S.Disk.view S.Disk.may_leave S.Disk.left_at site.old site.new }
     ensures untouched { (line : List ℕ) → result ≡ answers.NotAStore line → Untouched S.Disk.view S.Disk.may_leave S.Disk.left_at site.old site.new }
+    ensures spared { Spared S.Disk.view S.Disk.may_leave S.Disk.left_at site.old site.new }
 {
     match list_store(alloc, site, store) {
         Ok(text) => Answer::Found(text),

@@ -1,6 +1,6 @@
 use Rattle.sm_archive.specs.Store.{IsStore}
 use Rattle.sm_site.proofs.Moments.{and_then, weakened}
-use Rattle.sm_command.proofs.Lasting.{one_here}
+use Rattle.sm_command.proofs.Lasting.{found_spared, one_here}
 use Rattle.sm_command.proofs.Lines.{list_of, put_is_placed, unlisted_unopened, why_of}
 use Rattle.sm_command.proofs.listing.list_disk.Goals as goal
 
@@ -28,3 +28,6 @@ returns-in-Ok-clause-untouched g c at is =
 
 pub returns-in-Err-clause-why : goal.returns-in-Err-clause-why
 returns-in-Err-clause-why g c = unlisted_unopened (g.D.Disk.view c.args.disk.now) (g.D.Disk.view c.open_archive.new.disk) c.in-Err.fault c.in-Err.ensures.why
+
+pub returns-in-Ok-clause-spared : goal.returns-in-Ok-clause-spared
+returns-in-Ok-clause-spared g c = found_spared g.D.Disk.view g.D.Disk.may_leave g.D.Disk.left_at c.in-Ok.ensures.opened.log c.args.disk.now c.lines.new.disk c.in-Ok.ensures.opened.store

@@ -2,7 +2,7 @@ use Rattle.std.proofs.Common.{◌∙◌}
 use Rattle.sm_archive.specs.Store.{IsStore}
 use Rattle.sm_command.specs.Lasting.{NoFewer}
 use Rattle.sm_command.proofs.Chosen.{chosen_still}
-use Rattle.sm_command.proofs.Lasting.{at_each, counts_then, one_by_one, one_here, one_still, silent_lasts, weaker}
+use Rattle.sm_command.proofs.Lasting.{at_each, chosen_spared, counts_then, one_by_one, one_here, one_still, silent_lasts, unwritten_spared, weaker}
 use Rattle.sm_command.proofs.Lines.{why_unchosen, why_unlisted}
 use Rattle.sm_command.proofs.listing.list_store.Goals as goal
 
@@ -65,3 +65,12 @@ returns-in-Err-clause-why g c =
 pub returns-in-Ok-clause-chosen : goal.returns-in-Ok-clause-chosen
 returns-in-Ok-clause-chosen g c =
     chosen_still c.list_disk.result _ (g.S.Disk.view c.choose.new.site) (g.S.Disk.view c.list_disk.new.disk) c.in-Ok.ensures.chosen c.list_disk.ensures.link.chosen
+
+pub returns-in-Ok-clause-spared : goal.returns-in-Ok-clause-spared
+returns-in-Ok-clause-spared g c =
+    chosen_spared g.S.Disk.view g.S.Disk.may_leave g.S.Disk.left_at c.args.site.now c.choose.new.site c.list_disk.new.disk
+    c.choose.ensures.contents c.choose.ensures.any_moment c.choose.ensures.crash c.list_disk.ensures.spared
+
+pub returns-in-Err-clause-spared : goal.returns-in-Err-clause-spared
+returns-in-Err-clause-spared g c =
+    unwritten_spared g.S.Disk.view g.S.Disk.may_leave g.S.Disk.left_at c.args.site.now c.choose.new.site (record { contents = c.choose.ensures.contents; each = c.choose.ensures.any_moment })

@@ -1,7 +1,7 @@
 use Rattle.std.proofs.Common.{◌∙◌, arith}
 use Rattle.sm_archive.specs.Store.{IsStore}
 use Rattle.sm_site.proofs.Moments.{weakened}
-use Rattle.sm_command.proofs.Lasting.{spelled}
+use Rattle.sm_command.proofs.Lasting.{opened_spared, spelled}
 use Rattle.sm_command.proofs.Lines.{told_stays}
 use Rattle.sm_command.proofs.Opened.{opened}
 use Rattle.sm_command.proofs.opening.open_archive.Goals as goal
@@ -53,3 +53,15 @@ returns-in-Err-NoMemory-clause-told g c = told_stays g.D.Disk.view g.met.D.Disk.
 pub returns-in-Err-NoMemory-clause-why : goal.returns-in-Err-NoMemory-clause-why
 returns-in-Err-NoMemory-clause-why g c =
     let link = c.in-Err-NoMemory.ensures.link.link_faults in record { disk = c.in-Err-NoMemory.ensures.no_fewer; link = omega (arith, link) }
+
+pub returns-in-Ok-clause-spared : goal.returns-in-Ok-clause-spared
+returns-in-Ok-clause-spared g c = opened_spared g.D.Disk.view g.D.Disk.may_leave g.D.Disk.left_at c.args.disk.now c.open_store.new.disk c.in-Ok.ensures.spared
+
+pub returns-in-Err-DiskFault-clause-spared : goal.returns-in-Err-DiskFault-clause-spared
+returns-in-Err-DiskFault-clause-spared g c = opened_spared g.D.Disk.view g.D.Disk.may_leave g.D.Disk.left_at c.args.disk.now c.open_store.new.disk c.in-Err-DiskFault.ensures.spared
+
+pub returns-in-Err-NotAStore-clause-spared : goal.returns-in-Err-NotAStore-clause-spared
+returns-in-Err-NotAStore-clause-spared g c = opened_spared g.D.Disk.view g.D.Disk.may_leave g.D.Disk.left_at c.args.disk.now c.open_store.new.disk c.in-Err-NotAStore.ensures.spared
+
+pub returns-in-Err-NoMemory-clause-spared : goal.returns-in-Err-NoMemory-clause-spared
+returns-in-Err-NoMemory-clause-spared g c = opened_spared g.D.Disk.view g.D.Disk.may_leave g.D.Disk.left_at c.args.disk.now c.open_store.new.disk c.in-Err-NoMemory.ensures.spared

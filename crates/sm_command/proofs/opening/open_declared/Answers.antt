@@ -3,6 +3,7 @@ use Rattle.sm_command.specs.Opening.{BeginsWith}
 use Rattle.sm_command.specs.Serving.{Input}
 use Rattle.sm_archive.specs.Store.{IsStore}
 use Rattle.sm_site.proofs.Moments.{weakened}
+use Rattle.sm_command.proofs.Lasting.{found_spared}
 use Rattle.sm_command.proofs.opening.open_declared.Goals as goal
 
 pub declare_input-requires : goal.declare_input-requires
@@ -49,3 +50,11 @@ returns-in-Err-clause-untouched g c at is =
     let before : Input = record { told = g.I.Source.left c.args.input.now; faults = g.I.Source.faults c.args.input.now } in
     let behind : Input = record { told = g.I.Source.left c.declare_input.new.input; faults = g.I.Source.faults c.declare_input.new.input } in
     absurd (never_placed g.D.Disk.view g.D.Disk.may_leave before behind o.log c.declare_input.new.archive c.open_archive.new.disk c.declare_input.new.disk _ (c.in-Err.ensures.means o.log o.stands) at is)
+
+pub returns-in-Ok-clause-spared : goal.returns-in-Ok-clause-spared
+returns-in-Ok-clause-spared g c =
+    found_spared g.D.Disk.view g.D.Disk.may_leave g.D.Disk.left_at c.in_ok-archive.ensures.opened.log c.args.disk.now c.declare_input.new.disk c.in_ok-archive.ensures.opened.store
+
+pub returns-in-Err-clause-spared : goal.returns-in-Err-clause-spared
+returns-in-Err-clause-spared g c =
+    found_spared g.D.Disk.view g.D.Disk.may_leave g.D.Disk.left_at c.in_ok-archive.ensures.opened.log c.args.disk.now c.declare_input.new.disk c.in_ok-archive.ensures.opened.store

@@ -1,6 +1,6 @@
 use Rattle.std.proofs.Common.{◌∙◌}
 use Rattle.sm_command.proofs.Chosen.{chosen_still}
-use Rattle.sm_command.proofs.Lasting.{silent_lasts}
+use Rattle.sm_command.proofs.Lasting.{found_spared, silent_lasts}
 use Rattle.sm_command.proofs.Starting.{has_run, opened_lasts, why_stopped, why_unopened}
 use Rattle.sm_command.proofs.serving.serve_store.Goals as goal
 
@@ -33,3 +33,8 @@ returns-in-Err-clause-any_moment g c some log one base told =
 pub returns-in-Ok-clause-chosen : goal.returns-in-Ok-clause-chosen
 returns-in-Ok-clause-chosen g c =
     chosen_still c.serve_state.result c.args.selection (g.S.Disk.view c.open_state.new.site) (g.S.Disk.view c.serve_state.new.site) c.in-Ok.ensures.chosen c.serve_state.ensures.chosen
+
+pub returns-in-Ok-clause-spared : goal.returns-in-Ok-clause-spared
+returns-in-Ok-clause-spared g c =
+    let f = c.in-Ok.ensures.found in
+    found_spared g.S.Disk.view g.S.Disk.may_leave g.S.Disk.left_at f.machine.log c.args.site.now c.serve_state.new.site f.store

@@ -1,7 +1,7 @@
 use Rattle.std.proofs.Common.{◌∙◌}
 use Rattle.sm_archive.specs.Store.{IsStore}
 use Rattle.sm_command.proofs.Chosen.{chosen_still}
-use Rattle.sm_command.proofs.Lasting.{at_each, one_by_one, one_here, one_still, weaker}
+use Rattle.sm_command.proofs.Lasting.{at_each, chosen_spared, one_by_one, one_here, one_still, unwritten_spared, weaker}
 use Rattle.sm_command.proofs.Lines.{chosen_is_placed}
 use Rattle.sm_command.proofs.Starting.{stated_is, unopened_chosen, why_later}
 use Rattle.sm_command.proofs.start.open_state.Goals as goal
@@ -44,3 +44,12 @@ returns-in-Err-clause-why g c = unopened_chosen (g.S.Disk.view c.args.site.now) 
 pub returns-in-Ok-clause-chosen : goal.returns-in-Ok-clause-chosen
 returns-in-Ok-clause-chosen g c =
     chosen_still c.start.result c.args.selection (g.S.Disk.view c.choose.new.site) (g.S.Disk.view c.start.new.site) c.in-Ok.ensures.chosen c.start.ensures.chosen
+
+pub returns-in-Ok-clause-spared : goal.returns-in-Ok-clause-spared
+returns-in-Ok-clause-spared g c =
+    chosen_spared g.S.Disk.view g.S.Disk.may_leave g.S.Disk.left_at c.args.site.now c.choose.new.site c.start.new.site
+    c.choose.ensures.contents c.choose.ensures.any_moment c.choose.ensures.crash c.start.ensures.spared
+
+pub returns-in-Err-clause-spared : goal.returns-in-Err-clause-spared
+returns-in-Err-clause-spared g c =
+    unwritten_spared g.S.Disk.view g.S.Disk.may_leave g.S.Disk.left_at c.args.site.now c.choose.new.site (record { contents = c.choose.ensures.contents; each = c.choose.ensures.any_moment })

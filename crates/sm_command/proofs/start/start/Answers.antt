@@ -1,5 +1,6 @@
 use Rattle.std.proofs.Common.{◌∙◌, arith}
 use Rattle.sm_command.proofs.Starting.{found}
+use Rattle.sm_command.proofs.Lasting.{opened_spared}
 use Rattle.sm_command.proofs.start.start.Goals as goal
 
 pub returns-in-Ok-clause-found : goal.returns-in-Ok-clause-found
@@ -8,3 +9,15 @@ returns-in-Ok-clause-found g c = found g.S.Disk.view g.S.Disk.may_leave c.in-Ok.
 pub returns-in-Err-NoMemory-clause-why : goal.returns-in-Err-NoMemory-clause-why
 returns-in-Err-NoMemory-clause-why g c =
     let link = c.in-Err-NoMemory.ensures.link.link_faults in record { disk = c.in-Err-NoMemory.ensures.no_fewer; link = omega (arith, link) }
+
+pub returns-in-Ok-clause-spared : goal.returns-in-Ok-clause-spared
+returns-in-Ok-clause-spared g c = opened_spared g.S.Disk.view g.S.Disk.may_leave g.S.Disk.left_at c.args.site.now c.start.new.site c.in-Ok.ensures.spared
+
+pub returns-in-Err-DiskFault-clause-spared : goal.returns-in-Err-DiskFault-clause-spared
+returns-in-Err-DiskFault-clause-spared g c = opened_spared g.S.Disk.view g.S.Disk.may_leave g.S.Disk.left_at c.args.site.now c.start.new.site c.in-Err-DiskFault.ensures.spared
+
+pub returns-in-Err-NotAStore-clause-spared : goal.returns-in-Err-NotAStore-clause-spared
+returns-in-Err-NotAStore-clause-spared g c = opened_spared g.S.Disk.view g.S.Disk.may_leave g.S.Disk.left_at c.args.site.now c.start.new.site c.in-Err-NotAStore.ensures.spared
+
+pub returns-in-Err-NoMemory-clause-spared : goal.returns-in-Err-NoMemory-clause-spared
+returns-in-Err-NoMemory-clause-spared g c = opened_spared g.S.Disk.view g.S.Disk.may_leave g.S.Disk.left_at c.args.site.now c.start.new.site c.in-Err-NoMemory.ensures.spared

@@ -12,7 +12,7 @@ use Rattle.sm_edge.specs.Following.{HasFollowed}
 use Rattle.sm_client.proofs.Dials.{grows-more}
 use Rattle.sm_command.proofs.Chosen.{chosen_still}
 use Rattle.sm_command.proofs.Lasting.{counts_then}
-use Rattle.sm_edge.proofs.Outlasting.{added_lasts, fits_alone, silent_grows}
+use Rattle.sm_edge.proofs.Outlasting.{added_lasts, edge_spared, fits_alone, silent_grows}
 use Rattle.sm_edge.proofs.following.follow_store.Goals as goal
 
 -- the channel by its other name
@@ -118,3 +118,6 @@ returns-in-Ok-clause-send_faults g c =
     let l = e.store in
     let f = c.follow-report.ensures.followed l.log c.in-Ok.field-0.channel l.stands l.channel_is in
     f.called.adds.link.send_faults ∙ c.open_edge.ensures.send_faults
+
+pub returns-in-Ok-clause-spared : goal.returns-in-Ok-clause-spared
+returns-in-Ok-clause-spared g c = edge_spared g.S.Disk.view g.S.Disk.may_leave g.S.Disk.left_at c.args.site.now c.open_edge.new.site c.follow-report.new.disk c.in-Ok.ensures.opened

@@ -3,7 +3,7 @@ use Rattle.std.specs.Prelude.{is_some}
 use Rattle.sm_site.specs.Image.{Image}
 use Rattle.sm_command.specs.Lasting.{NoFewer}
 use Rattle.sm_command.proofs.Chosen.{chosen_still}
-use Rattle.sm_command.proofs.Lasting.{at_each, counts_then, one_by_one}
+use Rattle.sm_command.proofs.Lasting.{at_each, chosen_spared, counts_then, one_by_one, unwritten_spared}
 use Rattle.sm_edge.specs.Opening.{IsSiteOf}
 use Rattle.sm_edge.proofs.Edges.{if_err, if_ok}
 use Rattle.sm_edge.proofs.Outlasting.{chosen_begins, opened_begins}
@@ -66,3 +66,16 @@ returns-in-Ok-turn-clause-untouched g c at is =
       each = one_by_one g.S.Disk.view g.S.Disk.left_at c.args.site.now c.choose.new.site c.open_beside.new.disk (g.S.Disk.may_leave c.args.site.now) c.choose.ensures.any_moment
           (at_each g.S.Disk.view g.S.Disk.left_at c.choose.new.site c.open_beside.new.disk _ (g.S.Disk.may_leave c.args.site.now) u.2 (λ t image left. (c.choose.ensures.crash image).0 left));
     }
+
+pub returns-in-Ok-turn-clause-spared : goal.returns-in-Ok-turn-clause-spared
+returns-in-Ok-turn-clause-spared g c =
+    chosen_spared g.S.Disk.view g.S.Disk.may_leave g.S.Disk.left_at c.args.site.now c.choose.new.site c.open_beside.new.disk
+    c.choose.ensures.contents c.choose.ensures.any_moment c.choose.ensures.crash c.open_beside.ensures.spared
+
+pub returns-in-Err-turn-clause-spared : goal.returns-in-Err-turn-clause-spared
+returns-in-Err-turn-clause-spared g c =
+    unwritten_spared g.S.Disk.view g.S.Disk.may_leave g.S.Disk.left_at c.args.site.now c.choose.new.site (record { contents = c.choose.ensures.contents; each = c.choose.ensures.any_moment })
+
+pub returns-in-Err-clause-spared : goal.returns-in-Err-clause-spared
+returns-in-Err-clause-spared g c =
+    unwritten_spared g.S.Disk.view g.S.Disk.may_leave g.S.Disk.left_at c.args.site.now c.choose.new.site (record { contents = c.choose.ensures.contents; each = c.choose.ensures.any_moment })

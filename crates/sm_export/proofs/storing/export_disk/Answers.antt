@@ -1,6 +1,6 @@
 use Rattle.sm_archive.specs.Store.{IsStore}
 use Rattle.sm_site.proofs.Moments.{and_then, weakened}
-use Rattle.sm_command.proofs.Lasting.{one_here}
+use Rattle.sm_command.proofs.Lasting.{found_spared, one_here}
 use Rattle.sm_export.proofs.Opened.{opened_comes, taken_is_opened}
 use Rattle.sm_export.proofs.storing.export_disk.Goals as goal
 
@@ -23,3 +23,6 @@ pub returns-in-Ok-clause-untouched : goal.returns-in-Ok-clause-untouched
 returns-in-Ok-clause-untouched g c at is =
     let o = c.in-Ok.ensures.opened in
     absurd (taken_is_opened _ o.log c.args.name.now c.args.bitrate _ _ _ _ _ _ c.export_input.result _ (c.export_input.ensures.means o.log o.stands) is)
+
+pub returns-in-Ok-clause-spared : goal.returns-in-Ok-clause-spared
+returns-in-Ok-clause-spared g c = found_spared g.D.Disk.view g.D.Disk.may_leave g.D.Disk.left_at c.in-Ok.ensures.opened.log c.args.disk.now c.export_input.new.disk c.in-Ok.ensures.opened.store

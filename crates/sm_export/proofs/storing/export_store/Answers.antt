@@ -1,6 +1,6 @@
 use Rattle.std.proofs.Common.{refl, ◌∙◌}
 use Rattle.sm_archive.specs.Store.{IsStore}
-use Rattle.sm_command.proofs.Lasting.{at_each, counts_then, one_by_one, one_here, one_still, silent_lasts, weaker}
+use Rattle.sm_command.proofs.Lasting.{at_each, chosen_spared, counts_then, one_by_one, one_here, one_still, silent_lasts, unwritten_spared, weaker}
 use Rattle.sm_command.proofs.Starting.{unopened_chosen}
 use Rattle.sm_export.proofs.Opened.{chosen_comes, chosen_for}
 use Rattle.sm_export.proofs.storing.export_store.Goals as goal
@@ -64,3 +64,12 @@ returns-in-Err-clause-untouched g c at is = record { contents = c.choose.ensures
 
 pub returns-in-Ok-clause-chosen : goal.returns-in-Ok-clause-chosen
 returns-in-Ok-clause-chosen g c = chosen_for c.export_disk.result _ (g.S.Disk.view c.choose.new.site) (g.S.Disk.view c.export_disk.new.disk) c.in-Ok.ensures.chosen c.export_disk.ensures.link.chosen
+
+pub returns-in-Ok-clause-spared : goal.returns-in-Ok-clause-spared
+returns-in-Ok-clause-spared g c =
+    chosen_spared g.S.Disk.view g.S.Disk.may_leave g.S.Disk.left_at c.args.site.now c.choose.new.site c.export_disk.new.disk
+    c.choose.ensures.contents c.choose.ensures.any_moment c.choose.ensures.crash c.export_disk.ensures.spared
+
+pub returns-in-Err-clause-spared : goal.returns-in-Err-clause-spared
+returns-in-Err-clause-spared g c =
+    unwritten_spared g.S.Disk.view g.S.Disk.may_leave g.S.Disk.left_at c.args.site.now c.choose.new.site (record { contents = c.choose.ensures.contents; each = c.choose.ensures.any_moment })

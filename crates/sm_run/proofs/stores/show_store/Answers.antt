@@ -1,5 +1,5 @@
 use Rattle.std.proofs.Common.{◌∙◌}
-use Rattle.sm_command.proofs.Lasting.{silent_lasts}
+use Rattle.sm_command.proofs.Lasting.{found_spared, silent_lasts}
 use Rattle.sm_command.proofs.Starting.{opened_lasts}
 use Rattle.sm_run.proofs.Beginning.{runs_shown, why_short}
 use Rattle.sm_run.proofs.stores.show_store.Goals as goal
@@ -24,3 +24,8 @@ returns-in-Ok-clause-any_moment g c =
 pub returns-in-Err-clause-any_moment : goal.returns-in-Err-clause-any_moment
 returns-in-Err-clause-any_moment g c some log one base told =
     silent_lasts g.S.Disk.view g.S.Disk.may_leave g.S.Disk.left_at g.met.S.Disk.at_now log base c.args.site.now c.open_state.new.site one (c.in-Err.ensures.any_moment log one) (c.in-Err.ensures.transcript ∙ told)
+
+pub returns-in-Ok-clause-spared : goal.returns-in-Ok-clause-spared
+returns-in-Ok-clause-spared g c =
+    let f = c.in-Ok.ensures.found in
+    found_spared g.S.Disk.view g.S.Disk.may_leave g.S.Disk.left_at f.machine.log c.args.site.now c.show_state.new.site f.store

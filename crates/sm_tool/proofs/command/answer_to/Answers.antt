@@ -2,7 +2,7 @@ use Rattle.std.proofs.Common.{map, string_bytes, Option, Some, ap, sym, ◌∙�
 use Rattle.std.specs.Option.{option_map}
 use Rattle.sm_words.specs.declared.order.Order.{Order}
 use Rattle.sm_words.specs.Orders.{pulling_of, wanted_of}
-use Rattle.sm_tool.proofs.Idling.{idle_lasts}
+use Rattle.sm_tool.proofs.Idling.{idle_lasts, idle_spared}
 use Rattle.sm_words.proofs.Sounding.{followable, playable, rehearsable, relayable}
 use Rattle.sm_tool.proofs.command.answer_to.Goals as goal
 
@@ -66,3 +66,30 @@ standby-requires g c =
       pullable = followable (pulling_of at.order) (map string_bytes c.args.words.now)
           (sym (ap (λ (o : Option Order). option_map wanted_of o) (at.field-0-is ∙ ap (λ (o : Order). Some o) at.field-0-0-is)) ∙ at.ensures);
     }
+
+pub returns-in-Ok-Some-Pick-clause-spared : goal.returns-in-Ok-Some-Pick-clause-spared
+returns-in-Ok-Some-Pick-clause-spared g c = idle_spared g.S.Disk.view g.S.Disk.may_leave g.S.Disk.left_at g.met.S.Disk.no_later c.args.site.now
+
+pub returns-in-Ok-Some-Push-clause-spared : goal.returns-in-Ok-Some-Push-clause-spared
+returns-in-Ok-Some-Push-clause-spared g c = idle_spared g.S.Disk.view g.S.Disk.may_leave g.S.Disk.left_at g.met.S.Disk.no_later c.args.site.now
+
+pub returns-in-Ok-Some-Play-clause-spared : goal.returns-in-Ok-Some-Play-clause-spared
+returns-in-Ok-Some-Play-clause-spared g c = idle_spared g.S.Disk.view g.S.Disk.may_leave g.S.Disk.left_at g.met.S.Disk.no_later c.args.site.now
+
+pub returns-in-Ok-Some-Rehearse-clause-spared : goal.returns-in-Ok-Some-Rehearse-clause-spared
+returns-in-Ok-Some-Rehearse-clause-spared g c = idle_spared g.S.Disk.view g.S.Disk.may_leave g.S.Disk.left_at g.met.S.Disk.no_later c.args.site.now
+
+pub returns-in-Ok-Some-ServeShown-clause-spared : goal.returns-in-Ok-Some-ServeShown-clause-spared
+returns-in-Ok-Some-ServeShown-clause-spared g c = idle_spared g.S.Disk.view g.S.Disk.may_leave g.S.Disk.left_at g.met.S.Disk.no_later c.args.site.now
+
+pub returns-in-Ok-None-clause-spared : goal.returns-in-Ok-None-clause-spared
+returns-in-Ok-None-clause-spared g c = idle_spared g.S.Disk.view g.S.Disk.may_leave g.S.Disk.left_at g.met.S.Disk.no_later c.args.site.now
+
+pub returns-in-Err-clause-spared : goal.returns-in-Err-clause-spared
+returns-in-Err-clause-spared g c = idle_spared g.S.Disk.view g.S.Disk.may_leave g.S.Disk.left_at g.met.S.Disk.no_later c.args.site.now
+
+pub returns-in-Ok-Some-Help-clause-spared : goal.returns-in-Ok-Some-Help-clause-spared
+returns-in-Ok-Some-Help-clause-spared g c = idle_spared g.S.Disk.view g.S.Disk.may_leave g.S.Disk.left_at g.met.S.Disk.no_later c.args.site.now
+
+pub returns-in-Ok-Some-Version-clause-spared : goal.returns-in-Ok-Some-Version-clause-spared
+returns-in-Ok-Some-Version-clause-spared g c = idle_spared g.S.Disk.view g.S.Disk.may_leave g.S.Disk.left_at g.met.S.Disk.no_later c.args.site.now
