@@ -9,7 +9,6 @@ mod filling;
 mod seats;
 mod serving;
 mod shelves;
-mod teaching;
 mod values;
 mod watching;
 

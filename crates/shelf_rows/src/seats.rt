@@ -1,6 +1,5 @@
 //! The readers of a row.
 use crate::asking::{Answered, ask_fragment, ask_manifest};
-use crate::teaching::teach;
 use crate::values::address;
 use crate::watching::{Sight, Watched, start};
 use anyhow::{Result, bail};
@@ -61,10 +60,11 @@ impl Seats {
         }
     }
 
-    /// Lets the reader whose turn it is learn what was told, in a thread of its own.
-    pub fn learn<R: Threads>(&mut self, rt: &R, told: Told) -> Result<()> {
-        let reader = self.reader()?;
-        self.idle.push(teach(rt, reader, told)?)?;
+    /// Lets the reader whose turn it is learn what was told. It learns here, and sees it in the thread in which it is asked next.
+    pub fn learn(&mut self, told: Told) -> Result<()> {
+        let mut reader = self.reader()?;
+        reader.learn(told);
+        self.idle.push(reader)?;
         Ok(())
     }
 

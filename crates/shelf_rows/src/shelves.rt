@@ -107,9 +107,9 @@ impl Stage {
     }
 
     // Lets a reader learn what was told last.
-    fn learn<R: Threads>(&mut self, rt: &R) -> Result<()> {
+    fn learn(&mut self) -> Result<()> {
         match self.notes.pop() {
-            Some(told) => self.seats.learn(rt, told),
+            Some(told) => self.seats.learn(told),
             None => bail!("nothing was told"),
         }
     }
@@ -119,7 +119,7 @@ impl Stage {
         let ladder = channel(self.alloc, &mut self.tracks)?;
         let (mut writer, _readers) = make(rt, self.alloc, 1)?;
         let declared = declare(rt, &mut writer, ladder, tale);
-        let learnt = self.seats.learn(rt, writer.tell());
+        let learnt = self.seats.learn(writer.tell());
         writer.end(rt);
         declared?;
         learnt
@@ -167,9 +167,9 @@ impl Stage {
         tale: &mut Tale,
     ) -> Result<()> {
         match line.key() {
-            "tell" => self.seats.learn(rt, writer.tell()),
+            "tell" => self.seats.learn(writer.tell()),
             "note" => self.note(writer, words.short(0)?),
-            "learn" => self.learn(rt),
+            "learn" => self.learn(),
             "stray" => self.stray(rt, tale),
             _ => bail!("no such step"),
         }
