@@ -258,7 +258,6 @@ impl<R: Net + Clock + Drop> TcpLink<R> {
 
     /// The origin begins to serve this store, for the journal.
     pub fn note_begin(&mut self, selection: &Selection, opened: Opened)
-        ensures listens { is_some self.new.sockets ≡ is_some self.old.sockets }
         ensures trouble { self.new.trouble ≡ self.old.trouble }
         ensures faults { self.new.faults ≡ self.old.faults }
         ensures send_faults { self.new.send_faults ≡ self.old.send_faults }
@@ -273,7 +272,6 @@ impl<R: Net + Clock + Drop> TcpLink<R> {
 
     /// The disk refused something, for the journal.
     pub fn note_fault(&mut self, trouble: &Trouble)
-        ensures listens { is_some self.new.sockets ≡ is_some self.old.sockets }
         ensures trouble { self.new.trouble ≡ self.old.trouble }
         ensures faults { self.new.faults ≡ self.old.faults }
         ensures send_faults { self.new.send_faults ≡ self.old.send_faults }
@@ -288,7 +286,6 @@ impl<R: Net + Clock + Drop> TcpLink<R> {
 
     /// A file of the store was brought to rest, for the journal, since this moment.
     pub fn note_sync(&mut self, since: Option<Instant>)
-        ensures listens { is_some self.new.sockets ≡ is_some self.old.sockets }
         ensures trouble { self.new.trouble ≡ self.old.trouble }
         ensures faults { self.new.faults ≡ self.old.faults }
         ensures send_faults { self.new.send_faults ≡ self.old.send_faults }
@@ -305,7 +302,6 @@ impl<R: Net + Clock + Drop> TcpLink<R> {
 
     /// An entry of the store was kept, for the journal.
     pub fn note_kept(&mut self)
-        ensures listens { is_some self.new.sockets ≡ is_some self.old.sockets }
         ensures trouble { self.new.trouble ≡ self.old.trouble }
         ensures faults { self.new.faults ≡ self.old.faults }
         ensures send_faults { self.new.send_faults ≡ self.old.send_faults }
@@ -320,7 +316,6 @@ impl<R: Net + Clock + Drop> TcpLink<R> {
 
     /// The origin of this store ends, for the journal.
     pub fn note_end(&mut self, selection: &Selection)
-        ensures listens { is_some self.new.sockets ≡ is_some self.old.sockets }
         ensures trouble { self.new.trouble ≡ self.old.trouble }
         ensures faults { self.new.faults ≡ self.old.faults }
         ensures send_faults { self.new.send_faults ≡ self.old.send_faults }
