@@ -183,8 +183,8 @@ def spent(*pids):
     return took / os.sysconf("SC_CLK_TCK")
 
 
-def load(pids, url, connections, seconds, script=None):
-    """Requests a second of wrk, and requests for each second of the servers' processor time."""
+def load(pids, url, connections, seconds, script=None, spent=spent):
+    """Requests a second of wrk, and requests for each second of the servers' processor time, which is asked of `spent`."""
     words = ["wrk", "-t2", f"-c{connections}", f"-d{seconds}s"] + (["-s", script] if script else []) + [url]
     before = spent(*pids)
     told = subprocess.run(words, stdout=subprocess.PIPE).stdout.decode()
