@@ -59,7 +59,8 @@ UnlistedBy old new fault.Damaged = IsSome old.contents → ⊥
 UnlistedBy old new fault.NoMemory = old.disk_faults ≤ new.disk_faults
 
 -- Why nothing was listed. What is no store wasn't written.
-pub record WhyUnlisted {D : Type 0} (view : D → View) (leave : D → Image → Type 0) (left_at : D → ℕ → Image → Type 0) (old new : D) (why : StoreFault) : Type 0 where
+pub record WhyUnlisted {D : Type 0} (view : D → View) (leave : D → Image → Type 0) (left_at : D → ℕ → Image → Type 0)
+    (old new : D) (why : StoreFault) : Type 0 where
   pub cause : UnlistedBy (view old) (view new) why
   pub no_fewer : NoFewer (view old) (view new)
   pub untouched : (at : ℕ) → why ≡ fault.NotAStore at → Untouched view leave left_at old new

@@ -210,7 +210,8 @@ pub record RunsFrom {D : Type 0} (view : D → View) (leave : D → Image → Ty
   pub input : ReadsLadder ladder told told' channel
   pub blamed : end ≡ served.LinkFault → site.Rose (view d).link_faults (view d').link_faults
   pub run : (b : History) → Serves view leave left_at b state d → b.items ≡ [] → b.steps ≡ []
-      → (h : History) × (h.begin ≡ b.begin) × IsBegun b.found.disk_faults b.first channel b.base h × ((after : State) × Served view leave left_at h end turns after d')
+      → (h : History) × (h.begin ≡ b.begin) × IsBegun b.found.disk_faults b.first channel b.base h
+      × ((after : State) × Served view leave left_at h end turns after d')
 
 -- However it ended, a run that had come to the state went on; whatever a crash may leave at a moment since its start survives.
 pub record RunLasts {D : Type 0} (view : D → View) (left_at : D → ℕ → Image → Type 0) (h : History) (d : D) : Type 0 where

@@ -18,8 +18,8 @@ use sm_push::{by_boxes, joined_texts_follow_a_header, tracks_of_a_header_differ}
 /// The quality of a sound log is what it keeps of that name and bitrate, in the order of time: each such fragment is in it, nothing else is,
 /// and each starts before those behind it, in whatever order the log has them.
 pub fn quality_is_in_time_order()
-    ensures all { (log : List Entry) (name : List ℕ) (bitrate : ℕ) (f : Fragment) → IsSound log → Contains log (Keep f) → f.stream ≡ name → f.bitrate ≡ bitrate
-        → Contains (quality log name bitrate) f }
+    ensures all { (log : List Entry) (name : List ℕ) (bitrate : ℕ) (f : Fragment) → IsSound log → Contains log (Keep f)
+        → f.stream ≡ name → f.bitrate ≡ bitrate → Contains (quality log name bitrate) f }
     ensures only { (log : List Entry) (name : List ℕ) (bitrate : ℕ) (f : Fragment) → Contains (quality log name bitrate) f
         → Contains log (Keep f) × (f.stream ≡ name) × (f.bitrate ≡ bitrate) }
     ensures order { (log : List Entry) (name : List ℕ) (bitrate : ℕ) → IsSound log → AllPairs (λ f g. f.time < g.time) (quality log name bitrate) }

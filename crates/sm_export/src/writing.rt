@@ -69,7 +69,8 @@ fn write_at<D: Disk, O: Sink>(
 ) -> Result<u32, Broken>
     requires stands { (log : List Entry) × (doubt : Option Entry) × Stands archive.now log doubt (D.may_leave disk.old) }
     ensures few { IfOk result (λ wrote. wrote ≤ 1) }
-    ensures ok { IfOk result (λ wrote. (log : List Entry) (doubt : Option Entry) → Stands archive.now log doubt (D.may_leave disk.old) → IsSome (D.view disk.old).contents
+    ensures ok { IfOk result (λ wrote. (log : List Entry) (doubt : Option Entry) → Stands archive.now log doubt (D.may_leave disk.old)
+        → IsSome (D.view disk.old).contents
         → Appends (O.held out.old) (O.held out.new) (texts_from seq id (kept_list log address.now)) × (length (kept_list log address.now) ≡ wrote)) }
     ensures err { OnErr result ((log : List Entry) (doubt : Option Entry) → Stands archive.now log doubt (D.may_leave disk.old) → IsSome (D.view disk.old).contents
         → AppendsFront (O.held out.old) (O.held out.new) (texts_from seq id (kept_list log address.now))) }

@@ -34,7 +34,8 @@ impl Origin {
             → ActGives S.Disk.view S.Disk.may_leave S.Disk.left_at site.old site.new m self.new act.now result }
         // The same of the reply on any disk; of a fragment that is read back its address, its place and that it is valid.
         ensures replied { (m : Machine) → StandsFor (IsSome (S.Disk.view site.old).contents) m self.old (S.Disk.may_leave site.old)
-            → Replies (Rose (S.Disk.view site.old).disk_faults (S.Disk.view site.new).disk_faults) (IsSome (S.Disk.view site.new).contents) (S.Disk.may_leave site.new) m self.new act.now result }
+            → Replies (Rose (S.Disk.view site.old).disk_faults (S.Disk.view site.new).disk_faults) (IsSome (S.Disk.view site.new).contents)
+            (S.Disk.may_leave site.new) m self.new act.now result }
         // A fragment in the cache is given without a read of the disk.
         ensures unread { (a : Address) (kept : Kept) → act.now ≡ Ask a → held_at a self.old.cache ≡ Some kept
             → (S.Disk.view site.new).reads ≡ (S.Disk.view site.old).reads }

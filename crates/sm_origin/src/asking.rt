@@ -80,7 +80,8 @@ impl Origin {
         ensures step { IsSome (D.view disk.old).contents → (m : Machine) → StandsFor (IsSome (D.view disk.old).contents) m self.old (D.may_leave disk.old)
             → ActGives D.view D.may_leave D.left_at disk.old disk.new m self.new (Ask address.now) result }
         ensures replied { (m : Machine) → StandsFor (IsSome (D.view disk.old).contents) m self.old (D.may_leave disk.old)
-            → Replies (Rose (D.view disk.old).disk_faults (D.view disk.new).disk_faults) (IsSome (D.view disk.new).contents) (D.may_leave disk.new) m self.new (Ask address.now) result }
+            → Replies (Rose (D.view disk.old).disk_faults (D.view disk.new).disk_faults) (IsSome (D.view disk.new).contents)
+            (D.may_leave disk.new) m self.new (Ask address.now) result }
         ensures remembers { Remembers (Ask address.now) result self.old.cache self.new.cache }
         ensures told { is_some (D.view disk.new).contents ≡ is_some (D.view disk.old).contents }
         ensures no_fewer { (D.view disk.old).disk_faults ≤ (D.view disk.new).disk_faults }
@@ -112,7 +113,8 @@ impl Origin {
         ensures step { IsSome (D.view disk.old).contents → (m : Machine) → StandsFor (IsSome (D.view disk.old).contents) m self.old (D.may_leave disk.old)
             → ActGives D.view D.may_leave D.left_at disk.old disk.new m self.new (Ask address.now) result }
         ensures replied { (m : Machine) → StandsFor (IsSome (D.view disk.old).contents) m self.old (D.may_leave disk.old)
-            → Replies (Rose (D.view disk.old).disk_faults (D.view disk.new).disk_faults) (IsSome (D.view disk.new).contents) (D.may_leave disk.new) m self.new (Ask address.now) result }
+            → Replies (Rose (D.view disk.old).disk_faults (D.view disk.new).disk_faults) (IsSome (D.view disk.new).contents)
+            (D.may_leave disk.new) m self.new (Ask address.now) result }
         ensures unread { (kept : Kept) → held_at address.now self.old.cache ≡ Some kept → (D.view disk.new).reads ≡ (D.view disk.old).reads }
         ensures remembers { Remembers (Ask address.now) result self.old.cache self.new.cache }
         ensures told { is_some (D.view disk.new).contents ≡ is_some (D.view disk.old).contents }

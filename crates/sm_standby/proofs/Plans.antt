@@ -37,7 +37,8 @@ by_push times [] n = refl
 by_push times (m ∷ ns) n = ap (λ (cs : List Candidates). (record { name = m; times = candidates (times m) }) ∷ cs) (by_push times ns n)
 
 -- a track's stream is there once, whether it was before or not
-pub with_names : (times : List ℕ → List (ℕ × ℕ)) (cs : List Candidates) (t : Track) (ts : List Track) → names_from (map (λ (c : Candidates). c.name) (with_stream times cs t)) ts ≡ names_from (map (λ (c : Candidates). c.name) cs) (t ∷ ts)
+pub with_names : (times : List ℕ → List (ℕ × ℕ)) (cs : List Candidates) (t : Track) (ts : List Track)
+    → names_from (map (λ (c : Candidates). c.name) (with_stream times cs t)) ts ≡ names_from (map (λ (c : Candidates). c.name) cs) (t ∷ ts)
 with_names times cs t ts =
     by_bool (list_any (λ (c : Candidates). is_same c.name t.name) cs)
     (λ b. list_any (λ (c : Candidates). is_same c.name t.name) cs ≡ b

@@ -358,7 +358,9 @@ module _ {D C : Type 0} {view : D → View} {left_at : D → ℕ → Image → T
   -- it was kept, or passed over
   pub follows_settled : {d e : D} {x y : C} {a b : Archive} (log : List Entry) (held : List Later) (c : Address) (more : List Address) (s : Step)
       → (w : Went view left_at leave told store goes_on faults d e x y plan channel (url_of listing c) c a b log s) → IsTurnOf (at log held (c ∷ more)) (candidate c) → AreOpen log held
-      → ((m : ℕ) (n : Address) → s ≡ step.Later m n → ⊥) → (f : Follows view left_at leave told store goes_on faults d e x y plan channel listing a b (at log held (c ∷ more)) held more) × (f.log ≡ log ++ keeps_of (kept_by c w.came))
+      → ((m : ℕ) (n : Address) → s ≡ step.Later m n → ⊥)
+      → (f : Follows view left_at leave told store goes_on faults d e x y plan channel listing a b (at log held (c ∷ more)) held more)
+      × (f.log ≡ log ++ keeps_of (kept_by c w.came))
   follows_settled log held c more s w turn waiting never =
       follows_candidate log held held c more s w turn waiting (sym (ap (λ (ls : List Later). held ++ ls) (step_waits (length log) c w.came s w.step never) ∙ append-nil held))
       (open_behind log held plan.place (url_of listing c) c plan.tries w.made w.came waiting turn.3 w.gives)

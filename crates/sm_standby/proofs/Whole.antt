@@ -173,7 +173,8 @@ reached plan up place_is narrow names x made rest moment last before log held (r
 
 -- ---- a whole call
 
-module _ {D C : Type 0} {view : D → View} {left_at : D → ℕ → Image → Type 0} {leave : D → Image → Type 0} {told : C → Option (List Exchange)} {store : C → List Entry → Type 0} {goes_on : C → C → Type 0} {faults : C → ℕ}
+module _ {D C : Type 0} {view : D → View} {left_at : D → ℕ → Image → Type 0} {leave : D → Image → Type 0}
+    {told : C → Option (List Exchange)} {store : C → List Entry → Type 0} {goes_on : C → C → Type 0} {faults : C → ℕ}
     {d e : D} {x y : C} {plan : PullPlan} {channel : List Track} {a b : Archive} (before : List Entry) (end : FollowEnd) (c : Called view left_at leave told store goes_on faults d e x y plan channel a b before end) where
   told_made : (up : List Track) (first last : List Entry) (made : List Exchange) → IsServed told x y plan.place up first last made → made ≡ made_by c.rounds ++ made_of c.part
   told_made up first last made s = made_same (told x) (told y) s.before made (made_by c.rounds ++ made_of c.part) s.told_before s.told_after c.asks.told_is

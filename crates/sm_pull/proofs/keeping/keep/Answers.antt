@@ -20,7 +20,9 @@ pub returns-clause-ok : goal.returns-clause-ok
 returns-clause-ok g c =
     let k = c.keep.ensures in
     on_ok_each (λ (log : List Entry). Stands c.args.archive.now log None (g.D.Disk.may_leave c.args.disk.now))
-    (λ (log : List Entry). (verdict_on log c.args.fragment.now ≡ judged.New) × Adds g.D.Disk.view g.D.Disk.left_at g.D.Disk.may_leave c.args.disk.now c.keep.new.disk c.args.archive.now c.keep.new.self log (c.args.fragment.now ∷ []) [])
+    (λ (log : List Entry). (verdict_on log c.args.fragment.now ≡ judged.New)
+    × Adds g.D.Disk.view g.D.Disk.left_at g.D.Disk.may_leave c.args.disk.now c.keep.new.disk c.args.archive.now c.keep.new.self
+    log (c.args.fragment.now ∷ []) [])
     c.stop_of.result
     (λ log s.
     on_ok c.stop_of.result

@@ -13,7 +13,8 @@ returns-in_ok-other-in-Clash c = pushed_by_b c.args.self.now c.push_refused.new.
     (c.deref-in-Clash.ensures.value ∙ c.in_ok-other-in-Clash.ensures ∙ ap (λ (h : List ℕ). body_of_b h (20000000 * c.args.i) 1) c.as_slice-header.ensures) c.in-Clash.is refl refl c.push_refused.ensures
 
 pub returns-in_ok-other-in-Overlap : goal.returns-in_ok-other-in-Overlap
-returns-in_ok-other-in-Overlap c = pushed_by_b c.args.self.now c.push_refused-in-Overlap.new.self c.push_refused-in-Overlap.result c.deref-in-Overlap.result.now (body_of_b c.args.self.now.header (20000000 * c.args.i + 1) 20000000) c.args.kind Overlap c.args.i 1
+returns-in_ok-other-in-Overlap c = pushed_by_b c.args.self.now c.push_refused-in-Overlap.new.self c.push_refused-in-Overlap.result
+    c.deref-in-Overlap.result.now (body_of_b c.args.self.now.header (20000000 * c.args.i + 1) 20000000) c.args.kind Overlap c.args.i 1
     (c.deref-in-Overlap.ensures.value ∙ c.in_ok-other-in-Overlap.ensures ∙ ap (λ (h : List ℕ). body_of_b h (20000000 * c.args.i + 1) 20000000) c.as_slice-header.ensures) c.in-Overlap.is refl refl c.push_refused-in-Overlap.ensures
 
 pub returns-in-Same : goal.returns-in-Same
