@@ -46,6 +46,13 @@ def named_parts(file):
     return [(((file, what), words, data) for what, words, data in part) for part in parts]
 
 
+def without_sentence(told):
+    """What is printed, and the status; of a refusal its line, without the sentence behind it."""
+    printed, status = told
+    line, end, sentence = printed.partition(b"\n")
+    return (line + end, status) if status in (3, 4) and sentence.endswith(b".\n") else told
+
+
 def compare(program, files, share, shares, until):
     """The differences in one share of all inputs, how many were compared, and how many time did not suffice for."""
     program, differences, compared, left = Program(program), [], 0, 0
@@ -57,7 +64,7 @@ def compare(program, files, share, shares, until):
             left += 1
             continue
         compared += 1
-        ours, theirs = program.run(words, data), answer([os.fsencode(word) for word in words], data)
+        ours, theirs = without_sentence(program.run(words, data)), answer([os.fsencode(word) for word in words], data)
         if ours != theirs:
             told = " against ".join(f"{status} {shown(printed)}" for printed, status in (ours, theirs))
             differences.append(f"{file}: {what}: pick {' '.join(words)}: {told}")

@@ -42,6 +42,21 @@ def test(holds, words):
         sys.exit(f"{name()}: {words}")
 
 
+def lines_of(printed):
+    """What a command printed, in three: its line, where that is a failure's the sentence behind it, and what the system said behind that."""
+    text = printed.decode()
+    if not text.startswith("error: ") or text.startswith("error: words\n"):
+        return text, "", ""
+    line, sentence, behind = [*text.split("\n", 2), "", ""][:3]
+    test(sentence[:1].isupper() and sentence.endswith("."), f"{line} has no sentence behind it but {sentence!r}")
+    return line + "\n", sentence, behind.rstrip("\n")
+
+
+def line_of(printed):
+    """What a command printed, a failure's line alone."""
+    return lines_of(printed)[0]
+
+
 def free_port():
     with socket.socket() as tried:
         tried.bind(("127.0.0.1", 0))

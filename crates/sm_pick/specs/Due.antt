@@ -7,6 +7,7 @@ use Rattle.sm_model.specs.Causes.{cause_number, cause_name}
 use Rattle.sm_model.specs.FragText.{frag_text}
 use Rattle.sm_model.specs.Items.{first_of}
 use Rattle.sm_push.specs.Body.{body, body_end}
+use Rattle.sm_pick.specs.Sentences.{sentence_of}
 use Rattle.sm_pick.specs.declared.picked.Picked.{Picked}
 use Rattle.sm_pick.specs.declared.picked.Picked.TheVariants as picked
 
@@ -24,10 +25,11 @@ pub record IsAbsent (input : List ℕ) (track time : ℕ) : Type 0 where
   pub whole : body_end true input ≡ None
   pub none : first_of track time (body true input).items ≡ None
 
--- the place, the number and the name of a cause
+-- the place, the number and the name of a cause, and its sentence behind that line
 abbrev pub refusal_line : Refusal → List ℕ
 refusal_line r =
-    codes "error: input at " ++ (decimal r.at ++ (codes ": " ++ (decimal (cause_number r.cause) ++ (codes " " ++ (cause_name r.cause ++ codes "\n")))))
+    codes "error: input at " ++ (decimal r.at ++ (codes ": " ++ (decimal (cause_number r.cause) ++ (codes " " ++ (cause_name r.cause ++
+    (codes "\n" ++ (sentence_of r.cause ++ codes "\n")))))))
 
 -- the input is no whole push, and this line says where and why
 pub record IsRefused (input line : List ℕ) : Type 0 where

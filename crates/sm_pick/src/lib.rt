@@ -6,7 +6,9 @@ mod picked;
 mod reading;
 mod search;
 mod seek;
+mod sentence;
 
 pub use picked::Picked;
 pub use reading::pick;
 pub use search::refusal_line;
+pub use sentence::sentence;

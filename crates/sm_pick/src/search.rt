@@ -8,6 +8,7 @@ ghost use Rattle.sm_pick.specs.Search.{fragments_in, fragment_of, Hits, IsAmong,
 
 use crate::picked::Picked;
 use crate::seek::{Hit, seek};
+use crate::sentence::sentence;
 use sm_model::{Bytes, Fragment, Item, Items, NoMemory, Refusal};
 use sm_moof::put_fragment;
 use sm_push::{Push, PushFault, front, items_are_no_more_than_bytes, items_are_valid};
@@ -58,14 +59,15 @@ fn refusal_of(fault: PushFault) -> Option<Refusal>
     }
 }
 
-/// The line that says where the input is refused, and why.
+/// The line that says where the input is refused, and why, and the sentence of the cause behind it.
 pub fn refusal_line(alloc: Global, refusal: &Refusal) -> Result<Bytes, NoMemory>
     ensures { IfOk result (λ line. line ≡ refusal_line refusal.now) }
 {
     let at = refusal.at;
     let number = refusal.cause.number();
     let name = refusal.cause.name();
-    let line = format!(in alloc; "error: input at {at}: {number} {name}\n")?;
+    let sentence = sentence(&refusal.cause);
+    let line = format!(in alloc; "error: input at {at}: {number} {name}\n{sentence}\n")?;
     Ok(Bytes::from_vec(line.into_bytes()))
 }
 

@@ -49,15 +49,17 @@ followed_line kept = codes "followed " ++ (decimal kept ++ codes "\n")
 
 -- the track of the channel that the origin doesn't have
 abbrev pub no_track_line : Option Track → List ℕ
-no_track_line None = codes "error: NoTrack\n"
-no_track_line (Some t) = codes "error: NoTrack " ++ (t.name ++ (codes " " ++ (decimal t.bitrate ++ codes "\n")))
+no_track_line None = codes "error: NoTrack\nThe ladder has no such track.\n"
+no_track_line (Some t) = codes "error: NoTrack " ++ (t.name ++ (codes " " ++ (decimal t.bitrate ++ codes "\nThe ladder has a track of this name and bitrate, and the origin does not list one.\n")))
 
 -- the place that comes next, and the least one that waits
 abbrev pub gap_line : ℕ → ℕ → List ℕ
-gap_line place next = codes "error: Gap " ++ (decimal place ++ (codes " " ++ (decimal next ++ codes "\n")))
+gap_line place next = codes "error: Gap " ++ (decimal place ++ (codes " " ++ (decimal next ++ codes "\nThe primary lists nothing for the first of these places of its log, and something for the second.\n")))
 
 abbrev pub other_id_line : Address → ℕ → List ℕ
-other_id_line a id = codes "error: OtherId " ++ (a.stream ++ (codes " " ++ (decimal a.bitrate ++ (codes " " ++ (decimal id ++ codes "\n")))))
+other_id_line a id =
+    codes "error: OtherId " ++ (a.stream ++ (codes " " ++ (decimal a.bitrate ++ (codes " " ++ (decimal id
+    ++ codes "\nThe primary gives fragments of this name and bitrate a track_ID that is not the ladder's.\n")))))
 
 -- ---- relay
 

@@ -15,7 +15,7 @@ miss_words [] = []
 miss_words (m ∷ misses) = miss_word m ++ miss_words misses
 
 abbrev pub gave_up_line : ℕ → List Miss → List ℕ
-gave_up_line time outcomes = (codes "error: GaveUp " ++ decimal time) ++ (miss_words outcomes ++ codes "\n")
+gave_up_line time outcomes = (codes "error: GaveUp " ++ decimal time) ++ (miss_words outcomes ++ codes "\nNone of the tries gave the fragment of this time.\n")
 
 abbrev pub no_manifest_line : List Miss → List ℕ
-no_manifest_line outcomes = codes "error: NoManifest" ++ (miss_words outcomes ++ codes "\n")
+no_manifest_line outcomes = codes "error: NoManifest" ++ (miss_words outcomes ++ codes "\nNone of the tries gave the manifest.\n")

@@ -23,13 +23,13 @@ place_of order = record { host = string_bytes order.host; port = order.port; pat
 -- ---- the lines
 
 abbrev pub status_line : ℕ → List ℕ
-status_line status = codes "error: status " ++ (decimal status ++ codes "\n")
+status_line status = codes "error: status " ++ (decimal status ++ codes "\nThe origin refused the push, or a part of it; its own answer stands before.\n")
 
 abbrev pub cut_line : List ℕ
-cut_line = codes "error: Cut\n"
+cut_line = codes "error: Cut\nThe origin closed the connection before its reply was whole.\n"
 
 abbrev pub unreadable_line : ℕ → List ℕ
-unreadable_line at = codes "error: Unreadable-" ++ (decimal at ++ codes "\n")
+unreadable_line at = codes "error: Unreadable-" ++ (decimal at ++ codes "\nThe reply of the origin cannot be read from this byte on.\n")
 
 -- ---- push
 

@@ -30,17 +30,17 @@ abbrev pub played_line : ℕ → List ℕ
 played_line played = codes "played " ++ (decimal played ++ codes "\n")
 
 abbrev pub no_more_line : ℕ → List ℕ
-no_more_line expected = codes "error: NoMore " ++ (decimal expected ++ codes "\n")
+no_more_line expected = codes "error: NoMore " ++ (decimal expected ++ codes "\nThe origin lists no fragment that starts at this time.\n")
 
 abbrev pub hole_line : ℕ → ℕ → List ℕ
-hole_line expected next = codes "error: Hole " ++ (decimal expected ++ (codes " " ++ (decimal next ++ codes "\n")))
+hole_line expected next = codes "error: Hole " ++ (decimal expected ++ (codes " " ++ (decimal next ++ codes "\nThe origin lists no fragment at the first of these times, and one at the second.\n")))
 
 -- the name of that place, from 0
 abbrev pub name_at : List (List ℕ) → ℕ → List ℕ
 name_at names index = unwrap_or (slice_get names index) []
 
 abbrev pub no_stream_line : List ℕ → List ℕ
-no_stream_line name = codes "error: NoStream " ++ (name ++ codes "\n")
+no_stream_line name = codes "error: NoStream " ++ (name ++ codes "\nThe origin lists no stream of this name.\n")
 
 -- ---- play
 

@@ -4,6 +4,7 @@ use Rattle.sm_model.specs.declared.cause.Cause.{Cause}
 use Rattle.sm_model.specs.declared.entry.Entry.{Entry}
 use Rattle.sm_model.specs.declared.no_memory.NoMemory.{NoMemory}
 use Rattle.sm_model.specs.Causes.{cause_line}
+use Rattle.sm_pick.specs.Sentences.{sentence_of}
 use Rattle.sm_site.specs.Image.{Image}
 use Rattle.sm_site.specs.Meanings.{Chosen, View}
 use Rattle.sm_archive.specs.Store.{IsStore}
@@ -46,13 +47,13 @@ abbrev pub turns_line : ℕ → List ℕ
 turns_line turns = codes "turns " ++ (decimal turns ++ codes "\n")
 
 abbrev pub store_line : ℕ → List ℕ
-store_line at = codes "error: not a store at " ++ (decimal at ++ codes "\n")
+store_line at = codes "error: not a store at " ++ (decimal at ++ codes "\nThe files of the folder are no store from this byte of the first one on, and were left as they are.\n")
 
 abbrev pub ladder_line : ℕ → List ℕ
-ladder_line at = codes "error: input at " ++ (decimal at ++ codes ": 5 BadLiveManifest\n")
+ladder_line at = codes "error: input at " ++ (decimal at ++ codes ": 5 BadLiveManifest\nThe ladder is no live manifest, or lacks what is read of a track.\n")
 
 abbrev pub clash_line : Cause → List ℕ
-clash_line cause = codes "error: " ++ cause_line 0 cause
+clash_line cause = codes "error: " ++ (cause_line 0 cause ++ (sentence_of cause ++ codes "\n"))
 
 -- ---- how a fault is told
 

@@ -39,7 +39,9 @@ fn followed_line(alloc: Global, kept: u64) -> Result<Bytes, NoMemory>
 fn gap_line(alloc: Global, place: u64, next: u64) -> Result<Bytes, NoMemory>
     ensures { IfOk result (λ line. line ≡ gap_line place next) }
 {
-    let line = format!(in alloc; "error: Gap {place} {next}\n")?;
+    let line = format!(in alloc;
+        "error: Gap {place} {next}\nThe primary lists nothing for the first of these places of its log, and something for the second.\n"
+    )?;
     Ok(Bytes::from_vec(line.into_bytes()))
 }
 
@@ -48,11 +50,13 @@ fn no_track_line(alloc: Global, channel: &Channel, index: u32) -> Result<Bytes, 
     ensures { IfOk result (λ line. line ≡ no_track_line (slice_get channel.now index)) }
 {
     let Some(track) = channel.as_slice().get(index as usize) else {
-        return Bytes::from_slice(alloc, b"error: NoTrack\n");
+        return Bytes::from_slice(alloc, b"error: NoTrack\nThe ladder has no such track.\n");
     };
     let name = track.name.as_str();
     let bitrate = track.bitrate;
-    let line = format!(in alloc; "error: NoTrack {name} {bitrate}\n")?;
+    let line = format!(in alloc;
+        "error: NoTrack {name} {bitrate}\nThe ladder has a track of this name and bitrate, and the origin does not list one.\n"
+    )?;
     Ok(Bytes::from_vec(line.into_bytes()))
 }
 
@@ -61,7 +65,9 @@ fn other_id_line(alloc: Global, address: &Address, id: u32) -> Result<Bytes, NoM
 {
     let stream = address.stream.as_str();
     let bitrate = address.bitrate;
-    let line = format!(in alloc; "error: OtherId {stream} {bitrate} {id}\n")?;
+    let line = format!(in alloc;
+        "error: OtherId {stream} {bitrate} {id}\nThe primary gives fragments of this name and bitrate a track_ID that is not the ladder's.\n"
+    )?;
     Ok(Bytes::from_vec(line.into_bytes()))
 }
 

@@ -18,15 +18,20 @@ fn miss_word(alloc: Global, miss: Miss) -> Result<String, NoMemory>
     })
 }
 
-// Adds what came of the tries, in their order, and ends the line.
-fn end_with(alloc: Global, line: &mut Vec<u8>, outcomes: &[Miss]) -> Result<(), NoMemory>
-    ensures { OnOk result (line.new.items ≡ line.old.items ++ (miss_words outcomes.now ++ codes "\n")) }
+// Adds what came of the tries, in their order, and ends the line; the sentence stands behind it.
+fn end_with(
+    alloc: Global,
+    line: &mut Vec<u8>,
+    outcomes: &[Miss],
+    sentence: &[u8],
+) -> Result<(), NoMemory>
+    ensures { OnOk result (line.new.items ≡ line.old.items ++ (miss_words outcomes.now ++ sentence.now)) }
 {
     for miss in outcomes {
         let word = miss_word(alloc, *miss)?;
         line.extend_from_slice(word.as_bytes())?;
     }
-    line.extend_from_slice(b"\n")?;
+    line.extend_from_slice(sentence)?;
     Ok(())
 }
 
@@ -35,7 +40,8 @@ pub fn gave_up_line(alloc: Global, time: u64, outcomes: &Outcomes) -> Result<Byt
     ensures { IfOk result (λ line. line ≡ gave_up_line time outcomes.now) }
 {
     let mut line = format!(in alloc; "error: GaveUp {time}")?.into_bytes();
-    end_with(alloc, &mut line, outcomes.as_slice())?;
+    let sentence = b"\nNone of the tries gave the fragment of this time.\n";
+    end_with(alloc, &mut line, outcomes.as_slice(), sentence)?;
     Ok(Bytes::from_vec(line))
 }
 
@@ -44,6 +50,7 @@ pub fn no_manifest_line(alloc: Global, outcomes: &Outcomes) -> Result<Bytes, NoM
     ensures { IfOk result (λ line. line ≡ no_manifest_line outcomes.now) }
 {
     let mut line = Vec::from_slice(alloc, b"error: NoManifest")?;
-    end_with(alloc, &mut line, outcomes.as_slice())?;
+    let sentence = b"\nNone of the tries gave the manifest.\n";
+    end_with(alloc, &mut line, outcomes.as_slice(), sentence)?;
     Ok(Bytes::from_vec(line))
 }

@@ -15,7 +15,9 @@ use std::alloc::Global;
 fn status_line(alloc: Global, body: &Bytes, status: u16) -> Result<Bytes, NoMemory>
     ensures { IfOk result (λ line. line ≡ body.now ++ status_line status) }
 {
-    let told = format!(in alloc; "error: status {status}\n")?;
+    let told = format!(in alloc;
+        "error: status {status}\nThe origin refused the push, or a part of it; its own answer stands before.\n"
+    )?;
     let mut line = Vec::new(alloc);
     line.extend_from_slice(body.as_slice())?;
     line.extend_from_slice(told.as_bytes())?;
@@ -25,7 +27,9 @@ fn status_line(alloc: Global, body: &Bytes, status: u16) -> Result<Bytes, NoMemo
 fn unreadable_line(alloc: Global, at: u64) -> Result<Bytes, NoMemory>
     ensures { IfOk result (λ line. line ≡ unreadable_line at) }
 {
-    let line = format!(in alloc; "error: Unreadable-{at}\n")?;
+    let line = format!(in alloc;
+        "error: Unreadable-{at}\nThe reply of the origin cannot be read from this byte on.\n"
+    )?;
     Ok(Bytes::from_vec(line.into_bytes()))
 }
 
@@ -38,7 +42,10 @@ fn pushed(alloc: Global, pushed: Pushed) -> Result<Answer, NoMemory>
         Pushed::Status { status, line } => {
             Ok(Answer::Undone(status_line(alloc, &line, status)?))
         }
-        Pushed::Cut => Ok(Answer::Undone(Bytes::from_slice(alloc, b"error: Cut\n")?)),
+        Pushed::Cut => Ok(Answer::Undone(Bytes::from_slice(
+            alloc,
+            b"error: Cut\nThe origin closed the connection before its reply was whole.\n",
+        )?)),
         Pushed::Unreadable { at } => Ok(Answer::Undone(unreadable_line(alloc, at)?)),
         Pushed::Lost => Ok(Answer::LinkFault),
         Pushed::NoMemory => Ok(Answer::Starved),

@@ -24,14 +24,18 @@ fn played_line(alloc: Global, played: u64) -> Result<Bytes, NoMemory>
 fn no_more_line(alloc: Global, expected: u64) -> Result<Bytes, NoMemory>
     ensures { IfOk result (λ line. line ≡ no_more_line expected) }
 {
-    let line = format!(in alloc; "error: NoMore {expected}\n")?;
+    let line = format!(in alloc;
+        "error: NoMore {expected}\nThe origin lists no fragment that starts at this time.\n"
+    )?;
     Ok(Bytes::from_vec(line.into_bytes()))
 }
 
 fn hole_line(alloc: Global, expected: u64, next: u64) -> Result<Bytes, NoMemory>
     ensures { IfOk result (λ line. line ≡ hole_line expected next) }
 {
-    let line = format!(in alloc; "error: Hole {expected} {next}\n")?;
+    let line = format!(in alloc;
+        "error: Hole {expected} {next}\nThe origin lists no fragment at the first of these times, and one at the second.\n"
+    )?;
     Ok(Bytes::from_vec(line.into_bytes()))
 }
 
@@ -50,7 +54,7 @@ fn no_stream_line(alloc: Global, streams: &Names, index: u32) -> Result<Bytes, N
 {
     let mut line = Vec::from_slice(alloc, b"error: NoStream ")?;
     line.extend_from_slice(name_at(streams, index))?;
-    line.extend_from_slice(b"\n")?;
+    line.extend_from_slice(b"\nThe origin lists no stream of this name.\n")?;
     Ok(Bytes::from_vec(line))
 }
 

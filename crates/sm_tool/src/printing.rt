@@ -20,16 +20,23 @@ fn line(answer: &Answer) -> &[u8]
         Answer::Undone(line) => line.as_slice(),
         Answer::NotAStore(line) => line.as_slice(),
         Answer::Words(text) => text.as_slice(),
-        Answer::Unread => b"error: read\n",
-        Answer::TooLong => b"error: input at 268435456: too long\n",
-        Answer::LongLadder => b"error: input at 1048576: too long\n",
-        Answer::NotKept => b"error: 47 NotKept\n",
-        Answer::Damaged => b"error: 32 Damaged\n",
-        Answer::DiskFault => b"error: disk\n",
-        Answer::LinkFault => b"error: link\n",
+        Answer::Unread => b"error: read\nReading the input failed.\n",
+        Answer::TooLong =>
+            b"error: input at 268435456: too long\nThe input has more than 268,435,456 bytes.\n",
+        Answer::LongLadder =>
+            b"error: input at 1048576: too long\nThe ladder has more than 1,048,576 bytes.\n",
+        Answer::NotKept =>
+            b"error: 47 NotKept\nThe input has no fragment with this track_ID and time.\n",
+        Answer::Damaged =>
+            b"error: 32 Damaged\nWhat was read of the store is not what was written there.\n",
+        Answer::DiskFault =>
+            b"error: disk\nThe system refused a call on the folder of the store or on a file in it.\n",
+        Answer::LinkFault =>
+            b"error: link\nThe port cannot be listened at, or a connection was refused or lost.\n",
         Answer::TrackFault | Answer::Unfinished(_) => b"",
-        Answer::Starved => b"error: memory\n",
-        Answer::Full => b"error: full\n",
+        Answer::Starved => b"error: memory\nThere was not enough memory.\n",
+        Answer::Full =>
+            b"error: full\nA limit of the store is met: its bytes, its entries, or the times of a stream.\n",
     }
 }
 

@@ -9,6 +9,7 @@ use crate::answer::Answer;
 use sm_command::{StoreFault, list_store, serve_store};
 use sm_ends::Source;
 use sm_model::{Bytes, Cause, NoMemory, Refusal, put_cause};
+use sm_pick::sentence;
 use sm_serve::Served;
 use sm_site::{Selection, Site};
 use sm_words::ServeOrder;
@@ -24,25 +25,33 @@ fn turns_line(alloc: Global, turns: u64) -> Result<Bytes, NoMemory>
 fn store_line(alloc: Global, at: u64) -> Result<Bytes, NoMemory>
     ensures { IfOk result (λ line. line ≡ store_line at) }
 {
-    let line = format!(in alloc; "error: not a store at {at}\n")?;
+    let line = format!(in alloc;
+        "error: not a store at {at}\nThe files of the folder are no store from this byte of the first one on, and were left as they are.\n"
+    )?;
     Ok(Bytes::from_vec(line.into_bytes()))
 }
 
 fn ladder_line(alloc: Global, at: u64) -> Result<Bytes, NoMemory>
     ensures { IfOk result (λ line. line ≡ ladder_line at) }
 {
-    let line = format!(in alloc; "error: input at {at}: 5 BadLiveManifest\n")?;
+    let line = format!(in alloc;
+        "error: input at {at}: 5 BadLiveManifest\nThe ladder is no live manifest, or lacks what is read of a track.\n"
+    )?;
     Ok(Bytes::from_vec(line.into_bytes()))
 }
 
-/// The line of a cause, which has no place here.
+/// The line of a cause, which has no place here, and its sentence behind it.
 pub fn clash_line(alloc: Global, cause: Cause) -> Result<Bytes, NoMemory>
     ensures { IfOk result (λ line. line ≡ clash_line cause) }
 {
-    let told = put_cause(alloc, &Refusal { at: 0, cause })?;
+    let refusal = Refusal { at: 0, cause };
+    let told = put_cause(alloc, &refusal)?;
+    let sentence = sentence(&refusal.cause);
     let mut line = Vec::new(alloc);
     line.extend_from_slice(b"error: ")?;
     line.extend_from_slice(told.as_slice())?;
+    line.extend_from_slice(sentence.as_bytes())?;
+    line.extend_from_slice(b"\n")?;
     Ok(Bytes::from_vec(line))
 }
 

@@ -11,7 +11,7 @@ ghost use Rattle.sm_run.specs.Runs.{EndsAs};
 mod std_ends;
 
 use sm_crew::RealCrew;
-use sm_ends::{Sink, Source, Tracks};
+use sm_ends::{Sink, Source, Tracks, write_all};
 use sm_fetch::Dial;
 use sm_model::NoMemory;
 use sm_players::Spawner;
@@ -104,15 +104,20 @@ fn end_starved<O: Sink>(output: &mut O) -> ExitCode {
     ExitCode::from(starved(output))
 }
 
-// What the system said, for people, where it refused what the program needed for this status: a line on the standard error.
-fn tell(rt: &impl Eprint, status: ExitCode, troubles: &[(u8, Option<Trouble>)]) {
+// What the system said where it refused what the program needed for this status.
+fn trouble_of(status: ExitCode, troubles: &[(u8, Option<Trouble>)]) -> Option<Trouble> {
     for (number, trouble) in troubles {
-        if status == ExitCode::from(*number)
-            && let Some(trouble) = trouble
-        {
-            let _ = eprintln!(rt; "smooth: {trouble}");
-            return;
+        if status == ExitCode::from(*number) && trouble.is_some() {
+            return *trouble;
         }
+    }
+    None
+}
+
+// What the system said, for people: a line behind those of a failure.
+fn tell<O: Sink>(alloc: Global, output: &mut O, trouble: Trouble) {
+    if let Ok(line) = format!(in alloc; "{trouble}\n") {
+        let _ = write_all(output, line.as_bytes());
     }
 }
 
@@ -166,12 +171,15 @@ fn main(rt: HostRuntime) -> ExitCode {
         (4, dial.trouble()),
         (5, site.disk_trouble()),
         (6, input.trouble()),
-        (7, output.trouble()),
-        (7, tracks.trouble()),
         (8, site.link_trouble()),
         (8, crew.trouble()),
         (8, dial.trouble()),
     ];
-    tell(&rt, status, &troubles);
+    // Behind a file that was begun in the output nothing is told.
+    if output.has_failure()
+        && let Some(trouble) = trouble_of(status, &troubles)
+    {
+        tell(rt.alloc(), &mut output, trouble);
+    }
     status
 }

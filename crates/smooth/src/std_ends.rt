@@ -1,10 +1,10 @@
 //! Readers and writers as ends. They tell the bytes that their reader or writer tells: the standard streams tell none, since
 //! no contract knows what reaches or leaves the system.
-ghost use Rattle.std.specs.Prelude.{◌≡◌, None};
+ghost use Rattle.std.specs.Prelude.{◌≡◌, None, false, unwrap_or};
 
 use sm_ends::{Failed, Sink, Source};
 use sm_real::{Doing, Trouble};
-use std::io::{ErrorKind, Read, Write};
+use std::io::{Read, Write};
 
 /// The standard input, or another reader of the system's. What the system said of the last failure is kept for people.
 #[derive(Drop)]
@@ -52,32 +52,36 @@ impl<R: Read> Source for StdSource<R> {
     }
 }
 
-/// The standard output, or another writer of the system's. What the system said of the last failure is kept for people.
+// How a line of a failure begins.
+const FAILURE: &[u8] = b"error: ";
+
+/// The standard output, or another writer of the system's.
 #[derive(Drop)]
 pub struct StdSink<W> {
     writer: W,
     faults: u64,
-    trouble: Option<Trouble>,
+    // Whether the first bytes that were given to it begin as a line of a failure does; none were given yet.
+    has_failure: Option<bool>,
 }
 
 impl<W: Write> StdSink<W> {
     pub fn new(writer: W) -> StdSink<W>
         ensures writer { result.writer ≡ writer }
         ensures faults { result.faults ≡ 0 }
-        ensures trouble { result.trouble ≡ None }
+        ensures none { result.has_failure ≡ None }
     {
         StdSink {
             writer,
             faults: 0,
-            trouble: None,
+            has_failure: None,
         }
     }
 
-    /// What the system refused last.
-    pub fn trouble(&self) -> Option<Trouble>
-        ensures { result ≡ self.now.trouble }
+    /// Whether what was written begins with the line of a failure.
+    pub fn has_failure(&self) -> bool
+        ensures { result ≡ unwrap_or self.now.has_failure false }
     {
-        self.trouble
+        self.has_failure.unwrap_or(false)
     }
 }
 
@@ -88,13 +92,15 @@ impl<W: Write> Sink for StdSink<W> {
 
     // A writer that takes no byte of a piece has failed.
     fn write(&mut self, bytes: &[u8]) -> Result<usize, Failed> {
-        let error = match self.writer.write(bytes) {
-            Ok(count) if count > 0 || bytes.is_empty() => return Ok(count),
-            Ok(_) => ErrorKind::WriteZero.into(),
-            Err(e) => e,
-        };
-        self.trouble = Some(Trouble::new(Doing::Output, error));
-        self.faults = self.faults.saturating_add(1);
-        Err(Failed)
+        if self.has_failure.is_none() {
+            self.has_failure = Some(bytes.starts_with(FAILURE));
+        }
+        match self.writer.write(bytes) {
+            Ok(count) if count > 0 || bytes.is_empty() => Ok(count),
+            _ => {
+                self.faults = self.faults.saturating_add(1);
+                Err(Failed)
+            }
+        }
     }
 }
