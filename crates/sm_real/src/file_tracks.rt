@@ -2,7 +2,6 @@
 ghost use Rattle.std.specs.Prelude.{◌≡◌, None};
 
 use crate::file_limit::{may_reach, past_limit};
-use crate::{Doing, Trouble};
 use sm_ends::{Failed, Tracks};
 use std::alloc::Global;
 use std::fs::{File, OpenOptions};
@@ -18,7 +17,6 @@ pub struct FileTracks<R: Files<File = File> + Drop> {
     // The one that was appended to last.
     last: Option<Track>,
     faults: u64,
-    trouble: Option<Trouble>,
 }
 
 #[derive(Drop)]
@@ -30,23 +28,14 @@ struct Track {
 impl<R: Files<File = File> + Drop> FileTracks<R> {
     /// Without any file yet.
     pub fn new(rt: R, alloc: Global) -> FileTracks<R>
-        ensures faults { result.faults ≡ 0 }
-        ensures trouble { result.trouble ≡ None }
+        ensures { result.faults ≡ 0 }
     {
         FileTracks {
             rt,
             alloc,
             last: None,
             faults: 0,
-            trouble: None,
         }
-    }
-
-    /// What the system refused last.
-    pub fn trouble(&self) -> Option<Trouble>
-        ensures { result ≡ self.now.trouble }
-    {
-        self.trouble
     }
 
     // A file that bytes can be added to.
@@ -89,8 +78,7 @@ impl<R: Files<File = File> + Drop> Tracks for FileTracks<R> {
     fn append(&mut self, track: u32, bytes: &[u8]) -> Result<(), Failed> {
         match self.add(track, bytes) {
             Ok(()) => Ok(()),
-            Err(e) => {
-                self.trouble = Some(Trouble::new(Doing::Appending(track), e));
+            Err(_) => {
                 self.faults = self.faults.saturating_add(1);
                 Err(Failed)
             }

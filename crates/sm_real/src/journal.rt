@@ -13,7 +13,7 @@ use std::net::{Net, SocketAddr};
 use std::rt::Files;
 use std::time::{Clock, Duration, Instant, SystemTime, UNIX_EPOCH};
 
-/// How long lines may wait while the link is busy, in milliseconds.
+/// How long lines may wait while the link is busy, and how long one reading of the clock is gone by, in milliseconds.
 const WAIT: u128 = 200;
 
 /// How far two lines of counts lie apart, in milliseconds.
@@ -40,10 +40,18 @@ pub struct Journal {
     viewers: Option<Viewers>,
     // When the journal was opened.
     begun: Instant,
-    // Milliseconds since 1970, at the last round.
+    // Milliseconds since 1970 at the last round, by the clock that was read last.
     stamp: u64,
+    clock: Reading,
     written: Instant,
     counted: Instant,
+}
+
+// What the system's clock told: milliseconds since 1970, and at which moment.
+#[derive(Clone, Copy)]
+struct Reading {
+    at: Instant,
+    stamp: u64,
 }
 
 /// What opening a store came to.
@@ -75,6 +83,7 @@ impl Journal {
         viewers: Option<Viewers>,
     ) -> io::Result<Journal> {
         let now = Instant::now(rt)?;
+        let clock = Reading::of(rt, now);
         Ok(Journal {
             alloc,
             outlet: Outlet::open(rt, alloc, path)?,
@@ -85,7 +94,8 @@ impl Journal {
             before: Tally::new(),
             viewers,
             begun: now,
-            stamp: stamp_of(rt),
+            stamp: clock.stamp,
+            clock,
             written: now,
             counted: now,
         })
@@ -112,7 +122,7 @@ impl Journal {
     /// The origin of this store ends.
     pub fn end(&mut self, rt: &impl Clock, store: &str) {
         let now = Instant::now(rt).unwrap_or(self.written);
-        self.stamp = stamp_of(rt);
+        self.stamp = Reading::of(rt, now).stamp;
         self.before.join(&self.tally);
         self.tally = Tally::new();
         let made = self.tell_end(store, now.saturating_duration_since(self.begun));
@@ -149,7 +159,10 @@ impl Journal {
 
     /// A round of the link begins at this moment.
     pub fn turn(&mut self, rt: &impl Clock, now: Instant) {
-        self.stamp = stamp_of(rt);
+        if now.saturating_duration_since(self.clock.at).as_millis() >= WAIT {
+            self.clock = Reading::of(rt, now);
+        }
+        self.stamp = self.clock.stamp_at(now);
         if now.saturating_duration_since(self.written).as_millis() >= WAIT
             || self.outlet.is_long()
         {
@@ -343,14 +356,23 @@ impl Journal {
     }
 }
 
-// Milliseconds since 1970, or 0 where the clock tells none.
-fn stamp_of(rt: &impl Clock) -> u64 {
-    match SystemTime::now(rt) {
-        Ok(now) => match now.duration_since(UNIX_EPOCH) {
-            Ok(since) => millis(since),
+impl Reading {
+    // Of 1970 where the clock tells nothing.
+    fn of(rt: &impl Clock, now: Instant) -> Reading {
+        let stamp = match SystemTime::now(rt) {
+            Ok(time) => match time.duration_since(UNIX_EPOCH) {
+                Ok(since) => millis(since),
+                Err(_) => 0,
+            },
             Err(_) => 0,
-        },
-        Err(_) => 0,
+        };
+        Reading { at: now, stamp }
+    }
+
+    // Milliseconds since 1970 at a later moment.
+    fn stamp_at(&self, now: Instant) -> u64 {
+        self.stamp
+            .saturating_add(millis(now.saturating_duration_since(self.at)))
     }
 }
 

@@ -15,6 +15,7 @@ mod journal;
 mod limits;
 mod outgoing;
 mod outlet;
+mod pace;
 mod peer;
 mod peers;
 mod real_site;

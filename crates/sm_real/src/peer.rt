@@ -147,9 +147,12 @@ impl Peer {
         }
     }
 
-    /// A turn of the loop on a piece of this peer took so many milliseconds, in which something was sent or brought to rest, or not.
-    pub fn weigh(&mut self, took: u128, worked: bool) {
-        self.budget.weigh(took, worked);
+    /// A turn of the loop on a piece of so many bytes of this peer took so many milliseconds, in which something was sent or brought to
+    /// rest, or not. So many bytes are soon done whatever they are.
+    pub fn weigh(&mut self, length: usize, took: u128, worked: bool, soon: usize)
+        requires most { soon ≤ 65536 }
+    {
+        self.budget.weigh(length, took, worked, soon);
     }
 
     /// So much of the time doesn't count, since nobody could be served.

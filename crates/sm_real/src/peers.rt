@@ -96,13 +96,14 @@ impl Peers {
         }
     }
 
-    /// A turn of the loop on a piece of the one with a number took so many milliseconds, in which something was sent or brought to rest,
-    /// or not.
-    pub fn weigh(&mut self, number: u64, took: u128, worked: bool)
+    /// A turn of the loop on a piece of so many bytes of the one with a number took so many milliseconds, in which something was sent or
+    /// brought to rest, or not. So many bytes are soon done whatever they are.
+    pub fn weigh(&mut self, number: u64, length: usize, took: u128, worked: bool, soon: usize)
+        requires most { soon ≤ 65536 }
         ensures { (self.new.list.items ≡ self.old.list.items) ⊎ Touches number self.old.list.items self.new.list.items }
     {
         if let Some(place) = self.place(number) {
-            self.list[place].weigh(took, worked);
+            self.list[place].weigh(length, took, worked, soon);
         }
     }
 

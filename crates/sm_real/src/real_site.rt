@@ -258,7 +258,7 @@ impl<R: Files<File = File> + Net + Clock + Drop> Disk for RealSite<R> {
         if let Some(opening) = &mut self.opening {
             opening.note_file();
         }
-        self.link.note_work();
+        self.link.note_rest();
         let since = self.link.moment();
         let synced = self.disk.sync(file);
         self.link.note_sync(since);

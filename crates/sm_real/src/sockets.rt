@@ -7,6 +7,7 @@ ghost use Rattle.sm_real.specs.Whose.{IfPiece, IsHead, IsThere};
 
 use crate::journal::{Journal, Standing};
 use crate::outgoing::copy;
+use crate::pace::Pace;
 use crate::peer::{Found, Peer};
 use crate::peers::Peers;
 use crate::sharing::Sharing;
@@ -56,7 +57,11 @@ pub enum Asked {
 struct Given {
     number: u64,
     at: Instant,
+    // How many bytes it has.
+    length: usize,
     worked: bool,
+    // How often something was brought to rest for it.
+    rests: u32,
 }
 
 /// One or two listeners and their peers.
@@ -81,6 +86,7 @@ pub struct Sockets {
     moved: bool,
     // The piece that the loop has in hand.
     given: Option<Given>,
+    pace: Pace,
     now: Instant,
     buffer: Box<[u8; PIECE]>,
     // GNU's C library asks the system anew for each large piece of memory, and gives each back at once, until one as large as this
@@ -133,6 +139,7 @@ impl Sockets {
             busy: false,
             moved: false,
             given: None,
+            pace: Pace::new(now),
             now,
             buffer: Box::new(alloc, [0; PIECE])?,
             spare: Vec::with_capacity(alloc, SPARE)?,
@@ -180,24 +187,36 @@ impl Sockets {
     {
         self.weigh(rt);
         let asked = self.seek(rt, number);
-        if let Asked::Piece(holder, _) = &asked
+        if let Asked::Piece(holder, piece) = &asked
             && let Ok(at) = Instant::now(rt)
         {
             self.given = Some(Given {
                 number: *holder,
                 at,
+                length: piece.as_slice().len(),
                 worked: false,
+                rests: 0,
             });
         }
         asked
     }
 
-    /// Something was sent or brought to rest for the piece that was given last.
-    pub fn note_work(&mut self)
+    // Something was sent for the piece that was given last.
+    fn note_work(&mut self)
         ensures { self.new.peers ≡ self.old.peers }
     {
         if let Some(given) = &mut self.given {
             given.worked = true;
+        }
+    }
+
+    /// Something was brought to rest for the piece that was given last.
+    pub fn note_rest(&mut self)
+        ensures { self.new.peers ≡ self.old.peers }
+    {
+        if let Some(given) = &mut self.given {
+            given.worked = true;
+            given.rests = given.rests.saturating_add(1);
         }
     }
 
@@ -206,8 +225,15 @@ impl Sockets {
         if let Some(given) = self.given.take()
             && let Ok(now) = Instant::now(rt)
         {
-            let took = now.saturating_duration_since(given.at).as_millis();
-            self.peers.weigh(given.number, took, given.worked);
+            let took = now.saturating_duration_since(given.at);
+            self.pace.note(now, took, given.rests);
+            self.peers.weigh(
+                given.number,
+                given.length,
+                took.as_millis(),
+                given.worked,
+                self.pace.soon(),
+            );
         }
     }
 

@@ -231,7 +231,7 @@ impl<R: Net + Clock + Drop> TcpLink<R> {
     }
 
     /// The site brought something to rest for the piece that was given last.
-    pub fn note_work(&mut self)
+    pub fn note_rest(&mut self)
         ensures listens { is_some self.new.sockets ≡ is_some self.old.sockets }
         ensures trouble { self.new.trouble ≡ self.old.trouble }
         ensures faults { self.new.faults ≡ self.old.faults }
@@ -239,7 +239,7 @@ impl<R: Net + Clock + Drop> TcpLink<R> {
         ensures numbers { self.new.next_number ≡ self.old.next_number }
     {
         if let Some(sockets) = &mut self.sockets {
-            sockets.note_work();
+            sockets.note_rest();
         }
     }
 

@@ -31,12 +31,8 @@ pub enum Doing {
     Connecting,
     #[error("asking")]
     Asking,
-    #[error("appending to track-{0}.frag")]
-    Appending(u32),
     #[error("reading the input")]
     Input,
-    #[error("writing the output")]
-    Output,
 }
 
 /// What the system refused, and what it said of it. Each end keeps the last one for people, and no clause speaks of it.
