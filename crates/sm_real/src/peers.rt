@@ -79,12 +79,12 @@ impl Peers {
     fn place(&self, number: u64) -> Option<usize>
         ensures { IfSome result (λ place. IsAt number place self.now.list.items) }
     {
-        for (place, peer) in self.list.iter().enumerate() {
-            if peer.number == number {
-                return Some(place);
-            }
+        let found = self.list.binary_search_by(|peer| peer.number.cmp(&number));
+        let place = found.ok()?;
+        match self.list.get(place) {
+            Some(peer) if peer.number == number => Some(place),
+            _ => None,
         }
-        None
     }
 
     /// Takes note of what the system reports of the one with a number.

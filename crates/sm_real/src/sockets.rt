@@ -86,6 +86,8 @@ pub struct Sockets {
     moved: bool,
     // The piece that the loop has in hand.
     given: Option<Given>,
+    // When the loop was done with the one before.
+    done: Instant,
     pace: Pace,
     now: Instant,
     buffer: Box<[u8; PIECE]>,
@@ -139,6 +141,7 @@ impl Sockets {
             busy: false,
             moved: false,
             given: None,
+            done: now,
             pace: Pace::new(now),
             now,
             buffer: Box::new(alloc, [0; PIECE])?,
@@ -187,12 +190,10 @@ impl Sockets {
     {
         self.weigh(rt);
         let asked = self.seek(rt, number);
-        if let Asked::Piece(holder, piece) = &asked
-            && let Ok(at) = Instant::now(rt)
-        {
+        if let Asked::Piece(holder, piece) = &asked {
             self.given = Some(Given {
                 number: *holder,
-                at,
+                at: self.done.max(self.now),
                 length: piece.as_slice().len(),
                 worked: false,
                 rests: 0,
@@ -226,6 +227,7 @@ impl Sockets {
             && let Ok(now) = Instant::now(rt)
         {
             let took = now.saturating_duration_since(given.at);
+            self.done = now;
             self.pace.note(now, took, given.rests);
             self.peers.weigh(
                 given.number,
