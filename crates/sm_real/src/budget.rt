@@ -1,5 +1,5 @@
 // How much of what a peer sends is handed on at once.
-ghost use Rattle.std.specs.Prelude.{◌≡◌, ◌≤◌, ◌<◌, ◌*◌, ◌/◌, ◌+◌, ◌^◌, ◌∸◌, true, false, max, min, if◌then◌else◌};
+ghost use Rattle.std.specs.Prelude.{◌≡◌, ◌≤◌, ◌<◌, ◌*◌, ◌/◌, ◌+◌, true, false, max, min, if◌then◌else◌};
 
 /// The least and the most, in bytes.
 const LEAST: usize = 256;
@@ -53,7 +53,7 @@ impl Budget {
         ensures slow { 5 < took → self.new.bytes ≡ max 256 (self.old.bytes / 2) }
         ensures fast { took ≤ 5 → worked ≡ true → self.new.bytes ≡ min 65536 (2 * self.old.bytes) }
         ensures idle { took ≤ 5 → worked ≡ false → self.new.bytes ≡ max self.old.bytes (min soon (2 * self.old.bytes)) }
-        ensures run { self.new.run ≡ (if worked then 0 else min (2 ^ 64 ∸ 1) (self.old.run + length)) }
+        ensures run { self.new.run ≡ (if worked then 0 else min 18446744073709551615 (self.old.run + length)) }
     {
         let more = 2 * self.bytes;
         self.bytes = if took > TURN {
