@@ -6,9 +6,9 @@ mod picked;
 mod reading;
 mod search;
 mod seek;
-mod sentence;
+mod sentences;
 
 pub use picked::Picked;
 pub use reading::pick;
 pub use search::refusal_line;
-pub use sentence::sentence;
+pub use sentences::sentence;

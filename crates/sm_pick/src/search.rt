@@ -8,7 +8,7 @@ ghost use Rattle.sm_pick.specs.Search.{fragments_in, fragment_of, Hits, IsAmong,
 
 use crate::picked::Picked;
 use crate::seek::{Hit, seek};
-use crate::sentence::sentence;
+use crate::sentences::sentence;
 use sm_model::{Bytes, Fragment, Item, Items, NoMemory, Refusal};
 use sm_moof::put_fragment;
 use sm_push::{Push, PushFault, front, items_are_no_more_than_bytes, items_are_valid};
