@@ -63,6 +63,20 @@ def free_port():
         return tried.getsockname()[1]
 
 
+def is_free(port):
+    with socket.socket() as tried:
+        try:
+            tried.bind(("127.0.0.1", port))
+            return True
+        except OSError:
+            return False
+
+
+def free_pair():
+    """A port that nobody has, as nobody has the next one."""
+    return next(port for port in iter(free_port, None) if port < 65_535 and is_free(port + 1))
+
+
 def boxes(data):
     at = 0
     while at + 8 <= len(data):
