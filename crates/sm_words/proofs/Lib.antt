@@ -1,8 +1,11 @@
+pub mod Lexing
+pub mod Walking
 pub mod Reading
 pub mod Adding
-pub mod Putting
-pub mod Naming
-pub mod Clapping
+pub mod Agreeing
+pub mod Finding
+pub mod Telling
+pub mod Taking
 pub mod Playing
-pub mod Asking
+pub mod Naming
 pub mod Sounding

@@ -86,7 +86,7 @@ first_none options word i le h = sym (h ∙ at_drop_all (λ (ns : List Name). fi
 
 -- ---- the words of a line
 
-joined-assoc : (a b c : Read) → joined a (joined b c) ≡ joined (joined a b) c
+pub joined-assoc : (a b c : Read) → joined a (joined b c) ≡ joined (joined a b) c
 joined-assoc a b c =
     ap (λ (gs : List (Name × Text)). record { given = gs; words = a.words ++ (b.words ++ c.words) }) (sym (append_assoc a.given b.given c.given))
     ∙ ap (λ (ws : List Text). record { given = (a.given ++ b.given) ++ c.given; words = ws }) (sym (append_assoc a.words b.words c.words))
@@ -142,7 +142,7 @@ append-none : {X : Type 0} (xs : List X) → xs ++ [] ≡ xs
 append-none [] = refl
 append-none (x ∷ xs) = ap (λ l. x ∷ l) (append-none xs)
 
-joined-nothing : (a : Read) → joined a nothing ≡ a
+pub joined-nothing : (a : Read) → joined a nothing ≡ a
 joined-nothing a =
     ap (λ (gs : List (Name × Text)). record { given = gs; words = a.words ++ [] }) (append-none a.given)
     ∙ ap (λ (ws : List Text). record { given = a.given; words = ws }) (append-none a.words)

@@ -1,47 +1,46 @@
 -- What was read by `clap`.
-use Rattle.std.specs.Prelude.{◌≡◌, ◌∷◌, Some, map, string_bytes}
+use Rattle.std.specs.Prelude.{◌∷◌, Option, Some, map, string_bytes, String}
+use Rattle.std.specs.Global.{Global}
 use Rattle.std.specs.Option.{option_map}
 use Rattle.sm_words.specs.declared.matched.ServeTexts.{ServeTexts}
 use Rattle.sm_words.specs.declared.matched.PushTexts.{PushTexts}
 use Rattle.sm_words.specs.declared.matched.PlayTexts.{PlayTexts}
 use Rattle.sm_words.specs.declared.matched.ExportTexts.{ExportTexts}
 use Rattle.sm_words.specs.declared.matched.EdgeTexts.{EdgeTexts}
-use Rattle.sm_words.specs.Words.{EdgeTexts as Pulled, ExportTexts as Filed, PlayTexts as Played, PushTexts as Sent, ServeTexts as Asked}
+use Rattle.sm_words.specs.Words.{Text, EdgeTexts as Pulled, ExportTexts as Filed, PlayTexts as Played, PushTexts as Sent, ServeTexts as Asked, play_words_by}
 
-pub record IsReadOf (texts : ServeTexts) (x : Asked) : Type 0 where
-  pub port : option_map string_bytes texts.port ≡ Some x.port
-  pub ladder : texts.ladder ≡ x.ladder
-  pub turns : option_map string_bytes texts.turns ≡ x.turns
-  pub bind : option_map string_bytes texts.bind ≡ Some x.bind
-  pub journal : option_map string_bytes texts.journal ≡ Some x.journal
-  pub players : option_map string_bytes texts.players ≡ Some x.players
-  pub store : option_map string_bytes texts.store ≡ Some x.store
+abbrev pub pair_of : String Global × String Global → Text × Text
+pair_of t = (string_bytes t.0, string_bytes t.1)
 
-pub record IsPushRead (texts : PushTexts) (x : Sent) : Type 0 where
-  pub host : option_map string_bytes texts.host ≡ Some x.host
-  pub port : option_map string_bytes texts.port ≡ Some x.port
-  pub path : option_map string_bytes texts.path ≡ Some x.path
-  pub id : option_map string_bytes texts.id ≡ Some x.id
+abbrev pub serve_texts_of : ServeTexts → Asked
+serve_texts_of t = record {
+  port = string_bytes t.port;
+  ladder = t.ladder;
+  turns = option_map string_bytes t.turns;
+  bind = string_bytes t.bind;
+  journal = string_bytes t.journal;
+  players = string_bytes t.players;
+  store = string_bytes t.store;
+}
 
-pub record IsExportRead (texts : ExportTexts) (x : Filed) : Type 0 where
-  pub store : option_map string_bytes texts.store ≡ Some x.store
-  pub name : option_map string_bytes texts.name ≡ Some x.name
-  pub bitrate : option_map string_bytes texts.bitrate ≡ Some x.bitrate
+abbrev pub push_texts_of : PushTexts → Sent
+push_texts_of t = record { host = string_bytes t.host; port = string_bytes t.port; path = string_bytes t.path; id = string_bytes t.id }
 
-pub record IsEdgeRead (texts : EdgeTexts) (x : Pulled) : Type 0 where
-  pub host : option_map string_bytes texts.host ≡ Some x.host
-  pub port : option_map string_bytes texts.port ≡ Some x.port
-  pub path : option_map string_bytes texts.path ≡ Some x.path
-  pub store : option_map string_bytes texts.store ≡ Some x.store
-  pub rounds : option_map string_bytes texts.rounds ≡ Some x.rounds
-  pub tries : option_map string_bytes texts.tries ≡ Some x.tries
+abbrev pub export_texts_of : ExportTexts → Filed
+export_texts_of t = record { store = string_bytes t.store; name = string_bytes t.name; bitrate = string_bytes t.bitrate }
 
-pub record IsPlayRead (texts : PlayTexts) (x : Played) : Type 0 where
-  pub host : option_map string_bytes texts.host ≡ Some x.host
-  pub port : option_map string_bytes texts.port ≡ Some x.port
-  pub path : option_map string_bytes texts.path ≡ Some x.path
-  pub streams : map string_bytes texts.streams.items ≡ x.stream ∷ x.more
-  pub from : option_map string_bytes texts.from ≡ x.from
-  pub count : option_map string_bytes texts.count ≡ Some x.count
-  pub tries : option_map string_bytes texts.tries ≡ Some x.tries
-  pub refresh : option_map string_bytes texts.refresh ≡ Some x.refresh
+abbrev pub edge_texts_of : EdgeTexts → Pulled
+edge_texts_of t = record {
+  host = string_bytes t.host;
+  port = string_bytes t.port;
+  path = string_bytes t.path;
+  store = string_bytes t.store;
+  rounds = string_bytes t.rounds;
+  tries = string_bytes t.tries;
+}
+
+-- none where there is no stream
+abbrev pub play_texts_of : PlayTexts → Option Played
+play_texts_of t =
+    play_words_by (string_bytes t.host ∷ string_bytes t.port ∷ string_bytes t.path ∷ map string_bytes t.streams.items) (option_map string_bytes t.from)
+    (Some (string_bytes t.count)) (Some (string_bytes t.tries)) (Some (string_bytes t.refresh))

@@ -8,142 +8,88 @@ ghost use Rattle.sm_words.specs.Words.{Relay, Standby, edge_of, export_of, serve
 ghost use Rattle.sm_words.specs.Orders.{pulling_of, wanted_of};
 
 use crate::edge_order::EdgeOrder;
-use crate::line::read_line;
 use crate::matched::{
     read_edge, read_export, read_list, read_pick, read_play, read_push, read_rehearse, read_serve,
 };
-use crate::option::Name;
 use crate::order::{
     Order, edge_order, export_order, list_order, pick_order, play_order, push_order,
     rehearse_order, serve_order,
-};
-use crate::put::{
-    edge_put, export_put, list_put, pick_put, play_put, push_put, rehearse_put, serve_put,
 };
 use crate::topic::Topic;
 use sm_model::NoMemory;
 use std::alloc::Global;
 
-const SERVE: [Name; 6] = [
-    Name::Port,
-    Name::Ladder,
-    Name::Turns,
-    Name::Bind,
-    Name::Journal,
-    Name::Players,
-];
-
-const PLAY: [Name; 4] = [Name::From, Name::Count, Name::Tries, Name::Refresh];
-
-const EDGE: [Name; 2] = [Name::Rounds, Name::Tries];
-
 fn pick_asked(alloc: Global, words: &[String]) -> Result<Option<Order>, NoMemory>
     ensures { IfOk result (λ order. option_map wanted_of order ≡ option_and_then pick_of (read [] (map string_bytes words.now))) }
 {
-    let Some(line) = read_line(alloc, &[], words)? else {
-        return Ok(None);
-    };
-    let Some(words) = pick_put(alloc, &line)? else {
-        return Ok(None);
-    };
-    let (track, time) = read_pick(alloc, &words)?;
-    Ok(pick_order(&track, &time))
+    match read_pick(alloc, words)? {
+        Some((track, time)) => Ok(pick_order(track.as_str(), time.as_str())),
+        None => Ok(None),
+    }
 }
 
 fn rehearse_asked(alloc: Global, words: &[String]) -> Result<Option<Order>, NoMemory>
     ensures { IfOk result (λ order. option_map wanted_of order ≡ option_and_then rehearse_of (read [] (map string_bytes words.now))) }
 {
-    let Some(line) = read_line(alloc, &[], words)? else {
-        return Ok(None);
-    };
-    let Some(words) = rehearse_put(alloc, &line)? else {
-        return Ok(None);
-    };
-    let (number, size) = read_rehearse(alloc, &words)?;
-    Ok(rehearse_order(&number, &size))
+    match read_rehearse(alloc, words)? {
+        Some((number, size)) => Ok(rehearse_order(number.as_str(), size.as_str())),
+        None => Ok(None),
+    }
 }
 
 fn serve_asked(alloc: Global, words: &[String]) -> Result<Option<Order>, NoMemory>
     ensures { IfOk result (λ order. option_map wanted_of order ≡ option_and_then serve_of (read serve_options (map string_bytes words.now))) }
 {
-    let Some(line) = read_line(alloc, &SERVE, words)? else {
-        return Ok(None);
-    };
-    let Some(words) = serve_put(alloc, &line)? else {
-        return Ok(None);
-    };
-    let texts = read_serve(alloc, &words)?;
-    Ok(serve_order(texts))
+    match read_serve(alloc, words)? {
+        Some(texts) => Ok(serve_order(texts)),
+        None => Ok(None),
+    }
 }
 
 fn push_asked(alloc: Global, words: &[String]) -> Result<Option<Order>, NoMemory>
     ensures { IfOk result (λ order. option_map wanted_of order ≡ option_and_then push_of (read [] (map string_bytes words.now))) }
 {
-    let Some(line) = read_line(alloc, &[], words)? else {
-        return Ok(None);
-    };
-    let Some(words) = push_put(alloc, &line)? else {
-        return Ok(None);
-    };
-    let texts = read_push(alloc, &words)?;
-    let order = push_order(alloc, texts)?;
-    Ok(order)
+    match read_push(alloc, words)? {
+        Some(texts) => push_order(alloc, texts),
+        None => Ok(None),
+    }
 }
 
 fn play_asked(alloc: Global, words: &[String]) -> Result<Option<Order>, NoMemory>
     ensures { IfOk result (λ order. option_map wanted_of order ≡ option_and_then play_of (read play_options (map string_bytes words.now))) }
 {
-    let Some(line) = read_line(alloc, &PLAY, words)? else {
-        return Ok(None);
-    };
-    let Some(words) = play_put(alloc, &line)? else {
-        return Ok(None);
-    };
-    let texts = read_play(alloc, &words)?;
-    let order = play_order(alloc, texts)?;
-    Ok(order)
+    match read_play(alloc, words)? {
+        Some(texts) => play_order(alloc, texts),
+        None => Ok(None),
+    }
 }
 
 fn list_asked(alloc: Global, words: &[String]) -> Result<Option<Order>, NoMemory>
     ensures { IfOk result (λ order. option_map wanted_of order ≡ option_and_then list_of (read [] (map string_bytes words.now))) }
 {
-    let Some(line) = read_line(alloc, &[], words)? else {
-        return Ok(None);
-    };
-    let Some(words) = list_put(alloc, &line)? else {
-        return Ok(None);
-    };
-    let store = read_list(alloc, &words)?;
-    Ok(list_order(store))
+    match read_list(alloc, words)? {
+        Some(store) => Ok(list_order(store)),
+        None => Ok(None),
+    }
 }
 
 fn export_asked(alloc: Global, words: &[String]) -> Result<Option<Order>, NoMemory>
     ensures { IfOk result (λ order. option_map wanted_of order ≡ option_and_then export_of (read [] (map string_bytes words.now))) }
 {
-    let Some(line) = read_line(alloc, &[], words)? else {
-        return Ok(None);
-    };
-    let Some(words) = export_put(alloc, &line)? else {
-        return Ok(None);
-    };
-    let texts = read_export(alloc, &words)?;
-    let order = export_order(alloc, texts)?;
-    Ok(order)
+    match read_export(alloc, words)? {
+        Some(texts) => export_order(alloc, texts),
+        None => Ok(None),
+    }
 }
 
 // The words behind `relay` or `standby`.
 fn edge_asked(alloc: Global, words: &[String]) -> Result<Option<EdgeOrder>, NoMemory>
     ensures { IfOk result (λ order. option_map pulling_of order ≡ option_and_then edge_of (read edge_options (map string_bytes words.now))) }
 {
-    let Some(line) = read_line(alloc, &EDGE, words)? else {
-        return Ok(None);
-    };
-    let Some(words) = edge_put(alloc, &line)? else {
-        return Ok(None);
-    };
-    let texts = read_edge(alloc, &words)?;
-    let order = edge_order(alloc, texts)?;
-    Ok(order)
+    match read_edge(alloc, words)? {
+        Some(texts) => edge_order(alloc, texts),
+        None => Ok(None),
+    }
 }
 
 fn relay_asked(alloc: Global, words: &[String]) -> Result<Option<Order>, NoMemory>

@@ -9,8 +9,8 @@ mod matched;
 mod option;
 mod order;
 mod place;
+mod plain;
 mod play_order;
-mod put;
 mod topic;
 mod words;
 

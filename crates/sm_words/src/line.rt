@@ -59,7 +59,7 @@ pub struct Step<'t> {
     pub adds: Adds<'t>,
 }
 
-fn is_dashed(word: &str) -> bool
+pub(crate) fn is_dashed(word: &str) -> bool
     ensures { result ≡ is_dashed word.now }
 {
     match word.as_bytes() {
@@ -69,7 +69,7 @@ fn is_dashed(word: &str) -> bool
 }
 
 // What stands behind that beginning, where the text has it.
-fn behind<'t>(text: &'t str, beginning: &str) -> Option<&'t str>
+pub(crate) fn behind<'t>(text: &'t str, beginning: &str) -> Option<&'t str>
     ensures { option_map (λ rest. rest.now) result ≡ behind beginning.now text.now }
 {
     text.strip_prefix(beginning)

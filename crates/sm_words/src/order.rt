@@ -1,10 +1,10 @@
 //! What the words of a command ask for.
 ghost use Rattle.std.specs.Prelude.{◌≡◌, ◌≤◌, ◌<◌, ◌^◌, map, string_bytes, IfOk, IfSome, Some, List, ℕ};
 ghost use Rattle.std.specs.Option.{option_map, option_and_then};
-ghost use Rattle.sm_words.specs.Words.{Listing, EdgeTexts as Pulled, ExportTexts as Filed, PlayTexts as Played, PushTexts as Sent, ServeTexts as Asked, filled, last_port, number_or, players_by, served_by, start_by};
+ghost use Rattle.sm_words.specs.Words.{Listing, PlayTexts as Played, filled, last_port, number_or, players_by, served_by, start_by};
 ghost use Rattle.sm_words.specs.Words.{name_by, numbers_by, pick_by, play_by, push_by, read, rehearse_by, serve_by};
 ghost use Rattle.sm_words.specs.Words.{Relay, Standby, edge_by, export_by, streams_by};
-ghost use Rattle.sm_words.specs.Matched.{IsEdgeRead, IsExportRead, IsPlayRead, IsPushRead, IsReadOf};
+ghost use Rattle.sm_words.specs.Matched.{edge_texts_of, export_texts_of, play_texts_of, push_texts_of, serve_texts_of};
 ghost use Rattle.sm_words.specs.Orders.{numbers_of, pulling_of, serving_of, wanted_of};
 
 use crate::edge_order::EdgeOrder;
@@ -127,32 +127,32 @@ fn number_or(text: &Option<String>, low: u64, high: u64, other: Option<u64>) -> 
 }
 
 // A text that isn't empty.
-fn filled(text: Option<String>) -> Option<String>
-    ensures { option_map string_bytes result ≡ option_and_then filled (option_map string_bytes text) }
+fn filled(text: String) -> Option<String>
+    ensures { option_map string_bytes result ≡ filled (string_bytes text) }
 {
-    let text = text?;
     if text.is_empty() { None } else { Some(text) }
 }
 
-pub(crate) fn pick_order(track: &Option<String>, time: &Option<String>) -> Option<Order>
-    ensures { (x : List ℕ × List ℕ) → option_map string_bytes track.now ≡ Some x.0 → option_map string_bytes time.now ≡ Some x.1
-        → option_map wanted_of result ≡ pick_by x.0 x.1 }
+pub(crate) fn pick_order(track: &str, time: &str) -> Option<Order>
+    ensures { option_map wanted_of result ≡ pick_by track.now time.now }
 {
-    let track = number_or(track, 1, 4_294_967_295, None)?;
-    let time = number_or(time, 0, MOST, None)?;
+    let track = number(track, 1, 4_294_967_295)?;
+    let time = number(time, 0, MOST)?;
     Some(Order::Pick {
         track: track as u32,
         time,
     })
 }
 
-pub(crate) fn rehearse_order(number: &Option<String>, size: &Option<String>) -> Option<Order>
-    ensures { (x : List ℕ × List ℕ) → option_map string_bytes number.now ≡ Some x.0 → option_map string_bytes size.now ≡ Some x.1
-        → option_map wanted_of result ≡ rehearse_by x.0 x.1 }
+pub(crate) fn rehearse_order(world: &str, size: &str) -> Option<Order>
+    ensures { option_map wanted_of result ≡ rehearse_by world.now size.now }
 {
-    let number = number_or(number, 0, LAST_WORLD, None)?;
-    let size = number_or(size, 0, MOST_ROUNDS, None)?;
-    Some(Order::Rehearse { number, size })
+    let world = number(world, 0, LAST_WORLD)?;
+    let size = number(size, 0, MOST_ROUNDS)?;
+    Some(Order::Rehearse {
+        number: world,
+        size,
+    })
 }
 
 // How many threads answer viewers, if any do.
@@ -189,10 +189,10 @@ fn served_by(order: ServeOrder, players: Option<u32>) -> Order
 }
 
 pub(crate) fn serve_order(texts: ServeTexts) -> Option<Order>
-    ensures { (x : Asked) → IsReadOf texts x → option_map wanted_of result ≡ serve_by x }
+    ensures { option_map wanted_of result ≡ serve_by (serve_texts_of texts) }
 {
     let players = players_by(&filled(texts.players))?;
-    let port = number_or(&texts.port, 1, last_port(players), None)?;
+    let port = number(texts.port.as_str(), 1, last_port(players))?;
     let turns = number_or(&texts.turns, 1, MOST, Some(MOST))?;
     let ladder = texts.ladder;
     let store = filled(texts.store)?;
@@ -210,7 +210,7 @@ pub(crate) fn serve_order(texts: ServeTexts) -> Option<Order>
 }
 
 pub(crate) fn push_order(alloc: Global, texts: PushTexts) -> Result<Option<Order>, NoMemory>
-    ensures { IfOk result (λ order. (x : Sent) → IsPushRead texts x → option_map wanted_of order ≡ push_by x) }
+    ensures { IfOk result (λ order. option_map wanted_of order ≡ push_by (push_texts_of texts)) }
 {
     let PushTexts {
         host,
@@ -218,10 +218,7 @@ pub(crate) fn push_order(alloc: Global, texts: PushTexts) -> Result<Option<Order
         path,
         id,
     } = texts;
-    let Some(port) = number_or(&port, 1, 65_535, None) else {
-        return Ok(None);
-    };
-    let (Some(host), Some(path), Some(id)) = (host, path, id) else {
+    let Some(port) = number(port.as_str(), 1, 65_535) else {
         return Ok(None);
     };
     if !is_host(host.as_str()) || !is_path(path.as_str()) {
@@ -239,8 +236,8 @@ pub(crate) fn push_order(alloc: Global, texts: PushTexts) -> Result<Option<Order
     }
 }
 
-pub(crate) fn list_order(store: Option<String>) -> Option<Order>
-    ensures { option_map wanted_of result ≡ option_and_then (λ text. option_map Listing (filled text)) (option_map string_bytes store) }
+pub(crate) fn list_order(store: String) -> Option<Order>
+    ensures { option_map wanted_of result ≡ option_map Listing (filled (string_bytes store)) }
 {
     let store = filled(store)?;
     Some(Order::List { store })
@@ -257,13 +254,13 @@ fn start(text: &Option<String>) -> Option<Option<u64>>
 }
 
 fn play_numbers(texts: &PlayTexts) -> Option<PlayNumbers>
-    ensures { (x : Played) → IsPlayRead texts.now x → option_map numbers_of result ≡ numbers_by x }
+    ensures { (x : Played) → play_texts_of texts.now ≡ Some x → option_map numbers_of result ≡ numbers_by x }
 {
-    let port = number_or(&texts.port, 1, 65_535, None)?;
+    let port = number(texts.port.as_str(), 1, 65_535)?;
     let from = start(&texts.from)?;
-    let count = number_or(&texts.count, 1, 1_000_000, None)?;
-    let tries = number_or(&texts.tries, 1, 16, None)?;
-    let refresh = number_or(&texts.refresh, 1, 10_000, None)?;
+    let count = number(texts.count.as_str(), 1, 1_000_000)?;
+    let tries = number(texts.tries.as_str(), 1, 16)?;
+    let refresh = number(texts.refresh.as_str(), 1, 10_000)?;
     Some(PlayNumbers {
         port: port as u16,
         from,
@@ -302,14 +299,15 @@ fn streams(alloc: Global, texts: &[String]) -> Result<Option<Names>, NoMemory>
 }
 
 pub(crate) fn play_order(alloc: Global, texts: PlayTexts) -> Result<Option<Order>, NoMemory>
-    ensures { IfOk result (λ order. (x : Played) → IsPlayRead texts x → option_map wanted_of order ≡ play_by x) }
+    ensures { IfOk result (λ order. option_map wanted_of order ≡ option_and_then play_by (play_texts_of texts)) }
 {
+    if texts.streams.is_empty() {
+        return Ok(None);
+    }
     let Some(numbers) = play_numbers(&texts) else {
         return Ok(None);
     };
-    let (Some(host), Some(path)) = (texts.host, texts.path) else {
-        return Ok(None);
-    };
+    let (host, path) = (texts.host, texts.path);
     if !is_host(host.as_str()) || !is_path(path.as_str()) {
         return Ok(None);
     }
@@ -335,7 +333,7 @@ pub(crate) fn play_order(alloc: Global, texts: PlayTexts) -> Result<Option<Order
 }
 
 pub(crate) fn edge_order(alloc: Global, texts: EdgeTexts) -> Result<Option<EdgeOrder>, NoMemory>
-    ensures { IfOk result (λ order. (x : Pulled) → IsEdgeRead texts x → option_map pulling_of order ≡ edge_by x) }
+    ensures { IfOk result (λ order. option_map pulling_of order ≡ edge_by (edge_texts_of texts)) }
 {
     let EdgeTexts {
         host,
@@ -346,13 +344,13 @@ pub(crate) fn edge_order(alloc: Global, texts: EdgeTexts) -> Result<Option<EdgeO
         tries,
     } = texts;
     let (Some(port), Some(rounds), Some(tries)) = (
-        number_or(&port, 1, 65_535, None),
-        number_or(&rounds, 1, 1_000_000, None),
-        number_or(&tries, 1, 16, None),
+        number(port.as_str(), 1, 65_535),
+        number(rounds.as_str(), 1, 1_000_000),
+        number(tries.as_str(), 1, 16),
     ) else {
         return Ok(None);
     };
-    let (Some(host), Some(path), Some(store)) = (host, path, filled(store)) else {
+    let Some(store) = filled(store) else {
         return Ok(None);
     };
     if !is_host(host.as_str()) || !is_path(path.as_str()) {
@@ -373,15 +371,15 @@ pub(crate) fn edge_order(alloc: Global, texts: EdgeTexts) -> Result<Option<EdgeO
 }
 
 pub(crate) fn export_order(alloc: Global, texts: ExportTexts) -> Result<Option<Order>, NoMemory>
-    ensures { IfOk result (λ order. (x : Filed) → IsExportRead texts x → option_map wanted_of order ≡ export_by x) }
+    ensures { IfOk result (λ order. option_map wanted_of order ≡ export_by (export_texts_of texts)) }
 {
-    let Some(bitrate) = number_or(&texts.bitrate, 0, 4_294_967_295, None) else {
+    let Some(bitrate) = number(texts.bitrate.as_str(), 0, 4_294_967_295) else {
         return Ok(None);
     };
-    let (Some(store), Some(text)) = (filled(texts.store), texts.name) else {
+    let Some(store) = filled(texts.store) else {
         return Ok(None);
     };
-    let Some(name) = name(alloc, text.as_str())? else {
+    let Some(name) = name(alloc, texts.name.as_str())? else {
         return Ok(None);
     };
     Ok(Some(Order::Export(ExportOrder {

@@ -1,22 +1,44 @@
-use Rattle.std.proofs.Common.{◌∙◌, codes, Some}
-use Rattle.clap.specs.Words.{found_of, matches_of}
-use Rattle.sm_words.specs.Clapped.{serve_app, serve_words}
-use Rattle.sm_words.proofs.Clapping.{bind_read, journal_read, ladder_is, players_read, port_read, rows_read, serve_simple, serve_taken, still_taken, store_read, str_read, turns_read}
+use Rattle.std.proofs.Common.{◌∙◌, string_bytes, map, sym, ap}
+use Rattle.std.specs.Option.{option_map}
+use Rattle.std.proofs.lemmas.Option.{MatchOption-at_none}
+use Rattle.clap.specs.Words.{found_of}
+use Rattle.sm_words.specs.Words.{only_word}
+use Rattle.sm_words.proofs.Telling.{given_some}
+use Rattle.sm_words.proofs.Taking.{has_all, lacks_bind, lacks_journal, lacks_players, lacks_port, lacks_store, serve_none, serve_told}
 use Rattle.sm_words.proofs.matched.read_serve.Goals as goal
 
-pub matched-requires : goal.matched-requires
-matched-requires c = record { taken = still_taken _ serve_app _ (serve_words c.requires.put.0) c.in_ok-serve_command.ensures c.requires.put.1 (serve_taken c.requires.put.0) }
+pub returns-in_default : goal.returns-in_default
+returns-in_default c = serve_none _ _ c.in_ok-serve_command.ensures (MatchOption-at_none _ _ c.in_default.is c.in_ok-matches.ensures)
+
+pub returns-in_default-2 : goal.returns-in_default-2
+returns-in_default-2 c =
+    let told = serve_told _ _ (found_of c.in-Some.matches) c.in_ok-serve_command.ensures (given_some _ _ _ _ c.in-Some.is c.in_ok-matches.ensures) in
+    lacks_port _ _ told (sym c.in_ok-port.ensures ∙ ap (option_map string_bytes) c.in_default-2.is)
+
+pub returns-in_default-3 : goal.returns-in_default-3
+returns-in_default-3 c =
+    let told = serve_told _ _ (found_of c.in-Some.matches) c.in_ok-serve_command.ensures (given_some _ _ _ _ c.in-Some.is c.in_ok-matches.ensures) in
+    lacks_bind _ _ told (sym c.in_ok-bind.ensures ∙ ap (option_map string_bytes) c.in_default-3.is)
+
+pub returns-in_default-4 : goal.returns-in_default-4
+returns-in_default-4 c =
+    let told = serve_told _ _ (found_of c.in-Some.matches) c.in_ok-serve_command.ensures (given_some _ _ _ _ c.in-Some.is c.in_ok-matches.ensures) in
+    lacks_journal _ _ told (sym c.in_ok-journal.ensures ∙ ap (option_map string_bytes) c.in_default-4.is)
+
+pub returns-in_default-5 : goal.returns-in_default-5
+returns-in_default-5 c =
+    let told = serve_told _ _ (found_of c.in-Some.matches) c.in_ok-serve_command.ensures (given_some _ _ _ _ c.in-Some.is c.in_ok-matches.ensures) in
+    lacks_players _ _ told (sym c.in_ok-players.ensures ∙ ap (option_map string_bytes) c.in_default-5.is)
+
+pub returns-in_default-6 : goal.returns-in_default-6
+returns-in_default-6 c =
+    let told = serve_told _ _ (found_of c.in-Some.matches) c.in_ok-serve_command.ensures (given_some _ _ _ _ c.in-Some.is c.in_ok-matches.ensures) in
+    lacks_store _ _ told (ap only_word (sym c.in_ok-words.ensures ∙ sym (ap (map string_bytes) c.as_slice.ensures.value)) ∙ sym c.in_ok-store.ensures ∙ ap (option_map string_bytes) c.in_default-6.is)
 
 pub returns : goal.returns
-returns c x put =
-    let rows = rows_read _ serve_app _ (serve_words x) c.in_ok-matches.matches c.in_ok-serve_command.ensures put serve_simple c.in_ok-matches.ensures in
-    let found = found_of c.in_ok-matches.matches in
-    record {
-      port = c.in_ok-port.ensures ∙ str_read found (matches_of serve_app (serve_words x)) (codes "port") (Some x.port) rows (port_read x);
-      ladder = ladder_is x found c.get_flag-ladder.result rows c.get_flag-ladder.ensures.value c.get_flag-ladder.ensures.other;
-      turns = c.in_ok-turns.ensures ∙ str_read found (matches_of serve_app (serve_words x)) (codes "turns") x.turns rows (turns_read x);
-      bind = c.in_ok-bind.ensures ∙ str_read found (matches_of serve_app (serve_words x)) (codes "bind") (Some x.bind) rows (bind_read x);
-      journal = c.in_ok-journal.ensures ∙ str_read found (matches_of serve_app (serve_words x)) (codes "journal") (Some x.journal) rows (journal_read x);
-      players = c.in_ok-players.ensures ∙ str_read found (matches_of serve_app (serve_words x)) (codes "players") (Some x.players) rows (players_read x);
-      store = c.in_ok-store.ensures ∙ str_read found (matches_of serve_app (serve_words x)) (codes "STORE") (Some x.store) rows (store_read x);
-    }
+returns c =
+    let told = serve_told _ _ (found_of c.in-Some.matches) c.in_ok-serve_command.ensures (given_some _ _ _ _ c.in-Some.is c.in_ok-matches.ensures) in
+    has_all _ _ told c.get_flag-ladder.result _ _ _ _ _ _ (told.flag c.get_flag-ladder.result c.get_flag-ladder.ensures.value c.get_flag-ladder.ensures.other) c.in_ok-turns.ensures
+    (sym c.in_ok-port.ensures ∙ ap (option_map string_bytes) c.in-Some-2.is) (sym c.in_ok-bind.ensures ∙ ap (option_map string_bytes) c.in-Some-3.is)
+    (sym c.in_ok-journal.ensures ∙ ap (option_map string_bytes) c.in-Some-4.is) (sym c.in_ok-players.ensures ∙ ap (option_map string_bytes) c.in-Some-5.is)
+    (ap only_word (sym c.in_ok-words.ensures ∙ sym (ap (map string_bytes) c.as_slice.ensures.value)) ∙ sym c.in_ok-store.ensures ∙ ap (option_map string_bytes) c.in-Some-6.is)

@@ -1,6 +1,0 @@
-use Rattle.std.proofs.Common.{map, string_bytes}
-use Rattle.sm_words.proofs.Adding.{AddedUpTo}
-use Rattle.sm_words.proofs.put.put_all.Given as goal
-
-abbrev pub invariant-loop-text : goal.invariant-loop-text
-invariant-loop-text l = AddedUpTo string_bytes l.texts (map string_bytes l.initial.words.items) (map string_bytes l.words.items) l.text-index
