@@ -178,7 +178,9 @@ fn front(
     let mut source = MemorySource::new(Bytes::from_slice(alloc, input)?, calls);
     let status = run(alloc, words, &mut source, site, &mut ends)?;
     let count = input.len();
-    let cut_off = format!(in alloc; "error: input at {count}: 21 CutOff\n")?;
+    let cut_off = format!(in alloc;
+        "error: input at {count}: 21 CutOff\nThe input ends inside a box, or between a moof and its mdat.\n"
+    )?;
     let printed = ends.sink.inner.held();
     if status == 3 && printed == cut_off.as_bytes() {
         return Ok(());
