@@ -2,6 +2,7 @@ pub mod Steps
 pub mod Bodies
 pub mod Index
 pub mod Store
+pub mod Seen
 pub mod Stands
 pub mod Keeping
 pub mod Taking

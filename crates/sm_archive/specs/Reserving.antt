@@ -1,5 +1,5 @@
 -- What reserving leaves: the same archive, perhaps with more space.
-use Rattle.std.specs.Prelude.{◌≡◌, ℕ, ◌≤◌, Option, None, Some}
+use Rattle.std.specs.Prelude.{◌≡◌, ℕ, ◌≤◌, ◌+◌, Option, None, Some}
 use Rattle.sm_seglog.specs.Segments.{OnlyReserved}
 use Rattle.sm_archive.specs.declared.index.Index.{Index}
 use Rattle.sm_archive.specs.declared.archive.Pending.{Pending}
@@ -34,6 +34,10 @@ pub record IsReserved (a b : Archive) : Type 0 where
   pub room : (room_of a.log) ≤ (room_of b.log)
   pub index : IndexReserved a.index b.index
   pub doubt : DoubtReserved a.doubt b.doubt
+
+-- the gates that were reserved are there, but for one that was used, and so is the room
+abbrev pub StaysReserved : Archive → Archive → Type 0
+StaysReserved a b = (a.log.last.spare ≤ b.log.last.spare + 1) × ((room_of a.log) ≤ (room_of b.log))
 
 -- a header in doubt and a channel don't stand together
 abbrev pub HasOneIndex : Archive → Type 0

@@ -5,12 +5,14 @@ ghost use Rattle.sm_model.specs.declared.entry.Entry.{Entry};
 ghost use Rattle.sm_archive.specs.Steps.{Clears, Settles};
 ghost use Rattle.sm_site.specs.Meanings.{SameLink};
 ghost use Rattle.sm_site.specs.Clauses.{Acted, Recorded, Rose, Throughout};
+ghost use Rattle.sm_archive.specs.Seen.{limits_of};
 ghost use Rattle.sm_archive.specs.Store.{IsStore};
 ghost use Rattle.sm_archive.specs.Stands.{Stands};
 ghost use Rattle.sm_archive.specs.Keeping.{HasChannel, SpaceIn};
 ghost use Rattle.sm_archive.specs.Taking.{CanTake, Taken};
 ghost use Rattle.sm_archive.specs.Appending.{CanAppend, IsUnused};
-ghost use Rattle.sm_archive.specs.Bodies.{EndsWithin, room_of};
+ghost use Rattle.sm_archive.specs.Bodies.{EndsWithin};
+ghost use Rattle.sm_archive.specs.Reserving.{StaysReserved};
 
 use crate::answers::DiskFault;
 use crate::bodies;
@@ -79,9 +81,9 @@ impl Archive {
         ensures fault { IsErr result → Rose (D.view disk.old).disk_faults (D.view disk.new).disk_faults }
         ensures channel { (channel : List Track) → HasChannel self.new channel → HasChannel self.old channel }
         ensures space { (n : ℕ) (stream : List ℕ) → SpaceIn self.old (n + 1) stream → SpaceIn self.new n stream }
-        ensures reserved { (self.old.log.last.spare ≤ self.new.log.last.spare + 1) × ((room_of self.old.log) ≤ (room_of self.new.log)) }
+        ensures reserved { StaysReserved self.old self.new }
         ensures recorded { Recorded (D.view disk.old) (D.view disk.new) }
-        ensures limits { self.new.limits ≡ self.old.limits }
+        ensures limits { limits_of self.new ≡ limits_of self.old }
         ensures no_fewer { (D.view disk.old).disk_faults ≤ (D.view disk.new).disk_faults }
         ensures link { SameLink (D.view disk.old) (D.view disk.new) }
     {
@@ -124,7 +126,7 @@ impl Archive {
             ⊎ (after ≡ log ++ e ∷ []))) }
         ensures fault { result ≡ None → Rose (D.view disk.old).disk_faults (D.view disk.new).disk_faults }
         ensures recorded { Recorded (D.view disk.old) (D.view disk.new) }
-        ensures limits { self.new.limits ≡ self.old.limits }
+        ensures limits { limits_of self.new ≡ limits_of self.old }
         ensures no_fewer { (D.view disk.old).disk_faults ≤ (D.view disk.new).disk_faults }
         ensures link { SameLink (D.view disk.old) (D.view disk.new) }
     {

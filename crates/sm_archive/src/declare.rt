@@ -11,6 +11,7 @@ ghost use Rattle.sm_site.specs.Clauses.{Acted, Recorded, Rose, Throughout};
 ghost use Rattle.sm_seglog.specs.Segments.{OnlyReserved};
 ghost use Rattle.sm_archive.specs.declared.answers.Declared.TheVariants as answer;
 ghost use Rattle.sm_archive.specs.declared.index.Index.{Index};
+ghost use Rattle.sm_archive.specs.Seen.{limits_of};
 ghost use Rattle.sm_archive.specs.Store.{IsStore};
 ghost use Rattle.sm_archive.specs.Stands.{Stands};
 ghost use Rattle.sm_archive.specs.Reserving.{IsReserved};
@@ -96,7 +97,7 @@ impl Archive {
         ensures no_memory { result ≡ answer.NoMemory → ⊥ }
         ensures fault { result ≡ answer.DiskFault → Rose (D.view disk.old).disk_faults (D.view disk.new).disk_faults }
         ensures recorded { Recorded (D.view disk.old) (D.view disk.new) }
-        ensures limits { self.new.limits ≡ self.old.limits }
+        ensures limits { limits_of self.new ≡ limits_of self.old }
         ensures no_fewer { (D.view disk.old).disk_faults ≤ (D.view disk.new).disk_faults }
         ensures link { SameLink (D.view disk.old) (D.view disk.new) }
     {
@@ -152,7 +153,7 @@ impl Archive {
         ensures no_memory { result ≡ answer.NoMemory → ⊥ }
         ensures fault { result ≡ answer.DiskFault → Rose (D.view disk.old).disk_faults (D.view disk.new).disk_faults }
         ensures recorded { Recorded (D.view disk.old) (D.view disk.new) }
-        ensures limits { self.new.limits ≡ self.old.limits }
+        ensures limits { limits_of self.new ≡ limits_of self.old }
         ensures no_fewer { (D.view disk.old).disk_faults ≤ (D.view disk.new).disk_faults }
         ensures link { SameLink (D.view disk.old) (D.view disk.new) }
     {
@@ -184,7 +185,7 @@ impl Archive {
         ensures memory_first { result ≡ answer.NoMemory → disk.new ≡ disk.old }
         ensures fault { result ≡ answer.DiskFault → Rose (D.view disk.old).disk_faults (D.view disk.new).disk_faults }
         ensures recorded { Recorded (D.view disk.old) (D.view disk.new) }
-        ensures limits { self.new.limits ≡ self.old.limits }
+        ensures limits { limits_of self.new ≡ limits_of self.old }
         ensures no_fewer { (D.view disk.old).disk_faults ≤ (D.view disk.new).disk_faults }
         ensures link { SameLink (D.view disk.old) (D.view disk.new) }
     {
@@ -213,7 +214,7 @@ impl Archive {
         ensures memory_first { result ≡ answer.NoMemory → disk.new ≡ disk.old }
         ensures fault { result ≡ answer.DiskFault → Rose (D.view disk.old).disk_faults (D.view disk.new).disk_faults }
         ensures recorded { Recorded (D.view disk.old) (D.view disk.new) }
-        ensures limits { self.new.limits ≡ self.old.limits }
+        ensures limits { limits_of self.new ≡ limits_of self.old }
         ensures no_fewer { (D.view disk.old).disk_faults ≤ (D.view disk.new).disk_faults }
         ensures link { SameLink (D.view disk.old) (D.view disk.new) }
     {

@@ -15,6 +15,7 @@ ghost use Rattle.sm_seglog.specs.Segments.{OnlyReserved};
 ghost use Rattle.sm_model.specs.declared.cause.Cause.TheVariants as cause;
 ghost use Rattle.sm_archive.specs.declared.answers.Keeping.TheVariants as keeping;
 ghost use Rattle.sm_archive.specs.Index.{Reserved};
+ghost use Rattle.sm_archive.specs.Seen.{limits_of};
 ghost use Rattle.sm_archive.specs.Store.{IsStore};
 ghost use Rattle.sm_archive.specs.Stands.{IsIndex, IndexIs, Stands};
 ghost use Rattle.sm_archive.specs.Keeping.{IsWithin, MeetsLimit, KeepStep};
@@ -177,7 +178,7 @@ impl Archive {
         ensures no_memory { result ≡ keeping.NoMemory → ⊥ }
         ensures fault { result ≡ keeping.DiskFault → Rose (D.view disk.old).disk_faults (D.view disk.new).disk_faults }
         ensures recorded { Recorded (D.view disk.old) (D.view disk.new) }
-        ensures limits { self.new.limits ≡ self.old.limits }
+        ensures limits { limits_of self.new ≡ limits_of self.old }
         ensures no_fewer { (D.view disk.old).disk_faults ≤ (D.view disk.new).disk_faults }
         ensures link { SameLink (D.view disk.old) (D.view disk.new) }
     {
@@ -202,7 +203,7 @@ impl Archive {
         ensures no_memory { result ≡ keeping.NoMemory → ⊥ }
         ensures fault { result ≡ keeping.DiskFault → Rose (D.view disk.old).disk_faults (D.view disk.new).disk_faults }
         ensures recorded { Recorded (D.view disk.old) (D.view disk.new) }
-        ensures limits { self.new.limits ≡ self.old.limits }
+        ensures limits { limits_of self.new ≡ limits_of self.old }
         ensures no_fewer { (D.view disk.old).disk_faults ≤ (D.view disk.new).disk_faults }
         ensures link { SameLink (D.view disk.old) (D.view disk.new) }
     {
@@ -243,7 +244,7 @@ impl Archive {
         ensures memory_first { result ≡ keeping.NoMemory → disk.new ≡ disk.old }
         ensures fault { result ≡ keeping.DiskFault → Rose (D.view disk.old).disk_faults (D.view disk.new).disk_faults }
         ensures recorded { Recorded (D.view disk.old) (D.view disk.new) }
-        ensures limits { self.new.limits ≡ self.old.limits }
+        ensures limits { limits_of self.new ≡ limits_of self.old }
         ensures no_fewer { (D.view disk.old).disk_faults ≤ (D.view disk.new).disk_faults }
         ensures link { SameLink (D.view disk.old) (D.view disk.new) }
     {
@@ -276,7 +277,7 @@ impl Archive {
         ensures memory_first { result ≡ keeping.NoMemory → disk.new ≡ disk.old }
         ensures fault { result ≡ keeping.DiskFault → Rose (D.view disk.old).disk_faults (D.view disk.new).disk_faults }
         ensures recorded { Recorded (D.view disk.old) (D.view disk.new) }
-        ensures limits { self.new.limits ≡ self.old.limits }
+        ensures limits { limits_of self.new ≡ limits_of self.old }
         ensures no_fewer { (D.view disk.old).disk_faults ≤ (D.view disk.new).disk_faults }
         ensures link { SameLink (D.view disk.old) (D.view disk.new) }
     {

@@ -7,6 +7,7 @@ ghost use Rattle.sm_site.specs.Clauses.{NoMore, Recorded, Rose, Throughout};
 ghost use Rattle.sm_archive.specs.Bodies as seg;
 ghost use Rattle.sm_seglog.specs.Stores.{HasStore};
 ghost use Rattle.sm_archive.specs.declared.opened.OpenFault.TheVariants as open_fault;
+ghost use Rattle.sm_archive.specs.Seen.{limits_of};
 ghost use Rattle.sm_archive.specs.Store.{Spell, IsStore};
 ghost use Rattle.sm_archive.specs.Stands.{Stands};
 ghost use Rattle.sm_archive.specs.Opening.{FailsAt, IsRead, NotAStore};
@@ -98,7 +99,7 @@ pub fn open_store<D: Disk>(
     // Only the store of an empty log is written, whatever the answer.
     ensures spared { IfSome (D.view disk.old).contents (λ c. (IsStore [] c → ⊥) → ((D.view disk.new).contents ≡ (D.view disk.old).contents)
         × NoMore (D.may_leave disk.old) (D.may_leave disk.new) × Throughout D.view D.left_at disk.old disk.new (λ t c. D.may_leave disk.old c)) }
-    ensures limits { IfOk result (λ a. a.limits ≡ limits) }
+    ensures limits { IfOk result (λ a. limits_of a ≡ limits) }
     // Where every image is a store of the same bodies, it stays one at each moment.
     ensures stays { (bodies : List (List ℕ)) → ((c : Image) → D.may_leave disk.old c → HasStore bodies c) → (c : Image) → D.may_leave disk.new c
         → HasStore bodies c }

@@ -13,13 +13,14 @@ use Rattle.sm_archive.specs.Stands.{Stands}
 use Rattle.sm_archive.specs.Store.{IsStore}
 use Rattle.sm_command.specs.declared.fault.StoreFault.{StoreFault}
 use Rattle.sm_command.specs.Serving.{Input, IsLadderInput, NotRead, WhyUnopened, outcome_of, standard}
+use Rattle.sm_archive.specs.Seen.{limits_of}
 
 -- the archive stands for a log without a doubt, which is the store's where the disk tells its contents, under the standard limits
 pub record IsOpened {D : Type 0} (view : D → View) (leave : D → Image → Type 0) (archive : Archive) (old new : D) : Type 0 where
   pub log : List Entry
   pub store : IfSome (view old).contents (IsStore log)
   pub stands : Stands archive log None (leave new)
-  pub limits_are : archive.limits ≡ standard
+  pub limits_are : limits_of archive ≡ standard
 
 -- the image is a store whose log begins with this one
 abbrev pub BeginsWith : List Entry → Image → Type 0
@@ -50,7 +51,7 @@ pub record IsDeclared {D : Type 0} (view : D → View) (leave : D → Image → 
   pub tries : Tries view leave input input' archive old new (Ok tt)
   pub log : List Entry
   pub stands : Stands archive log None (leave new)
-  pub limits_are : archive.limits ≡ standard
+  pub limits_are : limits_of archive ≡ standard
 
 -- why no archive was opened, in which case the input wasn't read, or none that has the channel of the input
 abbrev pub WhyUndeclared : {D : Type 0} (view : D → View) (leave : D → Image → Type 0) → Input → Input → D → D → StoreFault → Type 0

@@ -29,6 +29,7 @@ use Rattle.sm_serve.specs.Surviving.{Survives}
 use Rattle.sm_command.specs.declared.fault.StoreFault.{StoreFault}
 use Rattle.sm_command.specs.declared.fault.StoreFault.TheVariants as fault
 use Rattle.sm_command.specs.Lasting.{NoFewer, Untouched}
+use Rattle.sm_archive.specs.Seen.{limits_of}
 
 -- an input before a call and after it: what it tells, and its count of faults
 pub record Input : Type 0 where
@@ -144,7 +145,7 @@ pub record Found {D : Type 0} (view : D → View) (leave : D → Image → Type 
   pub settled : machine.doubt ≡ None
   pub store : IfSome (view old).contents (IsStore machine.log)
   pub stands : StandsOn view leave machine state.origin new
-  pub limits_are : machine.archive.limits ≡ standard
+  pub limits_are : limits_of machine.archive ≡ standard
 
 -- why no store was opened; behind want of memory no count fell
 abbrev pub WhyUnopened : View → View → StoreFault → Type 0

@@ -11,6 +11,7 @@ ghost use Rattle.sm_command.specs.declared.fault.StoreFault.TheVariants as fault
 ghost use Rattle.sm_command.specs.Lasting.{Spared};
 ghost use Rattle.sm_command.specs.Opening.{Agrees, BeginsWith, IsDeclared, IsOpened, WhyUndeclared};
 ghost use Rattle.sm_command.specs.Serving.{IsLadderInput, NotRead, WhyUnopened};
+ghost use Rattle.sm_archive.specs.Seen.{limits_of};
 
 use crate::StoreFault;
 use crate::start::{ladder_of, outcome_of};
@@ -60,7 +61,7 @@ fn declare_to<D: Disk>(
     ensures stands { OnOk result ((log : List Entry) × Stands archive.new log None (D.may_leave disk.new)) }
     ensures any_moment { (log : List Entry) → Stands archive.old log None (D.may_leave disk.old) → IsSome (D.view disk.old).contents
         → Throughout D.view D.left_at disk.old disk.new (λ t c. BeginsWith log c) }
-    ensures limits { archive.new.limits ≡ archive.old.limits }
+    ensures limits { limits_of archive.new ≡ limits_of archive.old }
     ensures no_fewer { (D.view disk.old).disk_faults ≤ (D.view disk.new).disk_faults }
     ensures link { SameLink (D.view disk.old) (D.view disk.new) }
 {
@@ -83,7 +84,7 @@ fn declare_input<I: Source, D: Disk>(
     ensures stands { OnOk result ((log : List Entry) × Stands archive.new log None (D.may_leave disk.new)) }
     ensures any_moment { (log : List Entry) → Stands archive.old log None (D.may_leave disk.old) → IsSome (D.view disk.old).contents
         → Throughout D.view D.left_at disk.old disk.new (λ t c. BeginsWith log c) }
-    ensures limits { archive.new.limits ≡ archive.old.limits }
+    ensures limits { limits_of archive.new ≡ limits_of archive.old }
     ensures no_fewer { (D.view disk.old).disk_faults ≤ (D.view disk.new).disk_faults }
     ensures link { SameLink (D.view disk.old) (D.view disk.new) }
 {

@@ -14,8 +14,8 @@ use Rattle.sm_standby.specs.Placed.{Followed}
 use Rattle.sm_edge.specs.Opening.{IsEdge}
 
 -- The store was opened, no exchange was made before it was, and then the log of the primary that the dial was turned to was rebuilt in it.
-pub record HasFollowed {S C : Type 0} (view : S → View) (left_at : S → ℕ → Image → Type 0) (leave : S → Image → Type 0) (told : C → Option (List Exchange))
-    (store : C → List Entry → Type 0) (later : C → C → Type 0) (faults : C → ℕ) (chosen : C → Option Peer)
+pub record HasFollowed {S C : Type 0} (view : S → View) (left_at : S → ℕ → Image → Type 0) (leave : S → Image → Type 0)
+    (told : C → Option (List Exchange)) (store : C → List Entry → Type 0) (later : C → C → Type 0) (faults : C → ℕ) (chosen : C → Option Peer)
     (input input' : Input) (selection : Chosen)
     (host : List ℕ) (plan : PullPlan)
     (old new : S) (dial dial' : C) (channel : List Track) (report : FollowReport) : Type 0 where

@@ -18,8 +18,8 @@ fit b name bitrate log header channel declared found id head is none some = reco
   fits = ap (λ (o : Option (List Track)). unfit o channel (Some id) name bitrate) some ∙ (ap (λ (i : Option ℕ). unfit_in declared channel i name bitrate) (sym is) ∙ none);
 }
 
-pub text_is : (b name : List ℕ) (bitrate : ℕ) (log : List Entry) (header written : List ℕ) (channel : List Track) (found : Option ℕ) (id : ℕ) (times : List (ℕ × ℕ)) → IsHead b header channel name bitrate found → found ≡ Some id
-    → id < 2 ^ 32 → written ≡ header → times ≡ times_in log name → IsExportText b log name bitrate (written ++ texts_from 1 id (kept_among log name bitrate times))
+pub text_is : (b name : List ℕ) (bitrate : ℕ) (log : List Entry) (header written : List ℕ) (channel : List Track) (found : Option ℕ) (id : ℕ) (times : List (ℕ × ℕ)) → IsHead b header channel name bitrate found
+    → found ≡ Some id → id < 2 ^ 32 → written ≡ header → times ≡ times_in log name → IsExportText b log name bitrate (written ++ texts_from 1 id (kept_among log name bitrate times))
 text_is b name bitrate log header written channel found id times head is small same all = record {
   header = header;
   channel = channel;

@@ -32,7 +32,8 @@ run_read P o r x ls ld lr here go =
     let T : List ℕ → Type 0 = λ l. Good P o l in
     let A : List ℕ → Type 0 = λ l. AllByRecursion P (flat_map (at_bitrates o) l) in
     let G : Open → Type 0 = λ o'. Good P o' x in
-    subst T (sym (run_text r x)) (line_good P o front x (run_front_none b r.start r.duration r.count ls ld lr) (subst A (sym (run_says r.start r.duration r.count ls ld lr)) here) (subst G (sym (after_run o b r.start r.duration r.count)) go))
+    subst T (sym (run_text r x)) (line_good P o front x (run_front_none b r.start r.duration r.count ls ld lr)
+    (subst A (sym (run_says r.start r.duration r.count ls ld lr)) here) (subst G (sym (after_run o b r.start r.duration r.count)) go))
 
 pub run_end : ℕ → ℕ → ℕ → ℕ
 run_end zero s d = s

@@ -12,7 +12,7 @@ use Rattle.sm_model.specs.Boxes.{box_len, IsOneBox}
 use Rattle.sm_model.specs.FragText.{moof}
 use Rattle.sm_model.specs.Canonical.{Canonical, IsCanonical}
 use Rattle.sm_model.specs.Written.{IsWritten, raw_again}
-use Rattle.sm_moof.proofs.WholeLemmas.{long_one, long_sixteen}
+use Rattle.sm_moof.proofs.WholeLemmas.{long_one, sixteen}
 
 -- ---- whole boxes
 
@@ -30,7 +30,7 @@ len_in x r p =
     let n : number32_at 0 (x ++ r) ≡ number32_at 0 x = ap (from_be_bytes w32) (seen_in 4 0 x r (omega (arith, long_one x p))) in
     ap (λ (k : ℕ). cond (eqb k 1) (number64_at 8 (x ++ r)) k) n
     ∙ same_by (eqb (number32_at 0 x) 1) (number64_at 8 (x ++ r)) (number64_at 8 x) (number32_at 0 x)
-    (λ t. ap (from_be_bytes w64) (seen_in 8 8 x r (long_sixteen x p (eqb-true _ _ t))))
+    (λ t. ap (from_be_bytes w64) (seen_in 8 8 x r (sixteen x p (eqb-true _ _ t))))
 
 -- two whole boxes in front of the same bytes are one
 pub same_box : (x y r s : List ℕ) → IsOneBox x → IsOneBox y → x ++ r ≡ y ++ s → (x ≡ y) × (r ≡ s)

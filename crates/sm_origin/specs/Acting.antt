@@ -19,6 +19,7 @@ use Rattle.sm_origin.specs.declared.origin.Origin.{Origin}
 use Rattle.sm_reply.specs.declared.reply.Reply.{Reply}
 use Rattle.sm_origin.specs.Machine.{Machine, SameLog, Step, entry_of}
 use Rattle.sm_origin.specs.Stores.{Fits, FitsInside}
+use Rattle.sm_archive.specs.Seen.{limits_of}
 
 -- it is a valid fragment of that address, which the log has at that place; where the disk tells its contents it is the log's own
 pub record IsHeld (has_told : Type 0) (log : List Entry) (pair : Address × Kept) : Type 0 where
@@ -56,7 +57,7 @@ pub record ActGives {D : Type 0} (view : D → View) (may_leave : D → Image �
   pub step : Step (Rose (view old).disk_faults (view new).disk_faults) m act after reply
   pub has_told : IsSome (view new).contents
   pub stands : StandsFor (IsSome (view new).contents) after origin (may_leave new)
-  pub limits : after.archive.limits ≡ m.archive.limits
+  pub limits : limits_of after.archive ≡ limits_of m.archive
   pub noted : Both (view old).calls (view new).calls (λ before now. now ≡ before ++ calls)
   -- with no disk call nothing changes
   pub still : calls ≡ [] → SameLog m after

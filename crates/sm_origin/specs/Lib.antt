@@ -1,4 +1,5 @@
 pub mod Answers
+pub mod Seen
 pub mod Machine
 pub mod Stores
 pub mod Acting

@@ -19,6 +19,7 @@ use Rattle.sm_origin.specs.declared.origin.Origin.{Origin}
 use Rattle.sm_origin.specs.Machine.{Machine, SameLog, Step}
 use Rattle.sm_origin.specs.Acting.{StandsFor}
 use Rattle.sm_origin.specs.Giving.{missing}
+use Rattle.sm_archive.specs.Seen.{limits_of}
 
 -- What is answered to a fragment that is asked for. Whether one is kept there, and at which place, the log says; what was read of a disk that tells
 -- no contents is a valid fragment of that address, or told as damaged. `failed` says that the disk failed in this act.
@@ -45,4 +46,4 @@ pub record Replies (failed has_told : Type 0) (outcomes : Image → Type 0) (m :
   pub after : Machine
   pub answer : IsAnswer failed m act after r
   pub stands : StandsFor has_told after o outcomes
-  pub limits : after.archive.limits ≡ m.archive.limits
+  pub limits : limits_of after.archive ≡ limits_of m.archive

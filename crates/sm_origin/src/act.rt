@@ -9,6 +9,7 @@ ghost use Rattle.sm_origin.specs.Machine.{Machine};
 ghost use Rattle.sm_origin.specs.Acting.{StandsFor, IsValidAct, ActGives};
 ghost use Rattle.sm_origin.specs.Caching.{Remembers, held_at};
 ghost use Rattle.sm_origin.specs.Replying.{Replies};
+ghost use Rattle.sm_origin.specs.Seen.{cache_of};
 
 use crate::counts::tell_counts;
 use crate::listing::list;
@@ -37,9 +38,9 @@ impl Origin {
             → Replies (Rose (S.Disk.view site.old).disk_faults (S.Disk.view site.new).disk_faults) (IsSome (S.Disk.view site.new).contents)
             (S.Disk.may_leave site.new) m self.new act.now result }
         // A fragment in the cache is given without a read of the disk.
-        ensures unread { (a : Address) (kept : Kept) → act.now ≡ Ask a → held_at a self.old.cache ≡ Some kept
+        ensures unread { (a : Address) (kept : Kept) → act.now ≡ Ask a → held_at a (cache_of self.old) ≡ Some kept
             → (S.Disk.view site.new).reads ≡ (S.Disk.view site.old).reads }
-        ensures remembers { Remembers act.now result self.old.cache self.new.cache }
+        ensures remembers { Remembers act.now result (cache_of self.old) (cache_of self.new) }
         ensures told { is_some (S.Disk.view site.new).contents ≡ is_some (S.Disk.view site.old).contents }
         ensures no_fewer { (S.Disk.view site.old).disk_faults ≤ (S.Disk.view site.new).disk_faults }
         ensures link { SameLink (S.Disk.view site.old) (S.Disk.view site.new) }

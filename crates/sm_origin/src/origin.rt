@@ -10,6 +10,8 @@ ghost use Rattle.sm_archive.specs.Opening.{NotAStore};
 ghost use Rattle.sm_origin.specs.Machine.{Machine};
 ghost use Rattle.sm_origin.specs.Acting.{StandsFor};
 ghost use Rattle.sm_origin.specs.Opening.{HasOneStore, WritesEmptyAlone};
+ghost use Rattle.sm_archive.specs.Seen.{limits_of};
+ghost use Rattle.sm_origin.specs.Seen.{archive_of, cache_of};
 
 use sm_archive::{Archive, Limits, OpenFault, open_store};
 use sm_cache::Cache;
@@ -37,8 +39,8 @@ impl Origin {
         ensures opened { IfOk result (λ o. (m : Machine) × (m.doubt ≡ None) × StandsFor (IsSome (S.Disk.view site.new).contents) m o (S.Disk.may_leave site.new)) }
         ensures store { IfOk result (λ o. IfSome (S.Disk.view site.old).contents (λ c. (m : Machine) × IsStore m.log c × (m.doubt ≡ None)
             × StandsFor (IsSome (S.Disk.view site.new).contents) m o (S.Disk.may_leave site.new))) }
-        ensures limits { IfOk result (λ o. o.archive.limits ≡ limits) }
-        ensures empty { IfOk result (λ o. o.cache ≡ lru_cache [] 16) }
+        ensures limits { IfOk result (λ o. limits_of (archive_of o) ≡ limits) }
+        ensures empty { IfOk result (λ o. cache_of o ≡ lru_cache [] 16) }
         ensures refused { (at : ℕ) → IsErrOf result (open_fault.NotAStore at) → IfSome (S.Disk.view site.old).contents (NotAStore at) }
         // A store that is refused isn't written: the contents stay, and at no moment a crash leaves what it couldn't leave before.
         ensures untouched { (at : ℕ) → IsErrOf result (open_fault.NotAStore at) → ((S.Disk.view site.new).contents ≡ (S.Disk.view site.old).contents)
@@ -65,14 +67,14 @@ impl Origin {
 
     /// The archive of the store.
     pub fn archive(&self) -> &Archive
-        ensures { result.now ≡ self.now.archive }
+        ensures { result.now ≡ archive_of self.now }
     {
         &self.archive
     }
 
     /// The fragments that were used last.
     pub fn cache(&self) -> &Cache
-        ensures { result.now ≡ self.now.cache }
+        ensures { result.now ≡ cache_of self.now }
     {
         &self.cache
     }

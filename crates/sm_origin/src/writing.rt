@@ -12,6 +12,7 @@ ghost use Rattle.sm_origin.specs.Machine.{Machine};
 ghost use Rattle.sm_origin.specs.Acting.{StandsFor, ActGives};
 ghost use Rattle.sm_origin.specs.Caching.{Remembers, with_kept};
 ghost use Rattle.sm_origin.specs.Replying.{Replies};
+ghost use Rattle.sm_origin.specs.Seen.{cache_of};
 
 use crate::origin::Origin;
 use crate::told::{tell_declared, tell_kept};
@@ -51,7 +52,8 @@ impl Origin {
         ensures step { IsSome (D.view disk.old).contents → (m : Machine) → StandsFor (IsSome (D.view disk.old).contents) m self.old (D.may_leave disk.old)
             → ActGives D.view D.may_leave D.left_at disk.old disk.new m self.new (Frag fragment.now) result }
         ensures replied { (m : Machine) → StandsFor (IsSome (D.view disk.old).contents) m self.old (D.may_leave disk.old)
-            → Replies (Rose (D.view disk.old).disk_faults (D.view disk.new).disk_faults) (IsSome (D.view disk.new).contents) (D.may_leave disk.new) m self.new (Frag fragment.now) result }
+            → Replies (Rose (D.view disk.old).disk_faults (D.view disk.new).disk_faults) (IsSome (D.view disk.new).contents) (D.may_leave disk.new)
+            m self.new (Frag fragment.now) result }
         ensures remembers { Remembers (Frag fragment.now) result self.old.cache self.new.cache }
         ensures told { is_some (D.view disk.new).contents ≡ is_some (D.view disk.old).contents }
         ensures no_fewer { (D.view disk.old).disk_faults ≤ (D.view disk.new).disk_faults }
@@ -80,7 +82,7 @@ impl Origin {
         ensures step { IsSome (S.Disk.view site.old).contents → (m : Machine)
             → StandsFor (IsSome (S.Disk.view site.old).contents) m self.old (S.Disk.may_leave site.old)
             → ActGives S.Disk.view S.Disk.may_leave S.Disk.left_at site.old site.new m self.new (Header channel.now) (reply_to_header result) }
-        ensures cache { self.new.cache ≡ self.old.cache }
+        ensures cache { cache_of self.new ≡ cache_of self.old }
         ensures fault { result ≡ answer.DiskFault → Rose (S.Disk.view site.old).disk_faults (S.Disk.view site.new).disk_faults }
         ensures told { is_some (S.Disk.view site.new).contents ≡ is_some (S.Disk.view site.old).contents }
         ensures no_fewer { (S.Disk.view site.old).disk_faults ≤ (S.Disk.view site.new).disk_faults }
@@ -106,7 +108,8 @@ impl Origin {
         ensures step { IsSome (D.view disk.old).contents → (m : Machine) → StandsFor (IsSome (D.view disk.old).contents) m self.old (D.may_leave disk.old)
             → ActGives D.view D.may_leave D.left_at disk.old disk.new m self.new (Header channel.now) result }
         ensures replied { (m : Machine) → StandsFor (IsSome (D.view disk.old).contents) m self.old (D.may_leave disk.old)
-            → Replies (Rose (D.view disk.old).disk_faults (D.view disk.new).disk_faults) (IsSome (D.view disk.new).contents) (D.may_leave disk.new) m self.new (Header channel.now) result }
+            → Replies (Rose (D.view disk.old).disk_faults (D.view disk.new).disk_faults) (IsSome (D.view disk.new).contents) (D.may_leave disk.new)
+            m self.new (Header channel.now) result }
         ensures remembers { Remembers (Header channel.now) result self.old.cache self.new.cache }
         ensures told { is_some (D.view disk.new).contents ≡ is_some (D.view disk.old).contents }
         ensures no_fewer { (D.view disk.old).disk_faults ≤ (D.view disk.new).disk_faults }

@@ -27,8 +27,8 @@ with_bytes false k bytes = []
 -- One event is dealt with: what is told behind it, what the loop is asked, and the live connections then.
 pub data Turns (lives : List Known) (p : Standing) (deal : Deal) (told : List Deal) (asked : List Asking) (after : List Known) (q : Standing) : Type 0 where
   -- a connection begins
-  opened : (n : ℕ) → deal ≡ Began n → length lives < 16 → told ≡ [] → asked ≡ [] → after ≡ lives ++ (record { number = n; bytes = [] }) ∷ [] → q ≡ p
-      → Turns lives p deal told asked after q
+  opened : (n : ℕ) → deal ≡ Began n → length lives < 16 → told ≡ [] → asked ≡ []
+      → after ≡ lives ++ (record { number = n; bytes = [] }) ∷ [] → q ≡ p → Turns lives p deal told asked after q
   -- where 16 are live it is refused and closed
   crowded : (n : ℕ) (text : List ℕ) (result : Outcome) → deal ≡ Began n → 16 ≤ length lives → IsCrowded text → Tells n text true told result
       → asked ≡ [] → after ≡ lives → q ≡ p → Turns lives p deal told asked after q

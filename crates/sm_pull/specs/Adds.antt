@@ -17,6 +17,7 @@ use Rattle.sm_archive.specs.Store.{IsStore}
 use Rattle.sm_archive.specs.Stands.{Stands}
 use Rattle.sm_pull.specs.declared.stop.Stop.{Stop}
 use Rattle.sm_pull.specs.declared.stop.Stop.TheVariants as stop
+use Rattle.sm_archive.specs.Seen.{limits_of}
 
 abbrev pub keeps_of : List Fragment → List Entry
 keeps_of fs = map (λ f. Keep f) fs
@@ -46,7 +47,7 @@ pub record Adds {D : Type 0} (view : D → View) (left_at : D → ℕ → Image 
   pub contents : is_some (view disk').contents ≡ is_some (view disk).contents
   pub no_fewer : (view disk).disk_faults ≤ (view disk').disk_faults
   pub link : SameLink (view disk) (view disk')
-  pub limits : new.limits ≡ old.limits
+  pub limits : limits_of new ≡ limits_of old
 
 -- ---- one that is kept, or not
 

@@ -22,8 +22,8 @@ use Rattle.sm_pull.specs.declared.listing.Manifest.TheVariants as manifest
 
 -- These exchanges were made, in this order. The logs that are told only grow, and answer exchanges on the way; one is lost only where
 -- the count of faults rose.
-pub record Asks {C : Type 0} (log : C → Option (List Exchange)) (store : C → List Entry → Type 0) (later : C → C → Type 0) (faults : C → ℕ) (chosen : C → Option Peer)
-    (old new : C) (made : List Exchange) : Type 0 where
+pub record Asks {C : Type 0} (log : C → Option (List Exchange)) (store : C → List Entry → Type 0) (later : C → C → Type 0)
+    (faults : C → ℕ) (chosen : C → Option Peer) (old new : C) (made : List Exchange) : Type 0 where
   pub told_is : log new ≡ with_all (log old) made
   pub grows : Grows (store old) (store new)
   pub answered : Answered (log old) (log new) (store old) (store new)

@@ -103,7 +103,8 @@ pub record RunsRound {D C : Type 0} (view : D → View) (left_at : D → ℕ →
   pub adds : Adds view left_at leave disk disk' old new log round.kept []
 
 -- it broke off
-pub record BreaksRound {D C : Type 0} (view : D → View) (left_at : D → ℕ → Image → Type 0) (leave : D → Image → Type 0) (told : C → Option (List Exchange))
+pub record BreaksRound {D C : Type 0} (view : D → View) (left_at : D → ℕ → Image → Type 0) (leave : D → Image → Type 0)
+    (told : C → Option (List Exchange))
     (store : C → List Entry → Type 0) (later : C → C → Type 0) (faults : C → ℕ) (chosen : C → Option Peer) (plan : PullPlan) (channel : List Track)
     (disk disk' : D) (dial dial' : C)
     (old new : Archive) (log : List Entry) (why : Stop) : Type 0 where

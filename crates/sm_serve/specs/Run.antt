@@ -20,6 +20,7 @@ use Rattle.sm_archive.specs.Stands as archive
 use Rattle.sm_origin.specs.Machine.{Machine, SameLog, Step}
 use Rattle.sm_serve.specs.declared.texts.TheConstants.{TOO_MANY}
 use Rattle.sm_serve.specs.Connections.{received, live, is_among}
+use Rattle.sm_archive.specs.Seen.{limits_of}
 
 -- the counts of the push that is open on a connection
 pub record Counts : Type 0 where
@@ -127,7 +128,7 @@ pub record IsArchived (m : Machine) : Type 0 where
 pub record OnMachine (p : Point) (x : Stepped) : Type 0 where
   pub step : Step (Rose x.faults x.faults_after) x.before x.act x.after x.reply
   pub still : x.calls ≡ [] → SameLog x.before x.after
-  pub limits : x.after.archive.limits ≡ x.before.archive.limits
+  pub limits : limits_of x.after.archive ≡ limits_of x.before.archive
   pub archived : IsArchived x.after
   pub began : p.ended ≤ x.began
   pub ends_is : x.ends ≡ last_moment p.ended x.calls

@@ -18,6 +18,8 @@ ghost use Rattle.sm_origin.specs.Machine.{Machine};
 ghost use Rattle.sm_origin.specs.Acting.{IsHeld};
 ghost use Rattle.sm_origin.specs.Opening.{HasOneStore, WritesEmptyAlone};
 ghost use Rattle.sm_serve.specs.Standing.{History, StandsOn};
+ghost use Rattle.sm_archive.specs.Seen.{limits_of};
+ghost use Rattle.sm_origin.specs.Seen.{archive_of};
 
 use crate::Live;
 use sm_archive::{Archive, Declared, Fetched, Limits, OpenFault};
@@ -46,7 +48,7 @@ impl State {
         ensures opened { IfOk result (λ state. (m : Machine) × (m.doubt ≡ None) × StandsOn S.Disk.view S.Disk.may_leave m state.origin site.new) }
         ensures store { IfOk result (λ state. IfSome (S.Disk.view site.old).contents (λ c. (m : Machine) × IsStore m.log c × (m.doubt ≡ None)
             × StandsOn S.Disk.view S.Disk.may_leave m state.origin site.new)) }
-        ensures limits { IfOk result (λ state. state.origin.archive.limits ≡ limits) }
+        ensures limits { IfOk result (λ state. limits_of (archive_of state.origin) ≡ limits) }
         // A run begins here.
         ensures begins { IfOk result (λ state. Begins S.Disk.view S.Disk.may_leave S.Disk.left_at state site.new) }
         ensures refused { (at : ℕ) → IsErrOf result (open_fault.NotAStore at) → IfSome (S.Disk.view site.old).contents (NotAStore at) }
@@ -116,7 +118,7 @@ impl State {
 
     /// The archive of the store.
     pub fn archive(&self) -> &Archive
-        ensures { result.now ≡ self.now.origin.archive }
+        ensures { result.now ≡ archive_of self.now.origin }
     {
         self.origin.archive()
     }

@@ -12,6 +12,7 @@ ghost use Rattle.sm_serve.specs.Serving.{Serves};
 ghost use Rattle.sm_shelf.specs.Shelf.{Belongs, height_of};
 ghost use Rattle.sm_show.specs.declared.outcome.Up.TheVariants.{Whole, Behind};
 ghost use Rattle.sm_show.specs.Recalling.{Recalls, Shows};
+ghost use Rattle.sm_origin.specs.Seen.{archive_of};
 
 use crate::outcome::{Up, up_of};
 use crate::reading::{fetch, read_back};
@@ -25,7 +26,7 @@ use std::sync::Wait;
 
 // The catalog of the log.
 fn catalog_of(state: &State) -> Option<&Catalog>
-    ensures { Shows state.now.origin.archive (option_map (λ c. c.now) result) }
+    ensures { Shows (archive_of state.now.origin) (option_map (λ c. c.now) result) }
 {
     state.archive().catalog()
 }
@@ -53,7 +54,7 @@ fn begin<R: Wait, S: Site>(
     writer: &mut ShelfWriter,
 ) -> Up
     requires stands { (m : Machine) × StandsOn S.Disk.view S.Disk.may_leave m state.now.origin site.old }
-    requires of { Shows state.now.origin.archive (Some catalog.now) }
+    requires of { Shows (archive_of state.now.origin) (Some catalog.now) }
     ensures stands { (m : Machine) × StandsOn S.Disk.view S.Disk.may_leave m state.now.origin site.new }
     ensures recalls { Recalls S.Disk.view S.Disk.may_leave S.Disk.left_at state.now site.old site.new }
     ensures belongs { (h : History) → Serves S.Disk.view S.Disk.may_leave S.Disk.left_at h state.now site.old → IsSome (S.Disk.view site.old).contents

@@ -12,6 +12,7 @@ ghost use Rattle.sm_serve.specs.Serving.{Serves};
 ghost use Rattle.sm_shelf.specs.Parts.{addresses_in};
 ghost use Rattle.sm_show.specs.declared.outcome.Lack.TheVariants as lack;
 ghost use Rattle.sm_show.specs.Recalling.{Recalls, Reads, Shows, IsEndOf};
+ghost use Rattle.sm_origin.specs.Seen.{archive_of};
 
 use crate::outcome::{Lack, fragment_in};
 use sm_catalog::Catalog;
@@ -49,7 +50,7 @@ fn recall<S: Site>(
     address: &Address,
 ) -> Result<Fragment, Lack>
     requires stands { (m : Machine) × StandsOn S.Disk.view S.Disk.may_leave m state.now.origin site.old }
-    requires of { Shows state.now.origin.archive (Some catalog.now) }
+    requires of { Shows (archive_of state.now.origin) (Some catalog.now) }
     requires at { (x : Add) × (slice_get catalog.now.adds index ≡ Some x) × (address.now ≡ x.address) }
     ensures stands { (m : Machine) × StandsOn S.Disk.view S.Disk.may_leave m state.now.origin site.new }
     ensures recalls { Recalls S.Disk.view S.Disk.may_leave S.Disk.left_at state.now site.old site.new }
@@ -69,7 +70,7 @@ pub fn fetch<S: Site>(
     index: u64,
 ) -> Result<Fragment, Lack>
     requires stands { (m : Machine) × StandsOn S.Disk.view S.Disk.may_leave m state.now.origin site.old }
-    requires of { Shows state.now.origin.archive (Some catalog.now) }
+    requires of { Shows (archive_of state.now.origin) (Some catalog.now) }
     ensures stands { (m : Machine) × StandsOn S.Disk.view S.Disk.may_leave m state.now.origin site.new }
     ensures recalls { Recalls S.Disk.view S.Disk.may_leave S.Disk.left_at state.now site.old site.new }
     ensures reads { IfOk result (Reads S.Disk.view S.Disk.may_leave S.Disk.left_at state.now catalog.now.adds index site.old) }
@@ -90,7 +91,7 @@ fn read_next<S: Site>(
     read: &mut Vec<Fragment>,
 ) -> Result<u64, Lack>
     requires stands { (m : Machine) × StandsOn S.Disk.view S.Disk.may_leave m state.now.origin site.old }
-    requires of { Shows state.now.origin.archive (Some catalog.now) }
+    requires of { Shows (archive_of state.now.origin) (Some catalog.now) }
     ensures stands { (m : Machine) × StandsOn S.Disk.view S.Disk.may_leave m state.now.origin site.new }
     ensures recalls { Recalls S.Disk.view S.Disk.may_leave S.Disk.left_at state.now site.old site.new }
     ensures read { IfOk result (λ n. (f : Fragment) × (read.new.items ≡ read.old.items ++ f ∷ []) × (n ≡ sample_bytes f.samples)
@@ -124,7 +125,7 @@ pub fn read_back<S: Site>(
     catalog: &Catalog,
 ) -> Result<Vec<Fragment>, Lack>
     requires stands { (m : Machine) × StandsOn S.Disk.view S.Disk.may_leave m state.now.origin site.old }
-    requires of { Shows state.now.origin.archive (Some catalog.now) }
+    requires of { Shows (archive_of state.now.origin) (Some catalog.now) }
     ensures stands { (m : Machine) × StandsOn S.Disk.view S.Disk.may_leave m state.now.origin site.new }
     ensures recalls { Recalls S.Disk.view S.Disk.may_leave S.Disk.left_at state.now site.old site.new }
     ensures last { IfOk result (λ v. IsEndOf S.Disk.view S.Disk.may_leave S.Disk.left_at state.now catalog.now.adds site.old v.items) }

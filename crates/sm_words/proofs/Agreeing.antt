@@ -427,11 +427,13 @@ option_comes options word words place o text rows before at in_options h ih = go
   where
     go : HoldsOne o (values_of o before.given) (seen (id_of o) rows) → Comes options (word ∷ words) place before (option_used o text rows (rows_from options words Free))
     go (inl fresh) =
-        same_comes options (word ∷ words) place before _ _ (sym (ap (λ (b : Bool). option_and_then (rows_from options words Free) (cond b (Some (used (rule_for o) (values_for o text) rows)) None)) (option_passes o text rows false (unseen (id_of o) rows fresh.1))))
+        same_comes options (word ∷ words) place before _ _
+        (sym (ap (λ (b : Bool). option_and_then (rows_from options words Free) (cond b (Some (used (rule_for o) (values_for o text) rows)) None)) (option_passes o text rows false (unseen (id_of o) rows fresh.1))))
         (comes_on options word words place Free before (one_option o text) _ at
         (ih (used (rule_for o) (values_for o text) rows) (joined before (one_option o text)) (agrees_option rows before o text fresh.0 fresh.1 h)))
     go (inr again) =
-        same_comes options (word ∷ words) place before None _ (sym (ap (λ (b : Bool). option_and_then (rows_from options words Free) (cond b (Some (used (rule_for o) (values_for o text) rows)) None)) (option_passes o text rows true (is_seen (id_of o) rows _ again.2))))
+        same_comes options (word ∷ words) place before None _
+        (sym (ap (λ (b : Bool). option_and_then (rows_from options words Free) (cond b (Some (used (rule_for o) (values_for o text) rows)) None)) (option_passes o text rows true (is_seen (id_of o) rows _ again.2))))
         (record {
           repeated = λ r is.
               let found = mapped_some (read_from options words Free) (one_option o text) r (sym (step_reads options word words place Free (one_option o text) at) ∙ is) in

@@ -25,7 +25,8 @@ close-requires-in-Err g c =
     let part : ((k : ℕ) × (k ≤ length (c.args.head.now ++ c.args.tail.now)) × Adds (Sent c.args.number (take k (c.args.head.now ++ c.args.tail.now)) true) (W d) (W e)) ⊎ ((W e).transcript ≡ (W d).transcript) = search rules in
     record {
       live = ⊎_elim
-          (λ (p : (k : ℕ) × (k ≤ length (c.args.head.now ++ c.args.tail.now)) × Adds (Sent c.args.number (take k (c.args.head.now ++ c.args.tail.now)) true) (W d) (W e)). stays_live (g.S.Link.view c.args.site.now) (g.S.Link.view c.send_both.new.self) c.args.number
+          (λ (p : (k : ℕ) × (k ≤ length (c.args.head.now ++ c.args.tail.now))
+          × Adds (Sent c.args.number (take k (c.args.head.now ++ c.args.tail.now)) true) (W d) (W e)). stays_live (g.S.Link.view c.args.site.now) (g.S.Link.view c.send_both.new.self) c.args.number
           (Sent c.args.number (take p.0 (c.args.head.now ++ c.args.tail.now)) true) (λ was t. t) live p.2)
           (λ (same : (W e).transcript ≡ (W d).transcript). subst (λ (o : _). IfSome o (IsLive c.args.number)) (sym same) live) part;
     }
@@ -49,7 +50,8 @@ returns-else-close-clause-goes_on g c h more origin keeps stands phase =
     let call : LinkCall V W g.S.Disk.may_leave g.S.Link.may_leave g.S.Disk.left_at g.S.Link.left_at g.met.S.Site.one_view g.met.S.Site.one_disk g.met.S.Site.one_past g.met.S.Disk.told d e =
     record { time = c.send_both.ensures.time; same = c.send_both.ensures.crash; disk = c.send_both.ensures.disk } in
     let same = same_here V W g.S.Disk.may_leave g.S.Link.may_leave g.S.Disk.left_at g.S.Link.left_at g.met.S.Site.one_view g.met.S.Site.one_disk g.met.S.Site.one_past d e c.send_both.ensures.crash in
-    let a = sent_after V W g.S.Disk.may_leave g.S.Link.may_leave g.S.Disk.left_at g.S.Link.left_at g.met.S.Site.one_view g.met.S.Site.one_disk g.met.S.Site.one_past g.met.S.Disk.told h d e n (c.args.head.now ++ c.args.tail.now) c.args.close more keeps call
+    let a = sent_after V W g.S.Disk.may_leave g.S.Link.may_leave g.S.Disk.left_at g.S.Link.left_at
+    g.met.S.Site.one_view g.met.S.Site.one_disk g.met.S.Site.one_past g.met.S.Disk.told h d e n (c.args.head.now ++ c.args.tail.now) c.args.close more keeps call
     phase adds faults in
     let q = in_phase h.point (acting n more) in
     let is : a.later.point ≡ q = a.point_is ∙ ap (λ (b : Bool). in_phase h.point (if b then shutting n else acting n more)) c.if-close.false in
@@ -73,7 +75,8 @@ returns-then-close-clause-goes_on g c h more origin keeps stands phase =
     let call2 : LinkCall V W g.S.Disk.may_leave g.S.Link.may_leave g.S.Disk.left_at g.S.Link.left_at g.met.S.Site.one_view g.met.S.Site.one_disk g.met.S.Site.one_past g.met.S.Disk.told e f =
     record { time = c.close.ensures.time; same = c.close.ensures.crash; disk = c.close.ensures.disk } in
     let same2 = same_here V W g.S.Disk.may_leave g.S.Link.may_leave g.S.Disk.left_at g.S.Link.left_at g.met.S.Site.one_view g.met.S.Site.one_disk g.met.S.Site.one_past e f c.close.ensures.crash in
-    let a = sent_after V W g.S.Disk.may_leave g.S.Link.may_leave g.S.Disk.left_at g.S.Link.left_at g.met.S.Site.one_view g.met.S.Site.one_disk g.met.S.Site.one_past g.met.S.Disk.told h d e n (c.args.head.now ++ c.args.tail.now) c.args.close more keeps call
+    let a = sent_after V W g.S.Disk.may_leave g.S.Link.may_leave g.S.Disk.left_at g.S.Link.left_at
+    g.met.S.Site.one_view g.met.S.Site.one_disk g.met.S.Site.one_past g.met.S.Disk.told h d e n (c.args.head.now ++ c.args.tail.now) c.args.close more keeps call
     phase adds faults in
     let q = in_phase h.point (if c.args.close then shutting n else acting n more) in
     let shuts : q.phase ≡ shutting n = ap (λ (b : Bool). if b then shutting n else acting n more) c.if-close.true in
@@ -105,7 +108,8 @@ returns-in-Err-clause-goes_on g c h more origin keeps stands phase =
     let a : After V W g.S.Disk.may_leave g.S.Link.may_leave g.S.Disk.left_at g.S.Link.left_at g.met.S.Site.one_view g.met.S.Site.one_disk g.met.S.Site.one_past g.met.S.Disk.told h n true e q = ⊎_elim
     (λ (p : (k : ℕ) × (k ≤ length (c.args.head.now ++ c.args.tail.now))
     × Adds (Sent n (take k (c.args.head.now ++ c.args.tail.now)) true) (W d)
-    (W e)). failed_after V W g.S.Disk.may_leave g.S.Link.may_leave g.S.Disk.left_at g.S.Link.left_at g.met.S.Site.one_view g.met.S.Site.one_disk g.met.S.Site.one_past g.met.S.Disk.told h d e n p.0 (c.args.head.now ++ c.args.tail.now) c.args.close more
+    (W e)). failed_after V W g.S.Disk.may_leave g.S.Link.may_leave g.S.Disk.left_at g.S.Link.left_at
+    g.met.S.Site.one_view g.met.S.Site.one_disk g.met.S.Site.one_past g.met.S.Disk.told h d e n p.0 (c.args.head.now ++ c.args.tail.now) c.args.close more
     keeps call phase p.2 rose)
     (λ (still : (W e).transcript ≡ (W d).transcript). unsent_after V W g.S.Disk.may_leave g.S.Link.may_leave g.S.Disk.left_at g.S.Link.left_at g.met.S.Site.one_view g.met.S.Site.one_disk g.met.S.Site.one_past g.met.S.Disk.told h d e
     n (c.args.head.now ++ c.args.tail.now) c.args.close more keeps call phase still rose) part in
@@ -120,7 +124,8 @@ returns-in-Err-clause-goes_on g c h more origin keeps stands phase =
 pub returns-else-close-clause-told : goal.returns-else-close-clause-told
 returns-else-close-clause-told g c =
     let adds : Adds (Sent c.args.number (c.args.head.now ++ c.args.tail.now) false) (g.S.Link.view c.args.site.now) (g.S.Link.view c.send_both.new.self) = search rules in
-    told_here g.S.Disk.view g.S.Link.view g.met.S.Site.one_view c.args.site.now c.send_both.new.self (adds_told (g.S.Link.view c.args.site.now) (g.S.Link.view c.send_both.new.self) (Sent c.args.number (c.args.head.now ++ c.args.tail.now) false) adds)
+    told_here g.S.Disk.view g.S.Link.view g.met.S.Site.one_view c.args.site.now c.send_both.new.self
+    (adds_told (g.S.Link.view c.args.site.now) (g.S.Link.view c.send_both.new.self) (Sent c.args.number (c.args.head.now ++ c.args.tail.now) false) adds)
 
 pub returns-then-close-clause-told : goal.returns-then-close-clause-told
 returns-then-close-clause-told g c =
@@ -136,7 +141,8 @@ returns-in-Err-clause-told g c =
     let e = c.send_both.new.self in
     let part : ((k : ℕ) × (k ≤ length (c.args.head.now ++ c.args.tail.now)) × Adds (Sent c.args.number (take k (c.args.head.now ++ c.args.tail.now)) true) (W d) (W e)) ⊎ ((W e).transcript ≡ (W d).transcript) = search rules in
     let sends : is_some (W e).transcript ≡ is_some (W d).transcript = ⊎_elim
-    (λ (p : (k : ℕ) × (k ≤ length (c.args.head.now ++ c.args.tail.now)) × Adds (Sent c.args.number (take k (c.args.head.now ++ c.args.tail.now)) true) (W d) (W e)). adds_told (W d) (W e) (Sent c.args.number (take p.0 (c.args.head.now ++ c.args.tail.now)) true) p.2)
+    (λ (p : (k : ℕ) × (k ≤ length (c.args.head.now ++ c.args.tail.now)) × Adds (Sent c.args.number (take k (c.args.head.now ++ c.args.tail.now)) true) (W d) (W e)).
+    adds_told (W d) (W e) (Sent c.args.number (take p.0 (c.args.head.now ++ c.args.tail.now)) true) p.2)
     (λ (still : (W e).transcript ≡ (W d).transcript). ap is_some still) part in
     told_here g.S.Disk.view W g.met.S.Site.one_view d c.close-in-Err.new.self (adds_told (W e) (W c.close-in-Err.new.self) (Shut c.args.number) c.close-in-Err.ensures.shut ∙ sends)
 

@@ -3,4 +3,5 @@ use Rattle.sm_shelf.specs.Laying.{nothing}
 use Rattle.sm_shelf.proofs.writer.admit.Given as goal
 
 abbrev pub invariant-loop : goal.invariant-loop
-invariant-loop l = (vec_len l.readers ≡ vec_len l.initial.readers + l.counter) × (All (λ r. r ≡ record { seen = nothing; lost = false }) l.initial.readers.items → All (λ r. r ≡ record { seen = nothing; lost = false }) l.readers.items)
+invariant-loop l = (vec_len l.readers ≡ vec_len l.initial.readers + l.counter)
+    × (All (λ r. r ≡ record { seen = nothing; lost = false }) l.initial.readers.items → All (λ r. r ≡ record { seen = nothing; lost = false }) l.readers.items)
