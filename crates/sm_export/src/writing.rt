@@ -1,6 +1,7 @@
 //! Writing the fragments of one quality.
-ghost use Rattle.std.specs.Prelude.{◌≡◌, ◌≤◌, ◌<◌, ◌+◌, ◌^◌, ℕ, [], ◌∷◌, ◌++◌, true, false, List, Option, None, Some, Err, IfOk, OnOk, OnErr, IsErrOf, IsSome, is_some};
+ghost use Rattle.std.specs.Prelude.{◌≡◌, ◌≤◌, ◌<◌, ◌+◌, ◌^◌, ℕ, [], ◌∷◌, ◌++◌, true, false, List, Option, None, Some, Err, IfOk, OnOk, OnErr, IsErr, IsErrOf, IsSome, is_some};
 ghost use Rattle.std.specs.Prelude.{length};
+ghost use Rattle.std.specs.List.{flat_map};
 ghost use Rattle.std.specs.Io.KnownBytes.{Appends};
 ghost use Rattle.sm_ends.specs.Moves.{AppendsFront};
 ghost use Rattle.sm_ends.specs.Faults.{Rose as FaultsRose};
@@ -13,13 +14,14 @@ ghost use Rattle.sm_site.specs.Meanings.{SameLink};
 ghost use Rattle.sm_archive.specs.Stands.{Stands};
 ghost use Rattle.sm_export.specs.Exporting.{texts_from};
 ghost use Rattle.sm_export.specs.Qualities.{kept_list, kept_among};
+ghost use Rattle.sm_export.specs.declared.writing.Broken.{Broken as Ended};
 ghost use Rattle.sm_export.specs.declared.writing.Broken.TheVariants as broken;
 
 use sm_archive::{Archive, Fetched};
 use sm_ends::{Failed, Sink, write_all};
 use sm_log::law::kept_is_added;
-use sm_model::{Address, Fragment, Name};
-use sm_moof::put_fragment;
+use sm_model::{Address, Fragment, Name, NoMemory};
+use sm_moof::{append_fragment_head, put_fragment};
 use sm_site::Disk;
 use std::alloc::Global;
 
@@ -32,8 +34,55 @@ pub(crate) enum Broken {
     NoMemory,
 }
 
-// The text of one fragment.
-fn write_fragment<O: Sink>(
+// How much room the front of a text is given at first, in bytes: that of 250 samples needs no more.
+const ROOM: usize = 4_096;
+
+// All of these, and all of those behind them.
+fn write_both<O: Sink>(head: &[u8], body: &[u8], out: &mut O) -> Result<(), Broken>
+    ensures ok { OnOk result (Appends (O.held out.old) (O.held out.new) (head.now ++ body.now)) }
+    ensures err { OnErr result (AppendsFront (O.held out.old) (O.held out.new) (head.now ++ body.now)) }
+    ensures end { (end : Ended) → result ≡ Err end → end ≡ broken.WriteFault }
+    ensures fault { IsErr result → FaultsRose (O.faults out.old) (O.faults out.new) }
+    ensures later { O.faults out.old ≤ O.faults out.new }
+{
+    match write_all(out, head) {
+        Ok(()) => match write_all(out, body) {
+            Ok(()) => Ok(()),
+            Err(Failed) => Err(Broken::WriteFault),
+        },
+        Err(Failed) => Err(Broken::WriteFault),
+    }
+}
+
+// The text of one fragment, whose samples have these bytes together. None of them is copied.
+fn write_joined<O: Sink>(
+    alloc: Global,
+    fragment: &Fragment,
+    body: &[u8],
+    seq: u32,
+    id: u32,
+    out: &mut O,
+) -> Result<(), Broken>
+    requires valid { IsValid fragment.now }
+    requires body { body.now ≡ flat_map (λ s. s.bytes) fragment.now.samples }
+    ensures ok { OnOk result (Appends (O.held out.old) (O.held out.new) (frag_text seq id fragment.now [])) }
+    ensures err { OnErr result (AppendsFront (O.held out.old) (O.held out.new) (frag_text seq id fragment.now [])) }
+    ensures disk { IsErrOf result broken.DiskFault → ⊥ }
+    ensures damaged { IsErrOf result broken.Damaged → ⊥ }
+    ensures fault { IsErrOf result broken.WriteFault → FaultsRose (O.faults out.old) (O.faults out.new) }
+    ensures later { O.faults out.old ≤ O.faults out.new }
+{
+    let Ok(mut head) = Vec::with_capacity(alloc, ROOM) else {
+        return Err(Broken::NoMemory);
+    };
+    match append_fragment_head(&mut head, seq, id, fragment, &[]) {
+        Ok(()) => write_both(&head, body, out),
+        Err(NoMemory) => Err(Broken::NoMemory),
+    }
+}
+
+// The text of one fragment, put together first.
+fn write_text<O: Sink>(
     alloc: Global,
     fragment: &Fragment,
     seq: u32,
@@ -54,6 +103,28 @@ fn write_fragment<O: Sink>(
     match write_all(out, text.as_slice()) {
         Ok(()) => Ok(()),
         Err(Failed) => Err(Broken::WriteFault),
+    }
+}
+
+// The text of one fragment.
+fn write_fragment<O: Sink>(
+    alloc: Global,
+    fragment: &Fragment,
+    seq: u32,
+    id: u32,
+    out: &mut O,
+) -> Result<(), Broken>
+    requires { IsValid fragment.now }
+    ensures ok { OnOk result (Appends (O.held out.old) (O.held out.new) (frag_text seq id fragment.now [])) }
+    ensures err { OnErr result (AppendsFront (O.held out.old) (O.held out.new) (frag_text seq id fragment.now [])) }
+    ensures disk { IsErrOf result broken.DiskFault → ⊥ }
+    ensures damaged { IsErrOf result broken.Damaged → ⊥ }
+    ensures fault { IsErrOf result broken.WriteFault → FaultsRose (O.faults out.old) (O.faults out.new) }
+    ensures later { O.faults out.old ≤ O.faults out.new }
+{
+    match fragment.samples.joined() {
+        Some(body) => write_joined(alloc, fragment, body, seq, id, out),
+        None => write_text(alloc, fragment, seq, id, out),
     }
 }
 

@@ -151,7 +151,7 @@ impl<R: Files<File = File> + Drop> Disk for FileDisk<R> {
 
     fn read_at(&mut self, file: u32, at: u64, into: &mut [u8]) -> Result<(), Failed> {
         self.reads = self.reads.saturating_add(1);
-        let read = match &self.folder {
+        let read = match &mut self.folder {
             Some(folder) => folder.read_at(&self.rt, self.alloc, file, at, into),
             None => Err(nowhere()),
         };

@@ -24,6 +24,13 @@ struct Writing {
     synced: bool,
 }
 
+// The file that was read last, where it isn't the one that was written last.
+#[derive(Drop)]
+struct Reading {
+    file: u32,
+    handle: File,
+}
+
 /// An open folder. File k is named by k in eight digits, and `.seg`.
 ///
 /// All files but the one that was written last are at rest: before another one is written, that one is synced. A sync of a file
@@ -35,6 +42,7 @@ pub struct Folder {
     // in it.
     handle: File,
     writing: Option<Writing>,
+    reading: Option<Reading>,
     // No name came since the folder was last synced.
     named: bool,
     broken: bool,
@@ -60,6 +68,7 @@ impl Folder {
         Folder {
             handle,
             writing: None,
+            reading: None,
             named: true,
             broken: false,
         }
@@ -82,9 +91,9 @@ impl Folder {
         }
     }
 
-    /// Fills the buffer from this place of a file on, with 0 past its end.
+    /// Fills the buffer from this place of a file on, with 0 past its end. A file that is there stays open until another one is read.
     pub fn read_at(
-        &self,
+        &mut self,
         files: &impl Files<File = File>,
         alloc: Global,
         file: u32,
@@ -96,8 +105,17 @@ impl Folder {
         {
             return fill(&writing.handle, at, into);
         }
+        if let Some(reading) = &self.reading
+            && reading.file == file
+        {
+            return fill(&reading.handle, at, into);
+        }
         match self.look(files, alloc, file)? {
-            Some(handle) => fill(&handle, at, into),
+            Some(handle) => {
+                let filled = fill(&handle, at, into);
+                self.reading = Some(Reading { file, handle });
+                filled
+            }
             None => {
                 into.fill(0);
                 Ok(())
@@ -324,8 +342,15 @@ fn forget(handle: &File) -> io::Result<()> {
 
 // Fills the buffer from this place of a file on, with 0 past its end.
 fn fill(handle: &File, at: u64, into: &mut [u8]) -> io::Result<()> {
-    let size = handle.metadata()?.len();
-    let there = size.saturating_sub(at).min(into.len() as u64) as usize;
-    into[there..].fill(0);
-    handle.read_exact_at(&mut into[..there], at)
+    let mut filled = 0;
+    while filled < into.len() {
+        match handle.read_at(&mut into[filled..], at.saturating_add(filled as u64)) {
+            Ok(0) => break,
+            Ok(count) => filled = into.len().min(filled.saturating_add(count)),
+            Err(e) if e.kind() == ErrorKind::Interrupted => {}
+            Err(e) => return Err(e),
+        }
+    }
+    into[filled..].fill(0);
+    Ok(())
 }

@@ -19,6 +19,12 @@ const WAIT: u128 = 200;
 /// How far two lines of counts lie apart, in milliseconds.
 const APART: u128 = 10_000;
 
+/// The most bytes of lines that wait.
+const MOST: usize = 1_048_576;
+
+/// From so many bytes on they are written at once.
+const LONG: usize = 65_536;
+
 /// The most bytes of the line of a refusal that are told.
 const CAUSE: usize = 128;
 
@@ -28,8 +34,12 @@ const CAUSE: usize = 128;
 pub struct Journal {
     alloc: Global,
     outlet: Outlet,
-    // The line that is being made.
+    // The lines since the last write, and the one that is being made behind them.
     line: Vec<u8>,
+    // How many bytes of that are whole lines.
+    whole: usize,
+    // How many lines were lost since one went out.
+    lost: u64,
     talks: Vec<Talk>,
     // The place of the one that was looked for last: the next one that is looked for is mostly there, or next to it.
     last: usize,
@@ -42,6 +52,9 @@ pub struct Journal {
     begun: Instant,
     // Milliseconds since 1970 at the last round, by the clock that was read last.
     stamp: u64,
+    // Such a stamp as it stands in a line, and which one.
+    moment: Vec<u8>,
+    written_as: u64,
     clock: Reading,
     written: Instant,
     counted: Instant,
@@ -88,6 +101,8 @@ impl Journal {
             alloc,
             outlet: Outlet::open(rt, alloc, path)?,
             line: Vec::new(alloc),
+            whole: 0,
+            lost: 0,
             talks: Vec::new(alloc),
             last: 0,
             tally: Tally::new(),
@@ -95,6 +110,8 @@ impl Journal {
             viewers,
             begun: now,
             stamp: clock.stamp,
+            moment: Vec::new(alloc),
+            written_as: 0,
             clock,
             written: now,
             counted: now,
@@ -127,7 +144,7 @@ impl Journal {
         self.tally = Tally::new();
         let made = self.tell_end(store, now.saturating_duration_since(self.begun));
         self.put(made);
-        self.outlet.write();
+        self.write();
     }
 
     fn tell_end(&mut self, store: &str, ran: Duration) -> Result<(), AllocError> {
@@ -163,11 +180,9 @@ impl Journal {
             self.clock = Reading::of(rt, now);
         }
         self.stamp = self.clock.stamp_at(now);
-        if now.saturating_duration_since(self.written).as_millis() >= WAIT
-            || self.outlet.is_long()
-        {
+        if now.saturating_duration_since(self.written).as_millis() >= WAIT || self.is_long() {
             self.written = now;
-            self.outlet.write();
+            self.write();
         }
     }
 
@@ -222,9 +237,13 @@ impl Journal {
     }
 
     fn tell_opened(&mut self, number: u64, peer: &SocketAddr) -> Result<(), AllocError> {
-        let talk = Talk::new(self.alloc, number, format!(in self.alloc; "{peer}")?);
+        let talk = Talk::new(
+            self.alloc,
+            number,
+            format!(in self.alloc; " {number} {peer}")?,
+        );
         self.head(b"open")?;
-        put_talk(&mut self.line, &talk)?;
+        self.line.extend_from_slice(talk.name.as_bytes())?;
         self.talks.push(talk)?;
         Ok(())
     }
@@ -237,7 +256,7 @@ impl Journal {
         if let Some(talk) = self.talks.get_mut(place)
             && talk.note(self.alloc, bytes, now).is_err()
         {
-            self.outlet.lose();
+            self.lose();
         }
     }
 
@@ -276,7 +295,7 @@ impl Journal {
     ) -> Result<(), AllocError> {
         self.head(if asked.is_push { b"push" } else { b"reply" })?;
         if let Some(talk) = self.talks.get(place) {
-            put_talk(&mut self.line, talk)?;
+            self.line.extend_from_slice(talk.name.as_bytes())?;
         }
         self.line.push(b' ')?;
         let status = head.get(9..12).unwrap_or(b"000");
@@ -313,7 +332,7 @@ impl Journal {
         }
         let talk = self.talks.remove(place);
         self.head(b"close")?;
-        put_talk(&mut self.line, &talk)?;
+        self.line.extend_from_slice(talk.name.as_bytes())?;
         if talk.is_pushing() {
             self.tally.pushes = self.tally.pushes.saturating_add(1);
             self.line.extend_from_slice(b" cut")?;
@@ -339,20 +358,58 @@ impl Journal {
         Some(first.saturating_add(behind))
     }
 
-    // Begins a line.
+    // Begins a line, and in front of it one that says how many were lost.
     fn head(&mut self, name: &[u8]) -> Result<(), AllocError> {
-        self.line.clear();
-        put_seconds(&mut self.line, self.stamp)?;
-        self.line.push(b' ')?;
+        if self.lost > 0 {
+            self.tell_lost()?;
+        }
+        if self.moment.is_empty() || self.written_as != self.stamp {
+            self.moment.clear();
+            put_seconds(&mut self.moment, self.stamp)?;
+            self.moment.push(b' ')?;
+            self.written_as = self.stamp;
+        }
+        self.line.extend_from_slice(&self.moment)?;
         self.line.extend_from_slice(name)
     }
 
-    // The line that was made goes out, unless memory was wanting for it.
+    fn tell_lost(&mut self) -> Result<(), AllocError> {
+        self.line.extend_from_slice(b"lost ")?;
+        put_number(&mut self.line, self.lost)?;
+        self.line.push(b'\n')?;
+        self.whole = self.line.len();
+        self.lost = 0;
+        Ok(())
+    }
+
+    // The line that was made waits with the others, unless too many wait or memory was wanting for it.
     fn put(&mut self, made: Result<(), AllocError>) {
-        match made {
-            Ok(()) => self.outlet.put(&self.line),
-            Err(AllocError) => self.outlet.lose(),
+        let is_kept = made.is_ok()
+            && self.outlet.len().saturating_add(self.line.len()) <= MOST
+            && self.line.push(b'\n').is_ok();
+        if is_kept {
+            self.whole = self.line.len();
+        } else {
+            self.line.truncate(self.whole);
+            self.lose();
         }
+    }
+
+    fn lose(&mut self) {
+        self.lost = self.lost.saturating_add(1);
+    }
+
+    // Whether so much waits that it is written without waiting for more.
+    fn is_long(&self) -> bool {
+        self.outlet.len().saturating_add(self.line.len()) >= LONG
+    }
+
+    // Writes what waits, or as much of it as is taken at once.
+    fn write(&mut self) {
+        let lost = self.outlet.write(&self.line);
+        self.lost = self.lost.saturating_add(lost);
+        self.line.clear();
+        self.whole = 0;
     }
 }
 
@@ -406,14 +463,6 @@ fn put_time(line: &mut Vec<u8>, time: Duration) -> Result<(), AllocError> {
 fn put_store(line: &mut Vec<u8>, store: &str) -> Result<(), AllocError> {
     line.extend_from_slice(b" store ")?;
     put_text(line, store.as_bytes())
-}
-
-// The number and the address of a connection.
-fn put_talk(line: &mut Vec<u8>, talk: &Talk) -> Result<(), AllocError> {
-    line.push(b' ')?;
-    put_number(line, talk.number)?;
-    line.push(b' ')?;
-    line.extend_from_slice(talk.peer.as_bytes())
 }
 
 // A request line in quotes.

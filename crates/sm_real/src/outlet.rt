@@ -1,8 +1,8 @@
 // Where the lines of a journal go: a file, or a pipe that somebody reads.
 
-use crate::digits::put_number;
 use crate::file_limit::{may_reach, past_limit};
 use crate::outgoing::Outgoing;
+use memchr::memchr_iter;
 use mio::unix::SourceFd;
 use mio::{Events, Interest, Poll, Token};
 use std::alloc::{AllocError, Global};
@@ -12,12 +12,6 @@ use std::net::Net;
 use std::os::fd::AsRawFd;
 use std::rt::Files;
 use std::time::Duration;
-
-/// The most bytes of lines that wait.
-const MOST: usize = 1_048_576;
-
-/// From so many bytes on they are written at once.
-const LONG: usize = 65_536;
 
 /// How much is written to a pipe at once: one that has room at all takes as many without waiting (POSIX, PIPE_BUF).
 const AT_ONCE: usize = 4_096;
@@ -39,9 +33,8 @@ pub struct Outlet {
     file: File,
     // There is none for a file on a disk.
     room: Option<Room>,
+    // What a pipe hasn't taken yet.
     lines: Outgoing,
-    // How many lines were lost since one went out.
-    lost: u64,
 }
 
 impl Outlet {
@@ -57,73 +50,61 @@ impl Outlet {
             room: Room::of(rt, alloc, &file)?,
             file,
             lines: Outgoing::new(alloc),
-            lost: 0,
         })
     }
 
-    /// A line is lost.
-    pub fn lose(&mut self) {
-        self.lost = self.lost.saturating_add(1);
+    /// How many bytes a pipe hasn't taken yet.
+    pub fn len(&self) -> usize {
+        self.lines.len()
     }
 
-    /// Adds a line, without its end, unless too many wait.
-    pub fn put(&mut self, line: &[u8]) {
-        if self.lines.len() > MOST || self.add(line).is_err() {
-            self.lose();
-        }
-    }
-
-    // Adds a line, and in front of it how many were lost.
-    fn add(&mut self, line: &[u8]) -> Result<(), AllocError> {
-        if self.lost > 0 {
-            let mut told = Vec::new(self.alloc);
-            told.extend_from_slice(b"lost ")?;
-            put_number(&mut told, self.lost)?;
-            self.lines.push_both(&told, b"\n")?;
-            self.lost = 0;
-        }
-        self.lines.push_both(line, b"\n")
-    }
-
-    /// Whether so much waits that it is written without waiting for more.
-    pub fn is_long(&self) -> bool {
-        self.lines.len() >= LONG
-    }
-
-    /// Writes what waits, or as much of it as is taken at once.
-    pub fn write(&mut self) {
+    /// Writes whole lines behind those that wait, or as much of all as is taken at once, and says how many lines were lost.
+    pub fn write(&mut self, lines: &[u8]) -> u64 {
         if self.room.is_none() {
-            self.write_all();
-            return;
+            return match self.append(lines) {
+                Ok(()) => 0,
+                Err(_) => count(lines),
+            };
         }
+        if self.lines.push(lines).is_err() {
+            return count(lines);
+        }
+        self.write_pieces()
+    }
+
+    // Writes pieces to a pipe while it takes them. Where one fails all that waits is lost: so many lines.
+    fn write_pieces(&mut self) -> u64 {
         for _ in 0..PIECES {
-            if !self.write_piece() {
-                break;
+            match self.write_piece() {
+                Ok(true) => {}
+                Ok(false) => return 0,
+                Err(_) => {
+                    let lost = count(self.lines.as_slice());
+                    self.lines.clear(self.alloc);
+                    return lost;
+                }
             }
         }
+        0
     }
 
-    // Writes all that waits. What a full disk doesn't take is lost.
-    fn write_all(&mut self) {
-        if self.lines.len() > 0 && self.append().is_err() {
-            self.lose();
+    // Writes them to a file, which takes what it is given, or has no room.
+    fn append(&self, lines: &[u8]) -> io::Result<()> {
+        if lines.is_empty() {
+            return Ok(());
         }
-        self.lines.clear(self.alloc);
-    }
-
-    fn append(&self) -> io::Result<()> {
         let length = self.file.metadata()?.len();
-        if !may_reach(length.saturating_add(self.lines.len() as u64)) {
+        if !may_reach(length.saturating_add(lines.len() as u64)) {
             return Err(past_limit());
         }
-        (&self.file).write_all(self.lines.as_slice())
+        (&self.file).write_all(lines)
     }
 
     // Writes one piece to a pipe, and says whether there may be more to write.
-    fn write_piece(&mut self) -> bool {
+    fn write_piece(&mut self) -> io::Result<bool> {
         let count = self.lines.len().min(AT_ONCE);
         if count == 0 {
-            return false;
+            return Ok(false);
         }
         let fd = self.file.as_raw_fd();
         let has_room = match &mut self.room {
@@ -131,18 +112,20 @@ impl Outlet {
             None => false,
         };
         if !has_room {
-            return false;
+            return Ok(false);
         }
         match (&self.file).write(&self.lines.as_slice()[..count]) {
             Ok(taken) => self.lines.pass(self.alloc, taken.min(count)),
             Err(fault) if fault.kind() == ErrorKind::Interrupted => {}
-            Err(_) => {
-                self.lose();
-                self.lines.clear(self.alloc);
-            }
+            Err(fault) => return Err(fault),
         }
-        true
+        Ok(true)
     }
+}
+
+// How many lines end in these bytes.
+fn count(lines: &[u8]) -> u64 {
+    memchr_iter(b'\n', lines).count() as u64
 }
 
 // A pipe is opened for reading too: so it opens where nobody reads it yet, and stays where its reader goes away.

@@ -26,8 +26,8 @@ pub struct Asked {
 #[derive(Drop)]
 pub struct Talk {
     pub number: u64,
-    /// The address at the other end.
-    pub peer: String,
+    /// The number, and the address at the other end, as they stand in a line.
+    pub name: String,
     // The first line of the head that is coming.
     first: Vec<u8>,
     // Room for that of the next one.
@@ -41,10 +41,10 @@ pub struct Talk {
 }
 
 impl Talk {
-    pub fn new(alloc: Global, number: u64, peer: String) -> Talk {
+    pub fn new(alloc: Global, number: u64, name: String) -> Talk {
         Talk {
             number,
-            peer,
+            name,
             first: Vec::new(alloc),
             spare: Vec::new(alloc),
             lines: 0,
