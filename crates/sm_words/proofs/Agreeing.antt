@@ -21,7 +21,7 @@ use Rattle.sm_words.specs.Options.{has_value, is_same, number_of}
 use Rattle.sm_words.specs.Words.{Text, Read, at_most_one, first_given, given_by, goes_on, is_dashed, joined, nothing, one_option, one_word, option_word, read_from, value_of, values_of, word_at}
 use Rattle.sm_words.proofs.Lexing.{id_of, named}
 use Rattle.sm_words.proofs.Reading.{joined-assoc, joined-nothing}
-use Rattle.sm_words.proofs.Walking.{Rows, option_read, option_used, passes, rows_from, rule_for, values_for, word_used, words_part}
+use Rattle.sm_words.proofs.Rows.{Rows, option_read, option_used, passes, rows_from, rule_for, values_for, word_used, words_part}
 
 -- ---- names are one as their texts are
 

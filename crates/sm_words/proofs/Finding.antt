@@ -21,7 +21,8 @@ use Rattle.sm_words.specs.Options.{edge_options, play_options, serve_options}
 use Rattle.sm_words.specs.Words.{Text, Read, nothing, read}
 use Rattle.sm_words.specs.Clapped.{are_plain, edge_app, play_app, serve_app, words_app}
 use Rattle.sm_words.proofs.Lexing.{id_of, named}
-use Rattle.sm_words.proofs.Walking.{Fits, Rows, Walks, ends, is_walked, level_passes_by, passes, rows_from, rule_for, shape_with, walks, words_part}
+use Rattle.sm_words.proofs.Rows.{Rows, passes, rows_from, rule_for, words_part}
+use Rattle.sm_words.proofs.Walking.{Fits, Walks, ends, is_walked, level_passes_by, shape_with, walks}
 use Rattle.sm_words.proofs.Agreeing.{Agrees, Comes, IsRepeated, all_come, seen, seen_other}
 
 -- ---- the arguments of a command

@@ -1,4 +1,5 @@
 pub mod Lexing
+pub mod Rows
 pub mod Walking
 pub mod Reading
 pub mod Adding

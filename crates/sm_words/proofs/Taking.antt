@@ -20,7 +20,7 @@ use Rattle.sm_words.specs.Options.{edge_options, has_value, play_options, serve_
 use Rattle.sm_words.specs.Words.{Text, Read, PlayTexts, ServeTexts, at_most_one, edge_texts, edge_words_by, only_word, play_texts, play_words_by, read, serve_texts, value_of, value_or_empty, values_of}
 use Rattle.sm_words.specs.Clapped.{edge_app, is_taken, play_app, serve_app}
 use Rattle.sm_words.proofs.Lexing.{id_of}
-use Rattle.sm_words.proofs.Walking.{Rows, rule_for}
+use Rattle.sm_words.proofs.Rows.{Rows, rule_for}
 use Rattle.sm_words.proofs.Agreeing.{HoldsOne, cell, is_seen, seen, shown, unseen}
 use Rattle.sm_words.proofs.Finding.{Told, edge_built, play_built, rules_of, same_cond, serve_built}
 use Rattle.sm_words.proofs.Telling.{edge_twice, one_seen, play_twice, refused_none, serve_from, serve_line, serve_twice, taken_told, value_found, words_found}

@@ -21,7 +21,8 @@ use Rattle.sm_words.specs.Options.{edge_options, has_value, play_options, serve_
 use Rattle.sm_words.specs.Words.{Text, Read, EdgeTexts, PlayTexts, ServeTexts, at_most_one, edge_texts, edge_words_by, first_given, goes_on, is_dashed, joined, nothing, one_option, one_word, only_word, option_word, play_texts, play_words_by, read, read_from, serve_texts, value_of, value_or_empty, values_of}
 use Rattle.sm_words.specs.Clapped.{are_plain, has_dashed_value, is_taken, words_app}
 use Rattle.sm_words.proofs.Lexing.{Sort, dashes, given_named, id_of, long, named, other, single, single_gives_none, sort_of, with_value}
-use Rattle.sm_words.proofs.Walking.{Rows, ends, shape_with}
+use Rattle.sm_words.proofs.Rows.{Rows}
+use Rattle.sm_words.proofs.Walking.{ends, shape_with}
 use Rattle.sm_words.proofs.Agreeing.{HoldsOne, IsIn, at_behind, at_free, cell, seen, words_seen}
 use Rattle.sm_words.proofs.Finding.{Told, fault_passes, refused, rules_of, seen_at_end, told, words_built}
 

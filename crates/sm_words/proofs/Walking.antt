@@ -1,15 +1,13 @@
 -- How `clap` walks over the words behind a command, beside how they are read.
 use Rattle.std.proofs.Common.{◌≡◌, ◌∙◌, codes, ◌&&◌, ◌||◌, ℕ, Bool, true, false, cond, not, List, [], ◌∷◌, fold, Option, Some, None, is_some, IfSome, refl, sym, ap, ap₂, subst, true≢false}
 use Rattle.std.specs.Option.{option_and_then, option_map, option_map_or}
-use Rattle.std.specs.Str.{bytes_eq}
 use Rattle.std.specs.Prelude.{nat_lt}
 use Rattle.std.proofs.lemmas.Bool.{and_parts, and_right, not-true}
 use Rattle.clap.specs.Lexer.{long_of, name_and_value}
 use Rattle.clap.specs.Kinds.{Kinds, or_else}
 use Rattle.clap.specs.Faults.{bundle_fault, check_fault, defaults_fault, flag_word_fault, level_fault, long_fault, option_fault, other_fault, positional_fault, react_fault, settle_fault, step_fault, stray_fault, turn_fault, use_fault, walk_fault, word_fault}
-use Rattle.clap.specs.Simple.{Shape, filled, new_rule, new_shape, with_index}
-use Rattle.clap.specs.Walk.{Held, Row, Rule, Step, Waiting, Walk, after_flag, after_step, arg_by_id, arg_by_index, arg_by_long, finished, idle, is_pending, flag_met, long_met, long_or_other, most_values, next, option, option_met, option_word, pending_count, plain_word, nothing_held, positional, pushed, reacted, settled, settled_rows, short_or_plain, subcommand_met, subcommand_or_other, takes_several, takes_values, to_positional, trailing, used, used_by_id, value, walk_from, walked, word_met}
-use Rattle.clap.specs.declared.builder.action.ArgAction.TheVariants.{Set, SetTrue}
+use Rattle.clap.specs.Simple.{Shape, new_shape}
+use Rattle.clap.specs.Walk.{Held, Rule, Step, Waiting, Walk, after_flag, after_step, arg_by_id, arg_by_index, arg_by_long, finished, idle, is_pending, flag_met, long_met, long_or_other, most_values, next, option, option_met, option_word, pending_count, plain_word, nothing_held, positional, pushed, reacted, settled, settled_rows, short_or_plain, subcommand_met, subcommand_or_other, takes_several, takes_values, to_positional, trailing, used, used_by_id, value, walk_from, walked, word_met}
 use Rattle.clap.specs.declared.error.kind.ErrorKind.TheVariants as kind
 use Rattle.sm_words.specs.declared.option.Name.{Name}
 use Rattle.sm_words.specs.declared.option.Name.TheVariants.{Port, Ladder, Turns, Bind, Journal, Players, From, Count, Tries, Refresh, Rounds}
@@ -17,63 +15,9 @@ use Rattle.sm_words.specs.declared.line.Place.{Place}
 use Rattle.sm_words.specs.declared.line.Place.TheVariants.{Free, Behind, Bare}
 use Rattle.sm_words.specs.Options.{has_value}
 use Rattle.sm_words.specs.Words.{Text, first_given, is, is_dashed}
-use Rattle.sm_words.specs.Clapped.{are_plain, has_dashed_value, is_plain, words_rule}
+use Rattle.sm_words.specs.Clapped.{are_plain, has_dashed_value, is_plain}
 use Rattle.sm_words.proofs.Lexing.{IsOther, Sort, dashes, given_named, id_of, long, named, other, single, sort_of, with_value}
-
--- ---- kinds of errors
-
-abbrev pub passes : Kinds → Bool
-passes [] = true
-passes (k ∷ kinds) = false
-
-pub passes_both : (a b : Kinds) → passes (or_else a b) ≡ (passes a && passes b)
-passes_both [] b = refl
-passes_both (k ∷ ks) b = refl
-
--- ---- the rows that are read of the words
-
--- an option, as it is built
-abbrev pub rule_for : Name → Rule
-rule_for o = filled (record (new_rule (id_of o)) { long = Some (id_of o); action = Some (cond (has_value o) Set SetTrue) })
-
-abbrev pub values_for : Name → Text → List Text
-values_for o text = cond (has_value o) (text ∷ []) []
-
--- one use of an argument, if it may be used so
-abbrev pub use_once : Rule → List Text → List Row → Option (List Row)
-use_once a values rows = cond (passes (use_fault false a values rows)) (Some (used a values rows)) None
-
-abbrev pub Rows : Type 0
-Rows = List Row
-
--- the argument for the words that are no options, as it is built
-abbrev pub words_part : Rule
-words_part = with_index 1 (filled (words_rule (codes "WORDS")))
-
--- the word goes to that argument, and then the others are read
-abbrev pub word_used : Text → Rows → (Rows → Option Rows) → Option Rows
-word_used word rows more = option_and_then more (use_once words_part (word ∷ []) rows)
-
-abbrev pub option_used : Name → Text → Rows → (Rows → Option Rows) → Option Rows
-option_used o text rows more = option_and_then more (use_once (rule_for o) (values_for o text) rows)
-
-abbrev pub option_read : Option (Name × Option Text) → Rows → (Name → Rows → Option Rows) → (Rows → Option Rows) → Option Rows
-option_read None rows behind free = None
-option_read (Some (o, None)) rows behind free = cond (has_value o) (behind o rows) (option_used o [] rows free)
-option_read (Some (o, Some text)) rows behind free = cond (has_value o && not (is_dashed text)) (option_used o text rows free) None
-
--- the rows after the words from a place on
-abbrev pub rows_from : List Name → List Text → Place → Rows → Option Rows
-rows_from options [] (Behind o) rows = None
-rows_from options [] Free rows = Some rows
-rows_from options [] Bare rows = Some rows
-rows_from options (word ∷ words) Bare rows = word_used word rows (rows_from options words Bare)
-rows_from options (word ∷ words) (Behind o) rows = cond (is_dashed word) None (option_used o word rows (rows_from options words Free))
-rows_from options (word ∷ words) Free rows =
-    cond (bytes_eq word (45 ∷ 45 ∷ [])) (rows_from options words Bare rows)
-    (cond (is_dashed word)
-    (option_read (first_given options word) rows (λ o. rows_from options words (Behind o)) (rows_from options words Free))
-    (word_used word rows (rows_from options words Free)))
+use Rattle.sm_words.proofs.Rows.{passes, rule_for, use_once, Rows, words_part, word_used, option_used, option_read, rows_from}
 
 -- ---- the command as it is built
 
