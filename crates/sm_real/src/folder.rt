@@ -340,17 +340,15 @@ fn forget(handle: &File) -> io::Result<()> {
     }
 }
 
-// Fills the buffer from this place of a file on, with 0 past its end.
+// Fills the buffer from this place of a file on, with 0 past its end. Mostly one reading does.
 fn fill(handle: &File, at: u64, into: &mut [u8]) -> io::Result<()> {
-    let mut filled = 0;
-    while filled < into.len() {
-        match handle.read_at(&mut into[filled..], at.saturating_add(filled as u64)) {
-            Ok(0) => break,
-            Ok(count) => filled = into.len().min(filled.saturating_add(count)),
-            Err(e) if e.kind() == ErrorKind::Interrupted => {}
-            Err(e) => return Err(e),
-        }
+    if let Ok(count) = handle.read_at(into, at)
+        && count == into.len()
+    {
+        return Ok(());
     }
-    into[filled..].fill(0);
-    Ok(())
+    let size = handle.metadata()?.len();
+    let there = size.saturating_sub(at).min(into.len() as u64) as usize;
+    into[there..].fill(0);
+    handle.read_exact_at(&mut into[..there], at)
 }
