@@ -80,22 +80,25 @@ module _ {D : Type 0} (view : D → View) (leave : D → Image → Type 0) (left
       k : History
       k = s.later
 
-  pub handed : (d between e : D) (request : List ℕ) (conn : ℕ) (came : Acted) → HasSent conn (view e).transcript came → 2 ^ 63 ≤ conn
+  pub handed : (state : Option State) (s : State) (d between e : D) (request : List ℕ) (conn : ℕ) (came : Acted) → HasSent conn (view e).transcript came → 2 ^ 63 ≤ conn
       → ((events : List Event) × Brings conn request events × Both (view d).script (view between).script (λ was now. now ≡ was ++ deals_of events))
-      → IfSome (view e).transcript IsServed → HasCause view d e request came
-  handed d between e request conn acted.Unopened sent high brings all = absurd sent
-  handed d between e request conn acted.Broken sent high brings all = absurd sent
-  handed d between e request conn acted.NoMemory sent high brings all = tt
-  handed d between e request conn (acted.Sent bytes) sent high brings all = record {
-    conn = conn;
-    high = high;
-    events = brings.0;
-    brings = brings.1;
-    between = between;
-    added = brings.2;
-    served = all;
-    sent = sent;
-  }
+      → IfSome (view e).transcript IsServed → HasCause view state d (Some s) e request came
+  handed state s d between e request conn acted.Unopened sent high brings all = absurd sent
+  handed state s d between e request conn acted.Broken sent high brings all = absurd sent
+  handed state s d between e request conn acted.NoMemory sent high brings all = tt
+  handed state s d between e request conn (acted.Sent bytes) sent high brings all = (
+    refl,
+    record {
+      conn = conn;
+      high = high;
+      events = brings.0;
+      brings = brings.1;
+      between = between;
+      added = brings.2;
+      served = all;
+      sent = sent;
+    },
+  )
 
   pub not_unopened : (conn : ℕ) (told : Option (List Item)) (came : Acted) → HasSent conn told came → came ≡ acted.Unopened → ⊥
   not_unopened conn told acted.Unopened sent is = sent
@@ -104,20 +107,25 @@ module _ {D : Type 0} (view : D → View) (leave : D → Image → Type 0) (left
   not_unopened conn told (acted.Sent bytes) sent is = absurd (cc)
 
   -- a store that was opened before leaves the cause as it is
-  pub cause_before : (d mid e : D) (request : List ℕ) (came : Acted) → SameLink (view d) (view mid) → (came ≡ acted.Unopened → ⊥) → HasCause view mid e request came → HasCause view d e request came
-  cause_before d mid e request acted.Unopened link opened cause = absurd (opened refl)
-  cause_before d mid e request acted.Broken link opened cause = rose_from (view d).link_faults (view mid).link_faults (view e).link_faults link.link_faults cause
-  cause_before d mid e request acted.NoMemory link opened cause = tt
-  cause_before d mid e request (acted.Sent bytes) link opened cause = record {
-    conn = cause.conn;
-    high = cause.high;
-    events = cause.events;
-    brings = cause.brings;
-    between = cause.between;
-    added = subst (λ (script : _). Both script (view cause.between).script (λ was now. now ≡ was ++ deals_of cause.events)) link.script cause.added;
-    served = cause.served;
-    sent = cause.sent;
-  }
+  pub cause_before : (state state' : Option State) (s : State) (d mid e : D) (request : List ℕ) (came : Acted) → SameLink (view d) (view mid)
+      → HasCause view (Some s) mid state' e request came → HasCause view state d state' e request came
+  cause_before state state' s d mid e request acted.Unopened link cause = absurd (let closed = cause.0 in cc)
+  cause_before state state' s d mid e request acted.Broken link cause =
+      (cause.0, rose_from (view d).link_faults (view mid).link_faults (view e).link_faults link.link_faults cause.1)
+  cause_before state state' s d mid e request acted.NoMemory link cause = tt
+  cause_before state state' s d mid e request (acted.Sent bytes) link cause = (
+    cause.0,
+    record {
+      conn = cause.1.conn;
+      high = cause.1.high;
+      events = cause.1.events;
+      brings = cause.1.brings;
+      between = cause.1.between;
+      added = subst (λ (script : _). Both script (view cause.1.between).script (λ was now. now ≡ was ++ deals_of cause.1.events)) link.script cause.1.added;
+      served = cause.1.served;
+      sent = cause.1.sent;
+    },
+  )
 
   -- ---- a dial that is made
 

@@ -36,7 +36,7 @@ module _ {D : Type 0} (view : D → View) (leave : D → Image → Type 0) (left
           record { world = s.now; stands = s.stands; log_is = same },
           (
             s.until,
-            record { came = came; said = subst (λ (l : List Entry). IsSaid (l ++ s.until) request came) at.log_is (said_by _ _ _ request came s.said); answer = by },
+            record { came = came; said = subst (λ (l : List Entry). IsSaid (l ++ s.until) request came) at.log_is (said_by _ _ _ _ request came s.said); answer = by },
             (s.since, refl),
           ),
         );

@@ -460,7 +460,7 @@ module _ (fails crowds : Type 0) (conn : ℕ) (request : List ℕ) (first : List
       state = inl (ap (sent_on conn) (append-nil base) ∙ silent, subst (λ (f : Phase). Awaits p.machine.log [] f) (sym phase_is) tt);
     }
 
-    pub along : (whole : List Item) → ((front more : List Item) → whole ≡ front ++ more → 64 ≤ length (live front) → crowds) → (items : List Item) (ss : List Stepped) (q : Point)
+    pub along : (whole : List Item) → ((es more : List Item) → whole ≡ (base ++ es) ++ more → 64 ≤ length (live (base ++ es)) → crowds) → (items : List Item) (ss : List Stepped) (q : Point)
         → LeadsTo base steps p items ss q → (more : List Item) → whole ≡ items ++ more → (es : List Item) × (further : List Stepped) × (items ≡ base ++ es) × (ss ≡ steps ++ further)
         × (AreFirst conn request (deals_in es) → AreActs ss → AllCause fails further → Stands items es q.machine.log q.phase)
     along whole crowding items ss q (rests now all q' a b c) more rest = (
@@ -483,7 +483,7 @@ module _ (fails crowds : Type 0) (conn : ℕ) (request : List ℕ) (first : List
               let then_ = before.4 (first_of_first conn request (deals_in before.0) (deals_in ns) (subst (λ (ds : List Deal). AreFirst conn request ds) (deals_both before.0 ns) comes)) (acts_front ys xs acts_all)
               (cause_front fails before.1 xs causes) in
               let crowded_here : 64 ≤ length (live (base ++ before.0)) → crowds =
-              λ many. crowding was (ns ++ more) then_rest (subst (λ (l : List Item). 64 ≤ length (live l)) (sym before.2) many) in
+              crowding before.0 (ns ++ more) (then_rest ∙ ap (λ (l : List Item). l ++ (ns ++ more)) before.2) in
               subst (λ (l : List Item). Stands l (before.0 ++ ns) q.machine.log q.phase) (sym (a ∙ ap (λ (l : List Item). l ++ ns) before.2))
               (stays_on before.0 ns r (subst (λ (l : List Item). Stands l before.0 r.machine.log r.phase) before.2 then_) comes xs q (acts_last ys xs acts_all) (cause_last fails before.1 xs causes) crowded_here out
               (subst (λ (l : List Item). Moves false l r ns xs q) before.2 move)),

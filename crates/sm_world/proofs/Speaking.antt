@@ -6,7 +6,7 @@ use Rattle.sm_model.specs.declared.entry.Entry.{Entry}
 use Rattle.sm_site.specs.declared.event.Event.{Event}
 use Rattle.sm_site.specs.Clauses.{Both, Rose}
 use Rattle.sm_site.specs.Image.{Image}
-use Rattle.sm_site.specs.Meanings.{View, Item, Deal, sent_on}
+use Rattle.sm_site.specs.Meanings.{View, Item, Deal, SameLink, sent_on}
 use Rattle.sm_site.specs.Scripts.{deals_of, numbers_after}
 use Rattle.sm_archive.specs.Store.{IsStore}
 use Rattle.sm_log.specs.Logs.{channel_of}
@@ -30,13 +30,13 @@ use Rattle.sm_world.specs.declared.acted.Acted.TheVariants as acted
 use Rattle.sm_world.specs.Answering.{HasSent, halved, answer_for}
 use Rattle.sm_world.specs.Bringing.{Brings}
 use Rattle.sm_world.specs.Replying.{IsReplyFront}
-use Rattle.sm_world.specs.Saying.{StandsAt, IsSaid, IsSaidBy, WasCrowded, Says, SaysOn}
+use Rattle.sm_world.specs.Saying.{StandsAt, IsSaid, IsSaidBetween, IsSaidBy, IsCrowdedSince, WasCrowded, Says, SaysOn}
 use Rattle.sm_world.specs.Worlds.{World, IsOpen, Stands, Grows}
 use Rattle.sm_world.proofs.Fronts.{AreFirst, begun, deals_both, none_above, taken_of}
 use Rattle.sm_world.proofs.Steps.{AreActs, AllCause, Counted, all_cause, path_counted, run_acts}
 use Rattle.sm_world.proofs.OneRequest.{Stands as Stood, Good, sent_both, along, answers as spoken}
 use Rattle.sm_world.proofs.OriginReplies.{front_by}
-use Rattle.sm_world.proofs.Standing.{some_of, at_some, from_some, serves_to}
+use Rattle.sm_world.proofs.Standing.{some_of, at_some, serves_to}
 
 -- ---- logs of real entries
 
@@ -75,11 +75,15 @@ taken_in None b was deals is both = absurd (cc)
 taken_in (Some a) None was deals is both = absurd both
 taken_in (Some a) (Some b) was deals is both = (b, (let same : a ≡ was = cc in subst (λ (l : List Deal). AreTaken deals l b) same both))
 
+-- two that are told
+both_some : {A : Type 0} (a b : Option A) (R : A → A → Type 0) (x y : A) → a ≡ Some x → b ≡ Some y → R x y → Both a b R
+both_some {A = A} a b R x y is_a is_b so = subst (λ (o : Option A). Both o b R) (sym is_a) (subst (λ (o : Option A). Both (Some x) o R) (sym is_b) so)
+
 -- ---- what was served
 
 module _ {D : Type 0} (view : D → View) (leave : D → Image → Type 0) (left_at : D → ℕ → Image → Type 0) where
   -- nothing that could be said came
-  pub says_nothing : (w : World) (before : D) (request : List ℕ) (came : Acted) (state : Option State) (d : D) → ((failed crowded : Type 0) (log : List Entry) → IsSaidBy failed crowded log request came)
+  pub says_nothing : (w : World) (before : D) (request : List ℕ) (came : Acted) (state : Option State) (d : D) → ((log : List Entry) → IsSaidBetween (view before) (view d) log request came)
       → (now : World) × Stands view leave left_at now state d × Grows w now → Says view leave left_at w before request came state d
   says_nothing w before request came state d said (now, stands, grows) = record {
     now = now;
@@ -88,7 +92,7 @@ module _ {D : Type 0} (view : D → View) (leave : D → Image → Type 0) (left
     until = [];
     since = grows.more;
     log_is = grows.log ∙ ap (λ (l : List Entry). l ++ grows.more) (sym (append-nil w.log));
-    said = said _ _ (w.log ++ []);
+    said = said (w.log ++ []);
   }
 
   -- a request was brought on an unused connection, and all was served
@@ -105,7 +109,7 @@ module _ {D : Type 0} (view : D → View) (leave : D → Image → Type 0) (left
     until = good.until;
     since = good.since;
     log_is = on.3 ∙ good.log_is ∙ ap (λ (l : List Entry). (l ++ good.until) ++ good.since) o.log_is;
-    said = subst (λ (l : List Entry). IsSaidBy failed crowded (l ++ good.until) request came) o.log_is (said came sent);
+    said = subst (λ (l : List Entry). IsSaidBetween (view c) (view e) (l ++ good.until) request came) o.log_is (said came sent);
   }
     where
       h : History
@@ -138,10 +142,19 @@ module _ {D : Type 0} (view : D → View) (leave : D → Image → Type 0) (left
       failed = Rose (view c).disk_faults (view e).disk_faults
 
       crowded : Type 0
-      crowded = WasCrowded (view e)
+      crowded = WasCrowded (view c) (view e)
 
-      crowding : (front more : List Item) → k.items ≡ front ++ more → 64 ≤ length (live front) → crowded
-      crowding front more is many = from_some (view e).transcript _ (k.base ++ k.items) t.1.turns.serves.keeps.told (k.base, front, more, ap (λ (l : List Item). k.base ++ l) is, many)
+      crowding : (es more : List Item) → k.items ≡ (h.items ++ es) ++ more → 64 ≤ length (live (h.items ++ es)) → crowded
+      crowding es more is many = both_some (view c).transcript (view e).transcript IsCrowdedSince (h.base ++ h.items) (k.base ++ k.items) (sym same ∙ o.serves.keeps.told) t.1.turns.serves.keeps.told (record {
+        until = es;
+        since = more;
+        goes_on = ap (λ (l : List Item). l ++ k.items) since.base ∙ ap (λ (l : List Item). h.base ++ l) is ∙ sym (append_assoc h.base (h.items ++ es) more)
+            ∙ ap (λ (l : List Item). l ++ more) (sym (append_assoc h.base h.items es));
+        before = h.base;
+        stretch = h.items ++ es;
+        ends = append_assoc h.base h.items es;
+        many = many;
+      })
 
       path : (es : List Item) × (further : List Stepped) × (k.items ≡ h.items ++ es) × (k.steps ≡ h.steps ++ further)
           × (AreFirst conn request (deals_in es) → AreActs k.steps → AllCause failed further → Stood failed crowded conn request first h.items k.items es k.point.machine.log k.point.phase)
@@ -189,23 +202,23 @@ module _ {D : Type 0} (view : D → View) (leave : D → Image → Type 0) (left
           at_some (view e).transcript (λ items. bytes ≡ sent_on conn items) (k.base ++ k.items) t.1.turns.serves.keeps.told is ∙ sent_both conn k.base k.items
           ∙ ap (λ (l : List ℕ). l ++ sent_on conn k.items) (ap (sent_on conn) since.base ∙ nothing_front (sent_on conn h.base) (sent_on conn h.items) none_sent)
 
-      said : (a : Acted) → HasSent conn (view e).transcript a → IsSaidBy failed crowded (first ++ good.until) request a
-      said acted.Unopened is = tt
-      said acted.Broken is = tt
+      said : (a : Acted) → HasSent conn (view e).transcript a → IsSaidBetween (view c) (view e) (first ++ good.until) request a
+      said acted.Unopened is = absurd is
+      said acted.Broken is = absurd is
       said acted.NoMemory is = tt
       said (acted.Sent bytes) is = λ host port named may text.
           subst (λ (b : List ℕ). IsReplyFront failed crowded (first ++ good.until) named b) (sym (sent_is bytes is))
           (good.says (record { host = host; port = port; named = named; may = may; text = text }) real)
 
 -- what follows of these is said too
-said_wider : {f g c d : Type 0} (log : List Entry) (request : List ℕ) (came : Acted) → (f → g) → (c → d) → IsSaidBy f c log request came → IsSaidBy g d log request came
-said_wider log request acted.Unopened fails crowds said = tt
-said_wider log request acted.Broken fails crowds said = tt
-said_wider log request acted.NoMemory fails crowds said = tt
-said_wider log request (acted.Sent bytes) fails crowds said = λ host port named may text. front_by log named bytes fails crowds (said host port named may text)
+said_wider : {f g a b c d : Type 0} (log : List Entry) (request : List ℕ) (came : Acted) → (f → g) → (a → b) → (c → d) → IsSaidBy f a c log request came → IsSaidBy g b d log request came
+said_wider log request acted.Unopened fails breaks crowds said = fails said
+said_wider log request acted.Broken fails breaks crowds said = breaks said
+said_wider log request acted.NoMemory fails breaks crowds said = tt
+said_wider log request (acted.Sent bytes) fails breaks crowds said = λ host port named may text. front_by log named bytes fails crowds (said host port named may text)
 
-pub said_by : (failed crowded : Type 0) (log : List Entry) (request : List ℕ) (came : Acted) → IsSaidBy failed crowded log request came → IsSaid log request came
-said_by failed crowded log request came said = said_wider log request came (λ f. tt) (λ c. tt) said
+pub said_by : (failed broken crowded : Type 0) (log : List Entry) (request : List ℕ) (came : Acted) → IsSaidBy failed broken crowded log request came → IsSaid log request came
+said_by failed broken crowded log request came said = said_wider log request came (λ f. tt) (λ b. tt) (λ c. tt) said
 
 rose_before : (a b c : ℕ) → a ≤ b → Rose b c → Rose a c
 rose_before a b c le rose =
@@ -213,17 +226,21 @@ rose_before a b c le rose =
     record { later = omega (arith, le, later); rose = λ last. (let now = rose.rose last in omega (arith, le, now)) }
 
 module _ {D : Type 0} (view : D → View) (leave : D → Image → Type 0) (left_at : D → ℕ → Image → Type 0) where
-  -- what was done before it counted no fewer faults
+  -- what was done before it counted no fewer faults, and left the link alone
   pub says_before : (w : World) (d mid e : D) (request : List ℕ) (came : Acted) (state : Option State) → (view d).disk_faults ≤ (view mid).disk_faults
-      → Says view leave left_at w mid request came state e → Says view leave left_at w d request came state e
-  says_before w d mid e request came state le s = record {
+      → SameLink (view d) (view mid) → Says view leave left_at w mid request came state e → Says view leave left_at w d request came state e
+  says_before w d mid e request came state le link s = record {
     now = s.now;
     stands = s.stands;
     grows = s.grows;
     until = s.until;
     since = s.since;
     log_is = s.log_is;
-    said = said_wider (w.log ++ s.until) request came (λ rose. rose_before (view d).disk_faults (view mid).disk_faults (view e).disk_faults le rose) (λ crowded. crowded) s.said;
+    said = said_wider (w.log ++ s.until) request came
+        (λ rose. rose_before (view d).disk_faults (view mid).disk_faults (view e).disk_faults le rose)
+        (λ rose. subst (λ (n : ℕ). Rose n (view e).link_faults) link.link_faults rose)
+        (λ crowded. subst (λ (o : Option (List Item)). Both o (view e).transcript IsCrowdedSince) link.transcript crowded)
+        s.said;
   }
 
 -- ---- what is answered
@@ -241,12 +258,13 @@ bytes_answered log request bytes cut limit from host port named may text =
     part_of log named (halved cut bytes) (take limit (halved cut bytes)) (drop limit (halved cut bytes)) (sym (take-append-drop limit (halved cut bytes)))
     (part_of log named bytes (halved cut bytes) half.0 half.1 (from host port named may text))
 
-answer_from : (failed crowded : Type 0) (log : List Entry) (request : List ℕ) (lost cut : Bool) (limit : ℕ) (came : Acted) → IsSaidBy failed crowded log request came → FromOrigin log request (answer_for lost cut limit came)
-answer_from failed crowded log request lost cut limit acted.Unopened said = tt
-answer_from failed crowded log request lost cut limit acted.Broken said = tt
-answer_from failed crowded log request lost cut limit acted.NoMemory said = tt
-answer_from failed crowded log request true cut limit (acted.Sent bytes) said = tt
-answer_from failed crowded log request false cut limit (acted.Sent bytes) said =
+answer_from : (failed broken crowded : Type 0) (log : List Entry) (request : List ℕ) (lost cut : Bool) (limit : ℕ) (came : Acted) → IsSaidBy failed broken crowded log request came
+    → FromOrigin log request (answer_for lost cut limit came)
+answer_from failed broken crowded log request lost cut limit acted.Unopened said = tt
+answer_from failed broken crowded log request lost cut limit acted.Broken said = tt
+answer_from failed broken crowded log request lost cut limit acted.NoMemory said = tt
+answer_from failed broken crowded log request true cut limit (acted.Sent bytes) said = tt
+answer_from failed broken crowded log request false cut limit (acted.Sent bytes) said =
     bytes_answered log request bytes cut limit (λ host port named may text. (let s = said host port named may text in (s.0, s.1, s.2.1, s.3)))
 
 either_from : (log : List Entry) (request : List ℕ) (answer result : Answer) → (result ≡ answers.NoMemory) ⊎ (result ≡ answer) → FromOrigin log request answer → FromOrigin log request result
@@ -264,7 +282,8 @@ module _ {D : Type 0} (view : D → View) (leave : D → Image → Type 0) (left
         s.since,
         record { world = s.now; stands = s.stands; log_is = on },
         either_from (log ++ s.until) request (answer_for lost cut limit came) result either
-            (answer_from _ _ (log ++ s.until) request lost cut limit came (subst (λ (l : List Entry). IsSaidBy _ _ (l ++ s.until) request came) was.log_is s.said)),
+            (answer_from _ _ _ (log ++ s.until) request lost cut limit came
+            (subst (λ (l : List Entry). IsSaidBetween (view d) (view e) (l ++ s.until) request came) was.log_is s.said)),
       )
 
   pub stays_at : (state : Option State) (d : D) → Lasts (StandsAt view leave left_at state d) (StandsAt view leave left_at state d)

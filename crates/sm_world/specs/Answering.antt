@@ -1,5 +1,5 @@
 -- What a dial answers to a request.
-use Rattle.std.specs.Prelude.{◌≡◌, ◌⊎◌, ℕ, ◌+◌, ◌-◌, ◌/◌, ◌^◌, ◌≤◌, min, Bool, true, false, List, ◌++◌, length, take, Option, IfSome}
+use Rattle.std.specs.Prelude.{◌≡◌, ◌⊎◌, ℕ, ◌+◌, ◌-◌, ◌/◌, ◌^◌, ◌≤◌, min, Bool, true, false, List, ◌++◌, length, take, Option, None, IfSome, IsSome}
 use Rattle.sm_fetch.specs.declared.dial.Answer.{Answer}
 use Rattle.sm_fetch.specs.declared.dial.Answer.TheVariants as answers
 use Rattle.sm_site.specs.declared.event.Event.{Event}
@@ -9,6 +9,7 @@ use Rattle.sm_site.specs.Meanings.Deal.{Over}
 use Rattle.sm_site.specs.Scripts.{deals_of}
 use Rattle.sm_serve.specs.Connections.{events_in}
 use Rattle.sm_serve.specs.Run.{at}
+use Rattle.sm_serve.specs.declared.state.State.{State}
 use Rattle.sm_world.specs.Bringing.{Brings}
 use Rattle.sm_world.specs.declared.acted.Acted.{Acted}
 use Rattle.sm_world.specs.declared.acted.Acted.TheVariants as acted
@@ -51,12 +52,13 @@ pub record Handed {D : Type 0} (view : D → View) (old new : D) (request bytes 
   pub served : IfSome (view new).transcript IsServed
   pub sent : IfSome (view new).transcript (λ items. bytes ≡ sent_on conn items)
 
--- Why this came of a request: a disk that failed counted it, and so did a link; what went out was sent in answer.
-abbrev pub HasCause : {D : Type 0} (view : D → View) → D → D → List ℕ → Acted → Type 0
-HasCause view old new request acted.Unopened = Rose (view old).disk_faults (view new).disk_faults
-HasCause view old new request acted.Broken = Rose (view old).link_faults (view new).link_faults
-HasCause view old new request acted.NoMemory = Unit {0}
-HasCause view old new request (acted.Sent bytes) = Handed view old new request bytes
+-- Why this came of a request: the store was closed and still is, and the disk that failed counted it; or the link that failed did, and the store is
+-- open; or what went out was sent in answer, and the store is open.
+abbrev pub HasCause : {D : Type 0} (view : D → View) → Option State → D → Option State → D → List ℕ → Acted → Type 0
+HasCause view state old state' new request acted.Unopened = (state ≡ None) × (state' ≡ None) × Rose (view old).disk_faults (view new).disk_faults
+HasCause view state old state' new request acted.Broken = IsSome state' × Rose (view old).link_faults (view new).link_faults
+HasCause view state old state' new request acted.NoMemory = Unit {0}
+HasCause view state old state' new request (acted.Sent bytes) = IsSome state' × Handed view old new request bytes
 
 -- what went out on a connection, or want of memory
 abbrev pub HasSent : ℕ → Option (List Item) → Acted → Type 0

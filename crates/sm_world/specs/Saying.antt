@@ -1,7 +1,7 @@
 -- What an exchange says of the log behind a dial.
-use Rattle.std.specs.Prelude.{◌≡◌, ◌≤◌, ℕ, List, ◌++◌, length, Option, IfSome}
+use Rattle.std.specs.Prelude.{◌≡◌, ◌≤◌, ℕ, List, ◌++◌, length, Option}
 use Rattle.sm_model.specs.declared.entry.Entry.{Entry}
-use Rattle.sm_site.specs.Clauses.{Rose}
+use Rattle.sm_site.specs.Clauses.{Both, Rose}
 use Rattle.sm_site.specs.Image.{Image}
 use Rattle.sm_site.specs.Meanings.{View, Item}
 use Rattle.sm_serve.specs.Connections.{live}
@@ -20,26 +20,41 @@ pub record StandsAt {D : Type 0} (view : D → View) (leave : D → Image → Ty
   pub stands : Stands view leave left_at world state d
   pub log_is : world.log ≡ log
 
--- What went out in answer to the GET of a target of any place is the reply of this log, or a front of it. A disk that failed is told only where
--- this holds, and a connection too many only where that does.
-abbrev pub IsSaidBy : (failed crowded : Type 0) → List Entry → List ℕ → Acted → Type 0
-IsSaidBy failed crowded log request acted.Unopened = Unit {0}
-IsSaidBy failed crowded log request acted.Broken = Unit {0}
-IsSaidBy failed crowded log request acted.NoMemory = Unit {0}
-IsSaidBy failed crowded log request (acted.Sent bytes) =
+-- What went out in answer to the GET of a target of any place is the reply of this log, or a front of it. The store stays closed, or a disk that
+-- failed is told, only where the disk failed; the exchange breaks off only where the link did; and a connection too many is told only in a crowd.
+abbrev pub IsSaidBy : (failed broken crowded : Type 0) → List Entry → List ℕ → Acted → Type 0
+IsSaidBy failed broken crowded log request acted.Unopened = failed
+IsSaidBy failed broken crowded log request acted.Broken = broken
+IsSaidBy failed broken crowded log request acted.NoMemory = Unit {0}
+IsSaidBy failed broken crowded log request (acted.Sent bytes) =
     (host : List ℕ) (port : ℕ) (named : List ℕ) → MayBeAsked host port named → request ≡ get_text host port named
     → IsReplyFront failed crowded log named bytes
 
 -- the same, whatever these came of
 abbrev pub IsSaid : List Entry → List ℕ → Acted → Type 0
-IsSaid log request came = IsSaidBy (Unit {0}) (Unit {0}) log request came
+IsSaid log request came = IsSaidBy (Unit {0}) (Unit {0}) (Unit {0}) log request came
 
--- in some stretch of what a site tells 64 connections began that were neither left nor shut
-abbrev pub WasCrowded : View → Type 0
-WasCrowded v = IfSome v.transcript (λ items. (before stretch behind : List Item) × (items ≡ before ++ (stretch ++ behind)) × (64 ≤ length (live stretch)))
+-- One transcript goes on from another; and at some moment of that, perhaps the first, 64 connections of a stretch up to then had begun that were
+-- neither left nor shut.
+pub record IsCrowdedSince (was now : List Item) : Type 0 where
+  pub until : List Item
+  pub since : List Item
+  pub goes_on : now ≡ (was ++ until) ++ since
+  pub before : List Item
+  pub stretch : List Item
+  pub ends : was ++ until ≡ before ++ stretch
+  pub many : 64 ≤ length (live stretch)
 
--- The world went on, and what came of the request was said of its log at some moment of that. A disk that failed is told only where its count
--- rose on the way, and a connection too many only where 64 were live.
+-- what a site tells was crowded on the way from one view to another
+abbrev pub WasCrowded : View → View → Type 0
+WasCrowded old new = Both old.transcript new.transcript IsCrowdedSince
+
+-- the same, where the counts of the faults rose on the way from one view of a site to another, and where it was crowded on that way
+abbrev pub IsSaidBetween : View → View → List Entry → List ℕ → Acted → Type 0
+IsSaidBetween old new log request came =
+    IsSaidBy (Rose old.disk_faults new.disk_faults) (Rose old.link_faults new.link_faults) (WasCrowded old new) log request came
+
+-- The world went on, and what came of the request was said of its log at some moment of that, for a cause that came on the way.
 pub record Says {D : Type 0} (view : D → View) (leave : D → Image → Type 0) (left_at : D → ℕ → Image → Type 0) (w : World) (before : D) (request : List ℕ)
     (came : Acted) (state : Option State) (d : D) : Type 0 where
   pub now : World
@@ -48,7 +63,7 @@ pub record Says {D : Type 0} (view : D → View) (leave : D → Image → Type 0
   pub until : List Entry
   pub since : List Entry
   pub log_is : now.log ≡ (w.log ++ until) ++ since
-  pub said : IsSaidBy (Rose (view before).disk_faults (view d).disk_faults) (WasCrowded (view d)) (w.log ++ until) request came
+  pub said : IsSaidBetween (view before) (view d) (w.log ++ until) request came
 
 -- wherever it stood
 abbrev pub SaysOn : {D : Type 0} (view : D → View) (leave : D → Image → Type 0) (left_at : D → ℕ → Image → Type 0) → Option State → D → List ℕ

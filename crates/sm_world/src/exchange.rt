@@ -95,7 +95,8 @@ impl<S: Crashing> Dial for OriginDial<S> {
 
     /// `Lost` is answered where the number is listed so, once the origin has acted; and otherwise where the store could not be
     /// opened because its disk failed, or the link failed before all was served. Else what went out to a GET is a front of the reply of the log of
-    /// that moment. `NoMemory` is not told, and says nothing of what the origin did.
+    /// that moment: it tells a disk that failed, or a connection too many, only where this exchange met with it. `NoMemory` is not told, and says
+    /// nothing of what the origin did.
     fn exchange(&mut self, request: &[u8], limit: u64) -> Answer
         ensures chosen { untold_peer ≡ untold_peer }
         ensures log { Some self.new.1.made ≡ logged (Some self.old.1.made) request.now limit result }
@@ -106,7 +107,7 @@ impl<S: Crashing> Dial for OriginDial<S> {
             (StandsAt S.Disk.view S.Disk.may_leave S.Disk.left_at self.new.1.state self.new.0) request.now result }
         ensures faults { self.new.1.faults ≡ faults_after self.old.1.faults result }
         ensures goes_on { IsLater S.Disk.view S.Disk.may_leave S.Disk.left_at self.old self.new }
-        ensures answers { (came : Came) × HasCause S.Disk.view self.old.0 self.new.0 request.now came
+        ensures answers { (came : Came) × HasCause S.Disk.view self.old.1.state self.old.0 self.new.1.state self.new.0 request.now came
             × SaysOn S.Disk.view S.Disk.may_leave S.Disk.left_at self.old.1.state self.old.0 request.now came self.new.1.state self.new.0
             × ((result ≡ Answer.NoMemory)
             ⊎ (result ≡ answer_for (is_listed (next_number self.old.1) self.old.1.lost) (is_listed (next_number self.old.1) self.old.1.cut) limit came)) }

@@ -43,6 +43,7 @@ fn opened<S: Crashing>(
     ensures refused { OnErr result ((w : World) → Stands S.Disk.view S.Disk.may_leave S.Disk.left_at w state site.old
         → Stands S.Disk.view S.Disk.may_leave S.Disk.left_at w None site.new) }
     ensures fault { IsErrOf result open_fault.DiskFault → Rose (S.Disk.view site.old).disk_faults (S.Disk.view site.new).disk_faults }
+    ensures closed { OnErr result (state ≡ None) }
     // An image that has a log is a store.
     ensures never { (w : World) → Stands S.Disk.view S.Disk.may_leave S.Disk.left_at w state site.old
         → (at : ℕ) → IsErrOf result (open_fault.NotAStore at) → ⊥ }
@@ -146,7 +147,7 @@ fn serve_request<S: Crashing>(
     requires stands { (w : World) × IsOpen S.Disk.view S.Disk.may_leave S.Disk.left_at w state.old site.old }
     ensures goes_on { GoesOn S.Disk.view S.Disk.may_leave S.Disk.left_at (Some state.old) site.old (Some state.new) site.new }
     ensures says { SaysOn S.Disk.view S.Disk.may_leave S.Disk.left_at (Some state.old) site.old request.now result (Some state.new) site.new }
-    ensures cause { HasCause S.Disk.view site.old site.new request.now result }
+    ensures cause { HasCause S.Disk.view (Some state.old) site.old (Some state.new) site.new request.now result }
     ensures opened { result ≢ Acted.Unopened }
 {
     match bring(alloc, site, state, request) {
@@ -172,7 +173,7 @@ pub(crate) fn ask<S: Crashing>(
     requires stands { (w : World) × Stands S.Disk.view S.Disk.may_leave S.Disk.left_at w state site.old }
     ensures goes_on { GoesOn S.Disk.view S.Disk.may_leave S.Disk.left_at state site.old result.state site.new }
     ensures says { SaysOn S.Disk.view S.Disk.may_leave S.Disk.left_at state site.old request.now result.acted result.state site.new }
-    ensures cause { HasCause S.Disk.view site.old site.new request.now result.acted }
+    ensures cause { HasCause S.Disk.view state site.old result.state site.new request.now result.acted }
 {
     match opened(alloc, site, state, limits) {
         Ok(mut state) => {

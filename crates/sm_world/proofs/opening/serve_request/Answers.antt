@@ -1,6 +1,6 @@
-use Rattle.std.proofs.Common.{Some, arith}
+use Rattle.std.proofs.Common.{Some, refl, arith}
 use Rattle.sm_world.proofs.Standing.{serves_on}
-use Rattle.sm_world.proofs.Calls.{grows_not, handed, served_all}
+use Rattle.sm_world.proofs.Calls.{grows_not, handed, rose_from, served_all}
 use Rattle.sm_world.specs.declared.acted.Acted.TheVariants as acted
 use Rattle.sm_world.proofs.Speaking.{says_nothing, says_sent}
 use Rattle.sm_world.proofs.opening.serve_request.Goals as goal
@@ -39,14 +39,14 @@ returns-in-NoMemory-clause-goes_on g c w open_ =
 pub returns-in-Done-clause-cause : goal.returns-in-Done-clause-cause
 returns-in-Done-clause-cause g c =
     let kept = c.bring.ensures.stays c.requires.stands.0 c.args.state.now c.requires.stands.1 in
-    handed g.S.Disk.view g.S.Disk.may_leave g.S.Disk.left_at c.args.site.now c.bring.new.site c.serve.new.site c.args.request.now c.in-Some.conn c.sent_on.result
+    handed g.S.Disk.view g.S.Disk.may_leave g.S.Disk.left_at (Some c.args.state.now) c.serve.new.state c.args.site.now c.bring.new.site c.serve.new.site c.args.request.now c.in-Some.conn c.sent_on.result
     c.sent_on.ensures c.in-Some.ensures.first c.in-Some.ensures.brings
     (served_all g.S.Disk.view g.S.Disk.may_leave g.S.Disk.left_at kept.run c.in-Done.turns c.in-Done.behind c.in-Done.short 18446744073709551615
     c.serve.new.state c.serve.new.site (omega arith) (c.in-Done.ensures.runs kept.run kept.serves))
 
 pub returns-in-None-clause-says : goal.returns-in-None-clause-says
 returns-in-None-clause-says g c w open_ =
-    says_nothing g.S.Disk.view g.S.Disk.may_leave g.S.Disk.left_at w c.args.site.now c.args.request.now acted.NoMemory (Some c.args.state.now) c.bring.new.site (λ failed crowded log. tt)
+    says_nothing g.S.Disk.view g.S.Disk.may_leave g.S.Disk.left_at w c.args.site.now c.args.request.now acted.NoMemory (Some c.args.state.now) c.bring.new.site (λ log. tt)
     (w, c.bring.ensures.stays w c.args.state.now open_, grows_not w)
 
 pub returns-in-Done-clause-says : goal.returns-in-Done-clause-says
@@ -60,14 +60,16 @@ returns-in-Done-clause-says g c w open_ =
 
 pub returns-in-LinkFault-clause-says : goal.returns-in-LinkFault-clause-says
 returns-in-LinkFault-clause-says g c w open_ =
-    says_nothing g.S.Disk.view g.S.Disk.may_leave g.S.Disk.left_at w c.args.site.now c.args.request.now acted.Broken (Some c.serve.new.state) c.serve.new.site (λ failed crowded log. tt)
+    says_nothing g.S.Disk.view g.S.Disk.may_leave g.S.Disk.left_at w c.args.site.now c.args.request.now acted.Broken (Some c.serve.new.state) c.serve.new.site
+    (λ log. rose_from (g.S.Disk.view c.args.site.now).link_faults (g.S.Disk.view c.bring.new.site).link_faults (g.S.Disk.view c.serve.new.site).link_faults
+    c.bring.ensures.view.link_faults (c.serve.ensures.link_fault c.in-LinkFault.is))
     (serves_on g.S.Disk.view g.S.Disk.may_leave g.S.Disk.left_at w c.args.state.now c.bring.new.site c.serve.new.state c.serve.new.site
     (g.met.S.Crashing.tells c.bring.new.site).contents (g.met.S.Crashing.tells c.serve.new.site).contents
     c.serve.ensures.goes_on (c.bring.ensures.stays w c.args.state.now open_))
 
 pub returns-in-NoMemory-clause-says : goal.returns-in-NoMemory-clause-says
 returns-in-NoMemory-clause-says g c w open_ =
-    says_nothing g.S.Disk.view g.S.Disk.may_leave g.S.Disk.left_at w c.args.site.now c.args.request.now acted.NoMemory (Some c.serve.new.state) c.serve.new.site (λ failed crowded log. tt)
+    says_nothing g.S.Disk.view g.S.Disk.may_leave g.S.Disk.left_at w c.args.site.now c.args.request.now acted.NoMemory (Some c.serve.new.state) c.serve.new.site (λ log. tt)
     (serves_on g.S.Disk.view g.S.Disk.may_leave g.S.Disk.left_at w c.args.state.now c.bring.new.site c.serve.new.state c.serve.new.site
     (g.met.S.Crashing.tells c.bring.new.site).contents (g.met.S.Crashing.tells c.serve.new.site).contents
     c.serve.ensures.goes_on (c.bring.ensures.stays w c.args.state.now open_))

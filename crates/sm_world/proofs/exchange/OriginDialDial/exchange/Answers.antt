@@ -33,7 +33,8 @@ returns-clause-answers g c =
     subst (λ (o : Option State). SaysOn V A L o c.self.inside.site c.args.request.now came c.ask-state.result.state e) c.take-state.ensures.value c.ask-state.ensures.says
     in (
       came,
-      subst (λ (s : _). HasCause g.S.Disk.view s c.ask-state.new.site c.args.request.now came) (ap (λ (v : _). v.0) c.self.view_is) c.ask-state.ensures.cause,
+      subst (λ (v : _). HasCause V v.1.state v.0 c.ask-state.result.state e c.args.request.now came) c.self.view_is
+          (subst (λ (o : Option State). HasCause V o c.self.inside.site c.ask-state.result.state e c.args.request.now came) c.take-state.ensures.value c.ask-state.ensures.cause),
       subst (λ (v : _). SaysOn V A L v.1.state v.0 c.args.request.now came c.ask-state.result.state e) c.self.view_is says,
       ⊎_elim
           (λ wants. inl wants)
