@@ -119,15 +119,15 @@ module _ {P : Type 0} (m : Meaning P) (p : P) (name : List ℕ) (count most : �
 
   due : (w : World) → Stands site_view site_may_leave site_left_at w old.1.state old.0 → w.log ≡ log_of count
       → ((now : World) → Stands site_view site_may_leave site_left_at now new.1.state new.0 → length now.log ≡ entries_after count)
-      → AreDue (log_of count) 1 more
+      → AreDue (site_view old.0) (site_view new.0) (log_of count) 1 more
   due w stands is after =
       let on = plays.later.exchanges.on (omega arith) (log_of count) (record { world = w; stands = stands; log_is = is }) in
       let len : length on.0 ≡ entries_after count = ap (λ (l : List Entry). length l) (sym on.1.log_is) ∙ after on.1.world on.1.stands in
       let one : next_number (renumbered old lost cut).1 ≡ 1 = omega arith in
-      let by : AreByNumber lost cut 1 (log_of count) more on.0 =
-      subst (λ (n : ℕ). AreByNumber lost cut n (log_of count) more on.0) one
-      (subst (λ (xs : List Exchange). AreByNumber lost cut (next_number (renumbered old lost cut).1) (log_of count) xs on.0) same_more on.2)
-      in are_due lost cut most 1 (log_of count) on.0 more five seven (omega arith) (omega (arith, length_more, within)) (let was = length_log count in omega (arith, was, len))
+      let by : AreByNumber (site_view old.0) (site_view new.0) lost cut 1 (log_of count) more on.0 =
+      subst (λ (n : ℕ). AreByNumber (site_view old.0) (site_view new.0) lost cut n (log_of count) more on.0) one
+      (subst (λ (xs : List Exchange). AreByNumber (site_view old.0) (site_view new.0) lost cut (next_number (renumbered old lost cut).1) (log_of count) xs on.0) same_more on.2)
+      in are_due (site_view old.0) (site_view new.0) lost cut most 1 (log_of count) on.0 more five seven (omega arith) (omega (arith, length_more, within)) (let was = length_log count in omega (arith, was, len))
       (subst (HaveCome 1) (ap (drop (length old.1.made)) made ∙ drop-append_seam old.1.made more) come) by
 
   all_written : length written ≡ count
@@ -154,7 +154,7 @@ module _ {P : Type 0} (m : Meaning P) (p : P) (name : List ℕ) (count most : �
 
   client : (w : World) → Stands site_view site_may_leave site_left_at w old.1.state old.0 → w.log ≡ log_of count
       → ((now : World) → Stands site_view site_may_leave site_left_at now new.1.state new.0 → length now.log ≡ entries_after count)
-      → IsClient m p name count more tracks
+      → IsClient m p name count (site_view old.0) (site_view new.0) more tracks
   client w stands is after = record {
     part = one.part;
     plays = one.plays;
@@ -181,6 +181,7 @@ module _ {P : Type 0} (m : Meaning P) (p : P) (name : List ℕ) (count most : �
     cut = ap (λ (k : ℕ). k / 7 - k / 35) (is ∙ told);
     played = refl;
     crashes = plays.later.crashes;
+    tells = plays.later.tells;
     stays_on = continues_later site_view site_may_leave site_left_at (renumbered old lost cut) new plays.later;
   }
 

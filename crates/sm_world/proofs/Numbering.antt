@@ -13,11 +13,10 @@ use Rattle.sm_world.specs.Answering.{answer_for, halved}
 use Rattle.sm_world.specs.Dialing.{Dialing, next_number}
 use Rattle.sm_world.specs.Later.{HasMade, IsLater}
 use Rattle.sm_world.specs.LaterLaws.{made_not}
-use Rattle.sm_world.specs.Saying.{IsSaid, SaysOn}
+use Rattle.sm_world.specs.Saying.{IsSaidBetween, SaysOn, TellsOn}
 use Rattle.sm_world.specs.Worlds.{GoesOn}
 use Rattle.sm_world.specs.declared.acted.Acted.{Acted}
 use Rattle.sm_world.specs.declared.acted.Acted.TheVariants as acted
-use Rattle.sm_world.proofs.Speaking.{said_by}
 
 -- the answer where the exchange has this number
 abbrev pub by_number : Dialing → ℕ → Acted → Answer
@@ -36,7 +35,7 @@ module _ {D : Type 0} (view : D → View) (leave : D → Image → Type 0) (left
           record { world = s.now; stands = s.stands; log_is = same },
           (
             s.until,
-            record { came = came; said = subst (λ (l : List Entry). IsSaid (l ++ s.until) request came) at.log_is (said_by _ _ _ _ request came s.said); answer = by },
+            record { came = came; said = subst (λ (l : List Entry). IsSaidBetween (view d.0) (view e.0) (l ++ s.until) request came) at.log_is s.said; answer = by },
             (s.since, refl),
           ),
         );
@@ -61,13 +60,14 @@ module _ {D : Type 0} (view : D → View) (leave : D → Image → Type 0) (left
 
   pub later_exchange : (result : Answer) → Some e.1.made ≡ logged (Some d.1.made) request limit result → (result ≡ answers.NoMemory) ⊎ (result ≡ by_number d.1 limit came)
       → e.1.limits ≡ d.1.limits → e.1.lost ≡ d.1.lost → e.1.cut ≡ d.1.cut → e.1.since ≡ d.1.since → e.1.crashes ≡ d.1.crashes
-      → GoesOn view leave left_at d.1.state d.0 e.1.state e.0 → IsLater view leave left_at d e
-  later_exchange result log by limits lost cut since crashes goes = record {
+      → TellsOn (view d.0) (view e.0) → GoesOn view leave left_at d.1.state d.0 e.1.state e.0 → IsLater view leave left_at d e
+  later_exchange result log by limits lost cut since crashes tells goes = record {
     limits = limits;
     lost = lost;
     cut = cut;
     since = since;
     crashes = crashes;
+    tells = tells;
     exchanges = made result log by;
     goes_on = goes;
   }

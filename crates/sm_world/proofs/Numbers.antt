@@ -12,6 +12,7 @@ use Rattle.sm_model.specs.declared.entry.Entry.TheVariants.{Keep}
 use Rattle.sm_model.specs.declared.fragment.Fragment.{Fragment}
 use Rattle.sm_fetch.specs.declared.dial.Exchange.{Exchange}
 use Rattle.sm_site.specs.Faults.{is_listed}
+use Rattle.sm_site.specs.Meanings.{View}
 use Rattle.sm_client.specs.Plays.{Gapless}
 use Rattle.sm_client.specs.Served.{AreIn}
 use Rattle.sm_client.specs.Stands.{Piece}
@@ -21,7 +22,8 @@ use Rattle.sm_world.specs.declared.acted.Acted.{Acted}
 use Rattle.sm_world.specs.declared.acted.Acted.TheVariants as acted
 use Rattle.sm_world.specs.Encoders.{of_encoder_a, keeps, log_of, entries_after}
 use Rattle.sm_world.specs.Numbered.{AreByNumber}
-use Rattle.sm_world.specs.Saying.{IsSaid}
+use Rattle.sm_world.specs.Saying.{IsSaidBetween, TellsOn}
+use Rattle.sm_world.specs.Wider.{said_between}
 use Rattle.sm_world.proofs.Sources.{in_none}
 
 -- ---- multiples
@@ -71,40 +73,56 @@ no_more log (e ∷ more) short = absurd (let len = length-append log (e ∷ more
 pub same_log : (log more : List Entry) → length (log ++ more) ≤ length log → log ++ more ≡ log
 same_log log more short = ap (λ (l : List Entry). log ++ l) (no_more log more short) ∙ append-nil log
 
-by_grown : (lost cut : List ℕ) (number : ℕ) (log later : List Entry) (xs : List Exchange) → AreByNumber lost cut number log xs later → length log ≤ length later
-by_grown lost cut number log later [] (more, is) = let len = length-append log more in let same = ap (λ (l : List Entry). length l) is in omega (arith, len, same)
-by_grown lost cut number log later (x ∷ xs) (more, by, rest) = let len = length-append log more in omega (arith, len, by_grown lost cut (number + 1) (log ++ more) later xs rest)
+by_grown : (from to : View) (lost cut : List ℕ) (number : ℕ) (log later : List Entry) (xs : List Exchange) → AreByNumber from to lost cut number log xs later → length log ≤ length later
+by_grown from to lost cut number log later [] (more, is) = let len = length-append log more in let same = ap (λ (l : List Entry). length l) is in omega (arith, len, same)
+by_grown from to lost cut number log later (x ∷ xs) (more, by, rest) = let len = length-append log more in omega (arith, len, by_grown from to lost cut (number + 1) (log ++ more) later xs rest)
 
 -- such a list has the multiples of this number up to that one
 abbrev pub Lists : ℕ → ℕ → List ℕ → Type 0
 Lists of most xs = (n : ℕ) → 0 < n → n ≤ most → is_listed n xs ≡ (n % of == 0)
 
-due_by : (log : List Entry) (x : Exchange) (came : Acted) (lost cut : Bool) → x.answer ≡ answer_for lost cut x.limit came → CameBy lost x.answer → IsSaid log x.request came → DueBy lost cut log x
-due_by log x came true cut is due said = due
-due_by log x acted.Unopened false cut is due said = absurd (subst (CameBy false) is due)
-due_by log x acted.Broken false cut is due said = absurd (subst (CameBy false) is due)
-due_by log x acted.NoMemory false cut is due said = absurd (subst (CameBy false) is due)
-due_by log x (acted.Sent bytes) false cut is due said = record {
+due_by : (from to : View) (log : List Entry) (x : Exchange) (came : Acted) (lost cut : Bool) → x.answer ≡ answer_for lost cut x.limit came → CameBy lost x.answer → IsSaidBetween from to log x.request came
+    → DueBy from to lost cut log x
+due_by from to log x came true cut is due said = due
+due_by from to log x acted.Unopened false cut is due said = absurd (subst (CameBy false) is due)
+due_by from to log x acted.Broken false cut is due said = absurd (subst (CameBy false) is due)
+due_by from to log x acted.NoMemory false cut is due said = absurd (subst (CameBy false) is due)
+due_by from to log x (acted.Sent bytes) false cut is due said = record {
   went = bytes;
   said = said;
   answer = is;
   some = λ none. (subst (CameBy false) none due) refl;
 }
 
-pub are_due : (lost cut : List ℕ) (most number : ℕ) (log later : List Entry) (xs : List Exchange) → Lists 5 most lost → Lists 7 most cut → 0 < number → number + length xs ≤ most + 1
-    → length later ≤ length log → HaveCome number xs → AreByNumber lost cut number log xs later → AreDue log number xs
-are_due lost cut most number log later [] five seven some few short come by = tt
-are_due lost cut most number log later (x ∷ xs) five seven some few short come (more, by, rest) =
-    let long = by_grown lost cut (number + 1) (log ++ more) later xs rest in
+pub are_due : (from to : View) (lost cut : List ℕ) (most number : ℕ) (log later : List Entry) (xs : List Exchange) → Lists 5 most lost → Lists 7 most cut → 0 < number → number + length xs ≤ most + 1
+    → length later ≤ length log → HaveCome number xs → AreByNumber from to lost cut number log xs later → AreDue from to log number xs
+are_due from to lost cut most number log later [] five seven some few short come by = tt
+are_due from to lost cut most number log later (x ∷ xs) five seven some few short come (more, by, rest) =
+    let long = by_grown from to lost cut (number + 1) (log ++ more) later xs rest in
     let same : log ++ more ≡ log = same_log log more (omega (arith, long, short)) in
     let answer : x.answer ≡ answer_for (number % 5 == 0) (number % 7 == 0) x.limit by.came =
     by.answer ∙ ap (λ (b : Bool). answer_for b (is_listed number cut) x.limit by.came) (five number some (omega (arith, few)))
     ∙ ap (λ (b : Bool). answer_for (number % 5 == 0) b x.limit by.came) (seven number some (omega (arith, few)))
     in (
-      due_by log x by.came (number % 5 == 0) (number % 7 == 0) answer come.0 (subst (λ (l : List Entry). IsSaid l x.request by.came) same by.said),
-      are_due lost cut most (number + 1) log later xs five seven (omega arith) (omega (arith, few)) short come.1
-          (subst (λ (l : List Entry). AreByNumber lost cut (number + 1) l xs later) same rest),
+      due_by from to log x by.came (number % 5 == 0) (number % 7 == 0) answer come.0 (subst (λ (l : List Entry). IsSaidBetween from to l x.request by.came) same by.said),
+      are_due from to lost cut most (number + 1) log later xs five seven (omega arith) (omega (arith, few)) short come.1
+          (subst (λ (l : List Entry). AreByNumber from to lost cut (number + 1) l xs later) same rest),
     )
+
+-- for causes on a longer way
+due_so : (a b c d : View) → TellsOn a b → TellsOn c d → (lost cut : Bool) (log : List Entry) (x : Exchange) → DueBy b c lost cut log x → DueBy a d lost cut log x
+due_so a b c d before behind true cut log x due = due
+due_so a b c d before behind false cut log x due = record {
+  went = due.went;
+  said = said_between a b c d before behind log x.request (acted.Sent due.went) due.said;
+  answer = due.answer;
+  some = due.some;
+}
+
+pub due_wider : (a b c d : View) → TellsOn a b → TellsOn c d → (log : List Entry) (number : ℕ) (xs : List Exchange) → AreDue b c log number xs → AreDue a d log number xs
+due_wider a b c d before behind log number [] due = tt
+due_wider a b c d before behind log number (x ∷ xs) due =
+    (due_so a b c d before behind (number % 5 == 0) (number % 7 == 0) log x due.0, due_wider a b c d before behind log (number + 1) xs due.1)
 
 -- ---- the log
 

@@ -422,18 +422,3 @@ no_memory_replies failed crowded log named = (inr (inl refl), no_memory_is_reply
 
 pub too_many_replies : (failed crowded : Type 0) (log : List Entry) (named : List ℕ) → crowded → IsReplyTo failed crowded log named TOO_MANY.now
 too_many_replies failed crowded log named so = (inr (inr (inl (refl, so))), too_many_is_reply log named)
-
--- a disk that failed and a connection too many are so by anything that follows
-pub replies_by : {f g c d : Type 0} (log : List Entry) (named bytes : List ℕ) → (f → g) → (c → d) → IsReplyTo f c log named bytes → IsReplyTo g d log named bytes
-replies_by {f = f} {g = g} {c = c} {d = d} log named bytes fails crowds (says, is) = (by says, is)
-  where
-    by : (bytes ≡ given log named) ⊎ Replaces f c log named bytes → (bytes ≡ given log named) ⊎ Replaces g d log named bytes
-    by (inl same) = inl same
-    by (inr (inl none)) = inr (inl none)
-    by (inr (inr (inl (text, so)))) = inr (inr (inl (text, crowds so)))
-    by (inr (inr (inr (inl u)))) =
-        inr (inr (inr (inl (record { address = u.address; place = u.place; fragment = u.fragment; asks = u.asks; kept = u.kept; why = fails u.why; reply_is = u.reply_is }))))
-    by (inr (inr (inr (inr refusal)))) = inr (inr (inr (inr refusal)))
-
-pub front_by : {f g c d : Type 0} (log : List Entry) (named bytes : List ℕ) → (f → g) → (c → d) → IsReplyFront f c log named bytes → IsReplyFront g d log named bytes
-front_by log named bytes fails crowds (reply, more, to, is) = (reply, more, replies_by log named reply fails crowds to, is)

@@ -6,9 +6,9 @@ use Rattle.sm_fetch.specs.declared.dial.Exchange.{Exchange}
 use Rattle.sm_client.specs.Turns.{Meaning}
 use Rattle.sm_site.specs.declared.memory.MemorySite.{MemorySite}
 use Rattle.sm_site.specs.Memory.{faults_of}
-use Rattle.sm_world.specs.Clients.{CrashedBehind, HavePlayed}
+use Rattle.sm_world.specs.Clients.{HavePlayed}
 use Rattle.sm_fetch.specs.declared.place.Place.{Place}
-use Rattle.sm_world.specs.Deeds.{AreDone, deeds_in, place, requests_of}
+use Rattle.sm_world.specs.Deeds.{AreDone, deeds_in, fragments_in, place, requests_of}
 use Rattle.sm_world.specs.Dialing.{Dialing}
 use Rattle.sm_world.specs.Encoders.{entries_after}
 use Rattle.sm_world.specs.Header.{header_text}
@@ -89,8 +89,27 @@ module _ {P : Type 0} (m : Meaning P) (number size : ℕ) (policies : List P) (f
         none_made = begins.made;
         done = done;
         pushed_made = made;
-        crash = subst (λ (l : List Exchange). CrashedBehind new.dial d (l ++ played.ones)) made played.crash;
-        tell = subst (λ (k : ℕ). Tell pushed.more k new.refused) known (subst (Tell pushed.more pushed.known) (sym refused) pushed.tell);
+        crash = record {
+          before = played.crash.before;
+          behind = played.crash.behind;
+          from = played.crash.from;
+          until = played.crash.until;
+          when = played.crash.when ∙ ap (λ (l : List Exchange). l ++ played.ones) made;
+          crash = played.crash.crash;
+          since = played.crash.since;
+          on = played.crash.on;
+        };
+        middle = record {
+          dial = played.middle.dial;
+          from = played.middle.from;
+          until = played.middle.until;
+          when = played.middle.when ∙ ap (λ (l : List Exchange). (l ++ played.ones) ++ played.twos) made;
+          since = played.middle.since;
+          on = played.middle.on;
+        };
+        tell = subst (λ (h : List ℕ). Tell (fragments_in (deeds_in h size number)) pushed.more new.known new.refused) begins.header
+            (subst (λ (k : ℕ). Tell (fragments_in (deeds_in old.header size number)) pushed.more k new.refused) known
+            (subst (Tell (fragments_in (deeds_in old.header size number)) pushed.more pushed.known) (sym refused) pushed.tell));
         one = y.0;
         two = y.1;
         three = y.2;

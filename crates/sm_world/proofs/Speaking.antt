@@ -6,7 +6,7 @@ use Rattle.sm_model.specs.declared.entry.Entry.{Entry}
 use Rattle.sm_site.specs.declared.event.Event.{Event}
 use Rattle.sm_site.specs.Clauses.{Both, Rose}
 use Rattle.sm_site.specs.Image.{Image}
-use Rattle.sm_site.specs.Meanings.{View, Item, Deal, SameLink, sent_on}
+use Rattle.sm_site.specs.Meanings.{View, Item, Deal, sent_on}
 use Rattle.sm_site.specs.Scripts.{deals_of, numbers_after}
 use Rattle.sm_archive.specs.Store.{IsStore}
 use Rattle.sm_log.specs.Logs.{channel_of}
@@ -30,12 +30,12 @@ use Rattle.sm_world.specs.declared.acted.Acted.TheVariants as acted
 use Rattle.sm_world.specs.Answering.{HasSent, halved, answer_for}
 use Rattle.sm_world.specs.Bringing.{Brings}
 use Rattle.sm_world.specs.Replying.{IsReplyFront}
-use Rattle.sm_world.specs.Saying.{StandsAt, IsSaid, IsSaidBetween, IsSaidBy, IsCrowdedSince, WasCrowded, Says, SaysOn}
+use Rattle.sm_world.specs.Saying.{StandsAt, IsSaidBetween, IsSaidBy, IsCrowdedSince, IsLonger, TellsOn, WasCrowded, Says, SaysOn}
+use Rattle.sm_world.specs.Wider.{said_between, tells_same}
 use Rattle.sm_world.specs.Worlds.{World, IsOpen, Stands, Grows}
 use Rattle.sm_world.proofs.Fronts.{AreFirst, begun, deals_both, none_above, taken_of}
 use Rattle.sm_world.proofs.Steps.{AreActs, AllCause, Counted, all_cause, path_counted, run_acts}
 use Rattle.sm_world.proofs.OneRequest.{Stands as Stood, Good, sent_both, along, answers as spoken}
-use Rattle.sm_world.proofs.OriginReplies.{front_by}
 use Rattle.sm_world.proofs.Standing.{some_of, at_some, serves_to}
 
 -- ---- logs of real entries
@@ -210,38 +210,40 @@ module _ {D : Type 0} (view : D → View) (leave : D → Image → Type 0) (left
           subst (λ (b : List ℕ). IsReplyFront failed crowded (first ++ good.until) named b) (sym (sent_is bytes is))
           (good.says (record { host = host; port = port; named = named; may = may; text = text }) real)
 
--- what follows of these is said too
-said_wider : {f g a b c d : Type 0} (log : List Entry) (request : List ℕ) (came : Acted) → (f → g) → (a → b) → (c → d) → IsSaidBy f a c log request came → IsSaidBy g b d log request came
-said_wider log request acted.Unopened fails breaks crowds said = fails said
-said_wider log request acted.Broken fails breaks crowds said = breaks said
-said_wider log request acted.NoMemory fails breaks crowds said = tt
-said_wider log request (acted.Sent bytes) fails breaks crowds said = λ host port named may text. front_by log named bytes fails crowds (said host port named may text)
-
-pub said_by : (failed broken crowded : Type 0) (log : List Entry) (request : List ℕ) (came : Acted) → IsSaidBy failed broken crowded log request came → IsSaid log request came
-said_by failed broken crowded log request came said = said_wider log request came (λ f. tt) (λ b. tt) (λ c. tt) said
-
-rose_before : (a b c : ℕ) → a ≤ b → Rose b c → Rose a c
-rose_before a b c le rose =
-    let later = rose.later in
-    record { later = omega (arith, le, later); rose = λ last. (let now = rose.rose last in omega (arith, le, now)) }
-
 module _ {D : Type 0} (view : D → View) (leave : D → Image → Type 0) (left_at : D → ℕ → Image → Type 0) where
-  -- what was done before it counted no fewer faults, and left the link alone
-  pub says_before : (w : World) (d mid e : D) (request : List ℕ) (came : Acted) (state : Option State) → (view d).disk_faults ≤ (view mid).disk_faults
-      → SameLink (view d) (view mid) → Says view leave left_at w mid request came state e → Says view leave left_at w d request came state e
-  says_before w d mid e request came state le link s = record {
+  -- from where the site was before
+  pub says_before : (w : World) (d mid e : D) (request : List ℕ) (came : Acted) (state : Option State) → TellsOn (view d) (view mid)
+      → Says view leave left_at w mid request came state e → Says view leave left_at w d request came state e
+  says_before w d mid e request came state tells s = record {
     now = s.now;
     stands = s.stands;
     grows = s.grows;
     until = s.until;
     since = s.since;
     log_is = s.log_is;
-    said = said_wider (w.log ++ s.until) request came
-        (λ rose. rose_before (view d).disk_faults (view mid).disk_faults (view e).disk_faults le rose)
-        (λ rose. subst (λ (n : ℕ). Rose n (view e).link_faults) link.link_faults rose)
-        (λ crowded. subst (λ (o : Option (List Item)). Both o (view e).transcript IsCrowdedSince) link.transcript crowded)
-        s.said;
+    said = said_between (view d) (view mid) (view e) (view e) tells (tells_same (view e)) (w.log ++ s.until) request came s.said;
   }
+
+  -- what serving leaves of the counts and the transcript
+  pub tells_served : (w : World) (state : State) (d : D) (new : State) (e : D) → ((h : History) → Serves view leave left_at h state d → (n : ℕ) × TurnsBy view leave left_at h n (view d).script new e)
+      → (view d).link_faults ≤ (view e).link_faults → IsOpen view leave left_at w state d → TellsOn (view d) (view e)
+  tells_served w state d new e turns links o =
+      let h : History = o.run in
+      let t = turns h o.serves in
+      let k : History = t.1.turns.later in
+      let since : Since h k = t.1.turns.since in
+      let counts = path_counted h.items h.steps h.point k.items k.steps k.point since.on.path in
+      let later = counts.2.later in
+      let from = o.serves.keeps.counted in
+      let to = t.1.turns.serves.keeps.counted in
+      record {
+        disk_faults = omega (arith, later, from, to);
+        link_faults = links;
+        transcript = both_some (view d).transcript (view e).transcript IsLonger (h.base ++ h.items) (k.base ++ k.items) o.serves.keeps.told t.1.turns.serves.keeps.told (
+          since.on.entries,
+          ap (λ (l : List Item). l ++ k.items) since.base ∙ ap (λ (l : List Item). h.base ++ l) since.on.items ∙ sym (append_assoc h.base h.items since.on.entries),
+        );
+      }
 
 -- ---- what is answered
 

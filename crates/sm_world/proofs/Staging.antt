@@ -14,7 +14,7 @@ use Rattle.sm_reply.specs.Replies.{counts_line}
 use Rattle.sm_site.specs.Memory.{site_view, site_may_leave, site_left_at}
 use Rattle.sm_site.specs.declared.memory.MemorySite.{MemorySite}
 use Rattle.sm_fetch.specs.Requests.{push_request, push_limit}
-use Rattle.sm_world.specs.Deeds.{Deed, IsDone, AreDone, chance_by, deeds_in, of_b, requests_of, round_of}
+use Rattle.sm_world.specs.Deeds.{Deed, IsDone, AreDone, before_a, chance_by, deeds_in, fragments_in, of_b, requests_of, round_of}
 use Rattle.sm_world.specs.Deeds.Deed.{Pushes, Stops, Crashes}
 use Rattle.sm_world.specs.Dialing.{Dialing}
 use Rattle.sm_world.specs.Later.{IsLater}
@@ -29,25 +29,33 @@ use Rattle.sm_world.specs.declared.told.Told.TheVariants as told
 
 -- ---- what answers tell
 
-tell_one : (x : Exchange) (t : Told) → SaysOf x t → Tell (x ∷ []) (known_by t) (refused_by t)
-tell_one x t says = (t, says, (0, 0, (refl, refl), omega arith, omega arith))
+tell_one : (n : ℕ) (x : Exchange) (t : Told) → SaysOf n x t → Tell (n ∷ []) (x ∷ []) (known_by t) (refused_by t)
+tell_one n x t says = (t, says, (0, 0, (refl, refl), omega arith, omega arith))
 
-tell_both : (xs ys : List Exchange) (k r k' r' : ℕ) → Tell xs k r → Tell ys k' r' → Tell (xs ++ ys) (k + k') (r + r')
-tell_both [] ys k r k' r' a b =
+tell_both : (ns ms : List ℕ) (xs ys : List Exchange) (k r k' r' : ℕ) → Tell ns xs k r → Tell ms ys k' r' → Tell (ns ++ ms) (xs ++ ys) (k + k') (r + r')
+tell_both [] ms (x ∷ xs) ys k r k' r' a b = absurd a
+tell_both (n ∷ ns) ms [] ys k r k' r' a b = absurd a
+tell_both [] ms [] ys k r k' r' a b =
     let known : k' ≡ k + k' = (let z = a.0 in omega (arith, z)) in
     let refused : r' ≡ r + r' = (let z = a.1 in omega (arith, z)) in
-    subst (λ (n : ℕ). Tell ys n (r + r')) known (subst (λ (n : ℕ). Tell ys k' n) refused b)
-tell_both (x ∷ xs) ys k r k' r' a b = (
+    subst (λ (n : ℕ). Tell ms ys n (r + r')) known (subst (λ (n : ℕ). Tell ms ys k' n) refused b)
+tell_both (n ∷ ns) ms (x ∷ xs) ys k r k' r' a b = (
   a.0,
   a.1,
   (
     a.2.0 + k',
     a.2.1 + r',
-    tell_both xs ys a.2.0 a.2.1 k' r' a.2.2 b,
+    tell_both ns ms xs ys a.2.0 a.2.1 k' r' a.2.2 b,
     (let e = a.2.3 in omega (arith, e)),
     (let e = a.2.4 in omega (arith, e)),
   ),
 )
+
+fragments_both : (ds es : List Deed) → fragments_in (ds ++ es) ≡ fragments_in ds ++ fragments_in es
+fragments_both [] es = refl
+fragments_both (Pushes n body ∷ ds) es = ap (λ (l : List ℕ). n ∷ l) (fragments_both ds es)
+fragments_both (Stops calls ∷ ds) es = fragments_both ds es
+fragments_both (Crashes choice ∷ ds) es = fragments_both ds es
 
 -- ---- what was done
 
@@ -71,7 +79,7 @@ asked_by place id [] a b same = record {
   made = ap (λ (d : MemorySite × Dialing). d.1.made) same ∙ sym (append-nil a.1.made);
   asked = refl;
 }
-asked_by place id (Pushes body ∷ deeds) a b (mid, done, rest) =
+asked_by place id (Pushes n body ∷ deeds) a b (mid, done, rest) =
     let r = asked_by place id deeds mid b rest in
     let x : Exchange = record { request = push_request place id body; limit = push_limit; answer = done.answer } in
     record {
@@ -108,7 +116,7 @@ one_more made made' request limit answers.NoMemory came log spells something = a
 module _ (old new : Stage) (place : new.place ≡ old.place) (id : new.id ≡ old.id) (header : new.header ≡ old.header) where
   pub has_pushed : (body : List ℕ) (came : Pushed) (t : Told) (fragments : ℕ) → PushedBody old.place old.id body (Some old.dial.1.made) (Some new.dial.1.made) came
       → Says fragments came t → fragments ≤ 3 → new.known ≡ old.known + known_by t → new.refused ≡ old.refused + refused_by t
-      → IsLater site_view site_may_leave site_left_at old.dial new.dial → HasPushed old new (Pushes body ∷ []) 0 (refused_by t) 3
+      → IsLater site_view site_may_leave site_left_at old.dial new.dial → HasPushed old new (Pushes fragments body ∷ []) 0 (refused_by t) 3
   has_pushed body came t fragments p says few known refused later =
       let x : Exchange = record { request = push_request old.place old.id body; limit = push_limit; answer = p.answer } in
       let made : new.dial.1.made ≡ old.dial.1.made ++ x ∷ [] =
@@ -118,11 +126,11 @@ module _ (old new : Stage) (place : new.place ≡ old.place) (id : new.id ≡ ol
         place = place;
         id = id;
         header = header;
-        done = done_one old.place old.id (Pushes body) old.dial new.dial (record { answer = p.answer; made = made; later = later });
+        done = done_one old.place old.id (Pushes fragments body) old.dial new.dial (record { answer = p.answer; made = made; later = later });
         more = x ∷ [];
         made = made;
         known = known_by t;
-        tell = tell_one x t (record { fragments = fragments; came = came; spells = p.spells; says = says });
+        tell = tell_one fragments x t (record { came = came; spells = p.spells; says = says });
         known_is = known;
         few = few_known fragments came t few says;
         refused_is = refused;
@@ -131,9 +139,9 @@ module _ (old new : Stage) (place : new.place ≡ old.place) (id : new.id ≡ ol
       }
 
   -- no push, but perhaps crashes
-  pub quiet : (deed : Deed) (crashes : ℕ) → IsDone old.place old.id deed old.dial new.dial → new.dial.1.made ≡ old.dial.1.made → new.known ≡ old.known → new.refused ≡ old.refused
+  pub quiet : (deed : Deed) (crashes : ℕ) → fragments_in (deed ∷ []) ≡ [] → IsDone old.place old.id deed old.dial new.dial → new.dial.1.made ≡ old.dial.1.made → new.known ≡ old.known → new.refused ≡ old.refused
       → (old.dial.1.crashes + crashes < 2 ^ 62 → new.dial.1.crashes ≡ old.dial.1.crashes + crashes) → StaysOn old.dial new.dial → HasPushed old new (deed ∷ []) crashes 0 0
-  quiet deed crashes done made known refused crashed stays = record {
+  quiet deed crashes none done made known refused crashed stays = record {
     place = place;
     id = id;
     header = header;
@@ -141,7 +149,7 @@ module _ (old new : Stage) (place : new.place ≡ old.place) (id : new.id ≡ ol
     more = [];
     made = made ∙ sym (append-nil old.dial.1.made);
     known = 0;
-    tell = (refl, refl);
+    tell = subst (λ (ns : List ℕ). Tell ns [] 0 0) (sym none) (refl, refl);
     known_is = omega (arith, known);
     few = omega arith;
     refused_is = omega (arith, refused);
@@ -161,7 +169,8 @@ pushed_then a b c ds es n n' r r' m m' x y = record {
   more = x.more ++ y.more;
   made = y.made ∙ ap (λ (l : List Exchange). l ++ y.more) x.made ∙ append_assoc a.dial.1.made x.more y.more;
   known = x.known + y.known;
-  tell = tell_both x.more y.more x.known r y.known r' x.tell y.tell;
+  tell = subst (λ (ns : List ℕ). Tell ns (x.more ++ y.more) (x.known + y.known) (r + r')) (sym (fragments_both ds es))
+      (tell_both (fragments_in ds) (fragments_in es) x.more y.more x.known r y.known r' x.tell y.tell);
   known_is = (let e = x.known_is in let f = y.known_is in omega (arith, e, f));
   few = (let e = x.few in let f = y.few in omega (arith, e, f));
   refused_is = (let e = x.refused_is in let f = y.refused_is in omega (arith, e, f));
@@ -182,7 +191,7 @@ pushed_as a b ds es n n' r r' m m' deeds crashes refusals most x = record {
   more = x.more;
   made = x.made;
   known = x.known;
-  tell = subst (Tell x.more x.known) refusals x.tell;
+  tell = subst (λ (l : List Deed). Tell (fragments_in l) x.more x.known r') deeds (subst (Tell (fragments_in ds) x.more x.known) refusals x.tell);
   known_is = x.known_is;
   few = (let e = x.few in omega (arith, e, most));
   refused_is = (let e = x.refused_is in omega (arith, e, refusals));
@@ -213,13 +222,13 @@ on_ok (Ok a) P Q so holds = so holds
 on_ok (Err e) P Q so holds = tt
 
 -- what encoder B pushes, by what was drawn
-pub pushed_by_b : {A E : Type 0} (a b : Stage) (r : Result A E) (body want : List ℕ) (kind k : Kind) (i n : ℕ) → body ≡ want → kind ≡ k → of_b k a.header i ≡ Pushes want ∷ []
-    → (if is_refused k then 1 else 0) ≡ n → OnOk r (HasPushed a b (Pushes body ∷ []) 0 n 3)
+pub pushed_by_b : {A E : Type 0} (a b : Stage) (r : Result A E) (f : ℕ) (body want : List ℕ) (kind k : Kind) (i n : ℕ) → body ≡ want → kind ≡ k → of_b k a.header i ≡ Pushes f want ∷ []
+    → (if is_refused k then 1 else 0) ≡ n → OnOk r (HasPushed a b (Pushes f body ∷ []) 0 n 3)
     → OnOk r (HasPushed a b (of_b kind a.header i) 0 (if is_refused kind then 1 else 0) 3)
-pushed_by_b a b r body want kind k i n is drawn deeds refused pushed =
+pushed_by_b a b r f body want kind k i n is drawn deeds refused pushed =
     on_ok r _ _
-    (λ p. pushed_as a b (Pushes body ∷ []) (of_b kind a.header i) 0 0 n (if is_refused kind then 1 else 0) 3 3
-    (ap (λ (l : List ℕ). Pushes l ∷ []) is ∙ sym deeds ∙ sym (ap (λ (j : Kind). of_b j a.header i) drawn)) refl
+    (λ p. pushed_as a b (Pushes f body ∷ []) (of_b kind a.header i) 0 0 n (if is_refused kind then 1 else 0) 3 3
+    (ap (λ (l : List ℕ). Pushes f l ∷ []) is ∙ sym deeds ∙ sym (ap (λ (j : Kind). of_b j a.header i) drawn)) refl
     (sym refused ∙ sym (ap (λ (j : Kind). if is_refused j then 1 else 0) drawn)) (omega arith) p)
     pushed
 
@@ -228,6 +237,14 @@ pub silent_b : (a : Stage) (kind k : Kind) (i n : ℕ) → n ≡ 0 → kind ≡ 
 silent_b a kind k i n none drawn deeds refused =
     pushed_as a a [] (of_b kind a.header i) 0 0 0 (if is_refused kind then 1 else 0) 3 3 (sym deeds ∙ sym (ap (λ (j : Kind). of_b j a.header i) drawn)) refl
     (sym none ∙ sym refused ∙ sym (ap (λ (j : Kind). if is_refused j then 1 else 0) drawn)) (omega arith) (pushed_not a)
+
+-- nothing comes before the push of encoder A, by what was drawn
+pub silent_a : (a : Stage) (kind k : Kind) (body : List ℕ) (chance n : ℕ) → n ≡ 0 → kind ≡ k → before_a k body chance ≡ [] → (if is_crash k then 1 else 0) ≡ n
+    → HasPushed a a (before_a kind body chance) (if is_crash kind then 1 else 0) 0 3
+silent_a a kind k body chance n none drawn deeds crashed =
+    pushed_as a a [] (before_a kind body chance) 0 (if is_crash kind then 1 else 0) 0 0 3 3
+    (sym deeds ∙ sym (ap (λ (j : Kind). before_a j body chance) drawn))
+    (sym none ∙ sym crashed ∙ sym (ap (λ (j : Kind). if is_crash j then 1 else 0) drawn)) refl (omega arith) (pushed_not a)
 
 -- ---- rounds
 

@@ -10,6 +10,7 @@ use Rattle.sm_origin.specs.Machine.{Machine, Step}
 use Rattle.sm_serve.specs.Run.{Point, Stepped, Moves, Run, begins, goes_on, LeadsTo, rests, moves_on, IsStep}
 use Rattle.sm_serve.specs.Run.{opened, crowded, came, unread, passed, left, over, continues, acts_on, wants, done, sent, failed, unsent, shut, declared, recalled}
 use Rattle.sm_serve.proofs.Growing.{Stays, StepsOn, kind_of}
+use Rattle.sm_world.specs.Wider.{rose_wider}
 
 -- ---- steps
 
@@ -108,17 +109,6 @@ path_counted base steps p items ss q (moves_on was ns now ys xs all r q' path mo
             (between_wider r.faults p.faults q.faults q.faults xs low (omega arith) here.between);
       },
     )
-
-rose_wider : (low a b high : ℕ) → low ≤ a → b ≤ high → Rose a b → Rose low high
-rose_wider low a b high from to rose =
-    let later = rose.later in
-    record {
-      later = omega (arith, from, to, later);
-      rose = λ last. ⊎_elim
-          (λ (same : b ≡ 2 ^ 64 - 1). omega (arith, same, from, to, later, last))
-          (λ (other : b ≡ 2 ^ 64 - 1 → ⊥). let up = rose.rose other in omega (arith, from, to, up))
-          (cases_eq b (2 ^ 64 - 1));
-    }
 
 -- a step that has its cause in what holds
 abbrev pub Causes : Type 0 → Stepped → Type 0

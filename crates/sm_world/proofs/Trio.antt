@@ -7,16 +7,20 @@ use Rattle.sm_fetch.specs.declared.dial.Exchange.{Exchange}
 use Rattle.sm_client.specs.Turns.{Meaning}
 use Rattle.sm_serve.specs.declared.state.State.{State}
 use Rattle.sm_site.specs.declared.memory.MemorySite.{MemorySite}
+use Rattle.sm_ends.specs.TracksHeld.{TracksState}
+use Rattle.sm_site.specs.Meanings.{View, SameLink}
 use Rattle.sm_site.specs.Memory.{site_view, site_may_leave, site_left_at}
-use Rattle.sm_world.specs.Clients.{HasPlayed, HasPlayedFirst, HavePlayed}
+use Rattle.sm_world.specs.Clients.{HasPlayed, HasPlayedFirst, HavePlayed, IsClient}
 use Rattle.sm_world.specs.Deeds.{IsCrash}
 use Rattle.sm_world.specs.Dialing.{Dialing}
 use Rattle.sm_world.specs.Encoders.{entries_after, log_of}
 use Rattle.sm_world.specs.LaterLaws.{continues_then}
-use Rattle.sm_world.specs.Stages.{HasEntries}
+use Rattle.sm_world.specs.Saying.{TellsOn}
+use Rattle.sm_world.specs.Stages.{HasEntries, StaysOn}
+use Rattle.sm_world.specs.Wider.{tells_link, tells_same, tells_then}
 use Rattle.sm_world.specs.Worlds.{World, IsClosed, Stands, Crashes}
 use Rattle.sm_world.specs.declared.client.Client.{Client}
-use Rattle.sm_world.proofs.Numbers.{length_log}
+use Rattle.sm_world.proofs.Numbers.{due_wider, length_log}
 
 -- ---- logs
 
@@ -43,14 +47,27 @@ was_log_of (suc n) a b more is all len =
     same_log a b more is (omega (arith, here, there)) ∙ all
 
 module _ {P : Type 0} (m : Meaning P) (count : ℕ) where
+  -- for causes on a longer way
+  client_wider : (p : P) (name : List ℕ) (a b c : View) (xs : List Exchange) (tracks : TracksState) → TellsOn a b → IsClient m p name count b c xs tracks → IsClient m p name count a c xs tracks
+  client_wider p name a b c xs tracks before x = record {
+    part = x.part;
+    plays = x.plays;
+    made = x.made;
+    due = due_wider a b c c before (tells_same c) (log_of count) 1 xs x.due;
+    done = x.done;
+    whole = x.whole;
+    gapless = x.gapless;
+    kept = x.kept;
+  }
+
   pub played_first : (p : P) (old d e f : MemorySite × Dialing) (c : Client) → HasPlayed m p (codes "video") count old d c → HasEntries d (entries_after count)
       → ((w : World) → Stands site_view site_may_leave site_left_at w d.1.state d.0
       → (now : World) × Stands site_view site_may_leave site_left_at now e.1.state e.0 × Crashes (site_view d.0).transcript w now)
       → IsCrash 0 d e → f.1 ≡ e.1
       → ((w : World) → IsClosed site_view site_may_leave w e.0 → IsClosed site_view site_may_leave w f.0)
       → ((w : World) → IsClosed site_view site_may_leave w e.0 → w.log ≡ log_of count)
-      → HasPlayedFirst m p count old f c
-  played_first p old d e f c played entries crash by same stays kept = record {
+      → (site_view e.0).disk_faults ≤ (site_view f.0).disk_faults → SameLink (site_view e.0) (site_view f.0) → HasPlayedFirst m p count old f c
+  played_first p old d e f c played entries crash by same stays kept no_fewer link = record {
     more = played.more;
     made = ap (λ (x : Dialing). x.made) same ∙ ap (λ (x : Dialing). x.made) by.dialing ∙ played.made;
     client = λ has w stands. (
@@ -77,8 +94,10 @@ module _ {P : Type 0} (m : Meaning P) (count : ℕ) where
       before = d;
       behind = e;
       from = played.stays_on;
+      until = played.tells;
       when = played.made;
       crash = by;
+      since = tells_link (site_view e.0) (site_view f.0) no_fewer link;
       on = λ w stands.
           let none : e.1.state ≡ None = ap (λ (z : Dialing). z.state) by.dialing in
           let still : f.1.state ≡ None = ap (λ (z : Dialing). z.state) same ∙ none in
@@ -116,7 +135,7 @@ module _ {P : Type 0} (m : Meaning P) (count : ℕ) where
         let all = still_all x.1.0.log y.0.log y.3.0 y.3.1 x.1.3 (second_has y.0 y.1) in
         let z = third.stays_on y.0 y.1 in (
           x.0,
-          second.client x.1.0 x.1.1 x.1.3 second_has,
+          client_wider q (codes "video") (site_view first.crash.behind.0) (site_view d.0) (site_view e.0) second.more two.tracks first.crash.since (second.client x.1.0 x.1.1 x.1.3 second_has),
           third.client y.0 y.1 all third_has,
           (z.0, z.1, z.2 ∙ y.2 ∙ x.1.2, still_all y.0.log z.0.log z.3.0 z.3.1 all (third_has z.0 z.1)),
         ));
@@ -128,10 +147,25 @@ module _ {P : Type 0} (m : Meaning P) (count : ℕ) where
       before = first.crash.before;
       behind = first.crash.behind;
       from = first.crash.from;
+      until = first.crash.until;
       when = first.crash.when;
       crash = first.crash.crash;
-      on = continues_then site_view site_may_leave site_left_at first.crash.behind d f first.crash.on
-          (continues_then site_view site_may_leave site_left_at d e f second.stays_on third.stays_on);
+      since = tells_then (site_view first.crash.behind.0) (site_view e.0) (site_view f.0) to_middle third.tells;
+      on = continues_then site_view site_may_leave site_left_at first.crash.behind e f on_middle third.stays_on;
+    };
+    middle = record {
+      dial = e;
+      from = on_middle;
+      until = to_middle;
+      when = second.made ∙ ap (λ (l : List Exchange). l ++ second.more) first.made;
+      since = third.tells;
+      on = third.stays_on;
     };
     crashes = λ low. (let a = first.crashes low in let b = second.crashes in let c = third.crashes in omega (arith, a, b, c));
   }
+    where
+      to_middle : TellsOn (site_view first.crash.behind.0) (site_view e.0)
+      to_middle = tells_then (site_view first.crash.behind.0) (site_view d.0) (site_view e.0) first.crash.since second.tells
+
+      on_middle : StaysOn first.crash.behind e
+      on_middle = continues_then site_view site_may_leave site_left_at first.crash.behind d e first.crash.on second.stays_on

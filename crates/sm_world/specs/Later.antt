@@ -6,16 +6,17 @@ use Rattle.sm_site.specs.Meanings.{View}
 use Rattle.sm_fetch.specs.declared.dial.Exchange.{Exchange}
 use Rattle.sm_world.specs.Dialing.{Dialing, next_number}
 use Rattle.sm_world.specs.Numbered.{AreByNumber}
-use Rattle.sm_world.specs.Saying.{StandsAt}
+use Rattle.sm_world.specs.Saying.{StandsAt, TellsOn}
 use Rattle.sm_world.specs.Worlds.{World, Stands, GoesOn}
 
 -- Further exchanges were told. From each log at which it stood it stands at one that goes on, and on the way they were answered by their
--- numbers.
+-- numbers, for causes on that way.
 pub record HasMade {D : Type 0} (view : D → View) (leave : D → Image → Type 0) (left_at : D → ℕ → Image → Type 0) (old new : D × Dialing) : Type 0 where
   pub more : List Exchange
   pub made : new.1.made ≡ old.1.made ++ more
   pub on : old.1.since ≤ length old.1.made → (log : List Entry) → StandsAt view leave left_at old.1.state old.0 log
-      → (later : List Entry) × StandsAt view leave left_at new.1.state new.0 later × AreByNumber old.1.lost old.1.cut (next_number old.1) log more later
+      → (later : List Entry) × StandsAt view leave left_at new.1.state new.0 later
+      × AreByNumber (view old.0) (view new.0) old.1.lost old.1.cut (next_number old.1) log more later
 
 -- A dial after any exchanges: the same numbers are lost and cut, counted from the same place; the site was not crashed; and wherever it
 -- stood, it stands at a log that goes on.
@@ -25,6 +26,7 @@ pub record IsLater {D : Type 0} (view : D → View) (leave : D → Image → Typ
   pub cut : new.1.cut ≡ old.1.cut
   pub since : new.1.since ≡ old.1.since
   pub crashes : new.1.crashes ≡ old.1.crashes
+  pub tells : TellsOn (view old.0) (view new.0)
   pub exchanges : HasMade view leave left_at old new
   pub goes_on : GoesOn view leave left_at old.1.state old.0 new.1.state new.0
 

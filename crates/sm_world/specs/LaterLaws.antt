@@ -7,7 +7,8 @@ use Rattle.sm_fetch.specs.declared.dial.Exchange.{Exchange}
 use Rattle.sm_world.specs.Dialing.{Dialing, next_number}
 use Rattle.sm_world.specs.Later.{HasMade, IsLater, Continues}
 use Rattle.sm_world.specs.Numbered.{IsByNumber, AreByNumber}
-use Rattle.sm_world.specs.Saying.{StandsAt}
+use Rattle.sm_world.specs.Saying.{StandsAt, TellsOn}
+use Rattle.sm_world.specs.Wider.{said_between, tells_same, tells_then}
 use Rattle.sm_world.specs.Worlds.{World, Grows}
 
 grows_not : (w : World) → Grows w w
@@ -23,23 +24,33 @@ grows_then u v w a b = record {
 
 -- ---- exchanges by their numbers
 
-module _ (lost cut : List ℕ) where
+-- for causes on a longer way
+by_wider : (a b c d : View) → TellsOn a b → TellsOn c d → (lost cut : List ℕ) (n : ℕ) (log : List Entry) (xs : List Exchange) (later : List Entry)
+    → AreByNumber b c lost cut n log xs later → AreByNumber a d lost cut n log xs later
+by_wider a b c d before behind lost cut n log [] later on = on
+by_wider a b c d before behind lost cut n log (x ∷ xs) later (more, by, rest) = (
+  more,
+  record { came = by.came; said = said_between a b c d before behind (log ++ more) x.request by.came by.said; answer = by.answer },
+  by_wider a b c d before behind lost cut (n + 1) (log ++ more) xs later rest,
+)
+
+module _ (from to : View) (lost cut : List ℕ) where
   -- from an earlier log
-  by_before : (n : ℕ) (log more : List Entry) (xs : List Exchange) (later : List Entry) → AreByNumber lost cut n (log ++ more) xs later
-      → AreByNumber lost cut n log xs later
+  by_before : (n : ℕ) (log more : List Entry) (xs : List Exchange) (later : List Entry) → AreByNumber from to lost cut n (log ++ more) xs later
+      → AreByNumber from to lost cut n log xs later
   by_before n log more [] later (on, is) = (more ++ on, is ∙ append_assoc log more on)
   by_before n log more (x ∷ xs) later (on, by, rest) =
       let same = append_assoc log more on in (
         more ++ on,
-        subst (λ (l : List Entry). IsByNumber lost cut n l x) same by,
-        subst (λ (l : List Entry). AreByNumber lost cut (n + 1) l xs later) same rest,
+        subst (λ (l : List Entry). IsByNumber from to lost cut n l x) same by,
+        subst (λ (l : List Entry). AreByNumber from to lost cut (n + 1) l xs later) same rest,
       )
 
-  pub by_both : (n m : ℕ) (log mid : List Entry) (xs ys : List Exchange) (later : List Entry) → m ≡ n + length xs → AreByNumber lost cut n log xs mid
-      → AreByNumber lost cut m mid ys later → AreByNumber lost cut n log (xs ++ ys) later
+  pub by_both : (n m : ℕ) (log mid : List Entry) (xs ys : List Exchange) (later : List Entry) → m ≡ n + length xs → AreByNumber from to lost cut n log xs mid
+      → AreByNumber from to lost cut m mid ys later → AreByNumber from to lost cut n log (xs ++ ys) later
   by_both n m log mid [] ys later is (more, same) then =
-      by_before n log more ys later (subst (λ (l : List Entry). AreByNumber lost cut n l ys later) same
-      (subst (λ (k : ℕ). AreByNumber lost cut k mid ys later) (let e : m ≡ n = omega (arith, is) in e) then))
+      by_before n log more ys later (subst (λ (l : List Entry). AreByNumber from to lost cut n l ys later) same
+      (subst (λ (k : ℕ). AreByNumber from to lost cut k mid ys later) (let e : m ≡ n = omega (arith, is) in e) then))
   by_both n m log mid (x ∷ xs) ys later is (more, by, rest) then =
       (more, by, by_both (n + 1) m (log ++ more) mid xs ys later (omega (arith, is)) rest then)
 
@@ -53,9 +64,9 @@ module _ {D : Type 0} (view : D → View) (leave : D → Image → Type 0) (left
     on = λ within log at. (let x = on log at in (log ++ x.0, x.1, (x.0, refl)));
   }
 
-  made_then : (d e f : D × Dialing) → e.1.lost ≡ d.1.lost → e.1.cut ≡ d.1.cut → e.1.since ≡ d.1.since → HasMade view leave left_at d e
-      → HasMade view leave left_at e f → HasMade view leave left_at d f
-  made_then d e f lost cut since a b = record {
+  made_then : (d e f : D × Dialing) → e.1.lost ≡ d.1.lost → e.1.cut ≡ d.1.cut → e.1.since ≡ d.1.since → TellsOn (view d.0) (view e.0)
+      → TellsOn (view e.0) (view f.0) → HasMade view leave left_at d e → HasMade view leave left_at e f → HasMade view leave left_at d f
+  made_then d e f lost cut since before behind a b = record {
     more = a.more ++ b.more;
     made = b.made ∙ ap (λ (l : List Exchange). l ++ b.more) a.made ∙ append_assoc d.1.made a.more b.more;
     on = λ within log at. on within log at;
@@ -66,17 +77,23 @@ module _ {D : Type 0} (view : D → View) (leave : D → Image → Type 0) (left
 
       on : d.1.since ≤ length d.1.made → (log : List Entry) → StandsAt view leave left_at d.1.state d.0 log
           → (later : List Entry) × StandsAt view leave left_at f.1.state f.0 later
-          × AreByNumber d.1.lost d.1.cut (next_number d.1) log (a.more ++ b.more) later
+          × AreByNumber (view d.0) (view f.0) d.1.lost d.1.cut (next_number d.1) log (a.more ++ b.more) later
       on within log at =
           let x = a.on within log at in
           let y = b.on (omega (arith, long, since, within)) x.0 x.1 in
-          let then : AreByNumber d.1.lost d.1.cut (next_number e.1) x.0 b.more y.0 =
-          subst (λ (l : List ℕ). AreByNumber l d.1.cut (next_number e.1) x.0 b.more y.0) lost
-          (subst (λ (l : List ℕ). AreByNumber e.1.lost l (next_number e.1) x.0 b.more y.0) cut y.2)
+          let first : AreByNumber (view d.0) (view f.0) d.1.lost d.1.cut (next_number d.1) log a.more x.0 =
+          by_wider (view d.0) (view d.0) (view e.0) (view f.0) (tells_same (view d.0)) behind d.1.lost d.1.cut (next_number d.1) log a.more x.0 x.2
+          in
+          let then : AreByNumber (view e.0) (view f.0) d.1.lost d.1.cut (next_number e.1) x.0 b.more y.0 =
+          subst (λ (l : List ℕ). AreByNumber (view e.0) (view f.0) l d.1.cut (next_number e.1) x.0 b.more y.0) lost
+          (subst (λ (l : List ℕ). AreByNumber (view e.0) (view f.0) e.1.lost l (next_number e.1) x.0 b.more y.0) cut y.2)
+          in
+          let second : AreByNumber (view d.0) (view f.0) d.1.lost d.1.cut (next_number e.1) x.0 b.more y.0 =
+          by_wider (view d.0) (view e.0) (view f.0) (view f.0) before (tells_same (view f.0)) d.1.lost d.1.cut (next_number e.1) x.0 b.more y.0 then
           in (
             y.0,
             y.1,
-            by_both d.1.lost d.1.cut (next_number d.1) (next_number e.1) log x.0 a.more b.more y.0 (omega (arith, long, since, within)) x.2 then,
+            by_both (view d.0) (view f.0) d.1.lost d.1.cut (next_number d.1) (next_number e.1) log x.0 a.more b.more y.0 (omega (arith, long, since, within)) first second,
           )
 
   pub is_later_same : (d : D × Dialing) → IsLater view leave left_at d d
@@ -86,6 +103,7 @@ module _ {D : Type 0} (view : D → View) (leave : D → Image → Type 0) (left
     cut = refl;
     since = refl;
     crashes = refl;
+    tells = tells_same (view d.0);
     exchanges = made_not d d refl (λ log at. ([], subst (λ (l : List Entry). StandsAt view leave left_at d.1.state d.0 l) (sym (append-nil log)) at));
     goes_on = λ w stands. (w, stands, grows_not w);
   }
@@ -97,7 +115,8 @@ module _ {D : Type 0} (view : D → View) (leave : D → Image → Type 0) (left
     cut = b.cut ∙ a.cut;
     since = b.since ∙ a.since;
     crashes = b.crashes ∙ a.crashes;
-    exchanges = made_then d e f a.lost a.cut a.since a.exchanges b.exchanges;
+    tells = tells_then (view d.0) (view e.0) (view f.0) a.tells b.tells;
+    exchanges = made_then d e f a.lost a.cut a.since a.tells b.tells a.exchanges b.exchanges;
     goes_on = λ w stands. (let x = a.goes_on w stands in let y = b.goes_on x.0 x.1 in (y.0, y.1, grows_then w x.0 y.0 x.2 y.2));
   }
 

@@ -16,3 +16,4 @@ pub mod Rehearsed
 pub mod LaterLaws
 pub mod Replying
 pub mod Saying
+pub mod Wider

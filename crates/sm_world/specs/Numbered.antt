@@ -3,19 +3,20 @@ use Rattle.std.specs.Prelude.{◌≡◌, ℕ, ◌+◌, List, [], ◌∷◌, ◌+
 use Rattle.sm_model.specs.declared.entry.Entry.{Entry}
 use Rattle.sm_fetch.specs.declared.dial.Exchange.{Exchange}
 use Rattle.sm_site.specs.Faults.{is_listed}
+use Rattle.sm_site.specs.Meanings.{View}
 use Rattle.sm_world.specs.Answering.{answer_for}
-use Rattle.sm_world.specs.Saying.{IsSaid}
+use Rattle.sm_world.specs.Saying.{IsSaidBetween}
 use Rattle.sm_world.specs.declared.acted.Acted.{Acted}
 
--- What came of the request is what an origin with this log replies. It was lost where this number is one of those, and cut where it is one of
--- these; the limit cuts as well.
-pub record IsByNumber (lost cut : List ℕ) (number : ℕ) (log : List Entry) (x : Exchange) : Type 0 where
+-- What came of the request is what an origin with this log replies, for a cause on the way from one view of its site to another. It was lost where
+-- this number is one of those, and cut where it is one of these; the limit cuts as well.
+pub record IsByNumber (old new : View) (lost cut : List ℕ) (number : ℕ) (log : List Entry) (x : Exchange) : Type 0 where
   pub came : Acted
-  pub said : IsSaid log x.request came
+  pub said : IsSaidBetween old new log x.request came
   pub answer : x.answer ≡ answer_for (is_listed number lost) (is_listed number cut) x.limit came
 
 -- The first has this number, and each further one the next. Each came of a log that only grows, from this one to that.
-abbrev pub AreByNumber : List ℕ → List ℕ → ℕ → List Entry → List Exchange → List Entry → Type 0
-AreByNumber lost cut number log [] later = (more : List Entry) × (later ≡ log ++ more)
-AreByNumber lost cut number log (x ∷ xs) later =
-    (more : List Entry) × IsByNumber lost cut number (log ++ more) x × AreByNumber lost cut (number + 1) (log ++ more) xs later
+abbrev pub AreByNumber : View → View → List ℕ → List ℕ → ℕ → List Entry → List Exchange → List Entry → Type 0
+AreByNumber old new lost cut number log [] later = (more : List Entry) × (later ≡ log ++ more)
+AreByNumber old new lost cut number log (x ∷ xs) later =
+    (more : List Entry) × IsByNumber old new lost cut number (log ++ more) x × AreByNumber old new lost cut (number + 1) (log ++ more) xs later

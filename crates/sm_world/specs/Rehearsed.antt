@@ -4,8 +4,8 @@ use Rattle.sm_fetch.specs.declared.dial.Exchange.{Exchange}
 use Rattle.sm_client.specs.Turns.{Meaning}
 use Rattle.sm_site.specs.Memory.{site_view, site_may_leave, site_left_at, faults_of}
 use Rattle.sm_site.specs.declared.memory.MemorySite.{MemorySite}
-use Rattle.sm_world.specs.Clients.{CrashedBehind, IsClient, lost_among, cut_among}
-use Rattle.sm_world.specs.Deeds.{AreDone, deeds_in, place, requests_of}
+use Rattle.sm_world.specs.Clients.{CrashedBehind, PassedThrough, IsClient, lost_among, cut_among}
+use Rattle.sm_world.specs.Deeds.{AreDone, deeds_in, fragments_in, place, requests_of}
 use Rattle.sm_world.specs.Dialing.{Dialing}
 use Rattle.sm_world.specs.Encoders.{log_of}
 use Rattle.sm_world.specs.Header.{header_text}
@@ -42,10 +42,11 @@ pub record Rehearsed {P : Type 0} (m : Meaning P) (number size : ℕ) (policies 
   pub done : AreDone place (codes "a") (deeds_in header_text size number) start pushed
   pub pushed_made : pushed.1.made ≡ pushes
   pub crash : CrashedBehind pushed r.dial (pushes ++ ones)
-  pub tell : Tell pushes r.summary.known r.summary.refused
-  pub one : IsClient m first (codes "video") size ones r.first
-  pub two : IsClient m second (codes "video") size twos r.second
-  pub three : IsClient m third (codes "audio") size threes r.third
+  pub middle : PassedThrough crash.behind r.dial ((pushes ++ ones) ++ twos)
+  pub tell : Tell (fragments_in (deeds_in header_text size number)) pushes r.summary.known r.summary.refused
+  pub one : IsClient m first (codes "video") size (site_view pushed.0) (site_view crash.before.0) ones r.first
+  pub two : IsClient m second (codes "video") size (site_view crash.behind.0) (site_view middle.dial.0) twos r.second
+  pub three : IsClient m third (codes "audio") size (site_view middle.dial.0) (site_view r.dial.0) threes r.third
   pub kept : r.summary.kept ≡ 3 * size
   pub refused : r.summary.refused ≡ refusals size number
   pub crashed : r.summary.crashes ≡ 1 + crashes size number

@@ -30,10 +30,6 @@ IsSaidBy failed broken crowded log request (acted.Sent bytes) =
     (host : List ℕ) (port : ℕ) (named : List ℕ) → MayBeAsked host port named → request ≡ get_text host port named
     → IsReplyFront failed crowded log named bytes
 
--- the same, whatever these came of
-abbrev pub IsSaid : List Entry → List ℕ → Acted → Type 0
-IsSaid log request came = IsSaidBy (Unit {0}) (Unit {0}) (Unit {0}) log request came
-
 -- One transcript goes on from another; and at some moment of that, perhaps the first, 64 connections of a stretch up to then had begun that were
 -- neither left nor shut.
 pub record IsCrowdedSince (was now : List Item) : Type 0 where
@@ -49,7 +45,17 @@ pub record IsCrowdedSince (was now : List Item) : Type 0 where
 abbrev pub WasCrowded : View → View → Type 0
 WasCrowded old new = Both old.transcript new.transcript IsCrowdedSince
 
--- the same, where the counts of the faults rose on the way from one view of a site to another, and where it was crowded on that way
+-- what was told goes on
+abbrev pub IsLonger : List Item → List Item → Type 0
+IsLonger was now = (more : List Item) × (now ≡ was ++ more)
+
+-- A site was used, and didn't crash: no fault is uncounted, and its transcript goes on.
+pub record TellsOn (old new : View) : Type 0 where
+  pub disk_faults : old.disk_faults ≤ new.disk_faults
+  pub link_faults : old.link_faults ≤ new.link_faults
+  pub transcript : Both old.transcript new.transcript IsLonger
+
+-- IsSaidBy, where the counts of the faults rose on the way from one view of a site to another, and where it was crowded on that way
 abbrev pub IsSaidBetween : View → View → List Entry → List ℕ → Acted → Type 0
 IsSaidBetween old new log request came =
     IsSaidBy (Rose old.disk_faults new.disk_faults) (Rose old.link_faults new.link_faults) (WasCrowded old new) log request came

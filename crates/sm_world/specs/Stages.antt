@@ -3,7 +3,7 @@ use Rattle.std.specs.Prelude.{◌≡◌, ◌≤◌, ◌<◌, ◌+◌, ◌^◌, �
 use Rattle.sm_fetch.specs.declared.dial.Exchange.{Exchange}
 use Rattle.sm_site.specs.declared.memory.MemorySite.{MemorySite}
 use Rattle.sm_site.specs.Memory.{site_view, site_may_leave, site_left_at}
-use Rattle.sm_world.specs.Deeds.{Deed, AreDone, place}
+use Rattle.sm_world.specs.Deeds.{Deed, AreDone, fragments_in, place}
 use Rattle.sm_world.specs.Dialing.{Dialing}
 use Rattle.sm_world.specs.Header.{header_text}
 use Rattle.sm_world.specs.Later.{Continues}
@@ -25,7 +25,7 @@ pub record HasPushed (old new : Stage) (deeds : List Deed) (crashes refusals mos
   pub more : List Exchange
   pub made : new.dial.1.made ≡ old.dial.1.made ++ more
   pub known : ℕ
-  pub tell : Tell more known refusals
+  pub tell : Tell (fragments_in deeds) more known refusals
   pub known_is : new.known ≡ old.known + known
   pub few : known ≤ most
   pub refused_is : new.refused ≡ old.refused + refusals

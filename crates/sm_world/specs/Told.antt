@@ -26,13 +26,15 @@ refused_by told.Refused = 1
 refused_by told.Failed = 0
 
 -- what the answer to a push of so many fragments says
-pub record SaysOf (x : Exchange) (t : Told) : Type 0 where
-  pub fragments : ℕ
+pub record SaysOf (fragments : ℕ) (x : Exchange) (t : Told) : Type 0 where
   pub came : Pushed
   pub spells : SpellsPush x.answer came
   pub says : Says fragments came t
 
--- The answers to these pushes say in all how many fragments were known, and how many pushes were refused.
-abbrev pub Tell : List Exchange → ℕ → ℕ → Type 0
-Tell [] known refused = (known ≡ 0) × (refused ≡ 0)
-Tell (x ∷ xs) known refused = (t : Told) × SaysOf x t × ((k r : ℕ) × Tell xs k r × (known ≡ known_by t + k) × (refused ≡ refused_by t + r))
+-- The answers to these pushes, of so many fragments each, say in all how many fragments were known, and how many pushes were refused.
+abbrev pub Tell : List ℕ → List Exchange → ℕ → ℕ → Type 0
+Tell [] [] known refused = (known ≡ 0) × (refused ≡ 0)
+Tell [] (x ∷ xs) known refused = ⊥
+Tell (n ∷ ns) [] known refused = ⊥
+Tell (n ∷ ns) (x ∷ xs) known refused =
+    (t : Told) × SaysOf n x t × ((k r : ℕ) × Tell ns xs k r × (known ≡ known_by t + k) × (refused ≡ refused_by t + r))

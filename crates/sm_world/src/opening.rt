@@ -11,7 +11,7 @@ ghost use Rattle.sm_site.specs.Scripts.{deals_of, is_script, numbers_after};
 ghost use Rattle.sm_site.specs.Sites.{SameBut};
 ghost use Rattle.sm_world.specs.Answering.{HasCause, HasSent};
 ghost use Rattle.sm_world.specs.Bringing.{Brings};
-ghost use Rattle.sm_world.specs.Saying.{SaysOn};
+ghost use Rattle.sm_world.specs.Saying.{SaysOn, TellsOn};
 ghost use Rattle.sm_world.specs.Worlds.{World, Stands, IsOpen, Grows, GoesOn};
 
 use crate::Acted;
@@ -148,6 +148,7 @@ fn serve_request<S: Crashing>(
     ensures goes_on { GoesOn S.Disk.view S.Disk.may_leave S.Disk.left_at (Some state.old) site.old (Some state.new) site.new }
     ensures says { SaysOn S.Disk.view S.Disk.may_leave S.Disk.left_at (Some state.old) site.old request.now result (Some state.new) site.new }
     ensures cause { HasCause S.Disk.view (Some state.old) site.old (Some state.new) site.new request.now result }
+    ensures tells { TellsOn (S.Disk.view site.old) (S.Disk.view site.new) }
     ensures opened { result ≢ Acted.Unopened }
 {
     match bring(alloc, site, state, request) {
@@ -174,6 +175,7 @@ pub(crate) fn ask<S: Crashing>(
     ensures goes_on { GoesOn S.Disk.view S.Disk.may_leave S.Disk.left_at state site.old result.state site.new }
     ensures says { SaysOn S.Disk.view S.Disk.may_leave S.Disk.left_at state site.old request.now result.acted result.state site.new }
     ensures cause { HasCause S.Disk.view state site.old result.state site.new request.now result.acted }
+    ensures tells { TellsOn (S.Disk.view site.old) (S.Disk.view site.new) }
 {
     match opened(alloc, site, state, limits) {
         Ok(mut state) => {

@@ -34,7 +34,7 @@ impl Stage {
         requires few { fragments ≤ 3 }
         requires known { self.old.known < 2 ^ 62 }
         requires refused { self.old.refused < 2 ^ 62 }
-        ensures { IfOk result (λ told. HasPushed self.old self.new (Pushes body.now ∷ []) 0 (refused_by told) 3) }
+        ensures { IfOk result (λ told. HasPushed self.old self.new (Pushes fragments body.now ∷ []) 0 (refused_by told) 3) }
     {
         let pushed = push_body(self.alloc, &mut self.dial, &self.place, &self.id, body);
         let told = told_by(self.alloc, fragments, pushed)?;
@@ -51,7 +51,7 @@ impl Stage {
         requires few { fragments ≤ 3 }
         requires known { self.old.known < 2 ^ 62 }
         requires refused { self.old.refused < 2 ^ 62 }
-        ensures { OnOk result (HasPushed self.old self.new (Pushes body.now ∷ []) 0 0 3) }
+        ensures { OnOk result (HasPushed self.old self.new (Pushes fragments body.now ∷ []) 0 0 3) }
     {
         match self.push(body, fragments)? {
             Told::Taken { .. } => Ok(()),
@@ -63,7 +63,7 @@ impl Stage {
     fn push_refused(&mut self, body: &[u8]) -> Result<(), NoMemory>
         requires known { self.old.known < 2 ^ 62 }
         requires refused { self.old.refused < 2 ^ 62 }
-        ensures { OnOk result (HasPushed self.old self.new (Pushes body.now ∷ []) 0 1 3) }
+        ensures { OnOk result (HasPushed self.old self.new (Pushes 1 body.now ∷ []) 0 1 3) }
     {
         match self.push(body, 1)? {
             Told::Refused => Ok(()),
@@ -75,7 +75,7 @@ impl Stage {
     fn push_stopped(&mut self, body: &[u8]) -> Result<(), NoMemory>
         requires known { self.old.known < 2 ^ 62 }
         requires refused { self.old.refused < 2 ^ 62 }
-        ensures { OnOk result (HasPushed self.old self.new (Pushes body.now ∷ []) 0 0 3) }
+        ensures { OnOk result (HasPushed self.old self.new (Pushes 3 body.now ∷ []) 0 0 3) }
     {
         match self.push(body, 3)? {
             Told::Taken { .. } => Ok(()),

@@ -2,7 +2,8 @@ use Rattle.std.proofs.Common.{Some, refl, arith}
 use Rattle.sm_world.proofs.Standing.{serves_on}
 use Rattle.sm_world.proofs.Calls.{grows_not, handed, rose_from, served_all}
 use Rattle.sm_world.specs.declared.acted.Acted.TheVariants as acted
-use Rattle.sm_world.proofs.Speaking.{says_nothing, says_sent}
+use Rattle.sm_world.specs.Wider.{tells_but, tells_then}
+use Rattle.sm_world.proofs.Speaking.{says_nothing, says_sent, tells_served}
 use Rattle.sm_world.proofs.opening.serve_request.Goals as goal
 
 pub serve-requires-clause-stands : goal.serve-requires-clause-stands
@@ -73,3 +74,27 @@ returns-in-NoMemory-clause-says g c w open_ =
     (serves_on g.S.Disk.view g.S.Disk.may_leave g.S.Disk.left_at w c.args.state.now c.bring.new.site c.serve.new.state c.serve.new.site
     (g.met.S.Crashing.tells c.bring.new.site).contents (g.met.S.Crashing.tells c.serve.new.site).contents
     c.serve.ensures.goes_on (c.bring.ensures.stays w c.args.state.now open_))
+
+pub returns-in-None-clause-tells : goal.returns-in-None-clause-tells
+returns-in-None-clause-tells g c = tells_but (g.S.Disk.view c.args.site.now) (g.S.Disk.view c.bring.new.site) c.bring.ensures.view
+
+pub returns-in-Done-clause-tells : goal.returns-in-Done-clause-tells
+returns-in-Done-clause-tells g c =
+    tells_then (g.S.Disk.view c.args.site.now) (g.S.Disk.view c.bring.new.site) (g.S.Disk.view c.serve.new.site)
+    (tells_but (g.S.Disk.view c.args.site.now) (g.S.Disk.view c.bring.new.site) c.bring.ensures.view)
+    (tells_served g.S.Disk.view g.S.Disk.may_leave g.S.Disk.left_at c.requires.stands.0 c.args.state.now c.bring.new.site c.serve.new.state c.serve.new.site
+    c.serve.ensures.goes_on c.serve.ensures.link_faults (c.bring.ensures.stays c.requires.stands.0 c.args.state.now c.requires.stands.1))
+
+pub returns-in-LinkFault-clause-tells : goal.returns-in-LinkFault-clause-tells
+returns-in-LinkFault-clause-tells g c =
+    tells_then (g.S.Disk.view c.args.site.now) (g.S.Disk.view c.bring.new.site) (g.S.Disk.view c.serve.new.site)
+    (tells_but (g.S.Disk.view c.args.site.now) (g.S.Disk.view c.bring.new.site) c.bring.ensures.view)
+    (tells_served g.S.Disk.view g.S.Disk.may_leave g.S.Disk.left_at c.requires.stands.0 c.args.state.now c.bring.new.site c.serve.new.state c.serve.new.site
+    c.serve.ensures.goes_on c.serve.ensures.link_faults (c.bring.ensures.stays c.requires.stands.0 c.args.state.now c.requires.stands.1))
+
+pub returns-in-NoMemory-clause-tells : goal.returns-in-NoMemory-clause-tells
+returns-in-NoMemory-clause-tells g c =
+    tells_then (g.S.Disk.view c.args.site.now) (g.S.Disk.view c.bring.new.site) (g.S.Disk.view c.serve.new.site)
+    (tells_but (g.S.Disk.view c.args.site.now) (g.S.Disk.view c.bring.new.site) c.bring.ensures.view)
+    (tells_served g.S.Disk.view g.S.Disk.may_leave g.S.Disk.left_at c.requires.stands.0 c.args.state.now c.bring.new.site c.serve.new.state c.serve.new.site
+    c.serve.ensures.goes_on c.serve.ensures.link_faults (c.bring.ensures.stays c.requires.stands.0 c.args.state.now c.requires.stands.1))

@@ -1,4 +1,4 @@
-use Rattle.std.proofs.Common.{ℕ, List, None, ◌<◌}
+use Rattle.std.proofs.Common.{ℕ, List, None, ◌<◌, ◌≤◌}
 use Rattle.sm_model.specs.declared.entry.Entry.{Entry}
 use Rattle.sm_site.specs.Meanings.{SameLink}
 use Rattle.sm_archive.specs.Stands.{Stands as Holds}
@@ -9,5 +9,6 @@ abbrev pub invariant-loop-i : goal.invariant-loop-i
 invariant-loop-i g l = record {
   stands : (log : List Entry) → Holds l.archive log None (g.S.Disk.may_leave l.fn.site) → Holds l.archive log None (g.S.Disk.may_leave l.site);
   kept : (log : List Entry) → Holds l.archive log None (g.S.Disk.may_leave l.fn.site) → (j : ℕ) → j < l.i → KeepsRound log j;
+  no_fewer : (g.S.Disk.view l.fn.site).disk_faults ≤ (g.S.Disk.view l.site).disk_faults;
   link : SameLink (g.S.Disk.view l.fn.site) (g.S.Disk.view l.site);
 }

@@ -101,7 +101,7 @@ returns-clause-goes_on g c =
     (λ (same : c.told.result ≡ c.answer_for-answer.result). inr (same ∙ c.answer_for-answer.ensures ∙ ap (λ (b : Bool). answer_for b c.contains-cut.result c.args.limit came) lost
     ∙ ap (λ (b : Bool). answer_for (is_listed n s.lost) b c.args.limit came) cut))
     c.told.ensures.same)
-    refl refl refl refl refl goes)
+    refl refl refl refl refl c.ask-state.ensures.tells goes)
 
 pub invariant_of-self : goal.invariant_of-self
 invariant_of-self g c =
