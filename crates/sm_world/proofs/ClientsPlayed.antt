@@ -127,7 +127,9 @@ module _ {P : Type 0} (m : Meaning P) (p : P) (name : List ℕ) (count most : �
       let by : AreByNumber (site_view old.0) (site_view new.0) lost cut 1 (log_of count) more on.0 =
       subst (λ (n : ℕ). AreByNumber (site_view old.0) (site_view new.0) lost cut n (log_of count) more on.0) one
       (subst (λ (xs : List Exchange). AreByNumber (site_view old.0) (site_view new.0) lost cut (next_number (renumbered old lost cut).1) (log_of count) xs on.0) same_more on.2)
-      in are_due (site_view old.0) (site_view new.0) lost cut most 1 (log_of count) on.0 more five seven (omega arith) (omega (arith, length_more, within)) (let was = length_log count in omega (arith, was, len))
+      in
+      are_due (site_view old.0) (site_view new.0) lost cut most 1 (log_of count) on.0 more five seven (omega arith) (omega (arith, length_more, within))
+      (let was = length_log count in omega (arith, was, len))
       (subst (HaveCome 1) (ap (drop (length old.1.made)) made ∙ drop-append_seam old.1.made more) come) by
 
   all_written : length written ≡ count

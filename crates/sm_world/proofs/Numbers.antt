@@ -81,8 +81,8 @@ by_grown from to lost cut number log later (x ∷ xs) (more, by, rest) = let len
 abbrev pub Lists : ℕ → ℕ → List ℕ → Type 0
 Lists of most xs = (n : ℕ) → 0 < n → n ≤ most → is_listed n xs ≡ (n % of == 0)
 
-due_by : (from to : View) (log : List Entry) (x : Exchange) (came : Acted) (lost cut : Bool) → x.answer ≡ answer_for lost cut x.limit came → CameBy lost x.answer → IsSaidBetween from to log x.request came
-    → DueBy from to lost cut log x
+due_by : (from to : View) (log : List Entry) (x : Exchange) (came : Acted) (lost cut : Bool) → x.answer ≡ answer_for lost cut x.limit came → CameBy lost x.answer
+    → IsSaidBetween from to log x.request came → DueBy from to lost cut log x
 due_by from to log x came true cut is due said = due
 due_by from to log x acted.Unopened false cut is due said = absurd (subst (CameBy false) is due)
 due_by from to log x acted.Broken false cut is due said = absurd (subst (CameBy false) is due)

@@ -268,7 +268,8 @@ module _ (fails crowds : Type 0) (conn : ℕ) (request : List ℕ) (first : List
             inr (subst (λ (t : List ℕ). Good x.after.log t) (sym same) (subst (λ (l : List Entry). Good l (sent_on conn items')) (sym on.1) (good_later p.machine.log on.0 (sent_on conn items') good)), gone over_)
 
     -- an item is acted on
-    acted : (n : ℕ) (item : WireItem) (more : List WireItem) (act : Act) (x : Stepped) (q : Point) → Causes fails x → p.phase ≡ acting n (item ∷ more) → act_of (p.counts n) item ≡ Some act → x.act ≡ act → x.before ≡ p.machine
+    acted : (n : ℕ) (item : WireItem) (more : List WireItem) (act : Act) (x : Stepped) (q : Point) → Causes fails x → p.phase ≡ acting n (item ∷ more)
+        → act_of (p.counts n) item ≡ Some act → x.act ≡ act → x.before ≡ p.machine
         → IsAct x → ns ≡ [] → q.machine ≡ x.after → q.phase ≡ phase_after n (sent_of x.reply) (x.reply.close || closes item) more → Next q.machine.log q.phase
     acted n item more act x q causes phase does act_is before step e machine to = elim (cases_eq n conn) [
       | inr other ↦ grows x q before step e now machine to (λ waits. else_waits (sent_of x.reply) (x.reply.close || closes item) other)

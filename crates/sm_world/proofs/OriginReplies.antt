@@ -38,7 +38,7 @@ use Rattle.sm_origin.proofs.Real.{channel_writable, kept_samples}
 use Rattle.sm_serve.specs.declared.texts.TheConstants.{TOO_MANY}
 use Rattle.sm_serve.specs.Run.{act_of_target, sent_of}
 use Rattle.sm_fetch.specs.Origins.{IsKeptText, IsUnwell, IsOriginReply}
-use Rattle.sm_world.specs.Replying.{given, IsRefusable, Replaces, IsReplyTo, IsReplyFront}
+use Rattle.sm_world.specs.Replying.{given, IsRefusable, Replaces, IsReplyTo}
 use Rattle.sm_world.proofs.ManifestSize.{few_listed, manifest_size}
 
 -- ---- what is kept stands within the log

@@ -145,16 +145,17 @@ module _ {D : Type 0} (view : D → View) (leave : D → Image → Type 0) (left
       crowded = WasCrowded (view c) (view e)
 
       crowding : (es more : List Item) → k.items ≡ (h.items ++ es) ++ more → 64 ≤ length (live (h.items ++ es)) → crowded
-      crowding es more is many = both_some (view c).transcript (view e).transcript IsCrowdedSince (h.base ++ h.items) (k.base ++ k.items) (sym same ∙ o.serves.keeps.told) t.1.turns.serves.keeps.told (record {
-        until = es;
-        since = more;
-        goes_on = ap (λ (l : List Item). l ++ k.items) since.base ∙ ap (λ (l : List Item). h.base ++ l) is ∙ sym (append_assoc h.base (h.items ++ es) more)
-            ∙ ap (λ (l : List Item). l ++ more) (sym (append_assoc h.base h.items es));
-        before = h.base;
-        stretch = h.items ++ es;
-        ends = append_assoc h.base h.items es;
-        many = many;
-      })
+      crowding es more is many =
+          both_some (view c).transcript (view e).transcript IsCrowdedSince (h.base ++ h.items) (k.base ++ k.items) (sym same ∙ o.serves.keeps.told) t.1.turns.serves.keeps.told (record {
+            until = es;
+            since = more;
+            goes_on = ap (λ (l : List Item). l ++ k.items) since.base ∙ ap (λ (l : List Item). h.base ++ l) is ∙ sym (append_assoc h.base (h.items ++ es) more)
+                ∙ ap (λ (l : List Item). l ++ more) (sym (append_assoc h.base h.items es));
+            before = h.base;
+            stretch = h.items ++ es;
+            ends = append_assoc h.base h.items es;
+            many = many;
+          })
 
       path : (es : List Item) × (further : List Stepped) × (k.items ≡ h.items ++ es) × (k.steps ≡ h.steps ++ further)
           × (AreFirst conn request (deals_in es) → AreActs k.steps → AllCause failed further → Stood failed crowded conn request first h.items k.items es k.point.machine.log k.point.phase)

@@ -139,7 +139,8 @@ module _ (old new : Stage) (place : new.place ≡ old.place) (id : new.id ≡ ol
       }
 
   -- no push, but perhaps crashes
-  pub quiet : (deed : Deed) (crashes : ℕ) → fragments_in (deed ∷ []) ≡ [] → IsDone old.place old.id deed old.dial new.dial → new.dial.1.made ≡ old.dial.1.made → new.known ≡ old.known → new.refused ≡ old.refused
+  pub quiet : (deed : Deed) (crashes : ℕ) → fragments_in (deed ∷ []) ≡ []
+      → IsDone old.place old.id deed old.dial new.dial → new.dial.1.made ≡ old.dial.1.made → new.known ≡ old.known → new.refused ≡ old.refused
       → (old.dial.1.crashes + crashes < 2 ^ 62 → new.dial.1.crashes ≡ old.dial.1.crashes + crashes) → StaysOn old.dial new.dial → HasPushed old new (deed ∷ []) crashes 0 0
   quiet deed crashes none done made known refused crashed stays = record {
     place = place;

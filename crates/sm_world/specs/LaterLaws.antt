@@ -93,7 +93,8 @@ module _ {D : Type 0} (view : D → View) (leave : D → Image → Type 0) (left
           in (
             y.0,
             y.1,
-            by_both (view d.0) (view f.0) d.1.lost d.1.cut (next_number d.1) (next_number e.1) log x.0 a.more b.more y.0 (omega (arith, long, since, within)) first second,
+            by_both (view d.0) (view f.0) d.1.lost d.1.cut (next_number d.1) (next_number e.1) log x.0 a.more b.more y.0
+                (omega (arith, long, since, within)) first second,
           )
 
   pub is_later_same : (d : D × Dialing) → IsLater view leave left_at d d

@@ -37,7 +37,8 @@ longer_then None (Some y) (Some z) one two = one
 longer_then (Some x) None None one two = one
 longer_then (Some x) None (Some z) one two = absurd one
 longer_then (Some x) (Some y) None one two = two
-longer_then (Some x) (Some y) (Some z) (more, is) (further, then) = (more ++ further, then ∙ ap (λ (l : List Item). l ++ further) is ∙ append_assoc x more further)
+longer_then (Some x) (Some y) (Some z) (more, is) (further, then) =
+    (more ++ further, then ∙ ap (λ (l : List Item). l ++ further) is ∙ append_assoc x more further)
 
 crowded_before : (a b c : Option (List Item)) → Both a b IsLonger → Both b c IsCrowdedSince → Both a c IsCrowdedSince
 crowded_before None None None one two = tt
@@ -109,7 +110,8 @@ tells_link a b no_fewer same = record {
 -- ---- what is said
 
 -- a disk that failed and a connection too many are so by anything that follows
-pub replies_by : {f g c d : Type 0} (log : List Entry) (named bytes : List ℕ) → (f → g) → (c → d) → IsReplyTo f c log named bytes → IsReplyTo g d log named bytes
+pub replies_by : {f g c d : Type 0} (log : List Entry) (named bytes : List ℕ) → (f → g) → (c → d) → IsReplyTo f c log named bytes
+    → IsReplyTo g d log named bytes
 replies_by {f = f} {g = g} {c = c} {d = d} log named bytes fails crowds (says, is) = (by says, is)
   where
     by : (bytes ≡ given log named) ⊎ Replaces f c log named bytes → (bytes ≡ given log named) ⊎ Replaces g d log named bytes
@@ -117,23 +119,36 @@ replies_by {f = f} {g = g} {c = c} {d = d} log named bytes fails crowds (says, i
     by (inr (inl none)) = inr (inl none)
     by (inr (inr (inl (text, so)))) = inr (inr (inl (text, crowds so)))
     by (inr (inr (inr (inl u)))) =
-        inr (inr (inr (inl (record { address = u.address; place = u.place; fragment = u.fragment; asks = u.asks; kept = u.kept; why = fails u.why; reply_is = u.reply_is }))))
+        inr (inr (inr (inl (record {
+          address = u.address;
+          place = u.place;
+          fragment = u.fragment;
+          asks = u.asks;
+          kept = u.kept;
+          why = fails u.why;
+          reply_is = u.reply_is;
+        }))))
     by (inr (inr (inr (inr refusal)))) = inr (inr (inr (inr refusal)))
 
-front_by : {f g c d : Type 0} (log : List Entry) (named bytes : List ℕ) → (f → g) → (c → d) → IsReplyFront f c log named bytes → IsReplyFront g d log named bytes
+front_by : {f g c d : Type 0} (log : List Entry) (named bytes : List ℕ) → (f → g) → (c → d) → IsReplyFront f c log named bytes
+    → IsReplyFront g d log named bytes
 front_by log named bytes fails crowds (reply, more, to, is) = (reply, more, replies_by log named reply fails crowds to, is)
 
 -- what follows of these is said too
-said_wider : {f g a b c d : Type 0} (log : List Entry) (request : List ℕ) (came : Acted) → (f → g) → (a → b) → (c → d) → IsSaidBy f a c log request came → IsSaidBy g b d log request came
+said_wider : {f g a b c d : Type 0} (log : List Entry) (request : List ℕ) (came : Acted) → (f → g) → (a → b) → (c → d)
+    → IsSaidBy f a c log request came → IsSaidBy g b d log request came
 said_wider log request acted.Unopened fails breaks crowds said = fails said
 said_wider log request acted.Broken fails breaks crowds said = breaks said
 said_wider log request acted.NoMemory fails breaks crowds said = tt
-said_wider log request (acted.Sent bytes) fails breaks crowds said = λ host port named may text. front_by log named bytes fails crowds (said host port named may text)
+said_wider log request (acted.Sent bytes) fails breaks crowds said =
+    λ host port named may text. front_by log named bytes fails crowds (said host port named may text)
 
-pub said_between : (a b c d : View) → TellsOn a b → TellsOn c d → (log : List Entry) (request : List ℕ) (came : Acted) → IsSaidBetween b c log request came → IsSaidBetween a d log request came
+pub said_between : (a b c d : View) → TellsOn a b → TellsOn c d → (log : List Entry) (request : List ℕ) (came : Acted)
+    → IsSaidBetween b c log request came → IsSaidBetween a d log request came
 said_between a b c d before behind log request came said =
     said_wider log request came
     (λ rose. rose_wider a.disk_faults b.disk_faults c.disk_faults d.disk_faults before.disk_faults behind.disk_faults rose)
     (λ rose. rose_wider a.link_faults b.link_faults c.link_faults d.link_faults before.link_faults behind.link_faults rose)
-    (λ crowded. crowded_before a.transcript b.transcript d.transcript before.transcript (crowded_behind b.transcript c.transcript d.transcript crowded behind.transcript))
+    (λ crowded. crowded_before a.transcript b.transcript d.transcript before.transcript
+    (crowded_behind b.transcript c.transcript d.transcript crowded behind.transcript))
     said

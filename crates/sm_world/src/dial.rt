@@ -88,13 +88,6 @@ impl<S: Crashing> OriginDial<S> {
         }
     }
 
-    /// Wherever it is, there is a log at which it stands.
-    pub fn stands(&self)
-        ensures { (w : World) × Stands S.Disk.view S.Disk.may_leave S.Disk.left_at w self.now.1.state self.now.0 }
-    {
-        let _ = &self.site;
-    }
-
     /// The exchanges so far, but for those that wanted memory.
     pub fn exchanges(&self) -> &[Exchange]
         ensures { result.now ≡ self.now.1.made }

@@ -9,7 +9,8 @@ use Rattle.sm_world.proofs.opening.ask.Goals as goal
 pub returns-in-Ok-clause-says : goal.returns-in-Ok-clause-says
 returns-in-Ok-clause-says g c w stands =
     says_before g.S.Disk.view g.S.Disk.may_leave g.S.Disk.left_at w c.args.site.now c.opened.new.site c.serve_request-acted.new.site c.args.request.now c.serve_request-acted.result (Some c.serve_request-acted.new.state)
-    (tells_link (g.S.Disk.view c.args.site.now) (g.S.Disk.view c.opened.new.site) c.in-Ok.ensures.no_fewer c.in-Ok.ensures.link) (c.serve_request-acted.ensures.says w (c.in-Ok.ensures.opened w stands))
+    (tells_link (g.S.Disk.view c.args.site.now) (g.S.Disk.view c.opened.new.site) c.in-Ok.ensures.no_fewer c.in-Ok.ensures.link)
+    (c.serve_request-acted.ensures.says w (c.in-Ok.ensures.opened w stands))
 
 pub returns-in-Err-DiskFault-clause-says : goal.returns-in-Err-DiskFault-clause-says
 returns-in-Err-DiskFault-clause-says g c w stands =

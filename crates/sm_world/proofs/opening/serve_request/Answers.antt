@@ -1,4 +1,4 @@
-use Rattle.std.proofs.Common.{Some, refl, arith}
+use Rattle.std.proofs.Common.{Some, arith}
 use Rattle.sm_world.proofs.Standing.{serves_on}
 use Rattle.sm_world.proofs.Calls.{grows_not, handed, rose_from, served_all}
 use Rattle.sm_world.specs.declared.acted.Acted.TheVariants as acted
@@ -40,7 +40,8 @@ returns-in-NoMemory-clause-goes_on g c w open_ =
 pub returns-in-Done-clause-cause : goal.returns-in-Done-clause-cause
 returns-in-Done-clause-cause g c =
     let kept = c.bring.ensures.stays c.requires.stands.0 c.args.state.now c.requires.stands.1 in
-    handed g.S.Disk.view g.S.Disk.may_leave g.S.Disk.left_at (Some c.args.state.now) c.serve.new.state c.args.site.now c.bring.new.site c.serve.new.site c.args.request.now c.in-Some.conn c.sent_on.result
+    handed g.S.Disk.view g.S.Disk.may_leave g.S.Disk.left_at (Some c.args.state.now) c.serve.new.state
+    c.args.site.now c.bring.new.site c.serve.new.site c.args.request.now c.in-Some.conn c.sent_on.result
     c.sent_on.ensures c.in-Some.ensures.first c.in-Some.ensures.brings
     (served_all g.S.Disk.view g.S.Disk.may_leave g.S.Disk.left_at kept.run c.in-Done.turns c.in-Done.behind c.in-Done.short 18446744073709551615
     c.serve.new.state c.serve.new.site (omega arith) (c.in-Done.ensures.runs kept.run kept.serves))

@@ -5,11 +5,13 @@ use Rattle.sm_world.proofs.Staging.{pushed_by_b, silent_b}
 use Rattle.sm_world.proofs.stage.Stage.push_of_b.Goals as goal
 
 pub returns-in_ok-other-in-Known : goal.returns-in_ok-other-in-Known
-returns-in_ok-other-in-Known c = pushed_by_b c.args.self.now c.push_taken.new.self c.push_taken.result 1 c.deref.result.now (body_of_b c.args.self.now.header (20000000 * c.args.i) 20000000) c.args.kind Known c.args.i 0
+returns-in_ok-other-in-Known c =
+    pushed_by_b c.args.self.now c.push_taken.new.self c.push_taken.result 1 c.deref.result.now (body_of_b c.args.self.now.header (20000000 * c.args.i) 20000000) c.args.kind Known c.args.i 0
     (c.deref.ensures.value ∙ c.in_ok-other-in-Known.ensures ∙ ap (λ (h : List ℕ). body_of_b h (20000000 * c.args.i) 20000000) c.as_slice-header.ensures) c.in-Known.is refl refl c.push_taken.ensures
 
 pub returns-in_ok-other-in-Clash : goal.returns-in_ok-other-in-Clash
-returns-in_ok-other-in-Clash c = pushed_by_b c.args.self.now c.push_refused.new.self c.push_refused.result 1 c.deref-in-Clash.result.now (body_of_b c.args.self.now.header (20000000 * c.args.i) 1) c.args.kind Clash c.args.i 1
+returns-in_ok-other-in-Clash c =
+    pushed_by_b c.args.self.now c.push_refused.new.self c.push_refused.result 1 c.deref-in-Clash.result.now (body_of_b c.args.self.now.header (20000000 * c.args.i) 1) c.args.kind Clash c.args.i 1
     (c.deref-in-Clash.ensures.value ∙ c.in_ok-other-in-Clash.ensures ∙ ap (λ (h : List ℕ). body_of_b h (20000000 * c.args.i) 1) c.as_slice-header.ensures) c.in-Clash.is refl refl c.push_refused.ensures
 
 pub returns-in_ok-other-in-Overlap : goal.returns-in_ok-other-in-Overlap
