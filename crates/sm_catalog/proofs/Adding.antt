@@ -30,7 +30,8 @@ none_at : {X : Type 0} (p : X → Bool) (xs : List X) (k : ℕ) (d : X) → list
 none_at p [] k d e h = absurd (omega arith)
 none_at p (x ∷ xs) k d e h = by_or (p x) refl e k h (λ i f w. none_at p xs i d f w)
   where
-    by_or : (b : Bool) → p x ≡ b → (b || list_any p xs) ≡ false → (k : ℕ) → k < suc (length xs) → ((i : ℕ) → list_any p xs ≡ false → i < length xs → p (get_or xs i d) ≡ false) → p (get_or (x ∷ xs) k d) ≡ false
+    by_or : (b : Bool) → p x ≡ b → (b || list_any p xs) ≡ false → (k : ℕ) → k < suc (length xs)
+        → ((i : ℕ) → list_any p xs ≡ false → i < length xs → p (get_or xs i d) ≡ false) → p (get_or (x ∷ xs) k d) ≡ false
     by_or true is e k h rest = absurd cc
     by_or false is e zero h rest = is
     by_or false is e (suc i) h rest = rest i e (omega arith)
@@ -44,7 +45,8 @@ names_apart ns (t ∷ ts) apart =
     (λ k d h e. let no = none_at (λ (n : List ℕ). is_same n t.name) ns k d is h in let yes = same_name (get_or ns k d) t.name e in absurd cc)))
 
 -- two streams have different names
-pub lanes_apart : (channel : List Track) (lanes : List Lane) (i j : ℕ) (d : Lane) → map (λ (l : Lane). l.name) lanes ≡ names_of channel → i < length lanes → j < length lanes → i ≢ j → (get_or lanes i d).name ≢ (get_or lanes j d).name
+pub lanes_apart : (channel : List Track) (lanes : List Lane) (i j : ℕ) (d : Lane) → map (λ (l : Lane). l.name) lanes ≡ names_of channel → i < length lanes
+    → j < length lanes → i ≢ j → (get_or lanes i d).name ≢ (get_or lanes j d).name
 lanes_apart channel lanes i j d names hi hj ne = λ same.
     let apart : AllPairs (λ (a b : List ℕ). a ≢ b) (map (λ (l : Lane). l.name) lanes) = subst (λ (ns : List (List ℕ)). AllPairs (λ (a b : List ℕ). a ≢ b) ns) (sym names)
     (names_apart [] channel (λ a b e h k. absurd (omega (arith, k)))) in
@@ -86,7 +88,8 @@ differ_in_bitrate s (t ∷ ts) agree =
     each [] name agree = tt
     each (u ∷ us) name agree =
         let later = each us name (λ k d h. agree (suc k) d (omega (arith, h))) in
-        chosen (is_named s u) (λ l. AllByRecursion (λ (v : Track). t.bitrate ≢ v.bitrate) l) (u ∷ filter (is_named s) us) (filter (is_named s) us) (λ is. ((agree 0 u (omega arith)).apart (name ∙ sym (bytes u is)), later)) (λ _. later)
+        chosen (is_named s u) (λ l. AllByRecursion (λ (v : Track). t.bitrate ≢ v.bitrate) l) (u ∷ filter (is_named s) us) (filter (is_named s) us)
+            (λ is. ((agree 0 u (omega arith)).apart (name ∙ sym (bytes u is)), later)) (λ _. later)
 
 pub has_bitrate : (s : List ℕ) (r : ℕ) (ts : List Track) → list_any (is_the s r) ts ≡ list_any (λ (t : Track). eqb t.bitrate r) (filter (is_named s) ts)
 has_bitrate s r [] = refl

@@ -70,7 +70,8 @@ none_other p q r (t ∷ ts) is other =
     by_test true rest = ap suc rest
     by_test false rest = rest
 
-pub count_flip : (p q : Track → Bool) (r : ℕ) (ts : List Track) → ((t : Track) → q t ≡ (p t || eqb t.bitrate r)) → ((t : Track) → t.bitrate ≡ r → p t ≡ false) → DifferInBitrate ts → HasBitrate r ts → passing q ts ≡ passing p ts + 1
+pub count_flip : (p q : Track → Bool) (r : ℕ) (ts : List Track) → ((t : Track) → q t ≡ (p t || eqb t.bitrate r)) → ((t : Track) → t.bitrate ≡ r → p t ≡ false)
+    → DifferInBitrate ts → HasBitrate r ts → passing q ts ≡ passing p ts + 1
 count_flip p q r [] is off differ has = absurd cc
 count_flip p q r (t ∷ ts) is off differ has = by_test (eqb t.bitrate r) refl has (λ h. count_flip p q r ts is off differ.1 h)
   where

@@ -61,7 +61,8 @@ not_kept adds a s tr name free bitrate =
     ∙ ap is_some free
 
 -- how many tracks are kept at each time
-counts_now : (channel : List Track) (adds : List Add) (a : Add) (s : List ℕ) (t : ℕ) → a.address.stream ≡ s → place_of a.address adds ≡ None → DifferInBitrate (tracks_of s channel) → HasBitrate a.address.bitrate (tracks_of s channel)
+counts_now : (channel : List Track) (adds : List Add) (a : Add) (s : List ℕ) (t : ℕ) → a.address.stream ≡ s → place_of a.address adds ≡ None
+    → DifferInBitrate (tracks_of s channel) → HasBitrate a.address.bitrate (tracks_of s channel)
     → passing (is_kept (adds ++ a ∷ []) s t) (tracks_of s channel) ≡ cond (eqb a.address.time t) (passing (is_kept adds s a.address.time) (tracks_of s channel) + 1) (passing (is_kept adds s t) (tracks_of s channel))
 counts_now channel adds a s t name free differ has = by_test (eqb a.address.time t) refl
   where

@@ -217,7 +217,8 @@ whole_added channel added kept lanes reserved capacity more k j d p x e m whole 
 -- ---- before the add
 
 pub rooms_there : (channel : List Track) (added : List Added) (kept : List Entries) (lanes : List Lane) (reserved capacity k j : ℕ) (x : Address) (l : Lane) (f : Entries) → IsWhole channel added kept lanes reserved capacity
-    → position (is_the x.stream x.bitrate) channel ≡ Some k → position (λ (n : Lane). is_same n.name x.stream) lanes ≡ Some j → 1 ≤ spare_of x.stream (spares_in lanes) → (1 ≤ (get_or lanes j l).spare) × (1 ≤ (get_or kept k f).room)
+    → position (is_the x.stream x.bitrate) channel ≡ Some k → position (λ (n : Lane). is_same n.name x.stream) lanes ≡ Some j
+        → 1 ≤ spare_of x.stream (spares_in lanes) → (1 ≤ (get_or lanes j l).spare) × (1 ≤ (get_or kept k f).room)
 rooms_there [] added kept lanes reserved capacity k j x l f whole e at some = absurd cc
 rooms_there (t ∷ ts) added kept lanes reserved capacity k j x l f whole e at some =
     let found = found_track x.stream x.bitrate (t ∷ ts) k e in
@@ -317,7 +318,8 @@ whole_raised channel added kept lanes reserved capacity j extra s m whole at rai
         let name : (get_or channel q t).name ≡ s = same ∙ ap (λ (n : Lane). n.name) is ∙ (raised l).name ∙ stream l in
         omega (arith, ap (λ (n : Lane). n.spare) is, rooms q f t w (same_name (get_or channel q t).name s name))
 
-    rooms_now : (i q : ℕ) (l : Lane) (t : Track) (f : Entries) → i < length lanes → q < length channel → (get_or channel q t).name ≡ (get_or (set lanes j m) i l).name → (get_or (set lanes j m) i l).spare ≤ (get_or kept q f).room
+    rooms_now : (i q : ℕ) (l : Lane) (t : Track) (f : Entries) → i < length lanes → q < length channel
+        → (get_or channel q t).name ≡ (get_or (set lanes j m) i l).name → (get_or (set lanes j m) i l).spare ≤ (get_or kept q f).room
     rooms_now i q l t f h w same = elim (cases_eq i j) [
       | inl e ↦ subst (λ (n : ℕ). (get_or channel q t).name ≡ (get_or (set lanes j m) n l).name → (get_or (set lanes j m) n l).spare ≤ (get_or kept q f).room) (sym e) (rooms_here q l t f w) same
       | inr ne ↦
@@ -418,7 +420,8 @@ fresh_spares : (channel : List Track) (ls : List Lane) → AllByRecursion (IsFre
 fresh_spares channel [] all = tt
 fresh_spares channel (l ∷ ls) all = (all.0.spare, fresh_spares channel ls all.1)
 
-pub whole_new : (channel : List Track) (added : List Added) (kept : List Entries) (lanes : List Lane) (capacity : ℕ) → IsChannel channel → added ≡ [] → length kept ≡ length channel → All (λ (e : Entries). e.entries ≡ []) kept
+pub whole_new : (channel : List Track) (added : List Added) (kept : List Entries) (lanes : List Lane) (capacity : ℕ) → IsChannel channel → added ≡ []
+    → length kept ≡ length channel → All (λ (e : Entries). e.entries ≡ []) kept
     → map (λ (l : Lane). l.name) lanes ≡ names_of channel → All (IsFresh channel) lanes → IsWhole channel added kept lanes 0 capacity
 whole_new channel added kept lanes capacity valid none as_many empty names fresh = subst (λ (as' : List Added). IsWhole channel as' kept lanes 0 capacity) (sym none) (record {
   valid = valid;

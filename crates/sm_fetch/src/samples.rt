@@ -21,7 +21,7 @@ const NO_DEFAULTS: Defaults = Defaults {
 };
 
 // Whether it is a `moof`.
-#[tactic(auto, using(sm_moof::proofs::WholeLemmas::long_one), unfolding(sm_model::specs::Boxes::box_of))]
+#[tactic(auto, using(sm_moof::proofs::WholeLemmas::long), unfolding(sm_model::specs::Boxes::box_of))]
 fn is_moof(bytes: &[u8]) -> bool
     requires { IsOneBox bytes.now }
     ensures { result ≡ is_kind (codes "moof") (box_of bytes.now) }

@@ -31,7 +31,8 @@ still_apart ts t d span times (inl new) = apart_added ts t d span times new
 still_apart ts t d span times (inr there) =
     subst AreTimes (sym (stays t d d ts (sorted_times ts times) (there_means ts t d there))) times
 
-pub apart_more : (channel : List Track) (earlier : List Add) (a : Add) → verdict channel earlier a.address a.duration ≡ judged.New → IsSpan (a.address.time, a.duration) → ((s : List ℕ) → AreTimes (times_of s earlier)) → (s : List ℕ)
+pub apart_more : (channel : List Track) (earlier : List Add) (a : Add) → verdict channel earlier a.address a.duration ≡ judged.New
+    → IsSpan (a.address.time, a.duration) → ((s : List ℕ) → AreTimes (times_of s earlier)) → (s : List ℕ)
     → AreTimes (times_of s (earlier ++ a ∷ []))
 apart_more channel earlier a new span times s =
     subst AreTimes (sym (times_snoc s [] earlier a)) (chosen (is_same a.address.stream s) AreTimes (with_entry a.address.time a.duration (times_of s earlier)) (times_of s earlier)
@@ -100,7 +101,8 @@ entry_filter : (p : ℕ × ℕ → Bool) (t d : ℕ) (ts : List (ℕ × ℕ)) �
 entry_filter p t d [] e is = absurd cc
 entry_filter p t d (x ∷ ts) e is = by_test (p x) (eqb x.0 t) refl refl e (λ k. entry_filter p t d ts k is)
   where
-    by_test : (b c : Bool) → p x ≡ b → eqb x.0 t ≡ c → cond c (Some x.1) (entry_at t ts) ≡ Some d → (entry_at t ts ≡ Some d → entry_at t (filter p ts) ≡ Some d) → entry_at t (cond b (x ∷ filter p ts) (filter p ts)) ≡ Some d
+    by_test : (b c : Bool) → p x ≡ b → eqb x.0 t ≡ c → cond c (Some x.1) (entry_at t ts) ≡ Some d
+        → (entry_at t ts ≡ Some d → entry_at t (filter p ts) ≡ Some d) → entry_at t (cond b (x ∷ filter p ts) (filter p ts)) ≡ Some d
     by_test true true px u e rest = rw u e
     by_test true false px u e rest = rw u (rest e)
     by_test false true px u e rest =

@@ -59,7 +59,8 @@ same_some : (o : Option (ℕ × Fragment)) → is_some (option_map (λ (k : ℕ 
 same_some None = refl
 same_some (Some k) = refl
 
-pub listed_kept : (log : List Entry) (channel : List Track) (a : Address) → channel_of log ≡ Some channel → is_declared channel a ≡ true → is_some (entry_at a.time (listed_in log a.stream)) ≡ true → is_some (kept_at log a) ≡ true
+pub listed_kept : (log : List Entry) (channel : List Track) (a : Address) → channel_of log ≡ Some channel → is_declared channel a ≡ true
+    → is_some (entry_at a.time (listed_in log a.stream)) ≡ true → is_some (kept_at log a) ≡ true
 listed_kept log channel a is declared there =
     let here : is_some (entry_at a.time (listed channel (adds_of log) a.stream)) ≡ true = sym (ap (λ (c : Option (List Track)). is_some (entry_at a.time (listed_by c (adds_of log) a.stream))) is) ∙ there in
     sym (same_some (kept_at log a)) ∙ sym (ap is_some (kept_place a 0 log)) ∙ listed_kept_by channel (adds_of log) a declared here
@@ -114,7 +115,8 @@ few_sound log s sound = omega (arith, listed_short (channel_of log) (adds_of log
 abbrev IsOf : List (ℕ × ℕ) → ℕ × ℕ → Type 0
 IsOf times x = entry_at x.0 times ≡ Some x.1
 
-starting_all : (P : ℕ × ℕ → Type 0) (start : ℕ) (o : Option ℕ) (rest : ℕ → List (ℕ × ℕ)) → ((d : ℕ) → o ≡ Some d → P (start, d)) → ((next : ℕ) → AllByRecursion P (rest next)) → AllByRecursion P (starting start o rest)
+starting_all : (P : ℕ × ℕ → Type 0) (start : ℕ) (o : Option ℕ) (rest : ℕ → List (ℕ × ℕ)) → ((d : ℕ) → o ≡ Some d → P (start, d))
+    → ((next : ℕ) → AllByRecursion P (rest next)) → AllByRecursion P (starting start o rest)
 starting_all P start None rest first others = tt
 starting_all P start (Some d) rest first others = (first d refl, others (start + d))
 

@@ -8,7 +8,8 @@ use Rattle.sm_log.specs.Adds.{Add, is_at, place_of, times_from, is_kept}
 use Rattle.sm_log.proofs.Choice.{chosen}
 use Rattle.sm_log.proofs.Entries.{or_place, sorted_with}
 
-pub times_snoc : (s : List ℕ) (ts : List (ℕ × ℕ)) (adds : List Add) (a : Add) → times_from s ts (adds ++ a ∷ []) ≡ cond (is_same a.address.stream s) (with_entry a.address.time a.duration (times_from s ts adds)) (times_from s ts adds)
+pub times_snoc : (s : List ℕ) (ts : List (ℕ × ℕ)) (adds : List Add) (a : Add)
+    → times_from s ts (adds ++ a ∷ []) ≡ cond (is_same a.address.stream s) (with_entry a.address.time a.duration (times_from s ts adds)) (times_from s ts adds)
 times_snoc s ts [] a = refl
 times_snoc s ts (b ∷ adds) a = times_snoc s (cond (is_same b.address.stream s) (with_entry b.address.time b.duration ts) ts) adds a
 

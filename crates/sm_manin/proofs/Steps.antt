@@ -39,7 +39,8 @@ rest n (suc k) (x ∷ xs) l = rest n k xs (omega arith)
 cons_at : (cs : List RawTime) (i : ℕ) (c : RawTime) → i < length cs → drop i cs ≡ get_or cs i c ∷ drop (i + 1) cs
 cons_at cs i c l = rw add-one (drop-cons cs i c l)
 
-head_time : (o : Bool) (end count : ℕ) (c : RawTime) (cs : List RawTime) (start d r : ℕ) → time_in o end count c cs ≡ Some (start, d, r) → fault_in (times_in o end count (c ∷ cs)) ≡ fault_in (times_in o (start + d * r) (count + r) cs)
+head_time : (o : Bool) (end count : ℕ) (c : RawTime) (cs : List RawTime) (start d r : ℕ) → time_in o end count c cs ≡ Some (start, d, r)
+    → fault_in (times_in o end count (c ∷ cs)) ≡ fault_in (times_in o (start + d * r) (count + r) cs)
 head_time o end count c cs start d r e =
     ap (λ (t : Option (ℕ × ℕ × ℕ)). fault_in (or_fault c.at t (λ x. with_times (expand x.0 x.1 x.2) (times_in o (x.0 + x.1 * x.2) (count + x.2) cs)))) e ∙ fault_with (expand start d r) _
 

@@ -264,7 +264,8 @@ level_again index t l low is fit =
     let number : number_of (decimal index) ≡ Some index = decimal_again index low in
     rw (bitrate, is.index_is, number) refl
 
-pub levels_value : (sorted : List Level) (index : ℕ) (ts : List Track) (ls : List RawLevel) → index + length ts < 2 ^ 32 → AllByRecursion IsFit ts → AreLevels index ts ls → levels_from sorted index ls ≡ levels_again sorted index ts
+pub levels_value : (sorted : List Level) (index : ℕ) (ts : List Track) (ls : List RawLevel) → index + length ts < 2 ^ 32 → AllByRecursion IsFit ts
+    → AreLevels index ts ls → levels_from sorted index ls ≡ levels_again sorted index ts
 levels_value sorted index [] [] low fit are = refl
 levels_value sorted index (t ∷ ts) (l ∷ ls) low fit are =
     let first = level_again index t l (omega (arith, low)) are.0 fit.0 in

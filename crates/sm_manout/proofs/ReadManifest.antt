@@ -166,7 +166,8 @@ stands_still channel times earlier ts t done stands there = record {
   says = rw there at stands.says;
 }
 
-stands_more : (channel : List Track) (times : List ℕ → List (ℕ × ℕ)) (earlier ts : List Track) (t : Track) (done : List RawStream) (s : RawStream) → Stands channel times earlier (t ∷ ts) done → IsStream channel (times t.name) t
+stands_more : (channel : List Track) (times : List ℕ → List (ℕ × ℕ)) (earlier ts : List Track) (t : Track) (done : List RawStream) (s : RawStream)
+    → Stands channel times earlier (t ∷ ts) done → IsStream channel (times t.name) t
     → IsRead channel (times t.name) t s → length earlier < 64 → list_any (λ (u : Track). is_same u.name t.name) earlier ≡ false → Stands channel times (earlier ++ t ∷ []) ts (done ++ s ∷ [])
 stands_more channel times earlier ts t done s stands is read low new =
     let clean = stream_clean done channel (times t.name) t s is read (omega (arith, stands.few, low)) (stands.names t.name new) in
@@ -307,7 +308,8 @@ judged_good listing w bad is g =
     let none : least_from None (faults_of bad w) ≡ None = ap (λ (b : Option ℕ). least_from None (faults_of b w)) is ∙ g.none in
     sym (ap (λ (o : Option ℕ). judged o w) none ∙ ap Ok g.says)
 
-pub written_is_read : (channel : List Track) (times : List ℕ → List (ℕ × ℕ)) → IsChannel channel → All IsNarrowTrack channel → ((name : List ℕ) → AreTimes (times name)) → ((name : List ℕ) → length (times name) ≤ 262144)
+pub written_is_read : (channel : List Track) (times : List ℕ → List (ℕ × ℕ)) → IsChannel channel → All IsNarrowTrack channel
+    → ((name : List ℕ) → AreTimes (times name)) → ((name : List ℕ) → length (times name) ≤ 262144)
     → IsManifest (manifest channel times) (Ok (listing_again channel times))
 written_is_read channel times is narrow apart short =
     let readable : IsReadable channel times = record {

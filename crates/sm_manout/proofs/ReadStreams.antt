@@ -103,7 +103,8 @@ run_read Good size end x at done s r begins wide go =
     subst P (sym (run_text r x)) (start_line Good size end x in_stream (codes "c") (run_attrs r) true (walk_in at done s) begins (refl, refl) (refl, refl)
     (Starts-again (codes "c") (run_attrs r) true (10 ∷ x) (refl, refl) (all_written run_names (run_attrs r) (run_written r wide))) go)
 
-runs_read : (Good : Walk → Type 0) (size end : ℕ) (x : List ℕ) (at : ℕ) (done : List RawStream) (s : RawStream) (before rest : List TimeRun) (cs : List RawTime) → Begins x → AllByRecursion IsWideRun rest → AreRunTimes before cs
+runs_read : (Good : Walk → Type 0) (size end : ℕ) (x : List ℕ) (at : ℕ) (done : List RawStream) (s : RawStream) (before rest : List TimeRun)
+    (cs : List RawTime) → Begins x → AllByRecursion IsWideRun rest → AreRunTimes before cs
     → ((all : List RawTime) → AreRunTimes (before ++ rest) all → Leads Good (left_at size end x in_stream) (walk_in at done (record s { times = all })))
     → Leads Good (left_at size end (run_lines rest ++ x) in_stream) (walk_in at done (record s { times = cs }))
 runs_read Good size end x at done s before [] cs begins wide are go =

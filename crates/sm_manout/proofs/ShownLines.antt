@@ -19,7 +19,8 @@ count_end false r = codes " r=\"" ++ (decimal r ++ (34 ∷ codes "/>"))
 abbrev pub run_front : Bool → ℕ → ℕ → ℕ → List ℕ
 run_front b s d r = codes "<c t=\"" ++ (decimal s ++ (34 ∷ codes " d=\"" ++ (decimal d ++ (34 ∷ count_end b r))))
 
-run_by : (b : Bool) (s d r : ℕ) (x : List ℕ) → (codes "<c" ++ (number_attribute (codes "t") s ++ (number_attribute (codes "d") d ++ ((cond b [] (number_attribute (codes "r") r)) ++ codes "/>\n")))) ++ x ≡ run_front b s d r ++ (10 ∷ x)
+run_by : (b : Bool) (s d r : ℕ) (x : List ℕ) → (codes "<c" ++ (number_attribute (codes "t") s
+    ++ (number_attribute (codes "d") d ++ ((cond b [] (number_attribute (codes "r") r)) ++ codes "/>\n")))) ++ x ≡ run_front b s d r ++ (10 ∷ x)
 unfolding attribute
 run_by true s d r x = simp append_assoc
 run_by false s d r x = simp append_assoc

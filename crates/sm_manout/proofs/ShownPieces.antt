@@ -33,7 +33,8 @@ pub ended_front : (m : ℕ) (piece p more : List ℕ) → (rest : List (List ℕ
 ended_front m piece [] more = (ended_by m piece more, refl)
 ended_front m piece (c ∷ cs) more = by_test (eqb c m) (ended_front m [] cs more) (ended_front m (piece ++ c ∷ []) cs more)
   where
-    by_test : (b : Bool) → ((rest : List (List ℕ)) × (ended_by m [] (cs ++ more) ≡ ended_by m [] cs ++ rest)) → ((rest : List (List ℕ)) × (ended_by m (piece ++ c ∷ []) (cs ++ more) ≡ ended_by m (piece ++ c ∷ []) cs ++ rest))
+    by_test : (b : Bool) → ((rest : List (List ℕ)) × (ended_by m [] (cs ++ more) ≡ ended_by m [] cs ++ rest))
+        → ((rest : List (List ℕ)) × (ended_by m (piece ++ c ∷ []) (cs ++ more) ≡ ended_by m (piece ++ c ∷ []) cs ++ rest))
         → (rest : List (List ℕ)) × (cond b (piece ∷ ended_by m [] (cs ++ more)) (ended_by m (piece ++ c ∷ []) (cs ++ more)) ≡ cond b (piece ∷ ended_by m [] cs) (ended_by m (piece ++ c ∷ []) cs) ++ rest)
     by_test true h k = (h.0, ap (λ (l : List (List ℕ)). piece ∷ l) h.1)
     by_test false h k = k
@@ -67,7 +68,8 @@ lists_front P o (x ∷ xs) ys all =
 abbrev pub Good : (Address → Type 0) → Open → List ℕ → Type 0
 Good P o text = AllByRecursion P (lists_from o (ended_by 10 [] text))
 
-pub line_good : (P : Address → Type 0) (o : Open) (line rest : List ℕ) → has_no 10 line ≡ true → AllByRecursion P (flat_map (at_bitrates o) (line_starts line)) → Good P (after_line o line) rest → Good P o (line ++ (10 ∷ rest))
+pub line_good : (P : Address → Type 0) (o : Open) (line rest : List ℕ) → has_no 10 line ≡ true → AllByRecursion P (flat_map (at_bitrates o) (line_starts line))
+    → Good P (after_line o line) rest → Good P o (line ++ (10 ∷ rest))
 line_good P o line rest none here go =
     let T : List (List ℕ) → Type 0 = λ ls. AllByRecursion P (lists_from o ls) in
     subst T (sym (ended_piece 10 [] line rest none)) (all_join P (flat_map (at_bitrates o) (line_starts line)) (lists_from (after_line o line) (ended_by 10 [] rest)) here go)

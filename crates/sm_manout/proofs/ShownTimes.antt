@@ -18,7 +18,9 @@ all_of : (R S : ℕ → Type 0) (bs : List ℕ) → ((b : ℕ) → R b → S b) 
 all_of R S [] f all = tt
 all_of R S (b ∷ bs) f all = (f b all.0, all_of R S bs f all.1)
 
-pub starts_good : (P : Address → Type 0) (R Q : ℕ → Type 0) (o : Open) → ((b start : ℕ) → R b → Q start → P (record { stream = o.stream; bitrate = b; time = start })) → AllByRecursion R o.bitrates → (ss : List ℕ) → AllByRecursion Q ss
+pub starts_good : (P : Address → Type 0) (R Q : ℕ → Type 0) (o : Open)
+    → ((b start : ℕ) → R b → Q start → P (record { stream = o.stream; bitrate = b; time = start })) → AllByRecursion R o.bitrates → (ss : List ℕ)
+    → AllByRecursion Q ss
     → AllByRecursion P (flat_map (at_bitrates o) ss)
 starts_good P R Q o both rates [] all = tt
 starts_good P R Q o both rates (s ∷ ss) all =

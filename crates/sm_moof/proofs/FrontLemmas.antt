@@ -12,7 +12,7 @@ use Rattle.sm_model.specs.Boxes.{box_len, IsOneBox}
 use Rattle.sm_model.specs.FragText.{moof}
 use Rattle.sm_model.specs.Canonical.{Canonical, IsCanonical}
 use Rattle.sm_model.specs.Written.{IsWritten, raw_again}
-use Rattle.sm_moof.proofs.WholeLemmas.{long_one, sixteen}
+use Rattle.sm_moof.proofs.WholeLemmas.{long, sixteen}
 
 -- ---- whole boxes
 
@@ -27,7 +27,7 @@ same_by false m n k e = refl
 len_in : (x r : List ℕ) → IsOneBox x → box_len (x ++ r) ≡ box_len x
 unfolding box_len number32_at number64_at
 len_in x r p =
-    let n : number32_at 0 (x ++ r) ≡ number32_at 0 x = ap (from_be_bytes w32) (seen_in 4 0 x r (omega (arith, long_one x p))) in
+    let n : number32_at 0 (x ++ r) ≡ number32_at 0 x = ap (from_be_bytes w32) (seen_in 4 0 x r (omega (arith, long x p))) in
     ap (λ (k : ℕ). cond (eqb k 1) (number64_at 8 (x ++ r)) k) n
     ∙ same_by (eqb (number32_at 0 x) 1) (number64_at 8 (x ++ r)) (number64_at 8 x) (number32_at 0 x)
     (λ t. ap (from_be_bytes w64) (seen_in 8 8 x r (sixteen x p (eqb-true _ _ t))))

@@ -17,7 +17,8 @@ pub moof_in_front : (part more m rest n after : List ℕ) → part ++ more ≡ n
 moof_in_front part more m rest n after text is one whole =
     same_box m n (rest ++ more) after one whole (sym (append_assoc m rest more) ∙ ap (λ (x : List ℕ). x ++ more) (sym is) ∙ text)
 
-pub named : (n after part more : List ℕ) (time : ℕ) (run : Run) → IsOneBox n → moof_run no_defaults n ≡ Ok run → part ++ more ≡ n ++ after → NamesIn part time → (i duration : ℕ) × (slice_get run.ahead i ≡ Some (time, duration))
+pub named : (n after part more : List ℕ) (time : ℕ) (run : Run) → IsOneBox n → moof_run no_defaults n ≡ Ok run → part ++ more ≡ n ++ after → NamesIn part time
+    → (i duration : ℕ) × (slice_get run.ahead i ≡ Some (time, duration))
 named n after part more time run whole again text shown =
     let e = (moof_in_front part more shown.moof shown.rest n after text shown.part_is shown.whole whole).0 in
     let same : shown.run ≡ run = ok_same shown.run run (moof_run no_defaults n) (sym (ap (moof_run no_defaults) e) ∙ shown.read) again in

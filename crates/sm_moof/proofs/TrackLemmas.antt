@@ -67,7 +67,8 @@ passed p body q r kind at body_at size s i e =
       same_first = sym (ap (first_box p) d) ∙ sym (first-no p (left q) i.whole e) ∙ ap (first_box p) l ∙ s.same_first;
     }
 
-pub found_here : (p : Box → Bool) (body : List ℕ) (q r : Place) (kind : List ℕ) (at body_at size : ℕ) → Seeks p body q → IsItem q r kind at body_at size → p (box_of (left q)) ≡ true → first_box p body ≡ Some (box_of (left q))
+pub found_here : (p : Box → Bool) (body : List ℕ) (q r : Place) (kind : List ℕ) (at body_at size : ℕ) → Seeks p body q → IsItem q r kind at body_at size
+    → p (box_of (left q)) ≡ true → first_box p body ≡ Some (box_of (left q))
 found_here p body q r kind at body_at size s i e = sym s.same_first ∙ sym (ap (first_box p) (ap (drop q.at) s.body_is)) ∙ first-yes p (left q) i.whole e
 
 pub at_end : (p : Box → Bool) (body : List ℕ) (q r : Place) → Seeks p body q → IsDone q r → first_box p body ≡ None

@@ -91,7 +91,8 @@ mdat_sort headerless before Moov head size e = absurd cc
 mdat_sort headerless before Manifest head size e = absurd cc
 mdat_sort headerless before Other head size e = absurd cc
 
-done_follows : Fragments → (headerless : Bool) (before : List (List ℕ)) (box : List ℕ) (s : PushState) (m : Option PendingMoof) → Knows headerless before s → s.moof ≡ m → MoofIs before m → lines_cause headerless before box ≡ None
+done_follows : Fragments → (headerless : Bool) (before : List (List ℕ)) (box : List ℕ) (s : PushState) (m : Option PendingMoof) → Knows headerless before s
+    → s.moof ≡ m → MoofIs before m → lines_cause headerless before box ≡ None
     → Follows headerless before box (done (read_in before (sort_of box)) s (sort_of box) box) (whole_gives before box (last_moof before))
 unfolding taken
 done_follows laws headerless before box s None k g is none = rw is (top_follows laws headerless before box s (sort_of box) k refl g)
@@ -130,7 +131,8 @@ lines_none true d c e = absurd cc
 lines_none false true c e = absurd cc
 lines_none false false c e = e
 
-step_by : Fragments → (headerless : Bool) (before : List (List ℕ)) (box : List ℕ) (s : PushState) (cause : Option Cause) → Knows headerless before s → IsOneBox box → head_cause headerless before box ≡ cause → StepIs headerless before box s
+step_by : Fragments → (headerless : Bool) (before : List (List ℕ)) (box : List ℕ) (s : PushState) (cause : Option Cause) → Knows headerless before s
+    → IsOneBox box → head_cause headerless before box ≡ cause → StepIs headerless before box s
 step_by laws headerless before box s (Some cause) k one e =
     let d : decision s box ≡ Refuse cause = decision_by headerless before s box k (whole_has_head box one) ∙ ap (λ (c : Option Cause). answer c (read_in before (sort_of box)) (sort_of box) (box_len box)) e in
     let at : ℕ → Refusal = λ n. record { at = n; cause = cause } in
@@ -166,7 +168,8 @@ pub record Went (headerless : Bool) (before : List (List ℕ)) (s : PushState) (
 pub at_end : (s : PushState) → boxes_give s [] [] ≡ ended s (is_some s.moof)
 at_end s = let wait = decision-nil s in rw wait refl
 
-went_on : (headerless : Bool) (before : List (List ℕ)) (box : List ℕ) (s : PushState) (todo : List (List ℕ)) (g : Goes headerless before box s) → Went headerless (before ++ box ∷ []) g.1 todo → Went headerless before s (box ∷ todo)
+went_on : (headerless : Bool) (before : List (List ℕ)) (box : List ℕ) (s : PushState) (todo : List (List ℕ)) (g : Goes headerless before box s)
+    → Went headerless (before ++ box ∷ []) g.1 todo → Went headerless before s (box ∷ todo)
 went_on headerless before box s todo g w = record {
   next = w.next;
   knows = subst (λ (bs : List (List ℕ)). Knows headerless bs w.next) (append_assoc before (box ∷ []) todo) w.knows;

@@ -72,7 +72,8 @@ body_short : (b : List ℕ) → length (box_of b).body ≤ box_len b - head_len 
 unfolding box_of
 body_short b = omega (arith, length-take (box_len b - head_len b) (drop (head_len b) b))
 
-limit_at : (s : PushState) (b : List ℕ) (sort : TopBox) (size : ℕ) (hd : Head) → head_of b ≡ hd → by_head s b hd ≡ Take sort size → is_some s.moof ≡ true → size ≤ length b → length (box_of (take size b)).body ≤ 67108864
+limit_at : (s : PushState) (b : List ℕ) (sort : TopBox) (size : ℕ) (hd : Head) → head_of b ≡ hd → by_head s b hd ≡ Take sort size → is_some s.moof ≡ true
+    → size ≤ length b → length (box_of (take size b)).body ≤ 67108864
 limit_at s b sort size heads.Short read e some le = absurd cc
 limit_at s b sort size heads.Bad read e some le = absurd cc
 limit_at s b sort size heads.OpenEnded read e some le = absurd cc

@@ -117,6 +117,7 @@ samples_join (suc n) table bytes x e =
     subst (λ (y : List Sample × List ℕ). bytes ≡ flat_map (λ (z : Sample). z.bytes) y.0 ++ y.1) (some_is (s ∷ d.0.0, d.0.1) x d.2) all
 
 -- with nothing behind them they are all of it
-pub samples_all : (n : ℕ) (table bytes whole : List ℕ) (samples : List Sample) (rest : List ℕ) → samples_at n table bytes ≡ Some (samples, rest) → length rest ≡ 0 → whole ≡ bytes → whole ≡ flat_map (λ (s : Sample). s.bytes) samples
+pub samples_all : (n : ℕ) (table bytes whole : List ℕ) (samples : List Sample) (rest : List ℕ) → samples_at n table bytes ≡ Some (samples, rest)
+    → length rest ≡ 0 → whole ≡ bytes → whole ≡ flat_map (λ (s : Sample). s.bytes) samples
 samples_all n table bytes whole samples rest e none is =
     is ∙ samples_join n table bytes (samples, rest) e ∙ ap (λ (r : List ℕ). flat_map (λ (s : Sample). s.bytes) samples ++ r) (nil_from_length rest none) ∙ append-nil (flat_map (λ (s : Sample). s.bytes) samples)

@@ -291,7 +291,8 @@ walks_kept plan up channel moment more start later log (w ∷ ws) made added all
 
 -- ---- rounds
 
-listed_only : (place : Place) (up : List Track) (moment : List Entry) (place_is : IsPlace place) (narrow : All IsNarrowTrack up) (names : AllByRecursion (λ (t : Track). All (λ b. b < 256) t.name) up) (channel : List Track) (ws : List Want)
+listed_only : (place : Place) (up : List Track) (moment : List Entry) (place_is : IsPlace place) (narrow : All IsNarrowTrack up)
+    (names : AllByRecursion (λ (t : Track). All (λ b. b < 256) t.name) up) (channel : List Track) (ws : List Want)
     → AllByRecursion (IsWanted place up moment place_is narrow names channel) ws → AllByRecursion (λ (w : Want). IsListedAt place up moment w.url w.address) ws
 listed_only place up moment place_is narrow names channel ws all =
     all_with (IsWanted place up moment place_is narrow names channel) (λ (w : Want). IsListedAt place up moment w.url w.address) ws (λ w h. h.0) all

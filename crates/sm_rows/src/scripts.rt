@@ -139,8 +139,8 @@ pub fn is_quiet(key: &str) -> bool {
     comes || limits || matches!(key, "gives" | "gives-hex" | "gives-text")
 }
 
-/// The site of a row: `opened N`, or `opened N M` of all numbers from N to M, `closed N`, `piece N` with bytes and `sends N` with bytes, which opens first, are what comes, and
-/// `fails-disk` and `fails-link` the numbers of the calls that fail.
+/// The site of a row: `opened N`, or `opened N M` of all numbers from N to M, `closed N`, `piece N` with bytes and `sends N` with
+/// bytes, which opens first, are what comes, and `fails-disk` and `fails-link` the numbers of the calls that fail.
 pub fn site(alloc: Global, case: &Case<'_>, cut: Cut) -> Result<MemorySite> {
     let mut events = Vec::new(alloc);
     for line in case.lines() {

@@ -58,7 +58,8 @@ pub record IsShown {D C : Type 0} (view : D → View) (leave : D → Image → T
 
 -- Where players are asked for they are shown to; else the run is the tool's, and nothing is asked of the spawner.
 abbrev pub RunsBy : {D C P : Type 0} (view : D → View) (leave : D → Image → Type 0) (left_at : D → ℕ → Image → Type 0) (t : Dialing C)
-    → Meaning P → List P → List (List ℕ) → Option (Serving × ℕ) → Around → Around → End → End → D → D → C → C → Staff → Staff → ℕ → Type 0
+    → Meaning P → List P → List (List ℕ) → Option (Serving × ℕ) → Around → Around → End → End → D → D → C → C → Staff → Staff
+    → ℕ → Type 0
 RunsBy view leave left_at t m policies words (Some x) old new output output' d d' c c' staff staff' status =
     IsShown view leave left_at x.0 x.1 old new output output' d d' c c' staff staff' status
 RunsBy view leave left_at t m policies words None old new output output' d d' c c' staff staff' status =

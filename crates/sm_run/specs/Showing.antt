@@ -20,7 +20,8 @@ use Rattle.sm_run.specs.declared.showing.Ended.{Ended}
 use Rattle.sm_run.specs.Staff.{IsUnstaffed, Staff}
 
 -- the loop served from here to its end, and behind each turn this was published beside it
-abbrev pub ShowsRun : {D : Type 0} (view : D → View) (leave : D → Image → Type 0) (left_at : D → ℕ → Image → Type 0) → History → Outcome → ℕ → D → Type 0
+abbrev pub ShowsRun : {D : Type 0} (view : D → View) (leave : D → Image → Type 0) (left_at : D → ℕ → Image → Type 0) → History → Outcome
+    → ℕ → D → Type 0
 ShowsRun view leave left_at h end turns d =
     (state : State) × (desk : Desk) × (served : Served view leave left_at h end turns state d) × HasShown h end served.later desk
 
@@ -35,7 +36,8 @@ pub record ShownFrom {D : Type 0} (view : D → View) (leave : D → Image → T
 
 -- no ladder was read or it was refused, and nothing was asked of the spawner; or what was asked of a ladder was done, what is to be shown was read back,
 -- and players are lacking
-abbrev pub StopsShort : {D : Type 0} (view : D → View) (leave : D → Image → Type 0) (left_at : D → ℕ → Image → Type 0) → Bool → Wires → Input → Input
+abbrev pub StopsShort : {D : Type 0} (view : D → View) (leave : D → Image → Type 0) (left_at : D → ℕ → Image → Type 0) → Bool → Wires
+    → Input → Input
     → Staff → Staff → State → D → D → ShowFault → Type 0
 StopsShort {D} view leave left_at ladder wires input input' staff staff' state d d' (fault.Store why) =
     StopsFrom view leave left_at ladder input input' state d d' why × (staff' ≡ staff)
@@ -74,7 +76,8 @@ pub record IsReady {D : Type 0} (view : D → View) (leave : D → Image → Typ
   pub no_fewer : NoFewer (view old) (view new)
 
 -- Why no event was waited for: the store isn't ready, and nothing was asked of the spawner; or it is, and players are lacking.
-abbrev pub WhyUnshown : {D : Type 0} (view : D → View) (leave : D → Image → Type 0) (left_at : D → ℕ → Image → Type 0) → Bool → Wires → Input → Input
+abbrev pub WhyUnshown : {D : Type 0} (view : D → View) (leave : D → Image → Type 0) (left_at : D → ℕ → Image → Type 0) → Bool → Wires
+    → Input → Input
     → Staff → Staff → D → D → ShowFault → Type 0
 WhyUnshown view leave left_at ladder wires input input' staff staff' old new (fault.Store why) =
     WhyUnready view leave left_at ladder input input' old new why × (staff' ≡ staff)

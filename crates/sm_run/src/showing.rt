@@ -45,7 +45,8 @@ fn serve_beside<R: Wait, S: Site, P: Spawner>(
     requires some { 0 < length readers }
     ensures runs { IfOk result (λ end. (h : History) → Serves S.Disk.view S.Disk.may_leave S.Disk.left_at h state.old site.old
         → HasServed S.Disk.view S.Disk.may_leave S.Disk.left_at h end turns state.new site.new) }
-    ensures shown { IfOk result (λ end. (h : History) → Serves S.Disk.view S.Disk.may_leave S.Disk.left_at h state.old site.old → IsSome (S.Disk.view site.old).contents
+    ensures shown { IfOk result (λ end. (h : History) → Serves S.Disk.view S.Disk.may_leave S.Disk.left_at h state.old site.old
+        → IsSome (S.Disk.view site.old).contents
         → Belongs h.point.machine.log writer.old
         → (run : HasServed S.Disk.view S.Disk.may_leave S.Disk.left_at h end turns state.new site.new) × HasShown h end run.later writer.new) }
     ensures link_faults { (S.Disk.view site.old).link_faults ≤ (S.Disk.view site.new).link_faults }
@@ -83,7 +84,8 @@ pub fn show<R: Wait, S: Site, P: Spawner>(
     requires players { (0 < wiring.players) × (wiring.players ≤ 16) }
     ensures runs { IfOk result (λ e. (h : History) → Serves S.Disk.view S.Disk.may_leave S.Disk.left_at h state.old site.old
         → HasServed S.Disk.view S.Disk.may_leave S.Disk.left_at h e.served turns state.new site.new) }
-    ensures shown { IfOk result (λ e. (h : History) → Serves S.Disk.view S.Disk.may_leave S.Disk.left_at h state.old site.old → IsSome (S.Disk.view site.old).contents
+    ensures shown { IfOk result (λ e. (h : History) → Serves S.Disk.view S.Disk.may_leave S.Disk.left_at h state.old site.old
+        → IsSome (S.Disk.view site.old).contents
         → (desk : Desk) × (run : HasServed S.Disk.view S.Disk.may_leave S.Disk.left_at h e.served turns state.new site.new) × HasShown h e.served run.later desk) }
     ensures link_fault { IfOk result (λ e. e.served ≡ served.LinkFault → Rose (S.Disk.view site.old).link_faults (S.Disk.view site.new).link_faults) }
     ensures staffed { IfOk result (λ e. IsStaffed wiring

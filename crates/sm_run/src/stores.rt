@@ -105,7 +105,8 @@ pub fn show_store<R: Wait, I: Source, S: Site, P: Spawner>(
     requires port { wiring.port ≤ 65534 }
     requires players { (0 < wiring.players) × (wiring.players ≤ 16) }
     ensures chosen { IsSelectedWith result selection (S.Disk.view site.new) }
-    ensures run { IfOk result (λ e. RunsShown S.Disk.view S.Disk.may_leave S.Disk.left_at ladder (I.left input.old) (I.left input.new) turns site.old site.new e.served) }
+    ensures run { IfOk result (λ e. RunsShown S.Disk.view S.Disk.may_leave S.Disk.left_at ladder (I.left input.old) (I.left input.new)
+        turns site.old site.new e.served) }
     ensures staffed { IfOk result (λ e. IsStaffed wiring
         (record {
           faults = P.spawn_faults spawner.old;

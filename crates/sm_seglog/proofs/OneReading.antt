@@ -34,7 +34,8 @@ module _ (law : OfAFile) (c : Image) where
   one_fault m n file (inr (zero, fresh, other)) (inl b) = absurd (law.fault_not_fresh n (bytes_of c file) b fresh)
   one_fault m n file (inr a) (inr b) = a.0 ∙ sym b.0
 
-  one_cut_from : (file m n : ℕ) (xs ys : List (List (List ℕ))) → m ≡ file + length xs → n ≡ file + length ys → m ≤ 1024 → n ≤ 1024 → LogsFrom file xs c → LogsFrom file ys c → FreshBehind m c → FreshBehind n c → xs ≡ ys
+  one_cut_from : (file m n : ℕ) (xs ys : List (List (List ℕ))) → m ≡ file + length xs → n ≡ file + length ys → m ≤ 1024 → n ≤ 1024 → LogsFrom file xs c
+      → LogsFrom file ys c → FreshBehind m c → FreshBehind n c → xs ≡ ys
   one_cut_from file m n [] [] at_m at_n few_m few_n a b behind_a behind_b = refl
   one_cut_from file m n [] (y ∷ ys) at_m at_n few_m few_n a (has, b) behind_a behind_b = absurd (law.not_fresh y (bytes_of c file) has (behind_a file (omega (arith, at_m)) (omega (arith, at_n, few_n))))
   one_cut_from file m n (x ∷ xs) [] at_m at_n few_m few_n (has, a) b behind_a behind_b = absurd (law.not_fresh x (bytes_of c file) has (behind_b file (omega (arith, at_n)) (omega (arith, at_m, few_m))))

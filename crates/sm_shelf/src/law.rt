@@ -67,7 +67,8 @@ pub fn what_is_shown_is_kept()
 pub fn catalogs_of_logs_fit()
     ensures listing { (log : List Entry) → IsSound log → IsListing (adds_of log) }
     ensures places { (log : List Entry) (index : ℕ) (a : Add) → IsSound log → slice_get (adds_of log) index ≡ Some a → a.place ≡ index + 1 }
-    ensures kept { (log : List Entry) (index : ℕ) (f : Fragment) → IsSound log → slice_get log (index + 1) ≡ Some (Keep f) → slice_get (keeps_of log) index ≡ Some f }
+    ensures kept { (log : List Entry) (index : ℕ) (f : Fragment) → IsSound log → slice_get log (index + 1) ≡ Some (Keep f)
+        → slice_get (keeps_of log) index ≡ Some f }
     ensures many { (log : List Entry) → IsSound log → length (keeps_of log) ≡ length (adds_of log) }
     ensures last { (log : List Entry) (front back : List Fragment) → IsSound log → keeps_of log ≡ front ++ back
         → (length back ≤ length (adds_of log)) × IsEnd (addresses_in (adds_of log)) (map address_of back) }

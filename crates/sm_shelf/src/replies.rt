@@ -73,7 +73,8 @@ fn undeclared(alloc: Global) -> Shown
 
 /// Answers a request for the manifest by what is said of it, and keeps the manifest.
 pub fn manifest_of(alloc: Global, kept: Option<Listed>, listing: Listing) -> (Shown, Option<Listed>)
-    ensures shown { (d : Digest) → IsListingOf d (option_map (λ l. l.count) kept) listing → ForSome kept (λ l. IsListed d l.count l.text) → IsShown d Manifest result.0 }
+    ensures shown { (d : Digest) → IsListingOf d (option_map (λ l. l.count) kept) listing → ForSome kept (λ l. IsListed d l.count l.text)
+        → IsShown d Manifest result.0 }
     ensures kept { (d : Digest) → IsListingOf d (option_map (λ l. l.count) kept) listing → ForSome kept (λ l. IsListed d l.count l.text)
         → ForSome result.1 (λ l. IsListed d l.count l.text) }
 {

@@ -230,7 +230,8 @@ fn taught(core: &mut Core, seat: Seat) -> Seat
 // Makes so many readers.
 fn admit(core: &Core, readers: &mut Vec<ShelfReader>, count: u32) -> Result<(), AllocError>
     ensures len { OnOk result (vec_len readers.new ≡ vec_len readers.old + count) }
-    ensures fresh { All (λ r. r ≡ record { seen = nothing; lost = false }) readers.old.items → All (λ r. r ≡ record { seen = nothing; lost = false }) readers.new.items }
+    ensures fresh { All (λ r. r ≡ record { seen = nothing; lost = false }) readers.old.items
+        → All (λ r. r ≡ record { seen = nothing; lost = false }) readers.new.items }
 {
     for _ in 0..count {
         let seat = core.factory().reader()?;

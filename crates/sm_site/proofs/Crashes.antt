@@ -13,7 +13,8 @@ use Rattle.sm_site.proofs.Opens.{IsAtRest, at_rest, no_items, no_calls}
 use Rattle.sm_site.proofs.Outcomes.{settled_start, old_outcome}
 use Rattle.sm_site.proofs.Filled.{filled_is_outcome}
 
-openings_on_push : (n : ℕ) (kept : List (List Item)) (items : List Item) (steps : List Step) (choice : ℕ) → openings_on n kept items (steps ++ Crashed choice ∷ []) ≡ with_items (items_on n items steps) (openings_on n kept items steps)
+openings_on_push : (n : ℕ) (kept : List (List Item)) (items : List Item) (steps : List Step) (choice : ℕ)
+    → openings_on n kept items (steps ++ Crashed choice ∷ []) ≡ with_items (items_on n items steps) (openings_on n kept items steps)
 openings_on_push n kept items [] choice = refl
 openings_on_push n kept items (x ∷ steps) choice =
     openings_on_push (n + 1) (if is_crash x then with_items items kept else kept) (if is_crash x then [] else items ++ item_of (n + 1) x) steps choice

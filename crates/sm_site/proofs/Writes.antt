@@ -64,7 +64,8 @@ cached_same file x y z was others same k = elim (cases_eq k file) [
   | inr apart ↦ others k apart ∙ was k
 ]
 
-pub note_write : (past later : List Step) (file at : ℕ) (own : Vec ℕ Global) (failed reached : Bool) (bytes : List ℕ) → own.items ≡ bytes → later ≡ past ++ Wrote file at own failed reached ∷ [] → (f : Bool) → failed ≡ f
+pub note_write : (past later : List Step) (file at : ℕ) (own : Vec ℕ Global) (failed reached : Bool) (bytes : List ℕ) → own.items ≡ bytes
+    → later ≡ past ++ Wrote file at own failed reached ∷ [] → (f : Bool) → failed ≡ f
     → calls_from 0 later ≡ calls_from 0 past ++ (record { moment = length later; deed = WroteDeed file at bytes; failed = f }) ∷ []
 note_write past later file at own failed reached bytes copied is f fails =
     let long : 0 + length past + 1 ≡ length later = omega (arith, ap length is, length_push past (Wrote file at own failed reached)) in

@@ -5,7 +5,7 @@ use Rattle.sm_site.specs.Image.{Image, WritesAt}
 use Rattle.sm_site.specs.Meanings.{Deal, Item, View}
 use Rattle.sm_site.specs.Scripts.{deals_of}
 use Rattle.sm_site.specs.Faults.{Faults}
-use Rattle.sm_site.specs.Past.{State, after, start, view_of, IsOutcome, LeftAt, numbers_of, openings_of}
+use Rattle.sm_site.specs.Past.{State, after, chosen, start, view_of, IsOutcome, LeftAt, numbers_of, openings_of}
 
 -- what is still to come
 abbrev pub coming : MemorySite → List Deal
@@ -23,6 +23,10 @@ site_may_leave m c = IsOutcome (state_of m) c
 
 abbrev pub site_left_at : MemorySite → ℕ → Image → Type 0
 site_left_at m t c = LeftAt m.first.items m.past.items t c
+
+-- the image that a crash of this choice would leave
+abbrev pub site_left_by : MemorySite → ℕ → Image
+site_left_by m choice = chosen choice (state_of m)
 
 abbrev pub site_numbers : MemorySite → ℕ
 site_numbers m = numbers_of m.past.items

@@ -1,5 +1,5 @@
 //! A site that crashes where it is told to.
-ghost use Rattle.std.specs.Prelude.{◌≡◌, ◌↔◌, ◌++◌, ◌∷◌, [], ℕ, Bool, List, IfOk, IfSome, IsSome, IsTrue, OnOk, OnErr, is_some};
+ghost use Rattle.std.specs.Prelude.{◌≡◌, ◌↔◌, ◌++◌, ◌∷◌, [], ℕ, Bool, List, Option, None, Some, IfOk, IfSome, IsSome, IsTrue, OnOk, OnErr, is_some};
 ghost use Rattle.sm_site.specs.Image.{Image, bytes_of};
 ghost use Rattle.sm_site.specs.Meanings.{Item, sent_on};
 ghost use Rattle.sm_site.specs.Clauses.{Both, SameOutcomes, Settled, Kept};
@@ -19,6 +19,12 @@ pub trait Crashing: Site {
     /// Whether memory has run out.
     ghost is_starved: { Self → Bool };
 
+    /// How many further writes and syncs pass, where those behind them are to fail.
+    ghost stop: { Self → Option ℕ };
+
+    /// What a crash of this choice would leave now.
+    ghost left_by: { Self → ℕ → Image };
+
     /// The first number that a connection of further events may have: it is above all that were given and all still to come.
     fn next_number(&self) -> Option<u64>
         ensures { IfSome (Self.Disk.view self.now).script (λ deals. IsNumber result (numbers_after (Self.Link.numbers self.now) deals)) };
@@ -34,7 +40,9 @@ pub trait Crashing: Site {
         ensures past { (t : ℕ) (c : Image) → Self.Disk.left_at self.new t c ↔ Self.Disk.left_at self.old t c }
         ensures numbers { Self.Link.numbers self.new ≡ Self.Link.numbers self.old }
         ensures openings { openings self.new ≡ openings self.old }
-        ensures starved { is_starved self.new ≡ is_starved self.old };
+        ensures starved { is_starved self.new ≡ is_starved self.old }
+        ensures stop { stop self.new ≡ stop self.old }
+        ensures choices { left_by self.new ≡ left_by self.old };
 
     /// The bytes that went out on a connection since the last crash.
     fn sent(&self, conn: u64) -> Result<Piece, AllocError>
@@ -47,12 +55,15 @@ pub trait Crashing: Site {
         ensures past { (t : ℕ) (c : Image) → Self.Disk.left_at self.new t c ↔ Self.Disk.left_at self.old t c }
         ensures numbers { Self.Link.numbers self.new ≡ Self.Link.numbers self.old }
         ensures openings { openings self.new ≡ openings self.old }
-        ensures starved { is_starved self.new ≡ is_starved self.old };
+        ensures starved { is_starved self.new ≡ is_starved self.old }
+        ensures stop { stop self.new ≡ Some calls }
+        ensures choices { left_by self.new ≡ left_by self.old };
 
     /// Crashes in place, without memory. What it keeps is one of the images that a crash may leave, chosen by the number; then
     /// nothing is pending, nothing stops, the script is empty, and the transcript begins anew, the old one being put to the others. It
     /// is selected with what it was selected with.
     fn crash_here(&mut self, choice: u8)
+        ensures kept { IfSome (Self.Disk.view self.new).contents (λ now. (file : ℕ) → bytes_of now file ≡ bytes_of (left_by self.old choice) file) }
         ensures image { IfSome (Self.Disk.view self.new).contents (Self.Disk.may_leave self.old) }
         ensures told { is_some (Self.Disk.view self.new).contents ≡ is_some (Self.Disk.view self.old).contents }
         ensures settled { IfSome (Self.Disk.view self.new).contents (λ now. Settled now (Self.Disk.may_leave self.new)) }
@@ -62,7 +73,8 @@ pub trait Crashing: Site {
         ensures numbers { Self.Link.numbers self.new ≡ Self.Link.numbers self.old }
         ensures counts { SameCounts (Self.Disk.view self.old) (Self.Disk.view self.new) }
         ensures chosen { (Self.Disk.view self.new).chosen ≡ (Self.Disk.view self.old).chosen }
-        ensures starved { is_starved self.new ≡ is_starved self.old };
+        ensures starved { is_starved self.new ≡ is_starved self.old }
+        ensures stop { stop self.new ≡ None };
 
     /// Whether memory has run out. While it hasn't, each fault of the site so far was of a number that was listed, or came behind
     /// a stop.

@@ -49,9 +49,9 @@ impl MemorySite {
     ghost use Rattle.std.specs.Prelude.{◌≡◌, ◌↔◌, ℕ, [], IfSome, IsTrue, None, Some, false};
     ghost use Rattle.sm_site.specs.Clauses.{SameOutcomes, Settled};
     ghost use Rattle.sm_site.specs.Image.{Image, bytes_of};
-    ghost use Rattle.sm_site.specs.Past.{chosen, view_of};
+    ghost use Rattle.sm_site.specs.Past.{view_of};
     ghost use Rattle.sm_site.specs.Scripts.{deals_of, is_script};
-    ghost use Rattle.sm_site.specs.Memory.{coming, faults_of, site_left_at, site_may_leave, site_numbers, site_openings, site_view, state_of};
+    ghost use Rattle.sm_site.specs.Memory.{coming, faults_of, site_left_at, site_left_by, site_may_leave, site_numbers, site_openings, site_view};
 
     /// A site with no files. The numbers, from 1, are those of the disk calls and of the link calls (`next` and `send`) that
     /// fail. It takes no memory.
@@ -123,7 +123,7 @@ impl MemorySite {
     /// and no stop, its script is this one, its transcript and its record of calls are empty; numbers and counts go on.
     pub fn crash(mut self, choice: u8, script: Script) -> MemorySite
         requires script { IsTrue (is_script (site_numbers self) script) }
-        ensures kept { IfSome (site_view result).contents (λ now. (file : ℕ) → bytes_of now file ≡ bytes_of (chosen choice (state_of self)) file) }
+        ensures kept { IfSome (site_view result).contents (λ now. (file : ℕ) → bytes_of now file ≡ bytes_of (site_left_by self choice) file) }
         ensures image { IfSome (site_view result).contents (site_may_leave self) }
         ensures settled { IfSome (site_view result).contents (λ now. Settled now (site_may_leave result)) }
         ensures transcript { (site_view result).transcript ≡ Some [] }

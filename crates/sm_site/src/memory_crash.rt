@@ -4,11 +4,11 @@ ghost use Rattle.std.specs.Prelude.{length, take};
 ghost use Rattle.sm_site.specs.Image.{Image, bytes_of};
 ghost use Rattle.sm_site.specs.Meanings.{sent_on};
 ghost use Rattle.sm_site.specs.Clauses.{Both, Elapses, Kept, Rose, SameOutcomes, Settled};
-ghost use Rattle.sm_site.specs.Past.{begins, chosen, is_open, is_ordered, items_from};
+ghost use Rattle.sm_site.specs.Past.{begins, is_open, is_ordered, items_from};
 ghost use Rattle.sm_site.specs.Scripts.{deals_of, is_script, numbers_after};
 ghost use Rattle.sm_site.specs.Sites.{SameBut, SameCounts};
 ghost use Rattle.sm_site.specs.Sending.{sent_after};
-ghost use Rattle.sm_site.specs.Memory.{coming, faults_of, site_left_at, site_may_leave, site_numbers, site_openings, site_view, state_of};
+ghost use Rattle.sm_site.specs.Memory.{coming, faults_of, site_left_at, site_left_by, site_may_leave, site_numbers, site_openings, site_view};
 
 use crate::next_number::{above_past, above_script};
 use crate::note::has_begun;
@@ -131,6 +131,10 @@ impl Crashing for MemorySite {
 
     ghost is_starved = { λ m. (faults_of m).starved };
 
+    ghost stop = { λ m. (faults_of m).stop };
+
+    ghost left_by = { site_left_by };
+
     ghost tells = { λ m. record { contents = refl; transcript = refl; script = refl } };
 
     fn next_number(&self) -> Option<u64> {
@@ -147,6 +151,8 @@ impl Crashing for MemorySite {
         ensures numbers { site_numbers self.new ≡ site_numbers self.old }
         ensures openings { site_openings self.new ≡ site_openings self.old }
         ensures starved { (faults_of self.new).starved ≡ (faults_of self.old).starved }
+        ensures stop { (faults_of self.new).stop ≡ (faults_of self.old).stop }
+        ensures choices { site_left_by self.new ≡ site_left_by self.old }
         ensures faults { faults_of self.new ≡ faults_of self.old }
     {
         add_events(&mut self.script, events.into_vec())
@@ -168,13 +174,15 @@ impl Crashing for MemorySite {
         ensures numbers { site_numbers self.new ≡ site_numbers self.old }
         ensures openings { site_openings self.new ≡ site_openings self.old }
         ensures starved { (faults_of self.new).starved ≡ (faults_of self.old).starved }
+        ensures stop { (faults_of self.new).stop ≡ Some calls }
+        ensures choices { site_left_by self.new ≡ site_left_by self.old }
         ensures faults { faults_of self.new ≡ record (faults_of self.old) { stop = Some calls } }
     {
         self.stop = Some(calls);
     }
 
     fn crash_here(&mut self, choice: u8)
-        ensures kept { IfSome (site_view self.new).contents (λ now. (file : ℕ) → bytes_of now file ≡ bytes_of (chosen choice (state_of self.old)) file) }
+        ensures kept { IfSome (site_view self.new).contents (λ now. (file : ℕ) → bytes_of now file ≡ bytes_of (site_left_by self.old choice) file) }
         ensures image { IfSome (site_view self.new).contents (site_may_leave self.old) }
         ensures told { is_some (site_view self.new).contents ≡ is_some (site_view self.old).contents }
         ensures settled { IfSome (site_view self.new).contents (λ now. Settled now (site_may_leave self.new)) }
@@ -185,6 +193,7 @@ impl Crashing for MemorySite {
         ensures counts { SameCounts (site_view self.old) (site_view self.new) }
         ensures chosen { (site_view self.new).chosen ≡ (site_view self.old).chosen }
         ensures starved { (faults_of self.new).starved ≡ (faults_of self.old).starved }
+        ensures stop { (faults_of self.new).stop ≡ None }
         ensures faults { faults_of self.new ≡ record (faults_of self.old) { stop = None } }
     {
         self.crash_in_place(choice);

@@ -43,7 +43,8 @@ fn fill_all(files: &mut Vec<FileBytes>, pending: &mut Vec<Pending>, byte: u8)
 
 /// Makes the files those that a crash leaves by this choice. It takes no memory.
 pub(crate) fn crash_files(files: &mut Vec<FileBytes>, pending: &mut Vec<Pending>, choice: u8)
-    ensures old { choice ≡ 0 → (file : ℕ) → bytes_of (image_of files.new.items) file ≡ undone file pending.old.items (bytes_of (image_of files.old.items) file) }
+    ensures old { choice ≡ 0 → (file : ℕ) → bytes_of (image_of files.new.items) file
+        ≡ undone file pending.old.items (bytes_of (image_of files.old.items) file) }
     ensures new { choice ≡ 1 → (file : ℕ) → bytes_of (image_of files.new.items) file ≡ bytes_of (image_of files.old.items) file }
     ensures filled { 2 ≤ choice → (file : ℕ)
         → bytes_of (image_of files.new.items) file ≡ bytes_of (filled choice (image_of files.old.items) (ranges_from [] pending.old.items)) file }

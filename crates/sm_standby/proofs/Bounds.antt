@@ -51,7 +51,8 @@ passed_less s a more is =
     let next : length (behind s.rest) ≡ length more = ap (λ (r : List Address). length (behind r)) is in
     omega (arith, there, next)
 
-asked_less : (s : Standing) (who : Whose) (made : List Exchange) (c : Came) → ((a : Address) → who ≡ candidate a → (more : List Address) × (s.rest ≡ a ∷ more)) → ((l : Later) → who ≡ again l → due (length s.log) s.held ≡ Some l)
+asked_less : (s : Standing) (who : Whose) (made : List Exchange) (c : Came) → ((a : Address) → who ≡ candidate a → (more : List Address) × (s.rest ≡ a ∷ more))
+    → ((l : Later) → who ≡ again l → due (length s.log) s.held ≡ Some l)
     → weight (after s (asked who made c)) + 1 ≤ weight s
 unfolding weight
 asked_less s (candidate a) made c first wait =

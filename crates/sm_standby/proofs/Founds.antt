@@ -79,7 +79,8 @@ is_404 : (status : ℕ) (m : Miss) → cond (eqb status 404) None (Some m) ≡ N
 is_404 status m e = by_bool (eqb status 404) (λ t. cond t None (Some m) ≡ None → status ≡ 404) (λ is h. eqb-true status 404 is) (λ is h. absurd (cc)) e
 
 -- what the tries gave where the last one was no miss
-pub found_answer : {C : Type 0} {log : C → Option (List Exchange)} {store : C → List Entry → Type 0} {later : C → C → Type 0} {faults : C → ℕ} {c d e : C} {place : Place} {url : List ℕ} {a : Address} {outcomes : List Miss} {tries : ℕ}
+pub found_answer : {C : Type 0} {log : C → Option (List Exchange)} {store : C → List Entry → Type 0} {later : C → C → Type 0} {faults : C → ℕ} {c d e : C}
+    {place : Place} {url : List ℕ} {a : Address} {outcomes : List Miss} {tries : ℕ}
     (most : ℕ) (p : Placed) → ((c d e : C) → later c d → later d e → later c e) → missed p ≡ None → Tried log store later faults unsaid (AsksPlaced place url a) missed c d outcomes tries → tries < most
     → FetchedPlaced place url a (log d) (log e) p → Grows (store d) (store e) → Answered (log d) (log e) (store d) (store e) → later d e → faults d ≤ faults e → (p ≡ placed.Lost → Rose (faults d) (faults e))
     → GrowsPlaced place url a (store d) (store e) p

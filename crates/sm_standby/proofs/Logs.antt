@@ -253,7 +253,8 @@ pub places_grow : (log up more : List Entry) → Places log up → Places log (u
 places_grow log up more all = λ p f e. get_more up more p (Keep f) (all p f e)
 
 -- at each moment of a call
-pub stays_placed : {D C : Type 0} {view : D → View} {left_at : D → ℕ → Image → Type 0} {leave : D → Image → Type 0} {told : C → Option (List Exchange)} {store : C → List Entry → Type 0} {goes_on : C → C → Type 0} {faults : C → ℕ}
+pub stays_placed : {D C : Type 0} {view : D → View} {left_at : D → ℕ → Image → Type 0} {leave : D → Image → Type 0} {told : C → Option (List Exchange)}
+    {store : C → List Entry → Type 0} {goes_on : C → C → Type 0} {faults : C → ℕ}
     {d e : D} {x y : C} {plan : PullPlan} {channel : List Track} {a b : Archive} (before : List Entry) (end : FollowEnd) → (c : Called view left_at leave told store goes_on faults d e x y plan channel a b before end)
     → StaysPlaced view left_at store d e x y plan.place before c.rounds c.part
 stays_placed {view = view} {left_at = left_at} {d = d} {e = e} {plan = plan} {channel = channel} {b = b} before end c = λ up told.

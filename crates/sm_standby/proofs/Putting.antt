@@ -79,12 +79,14 @@ unput_by channel a new log n raw stop.DiskFault next id not = record { tried_is 
 unput_by channel a new log n raw stop.NoMemory next id not = inr (record { tried_is = refl; next = next; id = id; not = not })
 
 module _ {D : Type 0} {view : D → View} {left_at : D → ℕ → Image → Type 0} {leave : D → Image → Type 0} where
-  pub put_later : ((d : D) (t : ℕ) (c : Image) → left_at d t c → t ≤ (view d).moment) → (d : D) (x : Archive) (log : List Entry) (channel : List Track) (a : Address) (n next : ℕ) (raw : RawFragment) → Stands x log None (leave d)
+  pub put_later : ((d : D) (t : ℕ) (c : Image) → left_at d t c → t ≤ (view d).moment)
+      → (d : D) (x : Archive) (log : List Entry) (channel : List Track) (a : Address) (n next : ℕ) (raw : RawFragment) → Stands x log None (leave d)
       → raw.id ≡ id_in channel a → next ≡ length log → next < n → IsPut view left_at leave d d channel a x x log n raw (step.Later n a)
   put_later no_later d x log channel a n next raw stands id is lt =
       record { came = later n raw; came_is = refl; id = id; step = (omega (arith, is, lt), refl, refl); adds = adds_none no_later d x log stands }
 
-  pub put_dropped : ((d : D) (t : ℕ) (c : Image) → left_at d t c → t ≤ (view d).moment) → (d : D) (x : Archive) (log : List Entry) (channel : List Track) (a : Address) (n next : ℕ) (raw : RawFragment) → Stands x log None (leave d)
+  pub put_dropped : ((d : D) (t : ℕ) (c : Image) → left_at d t c → t ≤ (view d).moment)
+      → (d : D) (x : Archive) (log : List Entry) (channel : List Track) (a : Address) (n next : ℕ) (raw : RawFragment) → Stands x log None (leave d)
       → raw.id ≡ id_in channel a → next ≡ length log → n < next → IsPut view left_at leave d d channel a x x log n raw step.Passed
   put_dropped no_later d x log channel a n next raw stands id is lt =
       record { came = dropped n raw; came_is = refl; id = id; step = omega (arith, is, lt); adds = adds_none no_later d x log stands }
@@ -94,7 +96,8 @@ module _ {D : Type 0} {view : D → View} {left_at : D → ℕ → Image → Typ
   put_kept {d = d} {e = e} x y log channel a n next raw f made adds id is low high =
       record { came = kept n raw; came_is = refl; id = id; step = omega (arith, is, low, high); adds = subst (λ (g : Fragment). Adds view left_at leave d e x y log (g ∷ []) []) made adds }
 
-  pub unput_wanting : ((d : D) (t : ℕ) (c : Image) → left_at d t c → t ≤ (view d).moment) → (d : D) (x : Archive) (log : List Entry) (channel : List Track) (a : Address) (n : ℕ) (raw : RawFragment) → Stands x log None (leave d)
+  pub unput_wanting : ((d : D) (t : ℕ) (c : Image) → left_at d t c → t ≤ (view d).moment)
+      → (d : D) (x : Archive) (log : List Entry) (channel : List Track) (a : Address) (n : ℕ) (raw : RawFragment) → Stands x log None (leave d)
       → IsUnput view left_at leave d d channel a x x log n raw ends.NoMemory
   unput_wanting no_later d x log channel a n raw stands = record { tried = []; by = inl refl; adds = adds_none no_later d x log stands }
 
@@ -113,7 +116,8 @@ module _ {D : Type 0} {view : D → View} {left_at : D → ℕ → Image → Typ
 
 -- ---- asked for, and put
 
-came_upstream : (place : Place) (url : List ℕ) (a : Address) (c : Came) (n : ℕ) (raw : RawFragment) (up : List Entry) → placed_of c ≡ placed.Fragment n raw → IsPlacedAt place url a up (placed.Fragment n raw) → CameUpstream place url a c up
+came_upstream : (place : Place) (url : List ℕ) (a : Address) (c : Came) (n : ℕ) (raw : RawFragment) (up : List Entry) → placed_of c ≡ placed.Fragment n raw
+    → IsPlacedAt place url a up (placed.Fragment n raw) → CameUpstream place url a c up
 came_upstream place url a absent n raw up is at = tt
 came_upstream place url a (kept m q) n raw up is at = subst (IsPlacedAt place url a up) (sym is) at
 came_upstream place url a (later m q) n raw up is at = tt
@@ -123,7 +127,8 @@ tried_stops : (plan : PullPlan) (channel : List Track) (url : List ℕ) (a : Add
     → Gives (AsksPlaced plan.place url a) missed plan.tries made (placed.Fragment n raw) → IsUnkept channel a new log n raw tried why → IsTried plan channel url a new log made tried why
 tried_stops plan channel url a new log made n raw tried why gives u = record { number = n; raw = raw; tried_is = u.tried_is; next = u.next; gives = gives; id = u.id; not = u.not }
 
-gives_tries : (place : Place) (url : List ℕ) (a : Address) (tries : ℕ) (made : List Exchange) (n : ℕ) (raw : RawFragment) → Gives (AsksPlaced place url a) missed tries made (placed.Fragment n raw) → Tries (AsksPlaced place url a) tries made
+gives_tries : (place : Place) (url : List ℕ) (a : Address) (tries : ℕ) (made : List Exchange) (n : ℕ) (raw : RawFragment)
+    → Gives (AsksPlaced place url a) missed tries made (placed.Fragment n raw) → Tries (AsksPlaced place url a) tries made
 gives_tries place url a tries made n raw g = tries_of place url a tries made (placed.Fragment n raw) g
 
 unput_stops : (plan : PullPlan) (channel : List Track) (url : List ℕ) (a : Address) (new : Archive) (log : List Entry) (made : List Exchange) (n : ℕ) (raw : RawFragment) (tried : List Came) (end : FollowEnd)
@@ -143,7 +148,8 @@ unput_stops plan channel url a new log made n raw tried (ends.NoTrack index) giv
 none_up : (place : Place) (url : List ℕ) (a : Address) (tried : List Came) (up : List Entry) → tried ≡ [] → TriedUpstream place url a tried up
 none_up place url a tried up none = subst (λ (cs : List Came). TriedUpstream place url a cs up) (sym none) tt
 
-one_up : (place : Place) (url : List ℕ) (a : Address) (n : ℕ) (raw : RawFragment) (tried : List Came) (up : List Entry) → tried ≡ kept n raw ∷ [] → IsPlacedAt place url a up (placed.Fragment n raw) → TriedUpstream place url a tried up
+one_up : (place : Place) (url : List ℕ) (a : Address) (n : ℕ) (raw : RawFragment) (tried : List Came) (up : List Entry) → tried ≡ kept n raw ∷ []
+    → IsPlacedAt place url a up (placed.Fragment n raw) → TriedUpstream place url a tried up
 one_up place url a n raw tried up is at = subst (λ (cs : List Came). TriedUpstream place url a cs up) (sym is) at
 
 unput_up : (place : Place) (url : List ℕ) (channel : List Track) (a : Address) (new : Archive) (log : List Entry) (n : ℕ) (raw : RawFragment) (tried : List Came) (end : FollowEnd) (up : List Entry) →

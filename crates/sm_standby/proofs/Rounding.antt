@@ -305,7 +305,8 @@ module _ {D C : Type 0} {view : D → View} {left_at : D → ℕ → Image → T
   }
 
   -- memory was wanted before anything was asked
-  pub called_none : ((d : D) (t : ℕ) (c : Image) → left_at d t c → t ≤ (view d).moment) → ((x : C) → goes_on x x) → ((x y z : C) → goes_on x y → goes_on y z → goes_on x z) → (d : D) (x : C) (a : Archive) (log : List Entry)
+  pub called_none : ((d : D) (t : ℕ) (c : Image) → left_at d t c → t ≤ (view d).moment) → ((x : C) → goes_on x x)
+      → ((x y z : C) → goes_on x y → goes_on y z → goes_on x z) → (d : D) (x : C) (a : Archive) (log : List Entry)
       → 0 < plan.rounds → Stands a log None (leave d) → Called view left_at leave told store goes_on faults d d x x plan channel a a log ends.NoMemory
   called_none no_later same on d x a log some stands =
       let r : Rounds view left_at leave told store goes_on faults d d x x plan channel a a log [] [] 0 = rounds_none no_later same d x a log [] stands tt in

@@ -62,7 +62,8 @@ beyond xs i x here le = absurd (let none = get-behind xs i le in let e : None �
 none_more : (s : Standing) (who : Whose) (made : List Exchange) (c : Came) (p : ℕ) → kept_by (address_for who) c ≡ [] → length s.log ≤ p → length (after s (asked who made c)).log ≤ p
 none_more s who made c p none le = subst (λ (l : List Entry). length l ≤ p) (sym (after_log s who made c ∙ (ap (λ (fs : List Fragment). s.log ++ keeps_of fs) none ∙ append-nil s.log))) le
 
-pub turns_spelled : (plan : PullPlan) (channel : List Track) (listing : Listing) (s e : Standing) (ts : List Turn) → Turns plan channel listing s ts e → (p : ℕ) (f : Fragment) → slice_get e.log p ≡ Some (Keep f) → length s.log ≤ p
+pub turns_spelled : (plan : PullPlan) (channel : List Track) (listing : Listing) (s e : Standing) (ts : List Turn) → Turns plan channel listing s ts e
+    → (p : ℕ) (f : Fragment) → slice_get e.log p ≡ Some (Keep f) → length s.log ≤ p
     → IsSpelled plan.place listing (made_in ts) p f
 turns_spelled plan channel listing s e [] legal p f there le = absurd (beyond e.log p (Keep f) there (subst (λ (x : Standing). length x.log ≤ p) legal le))
 turns_spelled plan channel listing s e (passed a ∷ ts) legal p f there le = turns_spelled plan channel listing (after s (passed a)) e ts legal.1 p f there le

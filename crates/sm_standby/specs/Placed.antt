@@ -56,11 +56,13 @@ LeavesPlaces up t c = (after : List Entry) × IsStore after c × Places after up
 
 -- Where the opening log has its entries at their places in a log of the primary, so has each store that a crash may leave at any moment, in
 -- one that goes on from it: provided that the targets name the addresses that they were asked for.
-abbrev pub StaysPlaced : {D C : Type 0} → (D → View) → (D → ℕ → Image → Type 0) → (C → List Entry → Type 0) → D → D → C → C → Place → List Entry
+abbrev pub StaysPlaced : {D C : Type 0} → (D → View) → (D → ℕ → Image → Type 0) → (C → List Entry → Type 0) → D → D → C → C → Place
+    → List Entry
     → List Round → Part → Type 0
 StaysPlaced view left_at store disk disk' dial dial' place before rounds part =
     (up : List Entry) → store dial up → (more : List Entry) × store dial' (up ++ more)
-    × (RoundsName place rounds → PartNames place part → Places before up → IsSome (view disk).contents → Throughout view left_at disk disk' (LeavesPlaces (up ++ more)))
+    × (RoundsName place rounds → PartNames place part → Places before up → IsSome (view disk).contents
+        → Throughout view left_at disk disk' (LeavesPlaces (up ++ more)))
 
 -- What a call did, how many fragments were kept, and that these stand at their places; and what it comes to over a primary that keeps a log.
 pub record Followed {D C : Type 0} (view : D → View) (left_at : D → ℕ → Image → Type 0) (leave : D → Image → Type 0) (told : C → Option (List Exchange))

@@ -174,7 +174,8 @@ pub(crate) fn follow_all<C: Dial, D: Disk>(
         → (f : Follows D.view D.left_at D.may_leave C.log C.store C.later C.dial_faults disk.old disk.new dial.old dial.new plan.now channel.now listing.now
         archive.old archive.new (at log held.old (addresses_by channel.now all.now)) held.new [])
         × (due (length f.log) held.new ≡ None)) }
-    ensures err { IfErr result (λ end. (log : List Entry) → Stands archive.old log None (D.may_leave disk.old) → AreOpen log held.old → due (length log) held.old ≡ None
+    ensures err { IfErr result (λ end. (log : List Entry) → Stands archive.old log None (D.may_leave disk.old) → AreOpen log held.old
+        → due (length log) held.old ≡ None
         → Ends D.view D.left_at D.may_leave C.log C.store C.later C.dial_faults disk.old disk.new dial.old dial.new plan.now channel.now listing.now
         archive.old archive.new (at log held.old (addresses_by channel.now all.now)) end) }
 {

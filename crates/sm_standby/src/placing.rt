@@ -80,7 +80,8 @@ fn put<D: Disk>(
     requires absent { (log : List Entry) → Stands archive.old log None (D.may_leave disk.old) → kept_at log address ≡ None }
     ensures ok { IfOk result (λ step. (log : List Entry) → Stands archive.old log None (D.may_leave disk.old) → IsPut D.view D.left_at D.may_leave disk.old disk.new
         channel.now address archive.old archive.new log place raw step) }
-    ensures err { IfErr result (λ end. (log : List Entry) → Stands archive.old log None (D.may_leave disk.old) → IsUnput D.view D.left_at D.may_leave disk.old disk.new
+    ensures err { IfErr result (λ end. (log : List Entry) → Stands archive.old log None (D.may_leave disk.old)
+        → IsUnput D.view D.left_at D.may_leave disk.old disk.new
         channel.now address archive.old archive.new log place raw end) }
     ensures fault { IsErrOf result ends.DiskFault → Rose (D.view disk.old).disk_faults (D.view disk.new).disk_faults }
 {

@@ -224,7 +224,8 @@ closing_then : (empty : Bool) (rest : List ℕ) → closing empty [] ++ rest ≡
 closing_then true rest = refl
 closing_then false rest = refl
 
-pub start_read : (bytes name rest : List ℕ) (attributes : List Attribute) (empty : Bool) → ((text : List ℕ) × IsStart text name attributes empty × (60 ∷ bytes ≡ text ++ rest)) → Markups bytes (Ok (Start name attributes empty, rest))
+pub start_read : (bytes name rest : List ℕ) (attributes : List Attribute) (empty : Bool)
+    → ((text : List ℕ) × IsStart text name attributes empty × (60 ∷ bytes ≡ text ++ rest)) → Markups bytes (Ok (Start name attributes empty, rest))
 start_read bytes name rest attributes empty (text, is, whole) =
     let tail = is.inner ++ (is.space ++ closing empty rest) in
     let made : text ++ rest ≡ 60 ∷ name ++ tail =

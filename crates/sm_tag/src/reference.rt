@@ -60,7 +60,8 @@ fn number_or<'a>(
     found: Result<(char, &'a [u8]), Halt>,
     bytes: &'a [u8],
 ) -> Result<(char, &'a [u8]), Halt>
-    ensures read { (r : Result (ℕ × List ℕ) Stop) → Gives (λ x. (x.0, x.1.now)) found.entry r → Gives (λ x. (x.0, x.1.now)) result (or_else r (number_at bytes.now)) }
+    ensures read { (r : Result (ℕ × List ℕ) Stop) → Gives (λ x. (x.0, x.1.now)) found.entry r
+        → Gives (λ x. (x.0, x.1.now)) result (or_else r (number_at bytes.now)) }
     ensures shorter { IfOk found.entry (λ x. length x.1.now ≤ length bytes.now) → IfOk result (λ x. length x.1.now ≤ length bytes.now) }
 {
     match found {

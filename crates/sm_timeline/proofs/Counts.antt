@@ -13,7 +13,9 @@ as_many_counted t v [] (c ∷ cs) e = absurd (omega arith)
 as_many_counted t v (x ∷ xs) [] e = absurd (omega arith)
 as_many_counted t v (x ∷ xs) (c ∷ cs) e = by_test (ltb t x.0) (eqb x.0 t) (as_many_counted t v xs cs (omega arith))
   where
-    by_test : (b d : Bool) → length (counted t xs cs) ≡ length (with_entry t v xs) → length (cond b (1 ∷ c ∷ cs) (cond d (more c ∷ cs) (c ∷ counted t xs cs))) ≡ length (cond b ((t, v) ∷ x ∷ xs) (cond d (x ∷ xs) (x ∷ with_entry t v xs)))
+    by_test : (b d : Bool) → length (counted t xs cs) ≡ length (with_entry t v xs)
+        → length (cond b (1 ∷ c ∷ cs) (cond d (more c ∷ cs) (c ∷ counted t xs cs)))
+        ≡ length (cond b ((t, v) ∷ x ∷ xs) (cond d (x ∷ xs) (x ∷ with_entry t v xs)))
     by_test true d rest = ap suc e
     by_test false true rest = e
     by_test false false rest = ap suc rest
@@ -48,7 +50,8 @@ counted_there t w [] cs sorted e is = absurd cc
 counted_there t w (x ∷ xs) [] sorted e is = absurd (omega arith)
 counted_there t w (x ∷ xs) (c ∷ cs) sorted e is = by_test (ltb x.0 t) (ltb t x.0) (eqb x.0 t) refl refl refl is (λ k. counted_there t w xs cs sorted.1 (omega arith) k)
   where
-    by_test : (a b d : Bool) → ltb x.0 t ≡ a → ltb t x.0 ≡ b → eqb x.0 t ≡ d → cond d (Some x.1) (entry_at t xs) ≡ Some w → (entry_at t xs ≡ Some w → counted t xs cs ≡ set cs (place_in t xs) (more (get_or cs (place_in t xs) 0)))
+    by_test : (a b d : Bool) → ltb x.0 t ≡ a → ltb t x.0 ≡ b → eqb x.0 t ≡ d → cond d (Some x.1) (entry_at t xs) ≡ Some w
+        → (entry_at t xs ≡ Some w → counted t xs cs ≡ set cs (place_in t xs) (more (get_or cs (place_in t xs) 0)))
         → cond b (1 ∷ c ∷ cs) (cond d (more c ∷ cs) (c ∷ counted t xs cs)) ≡ set (c ∷ cs) (cond a (place_in t xs + 1) 0) (more (get_or (c ∷ cs) (cond a (place_in t xs + 1) 0) 0))
     by_test true b true r s u is rest = absurd (omega (arith, ltb-true x.0 t r, eqb-true x.0 t u))
     by_test true true false r s u is rest = absurd (omega (arith, ltb-true x.0 t r, ltb-true t x.0 s))
@@ -83,7 +86,8 @@ count_with u t v (x ∷ xs) (c ∷ cs) sorted e = by_test (ltb t x.0) (eqb x.0 t
   where
     by_test : (a b d f : Bool) → ltb t x.0 ≡ a → eqb x.0 t ≡ b → eqb t u ≡ d → eqb x.0 u ≡ f
         → count_at u (with_entry t v xs) (counted t xs cs) ≡ cond (eqb t u) (more (count_at t xs cs)) (count_at u xs cs)
-        → count_at u (cond a ((t, v) ∷ x ∷ xs) (cond b (x ∷ xs) (x ∷ with_entry t v xs))) (cond a (1 ∷ c ∷ cs) (cond b (more c ∷ cs) (c ∷ counted t xs cs))) ≡ cond d (more (cond b c (count_at t xs cs))) (cond f c (count_at u xs cs))
+        → count_at u (cond a ((t, v) ∷ x ∷ xs) (cond b (x ∷ xs) (x ∷ with_entry t v xs))) (cond a (1 ∷ c ∷ cs) (cond b (more c ∷ cs) (c ∷ counted t xs cs)))
+            ≡ cond d (more (cond b c (count_at t xs cs))) (cond f c (count_at u xs cs))
     by_test true true d f q r i j rest = absurd (omega (arith, ltb-true t x.0 q, eqb-true x.0 t r))
     by_test true false true f q r i j rest =
         let less : t < x.0 = ltb-true t x.0 q in

@@ -29,7 +29,8 @@ rising (x ∷ xs) sorted (suc i) zero d h k = absurd (omega (arith, h))
 rising (x ∷ xs) sorted (suc i) (suc j) d h k = rising xs sorted.1 i j d (omega (arith, h)) (omega (arith, k))
 
 -- what a search by halves gives
-pub place_is : (start : ℕ) (xs : List (ℕ × ℕ)) (i : ℕ) → i ≤ length xs → AllWithin (λ (y : ℕ × ℕ). ltb y.0 start ≡ true) xs 0 i → AllWithin (λ (y : ℕ × ℕ). ltb y.0 start ≡ false) xs i (length xs) → i ≡ place_in start xs
+pub place_is : (start : ℕ) (xs : List (ℕ × ℕ)) (i : ℕ) → i ≤ length xs → AllWithin (λ (y : ℕ × ℕ). ltb y.0 start ≡ true) xs 0 i
+    → AllWithin (λ (y : ℕ × ℕ). ltb y.0 start ≡ false) xs i (length xs) → i ≡ place_in start xs
 place_is start [] i h before after = omega arith
 place_is start (x ∷ xs) zero h before after =
     chosen (ltb x.0 start) (λ (n : ℕ). 0 ≡ n) (place_in start xs + 1) 0 (λ is. absurd (let not : ltb x.0 start ≡ false = after 0 x (omega arith) (omega arith) in cc)) (λ is. refl)

@@ -76,7 +76,8 @@ told_list view leave left_at d d' fault.Full answer h is = absurd h.cause
 told_list view leave left_at d d' fault.Damaged answer h is = subst (λ (a : Answer). ListMeans view leave left_at d d' a) (sym is) h
 told_list view leave left_at d d' fault.NoMemory answer h is = subst (λ (a : Answer). ListMeans view leave left_at d d' a) (sym is) (fault.NoMemory, h)
 
-pub unlisted : {D : Type 0} (view : D → View) (leave : D → Image → Type 0) (left_at : D → ℕ → Image → Type 0) (d d' : D) (why : StoreFault) (r : Result Answer NoMemory) (answer : Answer) → WhyUnlisted view leave left_at d d' why
+pub unlisted : {D : Type 0} (view : D → View) (leave : D → Image → Type 0) (left_at : D → ℕ → Image → Type 0) (d d' : D) (why : StoreFault)
+    (r : Result Answer NoMemory) (answer : Answer) → WhyUnlisted view leave left_at d d' why
     → IfOk r (λ a. Tells why a) → answer ≡ or_starved r → ListMeans view leave left_at d d' answer
 unlisted view leave left_at d d' why (Ok a) answer h tells is = subst (λ (x : Answer). ListMeans view leave left_at d d' x) (sym is) (told_list view leave left_at d d' why a h tells)
 unlisted view leave left_at d d' why (Err none) answer h tells is = subst (λ (x : Answer). ListMeans view leave left_at d d' x) (sym is) (why, h)
@@ -102,7 +103,8 @@ pub placed_by : (why : StoreFault) (r : Result Answer NoMemory) (answer : Answer
 placed_by why (Ok a) answer line tells is e = placed why a line tells (sym is ∙ e)
 placed_by why (Err none) answer line tells is e = absurd (let no = sym is ∙ e in cc)
 
-pub unwritten_served : {D : Type 0} (view : D → View) (leave : D → Image → Type 0) (left_at : D → ℕ → Image → Type 0) (ladder : Bool) {input input' : Input} (d d' : D) (why : StoreFault) (r : Result Answer NoMemory) (answer : Answer) (line : List ℕ)
+pub unwritten_served : {D : Type 0} (view : D → View) (leave : D → Image → Type 0) (left_at : D → ℕ → Image → Type 0) (ladder : Bool) {input input' : Input}
+    (d d' : D) (why : StoreFault) (r : Result Answer NoMemory) (answer : Answer) (line : List ℕ)
     → WhyUnready view leave left_at ladder input input' d d' why → IfOk r (λ a. Tells why a) → answer ≡ or_starved r → answer ≡ NotAStore line → Untouched view leave left_at d d'
 unwritten_served view leave left_at ladder d d' why r answer line h tells is e = let p = placed_by why r answer line tells is e in h.untouched p.0 p.1
 

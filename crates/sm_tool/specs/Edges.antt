@@ -50,11 +50,14 @@ followed_line kept = codes "followed " ++ (decimal kept ++ codes "\n")
 -- the track of the channel that the origin doesn't have
 abbrev pub no_track_line : Option Track → List ℕ
 no_track_line None = codes "error: NoTrack\nThe ladder has no such track.\n"
-no_track_line (Some t) = codes "error: NoTrack " ++ (t.name ++ (codes " " ++ (decimal t.bitrate ++ codes "\nThe ladder has a track of this name and bitrate, and the origin does not list one.\n")))
+no_track_line (Some t) = codes "error: NoTrack " ++ (t.name
+    ++ (codes " " ++ (decimal t.bitrate ++ codes "\nThe ladder has a track of this name and bitrate, and the origin does not list one.\n")))
 
 -- the place that comes next, and the least one that waits
 abbrev pub gap_line : ℕ → ℕ → List ℕ
-gap_line place next = codes "error: Gap " ++ (decimal place ++ (codes " " ++ (decimal next ++ codes "\nThe primary lists nothing for the first of these places of its log, and something for the second.\n")))
+gap_line place next = codes "error: Gap " ++ (decimal place
+    ++ (codes " " ++ (decimal next
+    ++ codes "\nThe primary lists nothing for the first of these places of its log, and something for the second.\n")))
 
 abbrev pub other_id_line : Address → ℕ → List ℕ
 other_id_line a id =
@@ -123,24 +126,29 @@ HasFollowLine followed.NoMemory = ⊥
 -- ---- both
 
 -- no store was opened, nothing was asked for, and why is told, but for want of memory
-abbrev pub IsUnpulled : {D C : Type 0} → (D → View) → (D → Image → Type 0) → Dialing C → Pulling → End → End → D → D → C → C → Answer → Type 0
+abbrev pub IsUnpulled : {D C : Type 0} → (D → View) → (D → Image → Type 0) → Dialing C → Pulling → End → End → D → D → C → C → Answer
+    → Type 0
 IsUnpulled view leave t e input input' d d' c c' answer =
     (why : StoreFault) × WhyNoEdge view leave (input_of input) (input_of input') (t.faults c) (t.faults c') (at_edge e.store) d d' why × (t.log c' ≡ t.log c)
     × (Tells why answer ⊎ (answer ≡ Starved))
 
 -- a relay pulled into the store, and how it ended is told, but for want of memory for the line; or no store was opened
-abbrev pub RelayMeans : {D C : Type 0} → (D → View) → (D → ℕ → Image → Type 0) → (D → Image → Type 0) → Dialing C → Pulling → End → End → D → D → C → C → Answer → Type 0
+abbrev pub RelayMeans : {D C : Type 0} → (D → View) → (D → ℕ → Image → Type 0) → (D → Image → Type 0) → Dialing C → Pulling → End → End → D
+    → D → C → C → Answer → Type 0
 RelayMeans view left_at leave t e input input' d d' c c' answer =
     ((channel : List Track) × (report : RelayReport)
-    × HasRelayed view left_at leave t.log t.store t.later t.faults t.chosen (input_of input) (input_of input') (at_edge e.store) e.place.host (plan_of e) d d' c c' channel report
+    × HasRelayed view left_at leave t.log t.store t.later t.faults t.chosen (input_of input) (input_of input') (at_edge e.store)
+        e.place.host (plan_of e) d d' c c' channel report
     × (TellsRelay channel report answer ⊎ ((answer ≡ Starved) × HasRelayLine report.end)))
     ⊎ IsUnpulled view leave t e input input' d d' c c' answer
 
 -- the log of a primary was rebuilt in the store, and how that ended is told, but for want of memory for the line; or no store was opened
-abbrev pub StandbyMeans : {D C : Type 0} → (D → View) → (D → ℕ → Image → Type 0) → (D → Image → Type 0) → Dialing C → Pulling → End → End → D → D → C → C → Answer
+abbrev pub StandbyMeans : {D C : Type 0} → (D → View) → (D → ℕ → Image → Type 0) → (D → Image → Type 0) → Dialing C → Pulling → End → End
+    → D → D → C → C → Answer
     → Type 0
 StandbyMeans view left_at leave t e input input' d d' c c' answer =
     ((channel : List Track) × (report : FollowReport)
-    × HasFollowed view left_at leave t.log t.store t.later t.faults t.chosen (input_of input) (input_of input') (at_edge e.store) e.place.host (plan_of e) d d' c c' channel report
+    × HasFollowed view left_at leave t.log t.store t.later t.faults t.chosen (input_of input) (input_of input') (at_edge e.store)
+        e.place.host (plan_of e) d d' c c' channel report
     × (TellsFollow channel report answer ⊎ ((answer ≡ Starved) × HasFollowLine report.end)))
     ⊎ IsUnpulled view leave t e input input' d d' c c' answer

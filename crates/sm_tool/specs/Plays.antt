@@ -33,7 +33,8 @@ abbrev pub no_more_line : ℕ → List ℕ
 no_more_line expected = codes "error: NoMore " ++ (decimal expected ++ codes "\nThe origin lists no fragment that starts at this time.\n")
 
 abbrev pub hole_line : ℕ → ℕ → List ℕ
-hole_line expected next = codes "error: Hole " ++ (decimal expected ++ (codes " " ++ (decimal next ++ codes "\nThe origin lists no fragment at the first of these times, and one at the second.\n")))
+hole_line expected next = codes "error: Hole " ++ (decimal expected
+    ++ (codes " " ++ (decimal next ++ codes "\nThe origin lists no fragment at the first of these times, and one at the second.\n")))
 
 -- the name of that place, from 0
 abbrev pub name_at : List (List ℕ) → ℕ → List ℕ
@@ -91,7 +92,8 @@ TellsUnplayed dial_fault.Failed answer = answer ≡ LinkFault
 TellsUnplayed dial_fault.NoMemory answer = answer ≡ Starved
 
 -- The plan was played, and how that ended is told, but for want of memory; or nothing was played, and why is told.
-abbrev pub PlayMeans : {P : Type 0} → Meaning P → Plan → List P → Line → Line → (List Entry → Type 0) → (List Entry → Type 0) → Tape → Tape → Answer → Type 0
+abbrev pub PlayMeans : {P : Type 0} → Meaning P → Plan → List P → Line → Line → (List Entry → Type 0) → (List Entry → Type 0) → Tape → Tape
+    → Answer → Type 0
 PlayMeans m plan policies dial dial' store store' tracks tracks' answer =
     ((report : Report) × HasPlayed m plan policies dial dial' store store' tracks tracks' report × (TellsPlay plan.streams report answer ⊎ (answer ≡ Starved)))
     ⊎ ((why : DialError) × WhyUnplayed dial dial' store store' tracks tracks' why × TellsUnplayed why answer)

@@ -47,7 +47,8 @@ abbrev pub turns_line : ℕ → List ℕ
 turns_line turns = codes "turns " ++ (decimal turns ++ codes "\n")
 
 abbrev pub store_line : ℕ → List ℕ
-store_line at = codes "error: not a store at " ++ (decimal at ++ codes "\nThe files of the folder are no store from this byte of the first one on, and were left as they are.\n")
+store_line at = codes "error: not a store at " ++ (decimal at
+    ++ codes "\nThe files of the folder are no store from this byte of the first one on, and were left as they are.\n")
 
 abbrev pub ladder_line : ℕ → List ℕ
 ladder_line at = codes "error: input at " ++ (decimal at ++ codes ": 5 BadLiveManifest\nThe ladder is no live manifest, or lacks what is read of a track.\n")

@@ -129,7 +129,8 @@ fn answer_to<I: Source, O: Sink, S: Site, C: Dial, T: Tracks>(
 /// `export STORE NAME BITRATE` reads a pushed header from `input`, alone or with what was pushed behind it, and writes that header and then
 /// each fragment that the store in that folder keeps of the stream of that name at that bitrate, in the order of time.
 /// `help`, `help COMMAND` and `--help` tell how the commands are used, `version` and `--version` which version this is; words that name no
-/// command are answered by what is wrong in them, and by the use of the one that they begin with. Every line, also that of a failure, goes to `output`; none follows where a file was begun and isn't whole.
+/// command are answered by what is wrong in them, and by the use of the one that they begin with. Every line, also that of a
+/// failure, goes to `output`; none follows where a file was begun and isn't whole.
 pub fn tool<I: Source, O: Sink, S: Site, C: Dial, T: Tracks>(
     alloc: Global,
     words: &[String],

@@ -1,2 +1,2 @@
-pub mod FieldLemmas
+pub mod Fields
 pub mod RowLemmas

@@ -93,7 +93,8 @@ fn edge_asked(alloc: Global, words: &[String]) -> Result<Option<EdgeOrder>, NoMe
 }
 
 fn relay_asked(alloc: Global, words: &[String]) -> Result<Option<Order>, NoMemory>
-    ensures { IfOk result (λ order. option_map wanted_of order ≡ option_map (λ e. Relay e) (option_and_then edge_of (read edge_options (map string_bytes words.now)))) }
+    ensures { IfOk result (λ order. option_map wanted_of order
+        ≡ option_map (λ e. Relay e) (option_and_then edge_of (read edge_options (map string_bytes words.now)))) }
 {
     match edge_asked(alloc, words)? {
         Some(order) => Ok(Some(Order::Relay(order))),
@@ -102,7 +103,8 @@ fn relay_asked(alloc: Global, words: &[String]) -> Result<Option<Order>, NoMemor
 }
 
 fn standby_asked(alloc: Global, words: &[String]) -> Result<Option<Order>, NoMemory>
-    ensures { IfOk result (λ order. option_map wanted_of order ≡ option_map (λ e. Standby e) (option_and_then edge_of (read edge_options (map string_bytes words.now)))) }
+    ensures { IfOk result (λ order. option_map wanted_of order
+        ≡ option_map (λ e. Standby e) (option_and_then edge_of (read edge_options (map string_bytes words.now)))) }
 {
     match edge_asked(alloc, words)? {
         Some(order) => Ok(Some(Order::Standby(order))),

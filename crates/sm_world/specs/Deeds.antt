@@ -6,8 +6,7 @@ use Rattle.sm_fetch.specs.declared.place.Place.{Place}
 use Rattle.sm_fetch.specs.Requests.{push_request, push_limit}
 use Rattle.sm_site.specs.declared.memory.MemorySite.{MemorySite}
 use Rattle.sm_site.specs.Image.{bytes_of}
-use Rattle.sm_site.specs.Memory.{faults_of, site_view, site_may_leave, site_left_at, state_of}
-use Rattle.sm_site.specs.Past.{chosen}
+use Rattle.sm_site.specs.Memory.{faults_of, site_view, site_may_leave, site_left_at, site_left_by, state_of}
 use Rattle.sm_site.specs.Sites.{SameCounts}
 use Rattle.sm_world.specs.Answering.{one_more}
 use Rattle.sm_world.specs.Dialing.{Dialing}
@@ -101,7 +100,7 @@ pub record IsStop (calls : ℕ) (old new : MemorySite × Dialing) : Type 0 where
 -- The disk holds the image of this choice and stops no more, and the store isn't open. The counts of faults stay, and the transcript begins anew.
 pub record IsCrash (choice : ℕ) (old new : MemorySite × Dialing) : Type 0 where
   pub dialing : new.1 ≡ record old.1 { state = None; crashes = one_more old.1.crashes }
-  pub kept : (file : ℕ) → bytes_of (state_of new.0).contents file ≡ bytes_of (chosen choice (state_of old.0)) file
+  pub kept : (file : ℕ) → bytes_of (state_of new.0).contents file ≡ bytes_of (site_left_by old.0 choice) file
   pub faults : faults_of new.0 ≡ record (faults_of old.0) { stop = None }
   pub counts : SameCounts (site_view old.0) (site_view new.0)
   pub told : IfSome (site_view new.0).transcript (λ items. items ≡ [])

@@ -22,7 +22,8 @@ returns-in-Ok-clause-means g c =
     inl (
       r.channel,
       r.report,
-      followed_at g.S.Disk.view g.S.Disk.left_at g.S.Disk.may_leave t _ _ (at_edge (string_bytes c.args.order.store)) (plan_of (pulling_of c.args.order)) c.args.site.now c.follow_store.new.site c.args.dial.now c.follow_store.new.dial r.channel
+      followed_at g.S.Disk.view g.S.Disk.left_at g.S.Disk.may_leave t _ _ (at_edge (string_bytes c.args.order.store)) (plan_of (pulling_of c.args.order))
+          c.args.site.now c.follow_store.new.site c.args.dial.now c.follow_store.new.dial r.channel
           _ _ (c.as_str.ensures.value ∙ c.args.order.same) r.report c.in-Ok.ensures.followed,
       told_or _ c.followed.result c.or_starved.result c.followed.ensures.told c.followed.ensures.unwritten c.or_starved.ensures,
     )

@@ -88,7 +88,8 @@ add-requires-clause-spare c =
     subst (λ (n : Lane). 1 ≤ n.spare) (sym c.index_mut-2.ensures.value) spare
 
 -- what was put
-the_put : (c : goal.After-self-3-1) → IsPut c.self.inside.channel c.self.inside.kept.items c.self.inside.streams.items c.args.address.now c.args.duration c.args.place c.in-Some.track c.in-Some-stream_place.lane c.put.new.self c.add.new.self
+the_put : (c : goal.After-self-3-1) → IsPut c.self.inside.channel c.self.inside.kept.items c.self.inside.streams.items c.args.address.now c.args.duration
+    c.args.place c.in-Some.track c.in-Some-stream_place.lane c.put.new.self c.add.new.self
 the_put c =
     let x = c.args.address.now in
     let i = c.self.inside in

@@ -9,7 +9,8 @@ loop-row-init c = rw (c.in_ok-rest.ensures, c.in_ok-items.ensures.items) (refl, 
 pub loop-row-preserved : goal.loop-row-preserved
 loop-row-preserved c = (
   cut_count _ _ _ _ _ (record { duration = 0; size = 0; flags = 0; offset = 0 }) c.loop-row-test.true c.in_ok-split_front.ensures.rest c.loop-row.invariant.0 c.loop-row.invariant.1.0,
-  cut_step _ _ _ _ _ _ (record { duration = 0; size = 0; flags = 0; offset = 0 }) _ _ _ c.loop-row-test.true c.in_ok-push.ensures.items c.from_part-bytes.ensures c.in_ok-split_front.ensures.front c.in_ok-split_front.ensures.rest c.loop-row.invariant.1,
+  cut_step _ _ _ _ _ _ (record { duration = 0; size = 0; flags = 0; offset = 0 }) _ _ _ c.loop-row-test.true c.in_ok-push.ensures.items
+      c.from_part-bytes.ensures c.in_ok-split_front.ensures.front c.in_ok-split_front.ensures.rest c.loop-row.invariant.1,
 )
 
 pub overflow_sub-len : goal.overflow_sub-len
