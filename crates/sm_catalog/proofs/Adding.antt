@@ -89,7 +89,7 @@ differ_in_bitrate s (t ∷ ts) agree =
     each (u ∷ us) name agree =
         let later = each us name (λ k d h. agree (suc k) d (omega (arith, h))) in
         chosen (is_named s u) (λ l. AllByRecursion (λ (v : Track). t.bitrate ≢ v.bitrate) l) (u ∷ filter (is_named s) us) (filter (is_named s) us)
-            (λ is. ((agree 0 u (omega arith)).apart (name ∙ sym (bytes u is)), later)) (λ _. later)
+        (λ is. ((agree 0 u (omega arith)).apart (name ∙ sym (bytes u is)), later)) (λ _. later)
 
 pub has_bitrate : (s : List ℕ) (r : ℕ) (ts : List Track) → list_any (is_the s r) ts ≡ list_any (λ (t : Track). eqb t.bitrate r) (filter (is_named s) ts)
 has_bitrate s r [] = refl

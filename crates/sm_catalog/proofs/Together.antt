@@ -218,7 +218,7 @@ whole_added channel added kept lanes reserved capacity more k j d p x e m whole 
 
 pub rooms_there : (channel : List Track) (added : List Added) (kept : List Entries) (lanes : List Lane) (reserved capacity k j : ℕ) (x : Address) (l : Lane) (f : Entries) → IsWhole channel added kept lanes reserved capacity
     → position (is_the x.stream x.bitrate) channel ≡ Some k → position (λ (n : Lane). is_same n.name x.stream) lanes ≡ Some j
-        → 1 ≤ spare_of x.stream (spares_in lanes) → (1 ≤ (get_or lanes j l).spare) × (1 ≤ (get_or kept k f).room)
+    → 1 ≤ spare_of x.stream (spares_in lanes) → (1 ≤ (get_or lanes j l).spare) × (1 ≤ (get_or kept k f).room)
 rooms_there [] added kept lanes reserved capacity k j x l f whole e at some = absurd cc
 rooms_there (t ∷ ts) added kept lanes reserved capacity k j x l f whole e at some =
     let found = found_track x.stream x.bitrate (t ∷ ts) k e in

@@ -8,7 +8,7 @@ use Rattle.sm_manout.specs.ManifestText.{stream_lines, streams_lines}
 
 pub streams_more : (channel : List Track) (times : List ℕ → List (ℕ × ℕ)) (ts : List Track) (o : List ℕ) (i : ℕ) (t : Track) → i < length ts → t ≡ get_or ts i t
     → (o ++ cond (list_any (λ (u : Track). is_same u.name t.name) (take i ts)) [] (stream_lines channel (times t.name) t))
-        ++ streams_lines channel times (take (i + 1) ts) (drop (i + 1) ts) ≡ o ++ streams_lines channel times (take i ts)
+    ++ streams_lines channel times (take (i + 1) ts) (drop (i + 1) ts) ≡ o ++ streams_lines channel times (take i ts)
     (drop i ts)
 streams_more channel times ts o i t h is =
     let front : take (i + 1) ts ≡ take i ts ++ t ∷ [] = take_more ts i t h ∙ ap (λ (u : Track). take i ts ++ u ∷ []) (sym is) in

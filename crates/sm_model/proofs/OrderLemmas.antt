@@ -59,7 +59,7 @@ pub frag_in_two : (d : Defaults) (m md : List ℕ) → frag d m md ≡ and_then 
 unfolding frag moof_run
 frag_in_two d m md =
     elim (boxes (box_of m).body) as (λ o. option_map_or (λ xs. frag_in d m md (found (bodies (codes "traf") xs))) o (Err BadBox)
-        ≡ and_then (option_map_or (λ xs. run_in d (found (bodies (codes "traf") xs))) o (Err BadBox)) (last m md)) [
+    ≡ and_then (option_map_or (λ xs. run_in d (found (bodies (codes "traf") xs))) o (Err BadBox)) (last m md)) [
       | None ↦ refl
       | Some xs ↦ frag_in_two_in d m md (found (bodies (codes "traf") xs))
     ]

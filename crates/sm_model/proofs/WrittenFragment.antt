@@ -76,7 +76,7 @@ pub text_boxes : (seq id : ℕ) (f : Fragment) (ahead : List (ℕ × ℕ)) → I
 text_boxes seq id f ahead w =
     one_box (moof_len f.samples ahead) (codes "moof") (moof_body seq id f ahead) (text.mdat f.samples) (moof_text seq id f ahead w.valid.few w.few)
     ∙ ap (option_map (λ (xs : List Box). made (moof_len f.samples ahead) (codes "moof") (moof_body seq id f ahead) ∷ xs))
-        (boxes-end (8 + sample_bytes f.samples) (codes "mdat") (sample_text f.samples) (mdat_text f.samples w.valid.short))
+    (boxes-end (8 + sample_bytes f.samples) (codes "mdat") (sample_text f.samples) (mdat_text f.samples w.valid.short))
 
 pub two_boxes : (seq id : ℕ) (f : Fragment) (ahead : List (ℕ × ℕ)) → IsWritten id f ahead
     → boxes (text.frag_text seq id f ahead) ≡ Some (box_of (text.moof seq id f ahead) ∷ box_of (text.mdat f.samples) ∷ [])

@@ -314,7 +314,7 @@ module _ (laws : Texts) (fragments : Fragments) (reads : ReadsWhole) where
       let w = whole front h.whole in
       let each : AllByRecursion (IsOfHeader (header_in w.next.stage)) cs = subst (λ (tracks : List HeaderTrack). AllByRecursion (IsOfHeader tracks) cs) (sym w.stage_is) h.each in
       let bytes : b ≡ bytes_of (w.boxes ++ boxes_of cs) = h.text ∙ ap (λ (x : List ℕ). x ++ flat_map text_of cs) w.bytes_are
-          ∙ ap (λ (x : List ℕ). bytes_of w.boxes ++ x) (sym (joined cs)) ∙ sym (bytes_both w.boxes (boxes_of cs)) in
+      ∙ ap (λ (x : List ℕ). bytes_of w.boxes ++ x) (sym (joined cs)) ∙ sym (bytes_both w.boxes (boxes_of cs)) in
       let told : List Given → List HeaderTrack → Outcome = λ items header. record { items = items; refusal = None; inside = false; header = header } in
       ap (body false) bytes
       ∙ body_is reads false (w.boxes ++ boxes_of cs) (each_both w.boxes (boxes_of cs) w.each (ones laws w.next.stage cs (of_tracks w.next.stage cs each)))

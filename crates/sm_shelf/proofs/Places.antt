@@ -132,7 +132,7 @@ end_grows adds adds' x w w' f last le is at more =
     ap addresses_in is ∙ map-append (λ (a : Add). a.address) adds (x ∷ []) ∙ ap (λ (b : Address). addresses_in adds ++ b ∷ []) at
     ∙ ap (λ (l : List Address). l ++ address_of f ∷ []) f0.1 ∙ append_assoc f0.0 (map address_of w) (address_of f ∷ [])
     ∙ ap (λ (l : List Address). f0.0 ++ l) (sym (map-append address_of w (f ∷ [])) ∙ ap (map address_of) g.1
-        ∙ map-append address_of g.0 (window_of (w ++ f ∷ [])) ∙ ap (λ (l : List Fragment). map address_of g.0 ++ map address_of l) (sym more))
+    ∙ map-append address_of g.0 (window_of (w ++ f ∷ [])) ∙ ap (λ (l : List Fragment). map address_of g.0 ++ map address_of l) (sym more))
     ∙ sym (append_assoc f0.0 (map address_of g.0) (map address_of w')) in
     (omega (arith, as_long, short, long, longer, le), end_of (f0.0 ++ map address_of g.0) (map address_of w') (addresses_in adds') all)
 

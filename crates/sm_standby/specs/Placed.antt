@@ -62,7 +62,7 @@ abbrev pub StaysPlaced : {D C : Type 0} → (D → View) → (D → ℕ → Imag
 StaysPlaced view left_at store disk disk' dial dial' place before rounds part =
     (up : List Entry) → store dial up → (more : List Entry) × store dial' (up ++ more)
     × (RoundsName place rounds → PartNames place part → Places before up → IsSome (view disk).contents
-        → Throughout view left_at disk disk' (LeavesPlaces (up ++ more)))
+    → Throughout view left_at disk disk' (LeavesPlaces (up ++ more)))
 
 -- What a call did, how many fragments were kept, and that these stand at their places; and what it comes to over a primary that keeps a log.
 pub record Followed {D C : Type 0} (view : D → View) (left_at : D → ℕ → Image → Type 0) (leave : D → Image → Type 0) (told : C → Option (List Exchange))

@@ -87,7 +87,7 @@ count_with u t v (x ∷ xs) (c ∷ cs) sorted e = by_test (ltb t x.0) (eqb x.0 t
     by_test : (a b d f : Bool) → ltb t x.0 ≡ a → eqb x.0 t ≡ b → eqb t u ≡ d → eqb x.0 u ≡ f
         → count_at u (with_entry t v xs) (counted t xs cs) ≡ cond (eqb t u) (more (count_at t xs cs)) (count_at u xs cs)
         → count_at u (cond a ((t, v) ∷ x ∷ xs) (cond b (x ∷ xs) (x ∷ with_entry t v xs))) (cond a (1 ∷ c ∷ cs) (cond b (more c ∷ cs) (c ∷ counted t xs cs)))
-            ≡ cond d (more (cond b c (count_at t xs cs))) (cond f c (count_at u xs cs))
+        ≡ cond d (more (cond b c (count_at t xs cs))) (cond f c (count_at u xs cs))
     by_test true true d f q r i j rest = absurd (omega (arith, ltb-true t x.0 q, eqb-true x.0 t r))
     by_test true false true f q r i j rest =
         let less : t < x.0 = ltb-true t x.0 q in

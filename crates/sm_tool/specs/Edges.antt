@@ -138,7 +138,7 @@ abbrev pub RelayMeans : {D C : Type 0} → (D → View) → (D → ℕ → Image
 RelayMeans view left_at leave t e input input' d d' c c' answer =
     ((channel : List Track) × (report : RelayReport)
     × HasRelayed view left_at leave t.log t.store t.later t.faults t.chosen (input_of input) (input_of input') (at_edge e.store)
-        e.place.host (plan_of e) d d' c c' channel report
+    e.place.host (plan_of e) d d' c c' channel report
     × (TellsRelay channel report answer ⊎ ((answer ≡ Starved) × HasRelayLine report.end)))
     ⊎ IsUnpulled view leave t e input input' d d' c c' answer
 
@@ -149,6 +149,6 @@ abbrev pub StandbyMeans : {D C : Type 0} → (D → View) → (D → ℕ → Ima
 StandbyMeans view left_at leave t e input input' d d' c c' answer =
     ((channel : List Track) × (report : FollowReport)
     × HasFollowed view left_at leave t.log t.store t.later t.faults t.chosen (input_of input) (input_of input') (at_edge e.store)
-        e.place.host (plan_of e) d d' c c' channel report
+    e.place.host (plan_of e) d d' c c' channel report
     × (TellsFollow channel report answer ⊎ ((answer ≡ Starved) × HasFollowLine report.end)))
     ⊎ IsUnpulled view leave t e input input' d d' c c' answer

@@ -84,11 +84,11 @@ fn push_to<I: Source, C: Dial>(
     ensures pushed { IfOk result (λ pushed. HasPushed (place_of order.now).host (place_of order.now) order.now.id
         (record { told = I.left input.old; faults = I.faults input.old }) (record { told = I.left input.new; faults = I.faults input.new })
         (record { log = C.log dial.old; faults = C.dial_faults dial.old; chosen = C.chosen dial.old })
-            (record { log = C.log dial.new; faults = C.dial_faults dial.new; chosen = C.chosen dial.new }) pushed) }
+        (record { log = C.log dial.new; faults = C.dial_faults dial.new; chosen = C.chosen dial.new }) pushed) }
     ensures why { IfErr result (λ why. WhyUnpushed
         (record { told = I.left input.old; faults = I.faults input.old }) (record { told = I.left input.new; faults = I.faults input.new })
         (record { log = C.log dial.old; faults = C.dial_faults dial.old; chosen = C.chosen dial.old })
-            (record { log = C.log dial.new; faults = C.dial_faults dial.new; chosen = C.chosen dial.new }) why) }
+        (record { log = C.log dial.new; faults = C.dial_faults dial.new; chosen = C.chosen dial.new }) why) }
     ensures answered { IsAnswered
         (record { log = C.log dial.old; faults = C.dial_faults dial.old; chosen = C.chosen dial.old })
         (record { log = C.log dial.new; faults = C.dial_faults dial.new; chosen = C.chosen dial.new }) (C.store dial.old) (C.store dial.new) }

@@ -434,7 +434,7 @@ fn play_by_words(
 ) -> Result<Option<PlayTexts>, NoMemory>
     ensures { IfOk result (λ texts. option_and_then play_texts_of texts
         ≡ play_words_by (map string_bytes words.now) (option_map string_bytes from) (Some (string_bytes count)) (Some (string_bytes tries))
-            (Some (string_bytes refresh))) }
+        (Some (string_bytes refresh))) }
 {
     let [host, port, path, streams @ ..] = words else {
         return Ok(None);

@@ -35,7 +35,7 @@ loop-preserved g c =
     let q = standing c.handle.new.reader.seen c.handle.new.counts.answered in
     let turn = c.if-not-handle.ensures.turns so.lives so.known in
     let all = played_then seen old (V c.loop.wire) (V c.next.new.self) new (A c.args.forward.now) (A c.loop.forward) (A c.handle.new.forward) c.loop.counter
-        c.loop.lives.items c.handle.new.lives.items p q event so c.in-Ok.ensures.taken turn in
+    c.loop.lives.items c.handle.new.lives.items p q event so c.in-Ok.ensures.taken turn in
     record {
       open_ = c.if-not-handle.ensures.open;
       link_faults = omega (arith, c.loop.invariant.link_faults, c.next.ensures.link_faults, c.if-not-handle.ensures.link_faults);
@@ -56,9 +56,9 @@ returns-then-not-handle-clause-plays g c =
     let q = standing c.handle.new.reader.seen c.handle.new.counts.answered in
     let turn = c.if-not-handle.ensures.turns so.lives so.known in
     let all = played_then seen old (V c.loop.wire) (V c.next.new.self) new (A c.args.forward.now) (A c.loop.forward) (A c.handle.new.forward) c.loop.counter
-        c.loop.lives.items c.handle.new.lives.items p q event so c.in-Ok.ensures.taken turn in
+    c.loop.lives.items c.handle.new.lives.items p q event so c.in-Ok.ensures.taken turn in
     has_played seen c.handle.new.reader.seen c.handle.new.counts.answered old new (A c.args.forward.now) (A c.handle.new.forward) c.args.turns
-        (Done c.handle.new.counts.answered) (c.loop.counter + 1) c.handle.new.lives.items (is_over (deal_of event))
+    (Done c.handle.new.counts.answered) (c.loop.counter + 1) c.handle.new.lives.items (is_over (deal_of event))
     all (refl, omega (arith, c.loop-test.true), inl (is_ended (is_over (deal_of event)) c.if-not-handle.ensures.over))
 
 pub returns-in-Err-Failed-clause-plays : goal.returns-in-Err-Failed-clause-plays
@@ -91,7 +91,7 @@ returns-clause-plays g c =
     let turns = c.args.turns in
     let is : i ≡ turns = search rules in
     has_played c.args.reader.now.seen c.loop.reader.seen c.loop.counts.answered (V c.args.wire.now).transcript (V c.loop.wire).transcript
-        (A c.args.forward.now) (A c.loop.forward) turns (Done c.loop.counts.answered) i c.loop.lives.items false
+    (A c.args.forward.now) (A c.loop.forward) turns (Done c.loop.counts.answered) i c.loop.lives.items false
     c.loop.invariant.plays (refl, omega (arith, is), inr is)
 
 pub returns-then-not-handle-clause-seen : goal.returns-then-not-handle-clause-seen

@@ -36,7 +36,7 @@ returns-in-Err-place_one-clause-err g c = λ log more s o d.
     let turn = open_turn log c.args.held.now c.args.address.now more d (sym (c.is_there.ensures s.bodies s.body log None s.keeps) ∙ c.if-is_there.false) in
     ends_one log c.args.held.now (c.args.address.now ∷ more) (candidate c.args.address.now) c.in-Err-place_one.end
     (stopped_at c.args.listing.now c.url_of.result.now c.in-Ok.copy c.args.address.now c.in-Ok.ensures c.url_of.ensures (c.in-Err-place_one.ensures.err log s))
-        turn (λ is. c.in-Err-place_one.ensures.fault (ap (λ (e : FollowEnd). Err e) is))
+    turn (λ is. c.in-Err-place_one.ensures.fault (ap (λ (e : FollowEnd). Err e) is))
 
 pub returns-in-Passed-clause-ok : goal.returns-in-Passed-clause-ok
 returns-in-Passed-clause-ok g c = λ log more s o d.
