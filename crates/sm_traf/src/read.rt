@@ -30,7 +30,7 @@ fn ahead_of(alloc: Global, ahead: &Found) -> Result<Pairs, NoMemory>
     }
 }
 
-#[tactic(auto, using(crate::proofs::Fields::run_eight, crate::proofs::Fields::head_len, crate::proofs::Fields::head_eight), unfolding(sm_model::specs::Frag::run_of))]
+#[tactic(auto, using(crate::proofs::Facts::run_eight, crate::proofs::Facts::head_len, crate::proofs::Facts::head_eight), unfolding(sm_model::specs::Frag::run_of))]
 fn run_of(alloc: Global, defaults: &Defaults, parts: &Parts) -> Result<Run, NoMemory>
     requires { Passes (seen_parts parts.now) }
     ensures { IfOk result (λ run. run ≡ run_of defaults.now (seen_parts parts.now)) }

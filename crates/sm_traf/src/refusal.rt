@@ -38,7 +38,7 @@ pub(crate) fn refused(parts: &Parts) -> Option<Cause>
     refused_by_head_or_time(parts)
 }
 
-#[tactic(auto, using(crate::proofs::Fields::head_eight))]
+#[tactic(auto, using(crate::proofs::Facts::head_eight))]
 fn refused_by_head_or_time(parts: &Parts) -> Option<Cause>
     requires { IsReadable (seen_parts parts.now) }
     ensures cause { result ≡ first_cause (other_lines (seen_parts parts.now)) }

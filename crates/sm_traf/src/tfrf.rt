@@ -28,7 +28,7 @@ pub(crate) fn tfrf_fits(body: &[u8]) -> bool
 }
 
 // The pair of an index.
-#[tactic(auto, using(crate::proofs::Fields::ahead_room, crate::proofs::Fields::ahead_five), unfolding(sm_model::specs::Fields::tfrf_pair))]
+#[tactic(auto, using(crate::proofs::Facts::ahead_room, crate::proofs::Facts::ahead_five), unfolding(sm_model::specs::Fields::tfrf_pair))]
 fn tfrf_pair(body: &[u8], index: usize) -> (u64, u64)
     requires fits { IsTrue (tfrf_fits body.now) }
     requires within { index < slice_index body.now 4 }
@@ -64,7 +64,7 @@ pub fn read_tfrf(body: &[u8], index: u32) -> Ahead
 }
 
 /// All pairs.
-#[tactic(auto, using(crate::proofs::Fields::ahead_five, crate::proofs::RowLemmas::pairs_none, crate::proofs::RowLemmas::pairs_more))]
+#[tactic(auto, using(crate::proofs::Facts::ahead_five, crate::proofs::RowLemmas::pairs_none, crate::proofs::RowLemmas::pairs_more))]
 pub(crate) fn pairs_of(alloc: Global, body: &[u8]) -> Result<Pairs, NoMemory>
     requires { IsTrue (tfrf_fits body.now) }
     ensures { IfOk result (λ ahead. ahead ≡ pairs body.now (slice_index body.now 4)) }

@@ -74,7 +74,7 @@ fn row_at(defaults: &Defaults, word: u32, at: usize, body: &[u8], first: bool) -
 }
 
 // The sample of an index.
-#[tactic(auto, using(crate::proofs::Fields::row_room, crate::proofs::Fields::run_eight, crate::proofs::Fields::rows_front), unfolding(sm_model::specs::Fields::row))]
+#[tactic(auto, using(crate::proofs::Facts::row_room, crate::proofs::Facts::run_eight, crate::proofs::Facts::rows_front), unfolding(sm_model::specs::Fields::row))]
 fn row(defaults: &Defaults, body: &[u8], index: usize) -> Row
     requires fits { IsTrue (trun_fits body.now) }
     requires within { index < number32_at 4 body.now }
@@ -86,7 +86,7 @@ fn row(defaults: &Defaults, body: &[u8], index: usize) -> Row
 }
 
 /// All samples. The room for them is taken once, after the length was compared with the count.
-#[tactic(auto, using(crate::proofs::Fields::run_eight, crate::proofs::RowLemmas::rows_none, crate::proofs::RowLemmas::rows_more))]
+#[tactic(auto, using(crate::proofs::Facts::run_eight, crate::proofs::RowLemmas::rows_none, crate::proofs::RowLemmas::rows_more))]
 pub(crate) fn rows_of(alloc: Global, defaults: &Defaults, body: &[u8]) -> Result<Rows, NoMemory>
     requires { IsTrue (trun_fits body.now) }
     ensures { IfOk result (λ samples. samples ≡ rows defaults.now body.now (number32_at 4 body.now)) }
@@ -100,7 +100,7 @@ pub(crate) fn rows_of(alloc: Global, defaults: &Defaults, body: &[u8]) -> Result
 }
 
 /// Where the first sample starts, in bytes from the first byte of the `moof`, if the body says it.
-#[tactic(auto, using(crate::proofs::Fields::run_fits), unfolding(sm_model::specs::Fields::data_offset, sm_model::specs::Fields::rows_at, sm_model::specs::Fields::field))]
+#[tactic(auto, using(crate::proofs::Facts::run_fits), unfolding(sm_model::specs::Fields::data_offset, sm_model::specs::Fields::rows_at, sm_model::specs::Fields::field))]
 pub(crate) fn start_of(body: &[u8]) -> Option<i64>
     requires { IsTrue (trun_fits body.now) }
     ensures { result ≡ data_offset body.now }

@@ -1,7 +1,8 @@
 //! An origin on a site.
-ghost use Rattle.std.specs.Prelude.{◌≡◌, ◌≤◌, ◌<◌, ◌^◌, [], List, None, IfSome, length};
+ghost use Rattle.std.specs.Prelude.{◌≡◌, ◌≤◌, ◌<◌, ◌^◌, [], ℕ, List, None, Some, IfSome, length};
 ghost use Rattle.sm_model.specs.declared.entry.Entry.{Entry};
 ghost use Rattle.sm_site.specs.Clauses.{SameOutcomes, Settled};
+ghost use Rattle.sm_site.specs.Image.{bytes_of};
 ghost use Rattle.sm_archive.specs.Store.{IsStore};
 ghost use Rattle.sm_world.specs.Answering.{one_more};
 ghost use Rattle.sm_world.specs.Dialing.{next_number};
@@ -102,8 +103,10 @@ impl<S: Crashing> OriginDial<S> {
             → (now : World) × Stands S.Disk.view S.Disk.may_leave S.Disk.left_at now self.new.1.state self.new.0
             × Crashes (S.Disk.view self.old.0).transcript w now }
         ensures image { IfSome (S.Disk.view self.new.0).contents (S.Disk.may_leave self.old.0) }
+        ensures kept { IfSome (S.Disk.view self.new.0).contents (λ now. (file : ℕ) → bytes_of now file ≡ bytes_of (S.left_by self.old.0 choice) file) }
         ensures dialing { self.new.1 ≡ record self.old.1 { state = None; crashes = one_more self.old.1.crashes } }
         ensures starved { S.is_starved self.new.0 ≡ S.is_starved self.old.0 }
+        ensures stop { S.stop self.new.0 ≡ None }
     {
         an_image_fits::<S>();
         self.site.crash_here(choice);
@@ -151,6 +154,7 @@ impl<S: Crashing> OriginDial<S> {
         ensures outcomes { SameOutcomes (S.Disk.may_leave self.old.0) (S.Disk.may_leave self.new.0) }
         ensures dialing { self.new.1 ≡ self.old.1 }
         ensures starved { S.is_starved self.new.0 ≡ S.is_starved self.old.0 }
+        ensures stop { S.stop self.new.0 ≡ Some calls }
     {
         fewer_images_stand::<S>();
         self.site.stop_after(calls);
