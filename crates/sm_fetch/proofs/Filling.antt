@@ -1,25 +1,11 @@
 -- The fields of a Url, filled byte by byte.
-use Rattle.std.proofs.Common.{zero, suc, length-drop, ◌≡◌, ◌<◌, ◌≤◌, ℕ, ◌+◌, ◌-◌, true, false, List, [], ◌∷◌, ◌++◌, length, take, drop, get_or, refl, ap, ◌∙◌, sym, arith}
+use Rattle.std.proofs.Common.{◌≡◌, ◌<◌, ◌≤◌, ℕ, ◌+◌, ◌-◌, true, false, List, [], ◌∷◌, ◌++◌, length, take, drop, get_or, refl, ap, ◌∙◌, sym, arith}
 use Rattle.std.specs.Prelude.{decimal}
 use Rattle.std.proofs.lemmas.Bool.Decides.{nat_tests}
 use Rattle.std.proofs.lemmas.List.{drop-drop}
 use Rattle.sm_fetch.proofs.Framing.{tail_is}
-use Rattle.sm_manin.specs.Patterns.{begins_with, is_bitrate_field, is_start_field}
+use Rattle.sm_manin.specs.Patterns.{is_bitrate_field, is_start_field}
 use Rattle.sm_fetch.specs.Patterns.{filled_behind}
-
-pub short_head : (head text : List ℕ) (i : ℕ) → i < length head → length text ≤ i → begins_with (drop i head) (drop i text) ≡ false
-short_head [] text i low past = absurd (omega arith)
-short_head (h ∷ head) [] zero low past = refl
-short_head (h ∷ head) (t ∷ text) zero low past = absurd (omega arith)
-short_head (h ∷ head) [] (suc i) low past = nothing_begins (drop i head) (some_left head i (omega arith))
-  where
-    some_left : (xs : List ℕ) (i : ℕ) → i < length xs → 0 < length (drop i xs)
-    some_left xs i low = let l = length-drop i xs in omega arith
-
-    nothing_begins : (xs : List ℕ) → 0 < length xs → begins_with xs [] ≡ false
-    nothing_begins [] some = absurd (omega arith)
-    nothing_begins (x ∷ xs) some = refl
-short_head (h ∷ head) (t ∷ text) (suc i) low past = short_head head text i (omega arith) (omega arith)
 
 pub passed : (bitrate time skip : ℕ) (text : List ℕ) → 0 < length text → 0 < skip
     → filled_behind (skip - 1) bitrate time (drop 1 text) ≡ filled_behind skip bitrate time text

@@ -2,13 +2,13 @@
 ghost use Rattle.std.specs.Prelude.{◌≡◌, ◌++◌, ◌<◌, decimal, drop, false, length, IfOk, OnOk};
 ghost use Rattle.std.specs.List.{flat_map};
 ghost use Rattle.std.specs.Fmt.{digits};
-ghost use Rattle.sm_manin.specs.Patterns.{begins_with, is_bitrate_field, is_start_field};
 ghost use Rattle.sm_fetch.specs.Patterns.{filled_behind, filled};
 ghost use Rattle.sm_fetch.specs.Requests.{request_line, host_line, close_line, get_text, manifest_request, fragment_target, fragment_request};
 ghost use Rattle.sm_fetch.specs.Requests.{chunk, pieces, chunked, coding_line, post_head, push_target, push_request};
 
 use crate::Place;
 use sm_addr::put_target;
+use sm_manin::{is_bitrate_field, is_start_field};
 use sm_model::{Address, Bytes, Name, NoMemory, Target};
 use std::alloc::Global;
 
@@ -73,33 +73,6 @@ pub(crate) fn put_manifest_request(alloc: Global, place: &Place) -> Result<Bytes
 {
     let target = put_target(alloc, place.path.as_slice(), &Target::Manifest)?;
     put_get(alloc, place, target.as_slice())
-}
-
-// Up to 12 bytes stand at the front of a text.
-fn begins_with(head: &[u8], text: &[u8]) -> bool
-    ensures { result ≡ begins_with head.now text.now }
-{
-    for i in 0..head.len() {
-        if i >= text.len() {
-            return false;
-        }
-        if head[i] != text[i] {
-            return false;
-        }
-    }
-    true
-}
-
-fn is_bitrate_field(text: &[u8]) -> bool
-    ensures { result ≡ is_bitrate_field text.now }
-{
-    begins_with(b"{bitrate}", text) || begins_with(b"{Bitrate}", text)
-}
-
-fn is_start_field(text: &[u8]) -> bool
-    ensures { result ≡ is_start_field text.now }
-{
-    begins_with(b"{start time}", text) || begins_with(b"{start_time}", text)
 }
 
 // What the first byte of the text adds, where so many are the rest of a field, and how many of the next are.

@@ -57,6 +57,7 @@ pub fn kind_in_type(text: &Option<Bytes>) -> Option<Kind>
     }
 }
 
+// Whether these bytes, up to 12, stand at the front of a text.
 fn begins_with(head: &[u8], text: &[u8]) -> bool
     ensures { result ≡ begins_with head.now text.now }
 {
@@ -71,13 +72,15 @@ fn begins_with(head: &[u8], text: &[u8]) -> bool
     true
 }
 
-fn is_bitrate_field(text: &[u8]) -> bool
+/// Whether the field of the bitrate stands at the front of a text, as a Url has it ([MS-SSTR] 2.2.2.5): `{bitrate}` or `{Bitrate}`.
+pub fn is_bitrate_field(text: &[u8]) -> bool
     ensures { result ≡ is_bitrate_field text.now }
 {
     begins_with(b"{bitrate}", text) || begins_with(b"{Bitrate}", text)
 }
 
-fn is_start_field(text: &[u8]) -> bool
+/// Whether the field of the time stands at the front of a text: `{start time}` or `{start_time}`.
+pub fn is_start_field(text: &[u8]) -> bool
     ensures { result ≡ is_start_field text.now }
 {
     begins_with(b"{start time}", text) || begins_with(b"{start_time}", text)
