@@ -2,11 +2,17 @@
 //! threads if asked for, and lists it, pushes an input to an origin, plays streams of one, and rehearses both together.
 #![tactic(auto)]
 
-ghost use Rattle.std.specs.Prelude.{◌≡◌, length, map, string_bytes};
+ghost use Rattle.std.specs.Prelude.{◌≡◌, ◌≤◌, ℕ, List, IfErr, IfOk, IsErr, length, map, string_bytes};
+ghost use Rattle.std.specs.IoError.{error_kind};
 ghost use Rattle.std.specs.Option.{option_map};
 ghost use Rattle.std.specs.Process.{exit_status};
 ghost use Rattle.std.specs.Result.{result_ok};
+ghost use Rattle.sm_ends.specs.Moves.{AppendsFront};
+ghost use Rattle.sm_tool.specs.Ran.{Prints};
+ghost use Rattle.sm_tool.specs.declared.answer.Answer.TheVariants.{Starved};
 ghost use Rattle.sm_run.specs.Runs.{EndsAs};
+ghost use Rattle.smooth.specs.Given.{words_in};
+ghost use Rattle.smooth.specs.Troubles.{first_trouble};
 
 mod std_ends;
 
@@ -21,18 +27,24 @@ use sm_run::run;
 use sm_site::Site;
 use sm_tool::starved;
 use std::alloc::Global;
-use std::env;
-use std::io::ErrorKind;
+use std::env::{self, Args};
+use std::io::{self, ErrorKind};
 use std::process::ExitCode;
 use std::sync::Wait;
 use std_ends::{StdSink, StdSource};
 
-// The words behind the program's name. Where one of them is no text they are none of a command, and so are no words at all.
-fn words_of(rt: &HostRuntime) -> Result<Vec<String>, NoMemory> {
-    let mut words = Vec::new(rt.alloc());
-    match env::args(rt) {
+// The words behind the program's name, of those that the system gives. Where one of them is no text they are none of a command, and so
+// are no words at all.
+fn words_of(alloc: Global, given: io::Result<Args>) -> Result<Vec<String>, NoMemory>
+    ensures words { IfOk result (λ words. words.items ≡ words_in given) }
+    ensures want { IfErr given (λ fault. error_kind fault ≡ ErrorKind.OutOfMemory → IsErr result) }
+{
+    let mut words = Vec::new(alloc);
+    match given {
         Ok(args) => {
-            for word in args.skip(1) {
+            let mut args = args;
+            let _program = args.next();
+            for word in args {
                 words.push(word)?;
             }
         }
@@ -100,12 +112,17 @@ fn run_words<R: Wait, I: Source, O: Sink, S: Site, C: Dial, T: Tracks, P: Spawne
 }
 
 // Ends where there is no memory to begin with.
-fn end_starved<O: Sink>(output: &mut O) -> ExitCode {
+fn end_starved<O: Sink>(output: &mut O) -> ExitCode
+    ensures { Prints Starved (record { told = O.held output.old; faults = O.faults output.old })
+        (record { told = O.held output.new; faults = O.faults output.new }) (exit_status result) }
+{
     ExitCode::from(starved(output))
 }
 
 // What the system said where it refused what the program needed for this status.
-fn trouble_of(status: ExitCode, troubles: &[(u8, Option<Trouble>)]) -> Option<Trouble> {
+fn trouble_of(status: ExitCode, troubles: &[(u8, Option<Trouble>)]) -> Option<Trouble>
+    ensures { result ≡ first_trouble (exit_status status) troubles.now }
+{
     for (number, trouble) in troubles {
         if status == ExitCode::from(*number) && trouble.is_some() {
             return *trouble;
@@ -114,8 +131,11 @@ fn trouble_of(status: ExitCode, troubles: &[(u8, Option<Trouble>)]) -> Option<Tr
     None
 }
 
-// What the system said, for people: a line behind those of a failure.
-fn tell<O: Sink>(alloc: Global, output: &mut O, trouble: Trouble) {
+// What the system said, for people: a line behind those of a failure. Nothing that stands there is lost.
+fn tell<O: Sink>(alloc: Global, output: &mut O, trouble: Trouble)
+    ensures front { (line : List ℕ) × AppendsFront (O.held output.old) (O.held output.new) line }
+    ensures later { O.faults output.old ≤ O.faults output.new }
+{
     if let Ok(line) = format!(in alloc; "{trouble}\n") {
         let _ = write_all(output, line.as_bytes());
     }
@@ -138,7 +158,7 @@ fn main(rt: HostRuntime) -> ExitCode {
         return end_starved(&mut output);
     };
     let mut crew = crew;
-    let words = words_of(&rt);
+    let words = words_of(rt.alloc(), env::args(&rt));
     let Ok(steps) = Box::new(rt.alloc(), Steps::new()) else {
         return end_starved(&mut output);
     };

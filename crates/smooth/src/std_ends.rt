@@ -1,6 +1,10 @@
 //! Readers and writers as ends. They tell the bytes that their reader or writer tells: the standard streams tell none, since
 //! no contract knows what reaches or leaves the system.
-ghost use Rattle.std.specs.Prelude.{◌≡◌, None, false, unwrap_or};
+ghost use Rattle.std.specs.Prelude.{◌≡◌, ◌<◌, None, false, length, unwrap_or, IfOk, IsErr, IsOk, IsSome};
+ghost use Rattle.std.specs.Io.{ReadsAtMost, WritesAtMost};
+ghost use Rattle.std.specs.Io.KnownBytes.{ReadConsumes, WriteAppends};
+ghost use Rattle.sm_ends.specs.Faults.{HasCause};
+ghost use Rattle.smooth.specs.Troubles.{seen_failure};
 
 use sm_ends::{Failed, Sink, Source};
 use sm_real::{Doing, Trouble};
@@ -40,7 +44,14 @@ impl<R: Read> Source for StdSource<R> {
 
     ghost faults = { λ s. s.faults };
 
-    fn read(&mut self, into: &mut [u8]) -> Result<usize, Failed> {
+    fn read(&mut self, into: &mut [u8]) -> Result<usize, Failed>
+        requires { 0 < length into.old }
+        ensures bound { ReadsAtMost result into.new }
+        ensures bytes { ReadConsumes (R.remaining self.old.reader) (R.remaining self.new.reader) result into.new }
+        ensures cause { HasCause self.old.faults self.new.faults result }
+        ensures kept { IsOk result → self.new.trouble ≡ self.old.trouble }
+        ensures told { IsErr result → IsSome self.new.trouble }
+    {
         match self.reader.read(into) {
             Ok(count) => Ok(count),
             Err(e) => {
@@ -91,7 +102,13 @@ impl<W: Write> Sink for StdSink<W> {
     ghost faults = { λ s. s.faults };
 
     // A writer that takes no byte of a piece has failed.
-    fn write(&mut self, bytes: &[u8]) -> Result<usize, Failed> {
+    fn write(&mut self, bytes: &[u8]) -> Result<usize, Failed>
+        ensures bound { WritesAtMost result bytes.now }
+        ensures some { 0 < length bytes.now → IfOk result (λ n. 0 < n) }
+        ensures bytes { WriteAppends (W.contents self.old.writer) (W.contents self.new.writer) result bytes.now }
+        ensures cause { HasCause self.old.faults self.new.faults result }
+        ensures failure { self.new.has_failure ≡ seen_failure self.old.has_failure bytes.now }
+    {
         if self.has_failure.is_none() {
             self.has_failure = Some(bytes.starts_with(FAILURE));
         }
