@@ -267,7 +267,9 @@ without_since h k run later since still x (front, behind, is) =
     let n = h.found.disk_faults in
     let faults_are : k.found.disk_faults ≡ n = ap (λ (v : View). v.disk_faults) since.found in
     let linked : AreLinked h.first n (h.steps ++ more) =
-    subst (λ (m : Machine). AreLinked m n (h.steps ++ more)) since.first (subst (λ (i : ℕ). AreLinked k.first i (h.steps ++ more)) faults_are (subst (λ (ys : List Stepped). AreLinked k.first k.found.disk_faults ys) steps_are all.linked)) in
+    subst (λ (m : Machine). AreLinked m n (h.steps ++ more)) since.first
+    (subst (λ (i : ℕ). AreLinked k.first i (h.steps ++ more)) faults_are
+    (subst (λ (ys : List Stepped). AreLinked k.first k.found.disk_faults ys) steps_are all.linked)) in
     let behind_h = linked_behind h.first n h.steps more linked in
     let count : k.point.faults ≡ faults_of (faults_of n h.steps) more =
     all.count ∙ ap (λ (i : ℕ). faults_of i k.steps) faults_are ∙ ap (λ (ys : List Stepped). faults_of n ys) steps_are ∙ faults_both n h.steps more in
@@ -296,7 +298,8 @@ gives log a place f channel r head is reply = record {
   reply = reply ∙ ap (λ (o : Option (List Track)). fragment_reply o log a) head ∙ ap (λ (o : Option (ℕ × Fragment)). kept_reply channel log a o) is;
 }
 
-pub all_is_given : ((log more : List Entry) → IsSound (log ++ more) → IsSound log) → ((log more : List Entry) (address : Address) (kept : ℕ × Fragment) → kept_at log address ≡ Some kept → kept_at (log ++ more) address ≡ Some kept)
+pub all_is_given : ((log more : List Entry) → IsSound (log ++ more) → IsSound log)
+    → ((log more : List Entry) (address : Address) (kept : ℕ × Fragment) → kept_at log address ≡ Some kept → kept_at (log ++ more) address ≡ Some kept)
     → (h k : History) → Run true h.first h.begin h.found.disk_faults h.items h.steps h.point → Run true k.first k.begin k.found.disk_faults k.items k.steps k.point → (since : Since h k)
     → IsFaultless h.point k.point → (x : Stepped) → IsOneOf x since.on.further → (a : Address) (place : ℕ) (f : Fragment) → x.act ≡ Ask a → kept_at h.point.machine.log a ≡ Some (place, f)
     → IsGiven x a place f

@@ -65,7 +65,8 @@ below first begin faults items steps q (goes_on was es items' ss xs steps' p q' 
         (λ (late : x.ends ≤ t). subst (λ (m : Machine). Extends m x.after) (sym (at ∙ reached_by x.after (machine_at first ss t) x.ends t late)) (itself x.after))
         (cases_lt t x.ends))
 
-pub grows : (first : Machine) (begin faults : ℕ) (items : List Item) (steps : List Stepped) (p : Point) → Run true first begin faults items steps p → (t u : ℕ) → t ≤ u → Extends (machine_at first steps t) (machine_at first steps u)
+pub grows : (first : Machine) (begin faults : ℕ) (items : List Item) (steps : List Stepped) (p : Point) → Run true first begin faults items steps p → (t u : ℕ)
+    → t ≤ u → Extends (machine_at first steps t) (machine_at first steps u)
 grows first begin faults [] [] p begins t u le = itself first
 grows first begin faults items steps q (goes_on was es items' ss xs steps' p q' run move now all) t u le = go (grows first begin faults was ss p run t u le) (kind_of was p es xs q move)
   where

@@ -31,7 +31,8 @@ reached view leave left_at h later n is_open e q origin keeps follows is machine
   counts_are = λ open_. ap (λ (p : Point). p.counts n) is ∙ ap (λ (f : ℕ → Counts). f n) counts;
 }
 
-pub follows_itself : (n : ℕ) (h k : History) → k.first ≡ h.first → k.begin ≡ h.begin → k.base ≡ h.base → k.found ≡ h.found → k.items ≡ h.items → GoesOn h k → ((j : ℕ) → (j ≡ n → ⊥) → k.point.counts j ≡ h.point.counts j)
+pub follows_itself : (n : ℕ) (h k : History) → k.first ≡ h.first → k.begin ≡ h.begin → k.base ≡ h.base → k.found ≡ h.found → k.items ≡ h.items → GoesOn h k
+    → ((j : ℕ) → (j ≡ n → ⊥) → k.point.counts j ≡ h.point.counts j)
     → Follows n true h k
 follows_itself n h k first begin base found items on counts = record {
   first = first;

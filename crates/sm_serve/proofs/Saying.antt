@@ -273,7 +273,8 @@ module _ (n : ℕ) (items : List Item) (ss : List Stepped) (p : Point) (s : Said
     move_said told (continues k more phase e none is) few = elim (cases_eq k n) [
       | inl same ↦ with_none _ e none is
           (said_sending n items ss _ CONTINUE.now false more (ap (λ (j : ℕ). sending j CONTINUE.now false more) same)
-          (told_ready n items ss CONTINUE.now (inl refl) (clean_acting (Continue ∷ more) (phase_by k (λ (j : ℕ). acting j (Continue ∷ more)) same phase))) (s.acting_on (Continue ∷ more) (phase_by k (λ (j : ℕ). acting j (Continue ∷ more)) same phase)).0)
+          (told_ready n items ss CONTINUE.now (inl refl) (clean_acting (Continue ∷ more) (phase_by k (λ (j : ℕ). acting j (Continue ∷ more)) same phase)))
+          (s.acting_on (Continue ∷ more) (phase_by k (λ (j : ℕ). acting j (Continue ∷ more)) same phase)).0)
       | inr other ↦ with_none _ e none is (none_elsewhere _ (subst (λ (f : Phase). IsAway n f) (sym phase) other) other (λ f. f))
     ]
     move_said told (acts_on k item more act x phase does conn step e one is) few = elim (cases_eq k n) [

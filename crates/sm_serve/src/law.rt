@@ -37,7 +37,8 @@ pub fn runs_only_grow()
     ensures first { (first : Machine) (begin faults : ℕ) (items : List Item) (steps : List Stepped) (point : Point)
         → Run true first begin faults items steps point → (t : ℕ) → (more : List Entry) × ((machine_at first steps t).log ≡ first.log ++ more) }
     ensures later { (first : Machine) (begin faults : ℕ) (items : List Item) (steps : List Stepped) (point : Point)
-        → Run true first begin faults items steps point → (t u : ℕ) → t ≤ u → (more : List Entry) × ((machine_at first steps u).log ≡ (machine_at first steps t).log ++ more) }
+        → Run true first begin faults items steps point → (t u : ℕ) → t ≤ u
+        → (more : List Entry) × ((machine_at first steps u).log ≡ (machine_at first steps t).log ++ more) }
 {}
 
 /// While the disk counts no fault, requests are met. Between a moment of a run and a later one with the same count of faults each step that asks

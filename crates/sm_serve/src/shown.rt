@@ -22,7 +22,8 @@ use sm_wire::law::wire_of_front;
 /// entries. The disk tells its contents.
 pub fn what_was_shown_is_held()
     ensures { (first : Machine) (begin faults : ℕ) (items : List Item) (steps : List Stepped) (point : Point)
-        → Run true first begin faults items steps point → (t : ℕ) (claim : Claim) → Shown items t claim → IsReal (machine_at first steps t).log → Holds (machine_at first steps t).log claim }
+        → Run true first begin faults items steps point → (t : ℕ) (claim : Claim) → Shown items t claim
+        → IsReal (machine_at first steps t).log → Holds (machine_at first steps t).log claim }
 {
     too_many_is_told();
     part_shows_its_status();

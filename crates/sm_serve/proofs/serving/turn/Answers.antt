@@ -54,7 +54,8 @@ returns-in-Ok-clause-runs g c h serves =
     } in (
       turn_taken g.S.Disk.view g.S.Link.view g.S.Disk.may_leave g.S.Disk.left_at g.met.S.Site.one_view h (taken_by c.handle.result) (deal_of c.in-Ok.event) c.handle.new.state d e c.handle.new.site
           (sym (took c.handle.result c.handle.ensures.no_fault c.handle.ensures.no_want)) c.in-Ok.ensures.script c.handle.ensures.script
-          (c.handle.ensures.goes_on h p.0 p.1 rest (is_new g.S.Disk.view g.S.Link.view g.S.Disk.may_leave g.S.Link.may_leave g.S.Disk.left_at g.S.Link.left_at g.met.S.Site.one_view g.met.S.Site.one_disk g.met.S.Site.one_past g.met.S.Disk.told
+          (c.handle.ensures.goes_on h p.0 p.1 rest (is_new g.S.Disk.view g.S.Link.view g.S.Disk.may_leave g.S.Link.may_leave g.S.Disk.left_at g.S.Link.left_at
+          g.met.S.Site.one_view g.met.S.Site.one_disk g.met.S.Site.one_past g.met.S.Disk.told
           c.in-Ok.event h d serves.keeps.told next)),
       has_taken c.handle.result c.in-Ok.event c.handle.ensures.no_fault c.handle.ensures.no_want c.handle.ensures.ended,
     )
