@@ -1,4 +1,5 @@
 pub mod Transcripts
+pub mod Between
 pub mod Lasting
 pub mod Going
 pub mod Sending

@@ -2,6 +2,7 @@ pub mod Connections
 pub mod Run
 pub mod Moments
 pub mod Standing
+pub mod Between
 pub mod Pushes
 pub mod Resting
 pub mod Items

@@ -32,6 +32,10 @@ calls_of (x ∷ steps) = x.calls ++ calls_of steps
 abbrev pub StandsOn : {D : Type 0} (view : D → View) (leave : D → Image → Type 0) → Machine → Origin → D → Type 0
 StandsOn view leave m origin d = StandsFor (IsSome (view d).contents) m origin (leave d)
 
+-- it stands for some machine on the site
+abbrev pub StandsForSome : {D : Type 0} (view : D → View) (leave : D → Image → Type 0) → Origin → D → Type 0
+StandsForSome view leave origin d = (m : Machine) × StandsOn view leave m origin d
+
 -- whether the site tells the contents of its disk
 abbrev pub is_told : View → Bool
 is_told v = is_some v.contents

@@ -4,10 +4,10 @@ ghost use Rattle.sm_site.specs.Meanings.{IsLive};
 ghost use Rattle.sm_site.specs.Clauses.{SameOutcomes};
 ghost use Rattle.sm_wire.specs.declared.item.WireItem.{WireItem};
 ghost use Rattle.sm_origin.specs.declared.origin.Origin.{Origin};
-ghost use Rattle.sm_origin.specs.Machine.{Machine};
 ghost use Rattle.sm_origin.specs.Acting.{IsValidAct};
 ghost use Rattle.sm_serve.specs.Run.{idle, acting, act_of, closes, phase_after, sent_of};
-ghost use Rattle.sm_serve.specs.Standing.{History, StandsOn, Keeps, Reaches, counts_with};
+ghost use Rattle.sm_serve.specs.Between.{TakesNone};
+ghost use Rattle.sm_serve.specs.Standing.{History, StandsOn, StandsForSome, Keeps, Reaches, counts_with};
 
 use crate::tell::{tell, tell_both};
 use sm_head::NO_MEMORY;
@@ -27,10 +27,7 @@ fn send_reply<S: Site>(site: &mut S, number: u64, reply: &Reply, close: bool) ->
     ensures same { SameOutcomes (S.Disk.may_leave site.old) (S.Disk.may_leave site.new) }
     ensures contents { (S.Disk.view site.new).contents ≡ (S.Disk.view site.old).contents }
     ensures open { IsTrue result → IfSome (S.Disk.view site.new).transcript (IsLive number) }
-    ensures told { is_some (S.Disk.view site.new).transcript ≡ is_some (S.Disk.view site.old).transcript }
-    ensures link_faults { (S.Disk.view site.new).link_faults ≡ (S.Disk.view site.old).link_faults }
-    ensures script { (S.Disk.view site.new).script ≡ (S.Disk.view site.old).script }
-    ensures chosen { (S.Disk.view site.new).chosen ≡ (S.Disk.view site.old).chosen }
+    ensures link { TakesNone (S.Disk.view site.old) (S.Disk.view site.new) }
 {
     if reply.status == 0 {
         return end_item(site, number, close);
@@ -52,10 +49,7 @@ fn end_item<S: Site>(site: &mut S, number: u64, close: bool) -> bool
     ensures same { SameOutcomes (S.Disk.may_leave site.old) (S.Disk.may_leave site.new) }
     ensures contents { (S.Disk.view site.new).contents ≡ (S.Disk.view site.old).contents }
     ensures open { IsTrue result → IfSome (S.Disk.view site.new).transcript (IsLive number) }
-    ensures told { is_some (S.Disk.view site.new).transcript ≡ is_some (S.Disk.view site.old).transcript }
-    ensures link_faults { (S.Disk.view site.new).link_faults ≡ (S.Disk.view site.old).link_faults }
-    ensures script { (S.Disk.view site.new).script ≡ (S.Disk.view site.old).script }
-    ensures chosen { (S.Disk.view site.new).chosen ≡ (S.Disk.view site.old).chosen }
+    ensures link { TakesNone (S.Disk.view site.old) (S.Disk.view site.new) }
 {
     fewer_images_stand::<S>();
     if close {
@@ -75,7 +69,7 @@ pub(crate) fn answer<S: Site>(
     close: bool,
 ) -> Option<Counted>
     requires valid { IsValidAct act.now }
-    requires stands { (m : Machine) × StandsOn S.Disk.view S.Disk.may_leave m origin.old site.old }
+    requires stands { StandsForSome S.Disk.view S.Disk.may_leave origin.old site.old }
     requires live { IfSome (S.Disk.view site.old).transcript (IsLive number) }
     ensures goes_on { (h : History) (item : WireItem) (more : List WireItem) → Keeps S.Disk.view S.Disk.may_leave S.Disk.left_at h site.old
         → StandsOn S.Disk.view S.Disk.may_leave h.point.machine origin.old site.old → h.point.phase ≡ acting number (item ∷ more)
@@ -83,12 +77,9 @@ pub(crate) fn answer<S: Site>(
         → Reaches S.Disk.view S.Disk.may_leave S.Disk.left_at h number (is_some result) (if is_some result then acting number more else idle)
         (counts_with item result (h.point.counts number)) origin.new site.new }
     ensures closed { IsTrue close → result ≡ None }
-    ensures stands { (m : Machine) × StandsOn S.Disk.view S.Disk.may_leave m origin.new site.new }
+    ensures stands { StandsForSome S.Disk.view S.Disk.may_leave origin.new site.new }
     ensures open { IsSome result → IfSome (S.Disk.view site.new).transcript (IsLive number) }
-    ensures told { is_some (S.Disk.view site.new).transcript ≡ is_some (S.Disk.view site.old).transcript }
-    ensures link_faults { (S.Disk.view site.new).link_faults ≡ (S.Disk.view site.old).link_faults }
-    ensures script { (S.Disk.view site.new).script ≡ (S.Disk.view site.old).script }
-    ensures chosen { (S.Disk.view site.new).chosen ≡ (S.Disk.view site.old).chosen }
+    ensures link { TakesNone (S.Disk.view site.old) (S.Disk.view site.new) }
 {
     fewer_images_stand::<S>();
     let reply = origin.act(alloc, site, act);

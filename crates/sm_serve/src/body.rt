@@ -6,10 +6,10 @@ ghost use Rattle.sm_wire.specs.declared.item.WireItem.{WireItem};
 ghost use Rattle.sm_wire.specs.declared.item.WireItem.TheVariants.{End};
 ghost use Rattle.sm_wire.specs.Wire.{Left};
 ghost use Rattle.sm_origin.specs.declared.origin.Origin.{Origin};
-ghost use Rattle.sm_origin.specs.Machine.{Machine};
 ghost use Rattle.sm_serve.specs.Pushes.{GivesValid};
 ghost use Rattle.sm_serve.specs.Run.{idle, acting};
-ghost use Rattle.sm_serve.specs.Standing.{History, StandsOn, Keeps, Reaches};
+ghost use Rattle.sm_serve.specs.Between.{TakesNone};
+ghost use Rattle.sm_serve.specs.Standing.{History, StandsOn, StandsForSome, Keeps, Reaches};
 ghost use Rattle.sm_serve.specs.Resting.{counts_of, PlaceIs, SameConn};
 ghost use Rattle.sm_serve.specs.Giving.{PartGives, FedPush, EndedPush};
 
@@ -66,7 +66,7 @@ fn take_chunk<S: Site>(
     live: &mut Live,
     bytes: &[u8],
 ) -> bool
-    requires stands { (m : Machine) × StandsOn S.Disk.view S.Disk.may_leave m origin.old site.old }
+    requires stands { StandsForSome S.Disk.view S.Disk.may_leave origin.old site.old }
     requires open { is_some live.old.push ≡ true }
     requires live { IfSome (S.Disk.view site.old).transcript (IsLive live.old.number) }
     ensures goes_on { (h : History) (b : List ℕ) (more : List PartItem) (items : List WireItem) → Keeps S.Disk.view S.Disk.may_leave S.Disk.left_at h site.old
@@ -75,14 +75,11 @@ fn take_chunk<S: Site>(
         → h.point.phase ≡ acting live.old.number items → h.point.counts live.old.number ≡ counts_of live.old
         → PartGives S.Disk.view S.Disk.may_leave S.Disk.left_at h live.old.number result live.new.push (counts_of live.new) (Some b)
         (map (λ x. byte x) bytes.now) more origin.new site.new }
-    ensures stands { (m : Machine) × StandsOn S.Disk.view S.Disk.may_leave m origin.new site.new }
+    ensures stands { StandsForSome S.Disk.view S.Disk.may_leave origin.new site.new }
     ensures open { IsTrue result → IfSome (S.Disk.view site.new).transcript (IsLive live.old.number) }
     ensures push { IsTrue result → is_some live.new.push ≡ true }
     ensures same { SameConn live.old live.new }
-    ensures told { is_some (S.Disk.view site.new).transcript ≡ is_some (S.Disk.view site.old).transcript }
-    ensures link_faults { (S.Disk.view site.new).link_faults ≡ (S.Disk.view site.old).link_faults }
-    ensures script { (S.Disk.view site.new).script ≡ (S.Disk.view site.old).script }
-    ensures chosen { (S.Disk.view site.new).chosen ≡ (S.Disk.view site.old).chosen }
+    ensures link { TakesNone (S.Disk.view site.old) (S.Disk.view site.new) }
 {
     wire_of_front();
     match feed(&mut live.push, bytes) {
@@ -107,7 +104,7 @@ pub(crate) fn take_body<S: Site>(
     live: &mut Live,
     bytes: &[u8],
 ) -> bool
-    requires stands { (m : Machine) × StandsOn S.Disk.view S.Disk.may_leave m origin.old site.old }
+    requires stands { StandsForSome S.Disk.view S.Disk.may_leave origin.old site.old }
     requires open { is_some live.old.push ≡ true }
     requires live { IfSome (S.Disk.view site.old).transcript (IsLive live.old.number) }
     ensures goes_on { (h : History) (b : List ℕ) (more : List PartItem) (items : List WireItem) → Keeps S.Disk.view S.Disk.may_leave S.Disk.left_at h site.old
@@ -116,14 +113,11 @@ pub(crate) fn take_body<S: Site>(
         → h.point.phase ≡ acting live.old.number items → h.point.counts live.old.number ≡ counts_of live.old
         → PartGives S.Disk.view S.Disk.may_leave S.Disk.left_at h live.old.number result live.new.push (counts_of live.new) (Some b)
         (map (λ x. byte x) bytes.now) more origin.new site.new }
-    ensures stands { (m : Machine) × StandsOn S.Disk.view S.Disk.may_leave m origin.new site.new }
+    ensures stands { StandsForSome S.Disk.view S.Disk.may_leave origin.new site.new }
     ensures open { IsTrue result → IfSome (S.Disk.view site.new).transcript (IsLive live.old.number) }
     ensures push { IsTrue result → is_some live.new.push ≡ true }
     ensures same { SameConn live.old live.new }
-    ensures told { is_some (S.Disk.view site.new).transcript ≡ is_some (S.Disk.view site.old).transcript }
-    ensures link_faults { (S.Disk.view site.new).link_faults ≡ (S.Disk.view site.old).link_faults }
-    ensures script { (S.Disk.view site.new).script ≡ (S.Disk.view site.old).script }
-    ensures chosen { (S.Disk.view site.new).chosen ≡ (S.Disk.view site.old).chosen }
+    ensures link { TakesNone (S.Disk.view site.old) (S.Disk.view site.new) }
 {
     let mut done = 0;
     while done < bytes.len() {
@@ -145,20 +139,17 @@ pub(crate) fn take_end<S: Site>(
     live: &mut Live,
     close: bool,
 ) -> bool
-    requires stands { (m : Machine) × StandsOn S.Disk.view S.Disk.may_leave m origin.old site.old }
+    requires stands { StandsForSome S.Disk.view S.Disk.may_leave origin.old site.old }
     requires live { IfSome (S.Disk.view site.old).transcript (IsLive live.old.number) }
     ensures goes_on { (h : History) (b : List ℕ) (more : List PartItem) (items : List WireItem) → Keeps S.Disk.view S.Disk.may_leave S.Disk.left_at h site.old
         → StandsOn S.Disk.view S.Disk.may_leave h.point.machine origin.old site.old → PlaceIs live.old.push (Some b) → Left (Some b) (ended close ∷ more) items
         → h.point.phase ≡ acting live.old.number items → h.point.counts live.old.number ≡ counts_of live.old
         → PartGives S.Disk.view S.Disk.may_leave S.Disk.left_at h live.old.number result live.new.push (counts_of live.new) (Some b)
         (ended close ∷ []) more origin.new site.new }
-    ensures stands { (m : Machine) × StandsOn S.Disk.view S.Disk.may_leave m origin.new site.new }
+    ensures stands { StandsForSome S.Disk.view S.Disk.may_leave origin.new site.new }
     ensures open { IsTrue result → IfSome (S.Disk.view site.new).transcript (IsLive live.old.number) }
     ensures same { SameConn live.old live.new }
-    ensures told { is_some (S.Disk.view site.new).transcript ≡ is_some (S.Disk.view site.old).transcript }
-    ensures link_faults { (S.Disk.view site.new).link_faults ≡ (S.Disk.view site.old).link_faults }
-    ensures script { (S.Disk.view site.new).script ≡ (S.Disk.view site.old).script }
-    ensures chosen { (S.Disk.view site.new).chosen ≡ (S.Disk.view site.old).chosen }
+    ensures link { TakesNone (S.Disk.view site.old) (S.Disk.view site.new) }
 {
     match end(&mut live.push) {
         Ok(()) => end_push(alloc, site, origin, live, close),
@@ -183,7 +174,7 @@ fn end_push<S: Site>(
     live: &mut Live,
     close: bool,
 ) -> bool
-    requires stands { (m : Machine) × StandsOn S.Disk.view S.Disk.may_leave m origin.old site.old }
+    requires stands { StandsForSome S.Disk.view S.Disk.may_leave origin.old site.old }
     requires live { IfSome (S.Disk.view site.old).transcript (IsLive live.old.number) }
     ensures goes_on { (h : History) (more : List WireItem) → Keeps S.Disk.view S.Disk.may_leave S.Disk.left_at h site.old
         → StandsOn S.Disk.view S.Disk.may_leave h.point.machine origin.old site.old → h.point.phase ≡ acting live.old.number (End close ∷ more)
@@ -191,14 +182,11 @@ fn end_push<S: Site>(
         → Reaches S.Disk.view S.Disk.may_leave S.Disk.left_at h live.old.number result (if result then acting live.old.number more else idle)
         (counts_of live.new) origin.new site.new }
     ensures closed { IsTrue close → result ≡ false }
-    ensures stands { (m : Machine) × StandsOn S.Disk.view S.Disk.may_leave m origin.new site.new }
+    ensures stands { StandsForSome S.Disk.view S.Disk.may_leave origin.new site.new }
     ensures open { IsTrue result → IfSome (S.Disk.view site.new).transcript (IsLive live.old.number) }
     ensures push { IsTrue result → live.new.push ≡ None }
     ensures same { SameConn live.old live.new }
-    ensures told { is_some (S.Disk.view site.new).transcript ≡ is_some (S.Disk.view site.old).transcript }
-    ensures link_faults { (S.Disk.view site.new).link_faults ≡ (S.Disk.view site.old).link_faults }
-    ensures script { (S.Disk.view site.new).script ≡ (S.Disk.view site.old).script }
-    ensures chosen { (S.Disk.view site.new).chosen ≡ (S.Disk.view site.old).chosen }
+    ensures link { TakesNone (S.Disk.view site.old) (S.Disk.view site.new) }
 {
     let act = Act::End {
         kept: live.kept,

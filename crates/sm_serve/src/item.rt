@@ -1,5 +1,5 @@
 //! The items of a connection.
-ghost use Rattle.std.specs.Prelude.{is_some, ◌≡◌, ◌∷◌, ◌++◌, false, List, Some, None, IfSome, IsTrue, if◌then◌else◌, map};
+ghost use Rattle.std.specs.Prelude.{◌≡◌, ◌∷◌, ◌++◌, false, List, Some, None, IfSome, IsTrue, if◌then◌else◌, map};
 ghost use Rattle.sm_site.specs.Meanings.{IsLive};
 ghost use Rattle.sm_site.specs.Clauses.{SameOutcomes};
 ghost use Rattle.sm_wire.specs.declared.item.WireItem.{WireItem};
@@ -8,7 +8,8 @@ ghost use Rattle.sm_reply.specs.declared.reply.Counted.{Counted};
 ghost use Rattle.sm_origin.specs.Machine.{Machine};
 ghost use Rattle.sm_origin.specs.Acting.{IsValidAct};
 ghost use Rattle.sm_serve.specs.Run.{Counts, idle, acting, act_of, closes, counts_after, counts_by};
-ghost use Rattle.sm_serve.specs.Standing.{History, StandsOn, Keeps, Reaches};
+ghost use Rattle.sm_serve.specs.Between.{TakesNone};
+ghost use Rattle.sm_serve.specs.Standing.{History, StandsOn, StandsForSome, Keeps, Reaches};
 ghost use Rattle.sm_serve.specs.Resting.{counts_of, SameBut};
 ghost use Rattle.sm_serve.specs.Items.{shown_item, ItemIsValid};
 ghost use Rattle.std.specs.List.{AllByRecursion};
@@ -32,7 +33,7 @@ pub(crate) fn act_on<S: Site>(
     close: bool,
 ) -> bool
     requires valid { IsValidAct act.now }
-    requires stands { (m : Machine) × StandsOn S.Disk.view S.Disk.may_leave m origin.old site.old }
+    requires stands { StandsForSome S.Disk.view S.Disk.may_leave origin.old site.old }
     requires live { IfSome (S.Disk.view site.old).transcript (IsLive live.old.number) }
     ensures goes_on { (h : History) (item : WireItem) (more : List WireItem) → Keeps S.Disk.view S.Disk.may_leave S.Disk.left_at h site.old
         → StandsOn S.Disk.view S.Disk.may_leave h.point.machine origin.old site.old → h.point.phase ≡ acting live.old.number (item ∷ more)
@@ -42,13 +43,10 @@ pub(crate) fn act_on<S: Site>(
         → Reaches S.Disk.view S.Disk.may_leave S.Disk.left_at h live.old.number result (if result then acting live.old.number more else idle)
         (counts_of live.new) origin.new site.new }
     ensures closed { IsTrue close → result ≡ false }
-    ensures stands { (m : Machine) × StandsOn S.Disk.view S.Disk.may_leave m origin.new site.new }
+    ensures stands { StandsForSome S.Disk.view S.Disk.may_leave origin.new site.new }
     ensures open { IsTrue result → IfSome (S.Disk.view site.new).transcript (IsLive live.old.number) }
     ensures same { SameBut live.old live.new }
-    ensures told { is_some (S.Disk.view site.new).transcript ≡ is_some (S.Disk.view site.old).transcript }
-    ensures link_faults { (S.Disk.view site.new).link_faults ≡ (S.Disk.view site.old).link_faults }
-    ensures script { (S.Disk.view site.new).script ≡ (S.Disk.view site.old).script }
-    ensures chosen { (S.Disk.view site.new).chosen ≡ (S.Disk.view site.old).chosen }
+    ensures link { TakesNone (S.Disk.view site.old) (S.Disk.view site.new) }
 {
     match answer(alloc, site, origin, live.number, act, close) {
         Some(counted) => {
@@ -70,10 +68,7 @@ pub(crate) fn starve<S: Site>(site: &mut S, number: u64) -> bool
     ensures same { SameOutcomes (S.Disk.may_leave site.old) (S.Disk.may_leave site.new) }
     ensures contents { (S.Disk.view site.new).contents ≡ (S.Disk.view site.old).contents }
     ensures closed { result ≡ false }
-    ensures told { is_some (S.Disk.view site.new).transcript ≡ is_some (S.Disk.view site.old).transcript }
-    ensures link_faults { (S.Disk.view site.new).link_faults ≡ (S.Disk.view site.old).link_faults }
-    ensures script { (S.Disk.view site.new).script ≡ (S.Disk.view site.old).script }
-    ensures chosen { (S.Disk.view site.new).chosen ≡ (S.Disk.view site.old).chosen }
+    ensures link { TakesNone (S.Disk.view site.old) (S.Disk.view site.new) }
 {
     tell(site, number, NO_MEMORY, true)
 }
@@ -87,20 +82,17 @@ fn take_item<S: Site>(
     item: Item,
 ) -> bool
     requires valid { ItemIsValid item }
-    requires stands { (m : Machine) × StandsOn S.Disk.view S.Disk.may_leave m origin.old site.old }
+    requires stands { StandsForSome S.Disk.view S.Disk.may_leave origin.old site.old }
     requires live { IfSome (S.Disk.view site.old).transcript (IsLive live.old.number) }
     ensures goes_on { (h : History) (more : List WireItem) → Keeps S.Disk.view S.Disk.may_leave S.Disk.left_at h site.old
         → StandsOn S.Disk.view S.Disk.may_leave h.point.machine origin.old site.old → h.point.phase ≡ acting live.old.number (shown_item item ∷ more)
         → h.point.counts live.old.number ≡ counts_of live.old
         → Reaches S.Disk.view S.Disk.may_leave S.Disk.left_at h live.old.number result (if result then acting live.old.number more else idle)
         (counts_of live.new) origin.new site.new }
-    ensures stands { (m : Machine) × StandsOn S.Disk.view S.Disk.may_leave m origin.new site.new }
+    ensures stands { StandsForSome S.Disk.view S.Disk.may_leave origin.new site.new }
     ensures open { IsTrue result → IfSome (S.Disk.view site.new).transcript (IsLive live.old.number) }
     ensures same { SameBut live.old live.new }
-    ensures told { is_some (S.Disk.view site.new).transcript ≡ is_some (S.Disk.view site.old).transcript }
-    ensures link_faults { (S.Disk.view site.new).link_faults ≡ (S.Disk.view site.old).link_faults }
-    ensures script { (S.Disk.view site.new).script ≡ (S.Disk.view site.old).script }
-    ensures chosen { (S.Disk.view site.new).chosen ≡ (S.Disk.view site.old).chosen }
+    ensures link { TakesNone (S.Disk.view site.old) (S.Disk.view site.new) }
 {
     let act = act_for_item(item);
     act_on(alloc, site, origin, live, &act, false)
@@ -127,20 +119,17 @@ pub(crate) fn take_items<S: Site>(
     items: Vec<Item>,
 ) -> bool
     requires valid { AllByRecursion ItemIsValid items.items }
-    requires stands { (m : Machine) × StandsOn S.Disk.view S.Disk.may_leave m origin.old site.old }
+    requires stands { StandsForSome S.Disk.view S.Disk.may_leave origin.old site.old }
     requires live { IfSome (S.Disk.view site.old).transcript (IsLive live.old.number) }
     ensures goes_on { (h : History) (more : List WireItem) → Keeps S.Disk.view S.Disk.may_leave S.Disk.left_at h site.old
         → StandsOn S.Disk.view S.Disk.may_leave h.point.machine origin.old site.old → h.point.phase ≡ acting live.old.number (map shown_item items.items ++ more)
         → h.point.counts live.old.number ≡ counts_of live.old
         → Reaches S.Disk.view S.Disk.may_leave S.Disk.left_at h live.old.number result (if result then acting live.old.number more else idle)
         (counts_of live.new) origin.new site.new }
-    ensures stands { (m : Machine) × StandsOn S.Disk.view S.Disk.may_leave m origin.new site.new }
+    ensures stands { StandsForSome S.Disk.view S.Disk.may_leave origin.new site.new }
     ensures open { IsTrue result → IfSome (S.Disk.view site.new).transcript (IsLive live.old.number) }
     ensures same { SameBut live.old live.new }
-    ensures told { is_some (S.Disk.view site.new).transcript ≡ is_some (S.Disk.view site.old).transcript }
-    ensures link_faults { (S.Disk.view site.new).link_faults ≡ (S.Disk.view site.old).link_faults }
-    ensures script { (S.Disk.view site.new).script ≡ (S.Disk.view site.old).script }
-    ensures chosen { (S.Disk.view site.new).chosen ≡ (S.Disk.view site.old).chosen }
+    ensures link { TakesNone (S.Disk.view site.old) (S.Disk.view site.new) }
 {
     for item in items {
         if !take_item(alloc, site, origin, live, item) {

@@ -5,10 +5,10 @@ ghost use Rattle.sm_conn.specs.Parts.{PartItem};
 ghost use Rattle.sm_wire.specs.declared.item.WireItem.{WireItem};
 ghost use Rattle.sm_wire.specs.Wire.{Left};
 ghost use Rattle.sm_origin.specs.declared.origin.Origin.{Origin};
-ghost use Rattle.sm_origin.specs.Machine.{Machine};
 ghost use Rattle.sm_conn.specs.Stands.{items_of};
 ghost use Rattle.sm_serve.specs.Run.{acting, act_of_target};
-ghost use Rattle.sm_serve.specs.Standing.{History, StandsOn, Keeps};
+ghost use Rattle.sm_serve.specs.Between.{TakesNone};
+ghost use Rattle.sm_serve.specs.Standing.{History, StandsOn, StandsForSome, Keeps};
 ghost use Rattle.sm_serve.specs.Resting.{counts_of, PlaceIs, SameConn};
 ghost use Rattle.sm_serve.specs.Giving.{PartGives};
 ghost use Rattle.sm_origin.specs.Acting.{IsValidAct};
@@ -43,7 +43,7 @@ fn take_inside<S: Site>(
     live: &mut Live,
     part: Part,
 ) -> bool
-    requires stands { (m : Machine) × StandsOn S.Disk.view S.Disk.may_leave m origin.old site.old }
+    requires stands { StandsForSome S.Disk.view S.Disk.may_leave origin.old site.old }
     requires open { is_some live.old.push ≡ true }
     requires live { IfSome (S.Disk.view site.old).transcript (IsLive live.old.number) }
     ensures goes_on { (h : History) (b : List ℕ) (more : List PartItem) (items : List WireItem) → Keeps S.Disk.view S.Disk.may_leave S.Disk.left_at h site.old
@@ -51,13 +51,10 @@ fn take_inside<S: Site>(
         → h.point.phase ≡ acting live.old.number items → h.point.counts live.old.number ≡ counts_of live.old
         → PartGives S.Disk.view S.Disk.may_leave S.Disk.left_at h live.old.number result live.new.push (counts_of live.new) (Some b)
         (items_of part) more origin.new site.new }
-    ensures stands { (m : Machine) × StandsOn S.Disk.view S.Disk.may_leave m origin.new site.new }
+    ensures stands { StandsForSome S.Disk.view S.Disk.may_leave origin.new site.new }
     ensures open { IsTrue result → IfSome (S.Disk.view site.new).transcript (IsLive live.old.number) }
     ensures same { SameConn live.old live.new }
-    ensures told { is_some (S.Disk.view site.new).transcript ≡ is_some (S.Disk.view site.old).transcript }
-    ensures link_faults { (S.Disk.view site.new).link_faults ≡ (S.Disk.view site.old).link_faults }
-    ensures script { (S.Disk.view site.new).script ≡ (S.Disk.view site.old).script }
-    ensures chosen { (S.Disk.view site.new).chosen ≡ (S.Disk.view site.old).chosen }
+    ensures link { TakesNone (S.Disk.view site.old) (S.Disk.view site.new) }
 {
     match part {
         Part::Body(bytes) => {
@@ -89,20 +86,17 @@ fn take_outside<S: Site>(
     live: &mut Live,
     part: Part,
 ) -> bool
-    requires stands { (m : Machine) × StandsOn S.Disk.view S.Disk.may_leave m origin.old site.old }
+    requires stands { StandsForSome S.Disk.view S.Disk.may_leave origin.old site.old }
     requires live { IfSome (S.Disk.view site.old).transcript (IsLive live.old.number) }
     ensures goes_on { (h : History) (more : List PartItem) (items : List WireItem) → Keeps S.Disk.view S.Disk.may_leave S.Disk.left_at h site.old
         → StandsOn S.Disk.view S.Disk.may_leave h.point.machine origin.old site.old → PlaceIs live.old.push None → Left None (items_of part ++ more) items
         → h.point.phase ≡ acting live.old.number items → h.point.counts live.old.number ≡ counts_of live.old
         → PartGives S.Disk.view S.Disk.may_leave S.Disk.left_at h live.old.number result live.new.push (counts_of live.new) None
         (items_of part) more origin.new site.new }
-    ensures stands { (m : Machine) × StandsOn S.Disk.view S.Disk.may_leave m origin.new site.new }
+    ensures stands { StandsForSome S.Disk.view S.Disk.may_leave origin.new site.new }
     ensures open { IsTrue result → IfSome (S.Disk.view site.new).transcript (IsLive live.old.number) }
     ensures same { SameConn live.old live.new }
-    ensures told { is_some (S.Disk.view site.new).transcript ≡ is_some (S.Disk.view site.old).transcript }
-    ensures link_faults { (S.Disk.view site.new).link_faults ≡ (S.Disk.view site.old).link_faults }
-    ensures script { (S.Disk.view site.new).script ≡ (S.Disk.view site.old).script }
-    ensures chosen { (S.Disk.view site.new).chosen ≡ (S.Disk.view site.old).chosen }
+    ensures link { TakesNone (S.Disk.view site.old) (S.Disk.view site.new) }
 {
     match part {
         Part::Get { target, close } => {
@@ -139,7 +133,7 @@ pub(crate) fn take_part<S: Site>(
     live: &mut Live,
     part: Part,
 ) -> bool
-    requires stands { (m : Machine) × StandsOn S.Disk.view S.Disk.may_leave m origin.old site.old }
+    requires stands { StandsForSome S.Disk.view S.Disk.may_leave origin.old site.old }
     requires live { IfSome (S.Disk.view site.old).transcript (IsLive live.old.number) }
     ensures goes_on { (h : History) (place : Option (List ℕ)) (more : List PartItem) (items : List WireItem)
         → Keeps S.Disk.view S.Disk.may_leave S.Disk.left_at h site.old
@@ -147,13 +141,10 @@ pub(crate) fn take_part<S: Site>(
         → h.point.phase ≡ acting live.old.number items → h.point.counts live.old.number ≡ counts_of live.old
         → PartGives S.Disk.view S.Disk.may_leave S.Disk.left_at h live.old.number result live.new.push (counts_of live.new) place
         (items_of part) more origin.new site.new }
-    ensures stands { (m : Machine) × StandsOn S.Disk.view S.Disk.may_leave m origin.new site.new }
+    ensures stands { StandsForSome S.Disk.view S.Disk.may_leave origin.new site.new }
     ensures open { IsTrue result → IfSome (S.Disk.view site.new).transcript (IsLive live.old.number) }
     ensures same { SameConn live.old live.new }
-    ensures told { is_some (S.Disk.view site.new).transcript ≡ is_some (S.Disk.view site.old).transcript }
-    ensures link_faults { (S.Disk.view site.new).link_faults ≡ (S.Disk.view site.old).link_faults }
-    ensures script { (S.Disk.view site.new).script ≡ (S.Disk.view site.old).script }
-    ensures chosen { (S.Disk.view site.new).chosen ≡ (S.Disk.view site.old).chosen }
+    ensures link { TakesNone (S.Disk.view site.old) (S.Disk.view site.new) }
 {
     if live.push.is_some() {
         return take_inside(alloc, site, origin, live, part);

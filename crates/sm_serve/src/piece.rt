@@ -1,16 +1,16 @@
 //! A piece that came on a connection.
-ghost use Rattle.std.specs.Prelude.{is_some, ◌≡◌, ◌++◌, true, List, ℕ, Option, IfSome, IsTrue};
+ghost use Rattle.std.specs.Prelude.{◌≡◌, ◌++◌, true, List, ℕ, Option, IfSome, IsTrue};
 ghost use Rattle.sm_site.specs.Meanings.{IsLive};
 ghost use Rattle.sm_conn.specs.Parts.{PartItem};
 ghost use Rattle.sm_wire.specs.declared.item.WireItem.{WireItem};
 ghost use Rattle.sm_wire.specs.Wire.{Left};
 ghost use Rattle.sm_origin.specs.declared.origin.Origin.{Origin};
-ghost use Rattle.sm_origin.specs.Machine.{Machine};
 ghost use Rattle.sm_site.specs.Meanings.Deal.{Came};
 ghost use Rattle.sm_conn.specs.Stands.{joined};
 ghost use Rattle.sm_serve.specs.Connections.{received, is_open};
 ghost use Rattle.sm_serve.specs.Run.{idle, acting};
-ghost use Rattle.sm_serve.specs.Standing.{History, StandsOn, Keeps, Pending};
+ghost use Rattle.sm_serve.specs.Between.{TakesNone};
+ghost use Rattle.sm_serve.specs.Standing.{History, StandsOn, StandsForSome, Keeps, Pending};
 ghost use Rattle.sm_serve.specs.Resting.{counts_of, PlaceIs, SameConn, Rests};
 ghost use Rattle.sm_serve.specs.Giving.{PartGives, PieceGives};
 
@@ -32,7 +32,7 @@ fn take_parts<S: Site>(
     live: &mut Live,
     parts: Vec<Part>,
 ) -> bool
-    requires stands { (m : Machine) × StandsOn S.Disk.view S.Disk.may_leave m origin.old site.old }
+    requires stands { StandsForSome S.Disk.view S.Disk.may_leave origin.old site.old }
     requires live { IfSome (S.Disk.view site.old).transcript (IsLive live.old.number) }
     ensures goes_on { (h : History) (place : Option (List ℕ)) (more : List PartItem) (items : List WireItem)
         → Keeps S.Disk.view S.Disk.may_leave S.Disk.left_at h site.old
@@ -40,13 +40,10 @@ fn take_parts<S: Site>(
         → h.point.phase ≡ acting live.old.number items → h.point.counts live.old.number ≡ counts_of live.old
         → PartGives S.Disk.view S.Disk.may_leave S.Disk.left_at h live.old.number result live.new.push (counts_of live.new) place
         (joined parts.items) more origin.new site.new }
-    ensures stands { (m : Machine) × StandsOn S.Disk.view S.Disk.may_leave m origin.new site.new }
+    ensures stands { StandsForSome S.Disk.view S.Disk.may_leave origin.new site.new }
     ensures open { IsTrue result → IfSome (S.Disk.view site.new).transcript (IsLive live.old.number) }
     ensures same { SameConn live.old live.new }
-    ensures told { is_some (S.Disk.view site.new).transcript ≡ is_some (S.Disk.view site.old).transcript }
-    ensures link_faults { (S.Disk.view site.new).link_faults ≡ (S.Disk.view site.old).link_faults }
-    ensures script { (S.Disk.view site.new).script ≡ (S.Disk.view site.old).script }
-    ensures chosen { (S.Disk.view site.new).chosen ≡ (S.Disk.view site.old).chosen }
+    ensures link { TakesNone (S.Disk.view site.old) (S.Disk.view site.new) }
 {
     for part in parts {
         if !take_part(alloc, site, origin, live, part) {
@@ -64,19 +61,16 @@ pub(crate) fn take_piece<S: Site>(
     live: &mut Live,
     piece: &[u8],
 ) -> bool
-    requires stands { (m : Machine) × StandsOn S.Disk.view S.Disk.may_leave m origin.old site.old }
+    requires stands { StandsForSome S.Disk.view S.Disk.may_leave origin.old site.old }
     requires live { IfSome (S.Disk.view site.old).transcript (IsLive live.old.number) }
     ensures goes_on { (h : History) (m : ℕ) → Pending S.Disk.view S.Disk.may_leave S.Disk.left_at h m (Came live.old.number piece.now) site.old
         → StandsOn S.Disk.view S.Disk.may_leave h.point.machine origin.old site.old → h.point.phase ≡ idle → is_open live.old.number h.items ≡ true
         → h.point.counts live.old.number ≡ counts_of live.old
         → Rests live.old (received live.old.number h.items)
         → PieceGives S.Disk.view S.Disk.may_leave S.Disk.left_at h m piece.now live.old.number result live.new origin.new site.new }
-    ensures stands { (m : Machine) × StandsOn S.Disk.view S.Disk.may_leave m origin.new site.new }
+    ensures stands { StandsForSome S.Disk.view S.Disk.may_leave origin.new site.new }
     ensures same { live.new.number ≡ live.old.number }
-    ensures told { is_some (S.Disk.view site.new).transcript ≡ is_some (S.Disk.view site.old).transcript }
-    ensures link_faults { (S.Disk.view site.new).link_faults ≡ (S.Disk.view site.old).link_faults }
-    ensures script { (S.Disk.view site.new).script ≡ (S.Disk.view site.old).script }
-    ensures chosen { (S.Disk.view site.new).chosen ≡ (S.Disk.view site.old).chosen }
+    ensures link { TakesNone (S.Disk.view site.old) (S.Disk.view site.new) }
 {
     wire_of_front();
     match live.conn.feed(piece) {

@@ -4,10 +4,10 @@ ghost use Rattle.sm_site.specs.Meanings.{IsLive};
 ghost use Rattle.sm_site.specs.Meanings.Deal.{Began, Came, Over};
 ghost use Rattle.sm_site.specs.Event.{deal_of};
 ghost use Rattle.sm_site.specs.Clauses.{Rose, Adds};
-ghost use Rattle.sm_origin.specs.Machine.{Machine};
 ghost use Rattle.sm_serve.specs.declared.live.Live.{Live};
 ghost use Rattle.sm_serve.specs.Connections.{is_among, live};
-ghost use Rattle.sm_serve.specs.Standing.{History, StandsOn, Pending};
+ghost use Rattle.sm_serve.specs.Between.{TakesNone};
+ghost use Rattle.sm_serve.specs.Standing.{History, StandsForSome, Pending};
 ghost use Rattle.sm_serve.specs.Resting.{IsNewborn};
 ghost use Rattle.sm_serve.specs.Serving.{IsAtRest, Turns, TurnsBy, Serves, Known, CountsNone, numbers_of, Forgets, MayHandle, IsNew};
 ghost use Rattle.sm_serve.specs.Serving.{Served as HasServed, taken_by, HasTaken};
@@ -37,16 +37,13 @@ fn find(lives: &[Live], number: u64) -> Option<usize>
 
 /// Takes a piece. That of a connection that isn't live is passed over.
 fn take<S: Site>(site: &mut S, state: &mut State, number: u64, piece: &[u8])
-    requires stands { (m : Machine) × StandsOn S.Disk.view S.Disk.may_leave m state.old.origin site.old }
+    requires stands { StandsForSome S.Disk.view S.Disk.may_leave state.old.origin site.old }
     requires live { is_among number (numbers_of state.old.lives.items) ≡ true → IfSome (S.Disk.view site.old).transcript (IsLive number) }
     ensures goes_on { (h : History) (m : ℕ) → Pending S.Disk.view S.Disk.may_leave S.Disk.left_at h m (Came number piece.now) site.old
         → IsAtRest S.Disk.view S.Disk.may_leave h state.old site.old
         → Turns S.Disk.view S.Disk.may_leave S.Disk.left_at h (Came number piece.now ∷ []) state.new site.new }
-    ensures stands { (m : Machine) × StandsOn S.Disk.view S.Disk.may_leave m state.new.origin site.new }
-    ensures told { is_some (S.Disk.view site.new).transcript ≡ is_some (S.Disk.view site.old).transcript }
-    ensures link_faults { (S.Disk.view site.new).link_faults ≡ (S.Disk.view site.old).link_faults }
-    ensures script { (S.Disk.view site.new).script ≡ (S.Disk.view site.old).script }
-    ensures chosen { (S.Disk.view site.new).chosen ≡ (S.Disk.view site.old).chosen }
+    ensures stands { StandsForSome S.Disk.view S.Disk.may_leave state.new.origin site.new }
+    ensures link { TakesNone (S.Disk.view site.old) (S.Disk.view site.new) }
 {
     match find(&state.lives, number) {
         Some(i) => {
@@ -67,16 +64,13 @@ fn take<S: Site>(site: &mut S, state: &mut State, number: u64, piece: &[u8])
 
 /// Takes a connection in, or refuses it where 64 are live.
 fn open<S: Site>(site: &mut S, state: &mut State, number: u64)
-    requires stands { (m : Machine) × StandsOn S.Disk.view S.Disk.may_leave m state.old.origin site.old }
+    requires stands { StandsForSome S.Disk.view S.Disk.may_leave state.old.origin site.old }
     requires live { IfSome (S.Disk.view site.old).transcript (IsLive number) }
     ensures goes_on { (h : History) (m : ℕ) → Pending S.Disk.view S.Disk.may_leave S.Disk.left_at h m (Began number) site.old
         → IsAtRest S.Disk.view S.Disk.may_leave h state.old site.old → is_among number (live h.items) ≡ false
         → Turns S.Disk.view S.Disk.may_leave S.Disk.left_at h (Began number ∷ []) state.new site.new }
-    ensures stands { (m : Machine) × StandsOn S.Disk.view S.Disk.may_leave m state.new.origin site.new }
-    ensures told { is_some (S.Disk.view site.new).transcript ≡ is_some (S.Disk.view site.old).transcript }
-    ensures link_faults { (S.Disk.view site.new).link_faults ≡ (S.Disk.view site.old).link_faults }
-    ensures script { (S.Disk.view site.new).script ≡ (S.Disk.view site.old).script }
-    ensures chosen { (S.Disk.view site.new).chosen ≡ (S.Disk.view site.old).chosen }
+    ensures stands { StandsForSome S.Disk.view S.Disk.may_leave state.new.origin site.new }
+    ensures link { TakesNone (S.Disk.view site.old) (S.Disk.view site.new) }
 {
     if state.lives.len() >= 64 {
         tell(site, number, TOO_MANY, true);
@@ -115,16 +109,13 @@ fn forget(state: &mut State, number: u64)
 
 /// Handles an event that was taken.
 fn handle<S: Site>(site: &mut S, state: &mut State, event: Event) -> Turn
-    requires stands { (m : Machine) × StandsOn S.Disk.view S.Disk.may_leave m state.old.origin site.old }
+    requires stands { StandsForSome S.Disk.view S.Disk.may_leave state.old.origin site.old }
     requires may { MayHandle event state.old.lives.items (S.Disk.view site.old).transcript }
     ensures goes_on { (h : History) (m : ℕ) → Pending S.Disk.view S.Disk.may_leave S.Disk.left_at h m (deal_of event) site.old
         → IsAtRest S.Disk.view S.Disk.may_leave h state.old site.old → IsNew event h
         → Turns S.Disk.view S.Disk.may_leave S.Disk.left_at h (deal_of event ∷ []) state.new site.new }
-    ensures stands { (m : Machine) × StandsOn S.Disk.view S.Disk.may_leave m state.new.origin site.new }
-    ensures told { is_some (S.Disk.view site.new).transcript ≡ is_some (S.Disk.view site.old).transcript }
-    ensures link_faults { (S.Disk.view site.new).link_faults ≡ (S.Disk.view site.old).link_faults }
-    ensures script { (S.Disk.view site.new).script ≡ (S.Disk.view site.old).script }
-    ensures chosen { (S.Disk.view site.new).chosen ≡ (S.Disk.view site.old).chosen }
+    ensures stands { StandsForSome S.Disk.view S.Disk.may_leave state.new.origin site.new }
+    ensures link { TakesNone (S.Disk.view site.old) (S.Disk.view site.new) }
     ensures ended { result ≡ Turn.Ended ↔ event ≡ Event.Ended }
     ensures still { event ≡ Event.Ended → site.new ≡ site.old }
     ensures no_fault { result ≢ Turn.LinkFault }
@@ -150,14 +141,14 @@ fn handle<S: Site>(site: &mut S, state: &mut State, event: Event) -> Turn
 /// Takes one event, handles all acts that it completes, and sends their replies in order. At `LinkFault` and `NoMemory`
 /// no event was taken. A failed send closes its connection, and the loop goes on.
 pub fn turn<S: Site>(site: &mut S, state: &mut State) -> Turn
-    requires stands { (m : Machine) × StandsOn S.Disk.view S.Disk.may_leave m state.old.origin site.old }
+    requires stands { StandsForSome S.Disk.view S.Disk.may_leave state.old.origin site.old }
     requires known { Known S.Disk.view S.Disk.may_leave S.Disk.left_at state.old site.old }
     // Wherever a run had come, it goes on: from the same machine at the start, over the entries since, and what a crash may leave at
     // each moment since fits it. What it took is what came next in the script, where one is told.
     ensures runs { (h : History) → Serves S.Disk.view S.Disk.may_leave S.Disk.left_at h state.old site.old
         → (turns : TurnsBy S.Disk.view S.Disk.may_leave S.Disk.left_at h (taken_by result) (S.Disk.view site.old).script state.new site.new)
         × HasTaken result turns.deals }
-    ensures stands { (m : Machine) × StandsOn S.Disk.view S.Disk.may_leave m state.new.origin site.new }
+    ensures stands { StandsForSome S.Disk.view S.Disk.may_leave state.new.origin site.new }
     ensures told { is_some (S.Disk.view site.new).transcript ≡ is_some (S.Disk.view site.old).transcript }
     // Exactly where the event says so; whether it does is told by the transcript.
     ensures ended { result ≡ Turn.Ended → Adds Over (S.Link.view site.old) (S.Link.view site.new) }
@@ -177,13 +168,13 @@ pub fn turn<S: Site>(site: &mut S, state: &mut State) -> Turn
 
 /// Serves until nothing more comes, or so many events were taken.
 pub fn serve<S: Site>(site: &mut S, state: &mut State, turns: u64) -> Served
-    requires stands { (m : Machine) × StandsOn S.Disk.view S.Disk.may_leave m state.old.origin site.old }
+    requires stands { StandsForSome S.Disk.view S.Disk.may_leave state.old.origin site.old }
     requires known { Known S.Disk.view S.Disk.may_leave S.Disk.left_at state.old site.old }
     ensures runs { (h : History) → Serves S.Disk.view S.Disk.may_leave S.Disk.left_at h state.old site.old
         → HasServed S.Disk.view S.Disk.may_leave S.Disk.left_at h result turns state.new site.new }
     ensures goes_on { (h : History) → Serves S.Disk.view S.Disk.may_leave S.Disk.left_at h state.old site.old → (n : ℕ)
         × TurnsBy S.Disk.view S.Disk.may_leave S.Disk.left_at h n (S.Disk.view site.old).script state.new site.new }
-    ensures stands { (m : Machine) × StandsOn S.Disk.view S.Disk.may_leave m state.new.origin site.new }
+    ensures stands { StandsForSome S.Disk.view S.Disk.may_leave state.new.origin site.new }
     ensures counts { CountsNone result }
     ensures told { is_some (S.Disk.view site.new).transcript ≡ is_some (S.Disk.view site.old).transcript }
     ensures link_faults { (S.Disk.view site.old).link_faults ≤ (S.Disk.view site.new).link_faults }

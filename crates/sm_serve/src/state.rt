@@ -17,7 +17,7 @@ ghost use Rattle.sm_archive.specs.Opening.{NotAStore};
 ghost use Rattle.sm_origin.specs.Machine.{Machine};
 ghost use Rattle.sm_origin.specs.Acting.{IsHeld};
 ghost use Rattle.sm_origin.specs.Opening.{HasOneStore, WritesEmptyAlone};
-ghost use Rattle.sm_serve.specs.Standing.{History, StandsOn};
+ghost use Rattle.sm_serve.specs.Standing.{History, StandsOn, StandsForSome};
 ghost use Rattle.sm_archive.specs.Seen.{limits_of};
 ghost use Rattle.sm_origin.specs.Seen.{archive_of};
 
@@ -78,11 +78,11 @@ impl State {
     /// Declares the channel of a ladder, or compares it with the one that stands.
     pub fn declare<S: Site>(&mut self, site: &mut S, channel: &Channel) -> Declared
         requires valid { IsChannel channel.now }
-        requires stands { (m : Machine) × StandsOn S.Disk.view S.Disk.may_leave m self.old.origin site.old }
+        requires stands { StandsForSome S.Disk.view S.Disk.may_leave self.old.origin site.old }
         // Wherever a run had come, it goes on by one step, whose reply is the answer's.
         ensures runs { (h : History) → Serves S.Disk.view S.Disk.may_leave S.Disk.left_at h self.old site.old
             → DeclaresIn S.Disk.view S.Disk.may_leave S.Disk.left_at h channel.now result self.new site.new }
-        ensures stands { (m : Machine) × StandsOn S.Disk.view S.Disk.may_leave m self.new.origin site.new }
+        ensures stands { StandsForSome S.Disk.view S.Disk.may_leave self.new.origin site.new }
         ensures lives { self.new.lives ≡ self.old.lives }
         ensures fault { result ≡ answer.DiskFault → Rose (S.Disk.view site.old).disk_faults (S.Disk.view site.new).disk_faults }
         ensures no_fewer { (S.Disk.view site.old).disk_faults ≤ (S.Disk.view site.new).disk_faults }
@@ -94,11 +94,11 @@ impl State {
 
     /// Reads back the fragment of an address, from what was used last or from the disk, for one who is no connection.
     pub fn recall<S: Site>(&self, site: &mut S, address: &Address) -> Fetched
-        requires stands { (m : Machine) × StandsOn S.Disk.view S.Disk.may_leave m self.now.origin site.old }
+        requires stands { StandsForSome S.Disk.view S.Disk.may_leave self.now.origin site.old }
         // Wherever a run had come, it goes on by one step, whose reply is what a connection would be told.
         ensures runs { (h : History) → Serves S.Disk.view S.Disk.may_leave S.Disk.left_at h self.now site.old
             → RecallsIn S.Disk.view S.Disk.may_leave S.Disk.left_at h address.now result self.now site.new }
-        ensures stands { (m : Machine) × StandsOn S.Disk.view S.Disk.may_leave m self.now.origin site.new }
+        ensures stands { StandsForSome S.Disk.view S.Disk.may_leave self.now.origin site.new }
         // What is found is what the log has at its place; where the disk tells its contents it is the log's own.
         ensures found { (place : ℕ) (f : Fragment) → result ≡ Found place f → (m : Machine)
             → StandsOn S.Disk.view S.Disk.may_leave m self.now.origin site.old

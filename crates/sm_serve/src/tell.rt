@@ -1,11 +1,12 @@
 //! Sending, and closing behind what was sent.
-ghost use Rattle.std.specs.Prelude.{is_some, ◌≡◌, ◌++◌, false, List, IfSome, IsTrue, if◌then◌else◌};
+ghost use Rattle.std.specs.Prelude.{◌≡◌, ◌++◌, false, List, IfSome, IsTrue, if◌then◌else◌};
 ghost use Rattle.sm_site.specs.Meanings.{IsLive};
 ghost use Rattle.sm_site.specs.Clauses.{SameOutcomes};
 ghost use Rattle.sm_wire.specs.declared.item.WireItem.{WireItem};
 ghost use Rattle.sm_origin.specs.declared.origin.Origin.{Origin};
 ghost use Rattle.sm_origin.specs.Machine.{Machine};
 ghost use Rattle.sm_serve.specs.Run.{idle, acting, sending};
+ghost use Rattle.sm_serve.specs.Between.{TakesNone};
 ghost use Rattle.sm_serve.specs.Standing.{History, StandsOn, Keeps, Reaches};
 
 use sm_origin::law::fewer_images_stand;
@@ -30,10 +31,7 @@ pub(crate) fn tell_both<S: Site>(
     ensures same { SameOutcomes (S.Disk.may_leave site.old) (S.Disk.may_leave site.new) }
     ensures contents { (S.Disk.view site.new).contents ≡ (S.Disk.view site.old).contents }
     ensures open { IsTrue result → IfSome (S.Disk.view site.new).transcript (IsLive number) }
-    ensures told { is_some (S.Disk.view site.new).transcript ≡ is_some (S.Disk.view site.old).transcript }
-    ensures link_faults { (S.Disk.view site.new).link_faults ≡ (S.Disk.view site.old).link_faults }
-    ensures script { (S.Disk.view site.new).script ≡ (S.Disk.view site.old).script }
-    ensures chosen { (S.Disk.view site.new).chosen ≡ (S.Disk.view site.old).chosen }
+    ensures link { TakesNone (S.Disk.view site.old) (S.Disk.view site.new) }
 {
     fewer_images_stand::<S>();
     match site.send_both(number, head, tail) {
@@ -63,10 +61,7 @@ pub(crate) fn tell<S: Site>(site: &mut S, number: u64, bytes: &[u8], close: bool
     ensures same { SameOutcomes (S.Disk.may_leave site.old) (S.Disk.may_leave site.new) }
     ensures contents { (S.Disk.view site.new).contents ≡ (S.Disk.view site.old).contents }
     ensures open { IsTrue result → IfSome (S.Disk.view site.new).transcript (IsLive number) }
-    ensures told { is_some (S.Disk.view site.new).transcript ≡ is_some (S.Disk.view site.old).transcript }
-    ensures link_faults { (S.Disk.view site.new).link_faults ≡ (S.Disk.view site.old).link_faults }
-    ensures script { (S.Disk.view site.new).script ≡ (S.Disk.view site.old).script }
-    ensures chosen { (S.Disk.view site.new).chosen ≡ (S.Disk.view site.old).chosen }
+    ensures link { TakesNone (S.Disk.view site.old) (S.Disk.view site.new) }
 {
     tell_both(site, number, bytes, &[], close)
 }

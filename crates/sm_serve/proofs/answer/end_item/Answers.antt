@@ -2,7 +2,8 @@ use Rattle.std.proofs.Common.{◌≡◌, Bool, false, if◌then◌else◌, refl,
 use Rattle.sm_site.proofs.Views.{same_here}
 use Rattle.sm_serve.specs.Run.{idle, acting, shutting, in_phase}
 use Rattle.sm_site.specs.Meanings.Deal.{Shut}
-use Rattle.sm_serve.proofs.Transcripts.{adds_told, told_here, faults_here, script_here, chosen_here}
+use Rattle.sm_serve.proofs.Transcripts.{adds_told}
+use Rattle.sm_serve.proofs.Between.{none_of_link}
 use Rattle.sm_serve.proofs.Reaching.{reached, reached_here}
 use Rattle.sm_serve.proofs.Sending.{LinkCall, contents_here, shut_after}
 use Rattle.sm_serve.proofs.answer.end_item.Goals as goal
@@ -24,9 +25,12 @@ returns-then-close-clause-goes_on g c h more origin keeps stands phase =
     (c.fewer_images_stand.ensures h.point.machine origin d e stands
     (contents_here V W g.S.Disk.may_leave g.S.Link.may_leave g.S.Disk.left_at g.S.Link.left_at g.met.S.Site.one_view g.met.S.Site.one_disk g.met.S.Site.one_past g.met.S.Disk.told d e call) (λ image left. (same image).0 left))
 
-pub returns-then-close-clause-told : goal.returns-then-close-clause-told
-returns-then-close-clause-told g c =
-    told_here g.S.Disk.view g.S.Link.view g.met.S.Site.one_view c.args.site.now c.close.new.self (adds_told (g.S.Link.view c.args.site.now) (g.S.Link.view c.close.new.self) (Shut c.args.number) c.close.ensures.shut)
+pub returns-then-close-clause-link : goal.returns-then-close-clause-link
+returns-then-close-clause-link g c =
+    let W = g.S.Link.view in
+    let d = c.args.site.now in
+    let e = c.close.new.self in
+    none_of_link g.S.Disk.view W g.met.S.Site.one_view d e (adds_told (W d) (W e) (Shut c.args.number) c.close.ensures.shut) c.close.ensures.link_faults c.close.ensures.script c.close.ensures.disk
 
 pub returns-then-close-clause-contents : goal.returns-then-close-clause-contents
 returns-then-close-clause-contents g c =
@@ -38,17 +42,8 @@ returns-then-close-clause-contents g c =
     record { time = c.close.ensures.time; same = c.close.ensures.crash; disk = c.close.ensures.disk } in
     contents_here V W g.S.Disk.may_leave g.S.Link.may_leave g.S.Disk.left_at g.S.Link.left_at g.met.S.Site.one_view g.met.S.Site.one_disk g.met.S.Site.one_past g.met.S.Disk.told d e call
 
-pub returns-then-close-clause-link_faults : goal.returns-then-close-clause-link_faults
-returns-then-close-clause-link_faults g c = faults_here g.S.Disk.view g.S.Link.view g.met.S.Site.one_view c.args.site.now c.close.new.self c.close.ensures.link_faults
-
-pub returns-then-close-clause-script : goal.returns-then-close-clause-script
-returns-then-close-clause-script g c = script_here g.S.Disk.view g.S.Link.view g.met.S.Site.one_view c.args.site.now c.close.new.self c.close.ensures.script
-
 pub returns-clause-goes_on : goal.returns-clause-goes_on
 returns-clause-goes_on g c h more origin keeps stands phase =
     let n = c.args.number in
     reached_here g.S.Disk.view g.S.Disk.may_leave g.S.Disk.left_at h n (acting n more) (h.point.counts n) origin c.args.site.now keeps stands
     (phase ∙ ap (λ (b : Bool). if b then shutting n else acting n more) c.if-close.false) refl
-
-pub returns-then-close-clause-chosen : goal.returns-then-close-clause-chosen
-returns-then-close-clause-chosen g c = chosen_here g.S.Disk.view g.S.Link.view g.met.S.Site.one_view c.args.site.now c.close.new.self c.close.ensures.disk.chosen

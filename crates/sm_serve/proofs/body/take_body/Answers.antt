@@ -8,6 +8,7 @@ use Rattle.sm_serve.specs.Run.{acting}
 use Rattle.sm_serve.specs.Standing.{History, StandsOn, Keeps}
 use Rattle.sm_serve.specs.Resting.{counts_of, PlaceIs, SameConn}
 use Rattle.sm_serve.specs.Giving.{StaysOpen, PartGives}
+use Rattle.sm_serve.proofs.Between.{none_taken, none_then}
 use Rattle.sm_serve.proofs.Lists.{bytes_split, bytes_more, drop_all}
 use Rattle.std.proofs.lemmas.List.{take_all, take_rest, length-drop}
 use Rattle.sm_serve.proofs.Giving.{open_here, then_gives, place_some}
@@ -21,10 +22,7 @@ loop-done-init g c = record {
   inside = omega arith;
   stands = c.requires.stands;
   live = c.requires.live;
-  told = refl;
-  link_faults = refl;
-  script = refl;
-  chosen = refl;
+  link = none_taken (g.S.Disk.view c.args.site.now);
   open_ = c.requires.open;
   same = record { number = refl; conn = refl };
   goes_on = λ h b more items keeps stands is left phase counts.
@@ -73,10 +71,7 @@ loop-done-preserved g c =
       inside = omega (arith, c.loop-done.invariant.inside, c.due-count.ensures.most, ap length (take_rest bytes i), length-drop i bytes);
       stands = c.take_chunk.ensures.stands;
       live = subst (λ (m : ℕ). IfSome (V c.take_chunk.new.site).transcript (IsLive m)) (sym c.take_chunk.ensures.same.number) (c.if-not-take_chunk.ensures.open refl);
-      told = c.take_chunk.ensures.told ∙ c.loop-done.invariant.told;
-      link_faults = c.take_chunk.ensures.link_faults ∙ c.loop-done.invariant.link_faults;
-      script = c.take_chunk.ensures.script ∙ c.loop-done.invariant.script;
-      chosen = c.take_chunk.ensures.chosen ∙ c.loop-done.invariant.chosen;
+      link = none_then (V c.args.site.now) (V c.loop-done.site) (V c.take_chunk.new.site) c.loop-done.invariant.link c.take_chunk.ensures.link;
       open_ = c.if-not-take_chunk.ensures.push refl;
       same = same_then c.args.live.now c.loop-done.live c.take_chunk.new.live c.loop-done.invariant.same c.take_chunk.ensures.same;
       goes_on = λ h b more items keeps stands is left phase counts.

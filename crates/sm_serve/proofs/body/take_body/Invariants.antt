@@ -4,9 +4,9 @@ use Rattle.sm_site.specs.Meanings.{IsLive}
 use Rattle.sm_conn.specs.Parts.{PartItem, byte}
 use Rattle.sm_wire.specs.declared.item.WireItem.{WireItem}
 use Rattle.sm_wire.specs.Wire.{Left}
-use Rattle.sm_origin.specs.Machine.{Machine}
+use Rattle.sm_serve.specs.Between.{TakesNone}
 use Rattle.sm_serve.specs.Run.{acting}
-use Rattle.sm_serve.specs.Standing.{History, StandsOn, Keeps}
+use Rattle.sm_serve.specs.Standing.{History, StandsOn, StandsForSome, Keeps}
 use Rattle.sm_serve.specs.Resting.{counts_of, PlaceIs, SameConn}
 use Rattle.sm_serve.specs.Giving.{StaysOpen}
 use Rattle.sm_serve.proofs.body.take_body.Given as goal
@@ -14,13 +14,10 @@ use Rattle.sm_serve.proofs.body.take_body.Given as goal
 abbrev pub invariant-loop-done : goal.invariant-loop-done
 invariant-loop-done g l = record {
   inside : l.done ≤ length l.bytes;
-  stands : (m : Machine) × StandsOn g.S.Disk.view g.S.Disk.may_leave m l.origin l.site;
+  stands : StandsForSome g.S.Disk.view g.S.Disk.may_leave l.origin l.site;
   live : IfSome (g.S.Disk.view l.site).transcript (IsLive l.live.number);
-  told : is_some (g.S.Disk.view l.site).transcript ≡ is_some (g.S.Disk.view l.fn.site).transcript;
+  link : TakesNone (g.S.Disk.view l.fn.site) (g.S.Disk.view l.site);
   open_ : is_some l.live.push ≡ true;
-  link_faults : (g.S.Disk.view l.site).link_faults ≡ (g.S.Disk.view l.fn.site).link_faults;
-  script : (g.S.Disk.view l.site).script ≡ (g.S.Disk.view l.fn.site).script;
-  chosen : (g.S.Disk.view l.site).chosen ≡ (g.S.Disk.view l.fn.site).chosen;
   same : SameConn l.fn.live l.live;
   goes_on : (h : History) (b : List ℕ) (more : List PartItem) (items : List WireItem) → Keeps g.S.Disk.view g.S.Disk.may_leave g.S.Disk.left_at h l.fn.site
       → StandsOn g.S.Disk.view g.S.Disk.may_leave h.point.machine l.fn.origin l.fn.site → PlaceIs l.fn.live.push (Some b) → Left (Some b) (map (λ x. byte x) l.bytes ++ more) items

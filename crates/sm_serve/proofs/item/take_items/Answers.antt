@@ -11,6 +11,7 @@ use Rattle.sm_serve.specs.Run.{idle, acting}
 use Rattle.sm_serve.specs.Standing.{Reaches}
 use Rattle.sm_serve.specs.Resting.{counts_of, SameBut}
 use Rattle.sm_serve.specs.Items.{shown_item}
+use Rattle.sm_serve.proofs.Between.{none_taken, none_then}
 use Rattle.sm_serve.proofs.Lists.{next_shown, drop_all}
 use Rattle.sm_serve.proofs.Reaching.{goes_then, go_from, reached_here}
 use Rattle.sm_serve.proofs.item.take_items.Goals as goal
@@ -49,10 +50,7 @@ loop-item-preserved g c =
     record {
       stands = c.take_item.ensures.stands;
       live = subst (λ (m : ℕ). IfSome (V c.take_item.new.site).transcript (IsLive m)) (sym c.take_item.ensures.same.number) (c.if-not-take_item.ensures.open refl);
-      told = c.take_item.ensures.told ∙ c.loop-item.invariant.told;
-      link_faults = c.take_item.ensures.link_faults ∙ c.loop-item.invariant.link_faults;
-      script = c.take_item.ensures.script ∙ c.loop-item.invariant.script;
-      chosen = c.take_item.ensures.chosen ∙ c.loop-item.invariant.chosen;
+      link = none_then (V c.args.site.now) (V c.loop-item.site) (V c.take_item.new.site) c.loop-item.invariant.link c.take_item.ensures.link;
       same = same_then c.args.live.now c.loop-item.live c.take_item.new.live c.loop-item.invariant.same c.take_item.ensures.same;
       goes_on = λ h more keeps stands phase counts.
           let rest = map shown_item (drop (i + 1) items) ++ more in
@@ -83,10 +81,7 @@ pub loop-item-init : goal.loop-item-init
 loop-item-init g c = record {
   stands = c.requires.stands;
   live = c.requires.live;
-  told = refl;
-  link_faults = refl;
-  script = refl;
-  chosen = refl;
+  link = none_taken (g.S.Disk.view c.args.site.now);
   same = record { number = refl; conn = refl; push = refl };
   goes_on = λ h more keeps stands phase counts.
       reached_here g.S.Disk.view g.S.Disk.may_leave g.S.Disk.left_at h c.args.live.now.number (acting c.args.live.now.number (map shown_item c.args.items.items ++ more))

@@ -1,23 +1,19 @@
-use Rattle.std.proofs.Common.{is_some, ◌≡◌, ◌++◌, List, length, drop, IfSome, true}
+use Rattle.std.proofs.Common.{◌≡◌, ◌++◌, List, length, drop, IfSome, true}
 use Rattle.std.specs.Prelude.{map}
 use Rattle.sm_site.specs.Meanings.{IsLive}
 use Rattle.sm_wire.specs.declared.item.WireItem.{WireItem}
-use Rattle.sm_origin.specs.Machine.{Machine}
-use Rattle.sm_serve.specs.Standing.{StandsOn}
+use Rattle.sm_serve.specs.Between.{TakesNone}
 use Rattle.sm_serve.specs.Run.{acting}
-use Rattle.sm_serve.specs.Standing.{History, Keeps, Reaches}
+use Rattle.sm_serve.specs.Standing.{History, StandsOn, StandsForSome, Keeps, Reaches}
 use Rattle.sm_serve.specs.Resting.{counts_of, SameBut}
 use Rattle.sm_serve.specs.Items.{shown_item}
 use Rattle.sm_serve.proofs.item.take_items.Given as goal
 
 abbrev pub invariant-loop-item : goal.invariant-loop-item
 invariant-loop-item g l = record {
-  stands : (m : Machine) × StandsOn g.S.Disk.view g.S.Disk.may_leave m l.origin l.site;
+  stands : StandsForSome g.S.Disk.view g.S.Disk.may_leave l.origin l.site;
   live : IfSome (g.S.Disk.view l.site).transcript (IsLive l.live.number);
-  told : is_some (g.S.Disk.view l.site).transcript ≡ is_some (g.S.Disk.view l.fn.site).transcript;
-  link_faults : (g.S.Disk.view l.site).link_faults ≡ (g.S.Disk.view l.fn.site).link_faults;
-  script : (g.S.Disk.view l.site).script ≡ (g.S.Disk.view l.fn.site).script;
-  chosen : (g.S.Disk.view l.site).chosen ≡ (g.S.Disk.view l.fn.site).chosen;
+  link : TakesNone (g.S.Disk.view l.fn.site) (g.S.Disk.view l.site);
   same : SameBut l.fn.live l.live;
   goes_on : (h : History) (more : List WireItem) → Keeps g.S.Disk.view g.S.Disk.may_leave g.S.Disk.left_at h l.fn.site
       → StandsOn g.S.Disk.view g.S.Disk.may_leave h.point.machine l.fn.origin l.fn.site → h.point.phase ≡ acting l.fn.live.number (map shown_item l.fn.items.items ++ more) → h.point.counts l.fn.live.number ≡ counts_of l.fn.live

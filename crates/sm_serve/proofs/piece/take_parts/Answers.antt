@@ -12,6 +12,7 @@ use Rattle.sm_serve.specs.Run.{acting}
 use Rattle.sm_serve.specs.Standing.{History, Keeps}
 use Rattle.sm_serve.specs.Resting.{counts_of, SameConn}
 use Rattle.sm_serve.specs.Giving.{StaysOpen, PartGives}
+use Rattle.sm_serve.proofs.Between.{none_taken, none_then}
 use Rattle.sm_serve.proofs.Lists.{joined_drop, joined_take, drop_all}
 use Rattle.sm_serve.proofs.Giving.{open_here, then_gives}
 use Rattle.sm_serve.proofs.piece.take_parts.Goals as goal
@@ -23,10 +24,7 @@ pub loop-part-init : goal.loop-part-init
 loop-part-init g c = record {
   stands = c.requires.stands;
   live = c.requires.live;
-  told = refl;
-  link_faults = refl;
-  script = refl;
-  chosen = refl;
+  link = none_taken (g.S.Disk.view c.args.site.now);
   same = record { number = refl; conn = refl };
   goes_on = λ h place more items keeps stands is left phase counts.
       open_here g.S.Disk.view g.S.Disk.may_leave g.S.Disk.left_at h c.args.live.now.number c.args.site.now c.args.live.now.push (counts_of c.args.live.now) place
@@ -69,10 +67,7 @@ loop-part-preserved g c =
     record {
       stands = c.take_part.ensures.stands;
       live = subst (λ (m : ℕ). IfSome (V c.take_part.new.site).transcript (IsLive m)) (sym c.take_part.ensures.same.number) (c.if-not-take_part.ensures.open refl);
-      told = c.take_part.ensures.told ∙ c.loop-part.invariant.told;
-      link_faults = c.take_part.ensures.link_faults ∙ c.loop-part.invariant.link_faults;
-      script = c.take_part.ensures.script ∙ c.loop-part.invariant.script;
-      chosen = c.take_part.ensures.chosen ∙ c.loop-part.invariant.chosen;
+      link = none_then (V c.args.site.now) (V c.loop-part.site) (V c.take_part.new.site) c.loop-part.invariant.link c.take_part.ensures.link;
       same = same_then c.args.live.now c.loop-part.live c.take_part.new.live c.loop-part.invariant.same c.take_part.ensures.same;
       goes_on = λ h place more items keeps stands is left phase counts.
           let rest = joined (drop (i + 1) parts) ++ more in

@@ -1,25 +1,21 @@
-use Rattle.std.proofs.Common.{is_some, ◌≡◌, ℕ, ◌++◌, List, length, take, drop, Option, IfSome}
+use Rattle.std.proofs.Common.{◌≡◌, ℕ, ◌++◌, List, length, take, drop, Option, IfSome}
 use Rattle.sm_site.specs.Meanings.{IsLive}
 use Rattle.sm_conn.specs.Parts.{PartItem}
 use Rattle.sm_wire.specs.declared.item.WireItem.{WireItem}
 use Rattle.sm_wire.specs.Wire.{Left}
-use Rattle.sm_origin.specs.Machine.{Machine}
 use Rattle.sm_conn.specs.Stands.{joined}
-use Rattle.sm_serve.specs.Standing.{StandsOn}
+use Rattle.sm_serve.specs.Between.{TakesNone}
 use Rattle.sm_serve.specs.Run.{acting}
-use Rattle.sm_serve.specs.Standing.{History, Keeps}
+use Rattle.sm_serve.specs.Standing.{History, StandsOn, StandsForSome, Keeps}
 use Rattle.sm_serve.specs.Resting.{counts_of, PlaceIs, SameConn}
 use Rattle.sm_serve.specs.Giving.{StaysOpen}
 use Rattle.sm_serve.proofs.piece.take_parts.Given as goal
 
 abbrev pub invariant-loop-part : goal.invariant-loop-part
 invariant-loop-part g l = record {
-  stands : (m : Machine) × StandsOn g.S.Disk.view g.S.Disk.may_leave m l.origin l.site;
+  stands : StandsForSome g.S.Disk.view g.S.Disk.may_leave l.origin l.site;
   live : IfSome (g.S.Disk.view l.site).transcript (IsLive l.live.number);
-  told : is_some (g.S.Disk.view l.site).transcript ≡ is_some (g.S.Disk.view l.fn.site).transcript;
-  link_faults : (g.S.Disk.view l.site).link_faults ≡ (g.S.Disk.view l.fn.site).link_faults;
-  script : (g.S.Disk.view l.site).script ≡ (g.S.Disk.view l.fn.site).script;
-  chosen : (g.S.Disk.view l.site).chosen ≡ (g.S.Disk.view l.fn.site).chosen;
+  link : TakesNone (g.S.Disk.view l.fn.site) (g.S.Disk.view l.site);
   same : SameConn l.fn.live l.live;
   goes_on : (h : History) (place : Option (List ℕ)) (more : List PartItem) (items : List WireItem) → Keeps g.S.Disk.view g.S.Disk.may_leave g.S.Disk.left_at h l.fn.site
       → StandsOn g.S.Disk.view g.S.Disk.may_leave h.point.machine l.fn.origin l.fn.site → PlaceIs l.fn.live.push place → Left place (joined l.fn.parts.items ++ more) items

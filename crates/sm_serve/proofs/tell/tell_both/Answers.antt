@@ -1,11 +1,12 @@
-use Rattle.std.proofs.Common.{rules, ◌≡◌, ◌⊎◌, ⊎_elim, ◌≤◌, ℕ, ◌++◌, take, length, Bool, true, false, if◌then◌else◌, IfSome, is_some, refl, sym, ◌∙◌, ap, subst}
+use Rattle.std.proofs.Common.{rules, ◌≡◌, ◌⊎◌, ⊎_elim, ◌≤◌, ℕ, List, ◌++◌, take, length, Bool, true, false, if◌then◌else◌, IfSome, is_some, refl, sym, ◌∙◌, ap, subst}
 use Rattle.sm_site.specs.Meanings.{View, IsLive}
 use Rattle.sm_site.specs.Meanings.Deal.{Sent, Shut}
 use Rattle.sm_site.specs.Clauses.{Adds, Rose}
 use Rattle.sm_site.proofs.Views.{same_here}
 use Rattle.sm_serve.specs.Run.{idle, acting, shutting, in_phase, behind_failure}
 use Rattle.sm_site.proofs.Transcripts.{stays_live}
-use Rattle.sm_serve.proofs.Transcripts.{adds_told, told_here, faults_here, script_here, chosen_here}
+use Rattle.sm_serve.proofs.Transcripts.{adds_told}
+use Rattle.sm_serve.proofs.Between.{none_then, none_of_link}
 use Rattle.sm_serve.proofs.Reaching.{reached}
 use Rattle.sm_serve.proofs.Sending.{After, LinkCall, contents_here, sent_after, failed_after, unsent_after, then_shut}
 use Rattle.sm_serve.proofs.tell.tell_both.Goals as goal
@@ -121,30 +122,44 @@ returns-in-Err-clause-goes_on g c h more origin keeps stands phase =
     g.S.Link.may_leave g.S.Disk.left_at g.S.Link.left_at g.met.S.Site.one_view g.met.S.Site.one_disk g.met.S.Site.one_past g.met.S.Disk.told d e call)
     (λ image left. (same image).0 ((same2 image).0 left)))
 
-pub returns-else-close-clause-told : goal.returns-else-close-clause-told
-returns-else-close-clause-told g c =
-    let adds : Adds (Sent c.args.number (c.args.head.now ++ c.args.tail.now) false) (g.S.Link.view c.args.site.now) (g.S.Link.view c.send_both.new.self) = search rules in
-    told_here g.S.Disk.view g.S.Link.view g.met.S.Site.one_view c.args.site.now c.send_both.new.self
-    (adds_told (g.S.Link.view c.args.site.now) (g.S.Link.view c.send_both.new.self) (Sent c.args.number (c.args.head.now ++ c.args.tail.now) false) adds)
-
-pub returns-then-close-clause-told : goal.returns-then-close-clause-told
-returns-then-close-clause-told g c =
-    let W = g.S.Link.view in
-    let adds : Adds (Sent c.args.number (c.args.head.now ++ c.args.tail.now) false) (W c.args.site.now) (W c.send_both.new.self) = search rules in
-    told_here g.S.Disk.view W g.met.S.Site.one_view c.args.site.now c.close.new.self
-    (adds_told (W c.send_both.new.self) (W c.close.new.self) (Shut c.args.number) c.close.ensures.shut ∙ adds_told (W c.args.site.now) (W c.send_both.new.self) (Sent c.args.number (c.args.head.now ++ c.args.tail.now) false) adds)
-
-pub returns-in-Err-clause-told : goal.returns-in-Err-clause-told
-returns-in-Err-clause-told g c =
+pub returns-else-close-clause-link : goal.returns-else-close-clause-link
+returns-else-close-clause-link g c =
     let W = g.S.Link.view in
     let d = c.args.site.now in
     let e = c.send_both.new.self in
-    let part : ((k : ℕ) × (k ≤ length (c.args.head.now ++ c.args.tail.now)) × Adds (Sent c.args.number (take k (c.args.head.now ++ c.args.tail.now)) true) (W d) (W e)) ⊎ ((W e).transcript ≡ (W d).transcript) = search rules in
-    let sends : is_some (W e).transcript ≡ is_some (W d).transcript = ⊎_elim
-    (λ (p : (k : ℕ) × (k ≤ length (c.args.head.now ++ c.args.tail.now)) × Adds (Sent c.args.number (take k (c.args.head.now ++ c.args.tail.now)) true) (W d) (W e)).
-    adds_told (W d) (W e) (Sent c.args.number (take p.0 (c.args.head.now ++ c.args.tail.now)) true) p.2)
+    let deal = Sent c.args.number (c.args.head.now ++ c.args.tail.now) false in
+    let adds : Adds deal (W d) (W e) = search rules in
+    none_of_link g.S.Disk.view W g.met.S.Site.one_view d e (adds_told (W d) (W e) deal adds) c.send_both.ensures.link_faults c.send_both.ensures.script c.send_both.ensures.disk
+
+pub returns-then-close-clause-link : goal.returns-then-close-clause-link
+returns-then-close-clause-link g c =
+    let V = g.S.Disk.view in
+    let W = g.S.Link.view in
+    let d = c.args.site.now in
+    let e = c.send_both.new.self in
+    let f = c.close.new.self in
+    let deal = Sent c.args.number (c.args.head.now ++ c.args.tail.now) false in
+    let adds : Adds deal (W d) (W e) = search rules in
+    none_then (V d) (V e) (V f)
+    (none_of_link V W g.met.S.Site.one_view d e (adds_told (W d) (W e) deal adds) c.send_both.ensures.link_faults c.send_both.ensures.script c.send_both.ensures.disk)
+    (none_of_link V W g.met.S.Site.one_view e f (adds_told (W e) (W f) (Shut c.args.number) c.close.ensures.shut) c.close.ensures.link_faults c.close.ensures.script c.close.ensures.disk)
+
+pub returns-in-Err-clause-link : goal.returns-in-Err-clause-link
+returns-in-Err-clause-link g c =
+    let V = g.S.Disk.view in
+    let W = g.S.Link.view in
+    let d = c.args.site.now in
+    let e = c.send_both.new.self in
+    let f = c.close-in-Err.new.self in
+    let bytes : List ℕ = c.args.head.now ++ c.args.tail.now in
+    let part : ((k : ℕ) × (k ≤ length bytes) × Adds (Sent c.args.number (take k bytes) true) (W d) (W e)) ⊎ ((W e).transcript ≡ (W d).transcript) = search rules in
+    let told : is_some (W e).transcript ≡ is_some (W d).transcript = ⊎_elim
+    (λ (p : (k : ℕ) × (k ≤ length bytes) × Adds (Sent c.args.number (take k bytes) true) (W d) (W e)). adds_told (W d) (W e) (Sent c.args.number (take p.0 bytes) true) p.2)
     (λ (still : (W e).transcript ≡ (W d).transcript). ap is_some still) part in
-    told_here g.S.Disk.view W g.met.S.Site.one_view d c.close-in-Err.new.self (adds_told (W e) (W c.close-in-Err.new.self) (Shut c.args.number) c.close-in-Err.ensures.shut ∙ sends)
+    none_then (V d) (V e) (V f)
+    (none_of_link V W g.met.S.Site.one_view d e told c.send_both.ensures.link_faults c.send_both.ensures.script c.send_both.ensures.disk)
+    (none_of_link V W g.met.S.Site.one_view e f (adds_told (W e) (W f) (Shut c.args.number) c.close-in-Err.ensures.shut) c.close-in-Err.ensures.link_faults c.close-in-Err.ensures.script
+    c.close-in-Err.ensures.disk)
 
 pub returns-else-close-clause-contents : goal.returns-else-close-clause-contents
 returns-else-close-clause-contents g c =
@@ -183,28 +198,6 @@ returns-in-Err-clause-contents g c =
     record { time = c.close-in-Err.ensures.time; same = c.close-in-Err.ensures.crash; disk = c.close-in-Err.ensures.disk } in
     contents_here V W g.S.Disk.may_leave g.S.Link.may_leave g.S.Disk.left_at g.S.Link.left_at g.met.S.Site.one_view g.met.S.Site.one_disk g.met.S.Site.one_past g.met.S.Disk.told e f call2 ∙ contents_here V W g.S.Disk.may_leave
     g.S.Link.may_leave g.S.Disk.left_at g.S.Link.left_at g.met.S.Site.one_view g.met.S.Site.one_disk g.met.S.Site.one_past g.met.S.Disk.told d e call
-
-pub returns-else-close-clause-link_faults : goal.returns-else-close-clause-link_faults
-returns-else-close-clause-link_faults g c = faults_here g.S.Disk.view g.S.Link.view g.met.S.Site.one_view c.args.site.now c.send_both.new.self c.send_both.ensures.link_faults
-
-pub returns-else-close-clause-script : goal.returns-else-close-clause-script
-returns-else-close-clause-script g c = script_here g.S.Disk.view g.S.Link.view g.met.S.Site.one_view c.args.site.now c.send_both.new.self c.send_both.ensures.script
-
-pub returns-then-close-clause-link_faults : goal.returns-then-close-clause-link_faults
-returns-then-close-clause-link_faults g c =
-    faults_here g.S.Disk.view g.S.Link.view g.met.S.Site.one_view c.args.site.now c.close.new.self (c.close.ensures.link_faults ∙ c.send_both.ensures.link_faults)
-
-pub returns-then-close-clause-script : goal.returns-then-close-clause-script
-returns-then-close-clause-script g c =
-    script_here g.S.Disk.view g.S.Link.view g.met.S.Site.one_view c.args.site.now c.close.new.self (c.close.ensures.script ∙ c.send_both.ensures.script)
-
-pub returns-in-Err-clause-link_faults : goal.returns-in-Err-clause-link_faults
-returns-in-Err-clause-link_faults g c =
-    faults_here g.S.Disk.view g.S.Link.view g.met.S.Site.one_view c.args.site.now c.close-in-Err.new.self (c.close-in-Err.ensures.link_faults ∙ c.send_both.ensures.link_faults)
-
-pub returns-in-Err-clause-script : goal.returns-in-Err-clause-script
-returns-in-Err-clause-script g c =
-    script_here g.S.Disk.view g.S.Link.view g.met.S.Site.one_view c.args.site.now c.close-in-Err.new.self (c.close-in-Err.ensures.script ∙ c.send_both.ensures.script)
 
 pub returns-else-close-clause-stands : goal.returns-else-close-clause-stands
 returns-else-close-clause-stands g c m origin stands =
@@ -251,14 +244,3 @@ returns-in-Err-clause-stands g c m origin stands =
     c.fewer_images_stand.ensures m origin d f stands
     (contents_here V W g.S.Disk.may_leave g.S.Link.may_leave g.S.Disk.left_at g.S.Link.left_at g.met.S.Site.one_view g.met.S.Site.one_disk g.met.S.Site.one_past g.met.S.Disk.told e f call2 ∙ contents_here V W g.S.Disk.may_leave
     g.S.Link.may_leave g.S.Disk.left_at g.S.Link.left_at g.met.S.Site.one_view g.met.S.Site.one_disk g.met.S.Site.one_past g.met.S.Disk.told d e call) (λ image left. (same image).0 ((same2 image).0 left))
-
-pub returns-else-close-clause-chosen : goal.returns-else-close-clause-chosen
-returns-else-close-clause-chosen g c = chosen_here g.S.Disk.view g.S.Link.view g.met.S.Site.one_view c.args.site.now c.send_both.new.self c.send_both.ensures.disk.chosen
-
-pub returns-then-close-clause-chosen : goal.returns-then-close-clause-chosen
-returns-then-close-clause-chosen g c =
-    chosen_here g.S.Disk.view g.S.Link.view g.met.S.Site.one_view c.args.site.now c.close.new.self (c.close.ensures.disk.chosen ∙ c.send_both.ensures.disk.chosen)
-
-pub returns-in-Err-clause-chosen : goal.returns-in-Err-clause-chosen
-returns-in-Err-clause-chosen g c =
-    chosen_here g.S.Disk.view g.S.Link.view g.met.S.Site.one_view c.args.site.now c.close-in-Err.new.self (c.close-in-Err.ensures.disk.chosen ∙ c.send_both.ensures.disk.chosen)
