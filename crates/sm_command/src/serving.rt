@@ -1,8 +1,7 @@
 //! Serving a store.
 ghost use Rattle.std.specs.Prelude.{◌≡◌, ◌≤◌, IfOk, IfErr, OnErr};
-ghost use Rattle.sm_origin.specs.Machine.{Machine};
 ghost use Rattle.sm_serve.specs.Serving.{Begins, Serves, CountsNone};
-ghost use Rattle.sm_serve.specs.Standing.{History, StandsOn};
+ghost use Rattle.sm_serve.specs.Standing.{History, StandsForSome};
 ghost use Rattle.sm_command.specs.Choosing.{IsChosen};
 ghost use Rattle.sm_command.specs.Lasting.{Lasts, NoFewer, Spared};
 ghost use Rattle.sm_command.specs.Serving.{HasRun, RunLasts, RunsFrom, StopsFrom, WhyUnready};
@@ -27,7 +26,7 @@ fn serve_state<I: Source, S: Site>(
     turns: u64,
 ) -> Result<Served, StoreFault>
     requires begins { Begins S.Disk.view S.Disk.may_leave S.Disk.left_at state.old site.old }
-    requires stands { (m : Machine) × StandsOn S.Disk.view S.Disk.may_leave m state.old.origin site.old }
+    requires stands { StandsForSome S.Disk.view S.Disk.may_leave state.old.origin site.old }
     ensures run { IfOk result (λ end. RunsFrom S.Disk.view S.Disk.may_leave S.Disk.left_at ladder (I.left input.old)
         (I.left input.new) turns state.old site.old site.new end) }
     ensures why { IfErr result (λ why. StopsFrom S.Disk.view S.Disk.may_leave S.Disk.left_at ladder

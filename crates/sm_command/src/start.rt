@@ -4,10 +4,9 @@ ghost use Rattle.sm_model.specs.Channels.{IsChannel};
 ghost use Rattle.sm_model.specs.declared.entry.Entry.{Entry};
 ghost use Rattle.sm_site.specs.Clauses.{NoMore, Throughout};
 ghost use Rattle.sm_archive.specs.Store.{IsStore};
-ghost use Rattle.sm_origin.specs.Machine.{Machine};
 ghost use Rattle.sm_origin.specs.Opening.{HasOneStore};
 ghost use Rattle.sm_serve.specs.Serving.{Begins, Serves};
-ghost use Rattle.sm_serve.specs.Standing.{History, StandsOn};
+ghost use Rattle.sm_serve.specs.Standing.{History, StandsForSome};
 ghost use Rattle.sm_command.specs.declared.fault.StoreFault.TheVariants as fault;
 ghost use Rattle.sm_command.specs.Choosing.{IsChosen};
 ghost use Rattle.sm_command.specs.Lasting.{AtEachMoment, Spared, Untouched};
@@ -113,12 +112,12 @@ pub(crate) fn outcome_of(answer: Declared) -> Result<(), StoreFault>
 // Declares the channel of a ladder.
 fn declare<S: Site>(site: &mut S, state: &mut State, channel: &Channel) -> Result<(), StoreFault>
     requires valid { IsChannel channel.now }
-    requires stands { (m : Machine) × StandsOn S.Disk.view S.Disk.may_leave m state.old.origin site.old }
+    requires stands { StandsForSome S.Disk.view S.Disk.may_leave state.old.origin site.old }
     ensures declares { (told told' : Option (List ℕ)) → IsLadderInput told told' (Ok channel.now)
         → DeclaresTo S.Disk.view S.Disk.may_leave S.Disk.left_at told told' state.old site.old state.new site.new result }
     ensures unseen { (h : History) → Serves S.Disk.view S.Disk.may_leave S.Disk.left_at h state.old site.old
         → GoesUnseen S.Disk.view S.Disk.may_leave S.Disk.left_at h state.new site.new }
-    ensures stands { (m : Machine) × StandsOn S.Disk.view S.Disk.may_leave m state.new.origin site.new }
+    ensures stands { StandsForSome S.Disk.view S.Disk.may_leave state.new.origin site.new }
     ensures transcript { (S.Disk.view site.new).transcript ≡ (S.Disk.view site.old).transcript }
     ensures disk_faults { (S.Disk.view site.old).disk_faults ≤ (S.Disk.view site.new).disk_faults }
     ensures link_faults { (S.Disk.view site.new).link_faults ≡ (S.Disk.view site.old).link_faults }
@@ -135,12 +134,12 @@ fn declare_ladder<I: Source, S: Site>(
     site: &mut S,
     state: &mut State,
 ) -> Result<(), StoreFault>
-    requires stands { (m : Machine) × StandsOn S.Disk.view S.Disk.may_leave m state.old.origin site.old }
+    requires stands { StandsForSome S.Disk.view S.Disk.may_leave state.old.origin site.old }
     ensures means { LadderMeans S.Disk.view S.Disk.may_leave S.Disk.left_at (record { told = I.left input.old; faults = I.faults input.old })
         (record { told = I.left input.new; faults = I.faults input.new }) state.old site.old state.new site.new result }
     ensures unseen { (h : History) → Serves S.Disk.view S.Disk.may_leave S.Disk.left_at h state.old site.old
         → GoesUnseen S.Disk.view S.Disk.may_leave S.Disk.left_at h state.new site.new }
-    ensures stands { (m : Machine) × StandsOn S.Disk.view S.Disk.may_leave m state.new.origin site.new }
+    ensures stands { StandsForSome S.Disk.view S.Disk.may_leave state.new.origin site.new }
     ensures transcript { (S.Disk.view site.new).transcript ≡ (S.Disk.view site.old).transcript }
     ensures disk_faults { (S.Disk.view site.old).disk_faults ≤ (S.Disk.view site.new).disk_faults }
     ensures link_faults { (S.Disk.view site.new).link_faults ≡ (S.Disk.view site.old).link_faults }
@@ -161,12 +160,12 @@ pub fn prepare<I: Source, S: Site>(
     state: &mut State,
     ladder: bool,
 ) -> Result<(), StoreFault>
-    requires stands { (m : Machine) × StandsOn S.Disk.view S.Disk.may_leave m state.old.origin site.old }
+    requires stands { StandsForSome S.Disk.view S.Disk.may_leave state.old.origin site.old }
     ensures means { PrepareMeans S.Disk.view S.Disk.may_leave S.Disk.left_at ladder (record { told = I.left input.old; faults = I.faults input.old })
         (record { told = I.left input.new; faults = I.faults input.new }) state.old site.old state.new site.new result }
     ensures unseen { (h : History) → Serves S.Disk.view S.Disk.may_leave S.Disk.left_at h state.old site.old
         → GoesUnseen S.Disk.view S.Disk.may_leave S.Disk.left_at h state.new site.new }
-    ensures stands { (m : Machine) × StandsOn S.Disk.view S.Disk.may_leave m state.new.origin site.new }
+    ensures stands { StandsForSome S.Disk.view S.Disk.may_leave state.new.origin site.new }
     ensures transcript { (S.Disk.view site.new).transcript ≡ (S.Disk.view site.old).transcript }
     ensures disk_faults { (S.Disk.view site.old).disk_faults ≤ (S.Disk.view site.new).disk_faults }
     ensures link_faults { (S.Disk.view site.new).link_faults ≡ (S.Disk.view site.old).link_faults }

@@ -6,8 +6,7 @@ ghost use Rattle.sm_model.specs.Fragments.{IsValid};
 ghost use Rattle.sm_log.specs.Logs.{IsSound};
 ghost use Rattle.sm_log.specs.Digests.{digest_of};
 ghost use Rattle.sm_site.specs.Clauses.{Rose};
-ghost use Rattle.sm_origin.specs.Machine.{Machine};
-ghost use Rattle.sm_serve.specs.Standing.{History, StandsOn};
+ghost use Rattle.sm_serve.specs.Standing.{History, StandsForSome};
 ghost use Rattle.sm_serve.specs.Serving.{Serves};
 ghost use Rattle.sm_shelf.specs.Shelf.{Belongs, height_of};
 ghost use Rattle.sm_show.specs.declared.outcome.Up.TheVariants.{Whole, Behind};
@@ -53,9 +52,9 @@ fn begin<R: Wait, S: Site>(
     catalog: &Catalog,
     writer: &mut ShelfWriter,
 ) -> Up
-    requires stands { (m : Machine) × StandsOn S.Disk.view S.Disk.may_leave m state.now.origin site.old }
+    requires stands { StandsForSome S.Disk.view S.Disk.may_leave state.now.origin site.old }
     requires of { Shows (archive_of state.now.origin) (Some catalog.now) }
-    ensures stands { (m : Machine) × StandsOn S.Disk.view S.Disk.may_leave m state.now.origin site.new }
+    ensures stands { StandsForSome S.Disk.view S.Disk.may_leave state.now.origin site.new }
     ensures recalls { Recalls S.Disk.view S.Disk.may_leave S.Disk.left_at state.now site.old site.new }
     ensures belongs { (h : History) → Serves S.Disk.view S.Disk.may_leave S.Disk.left_at h state.now site.old → IsSome (S.Disk.view site.old).contents
         → Belongs h.point.machine.log writer.old → Belongs h.point.machine.log writer.new }
@@ -75,8 +74,8 @@ fn begin<R: Wait, S: Site>(
 
 // Brings the shelf up by one fragment, or to the whole log where it has nothing. `Whole` says that this was done.
 fn step<R: Wait, S: Site>(rt: &R, site: &mut S, state: &State, writer: &mut ShelfWriter) -> Up
-    requires stands { (m : Machine) × StandsOn S.Disk.view S.Disk.may_leave m state.now.origin site.old }
-    ensures stands { (m : Machine) × StandsOn S.Disk.view S.Disk.may_leave m state.now.origin site.new }
+    requires stands { StandsForSome S.Disk.view S.Disk.may_leave state.now.origin site.old }
+    ensures stands { StandsForSome S.Disk.view S.Disk.may_leave state.now.origin site.new }
     ensures recalls { Recalls S.Disk.view S.Disk.may_leave S.Disk.left_at state.now site.old site.new }
     ensures belongs { (h : History) → Serves S.Disk.view S.Disk.may_leave S.Disk.left_at h state.now site.old → IsSome (S.Disk.view site.old).contents
         → Belongs h.point.machine.log writer.old → Belongs h.point.machine.log writer.new }
@@ -105,8 +104,8 @@ pub fn catch_up<R: Wait, S: Site>(
     state: &State,
     writer: &mut ShelfWriter,
 ) -> Up
-    requires stands { (m : Machine) × StandsOn S.Disk.view S.Disk.may_leave m state.now.origin site.old }
-    ensures stands { (m : Machine) × StandsOn S.Disk.view S.Disk.may_leave m state.now.origin site.new }
+    requires stands { StandsForSome S.Disk.view S.Disk.may_leave state.now.origin site.old }
+    ensures stands { StandsForSome S.Disk.view S.Disk.may_leave state.now.origin site.new }
     ensures recalls { Recalls S.Disk.view S.Disk.may_leave S.Disk.left_at state.now site.old site.new }
     ensures belongs { (h : History) → Serves S.Disk.view S.Disk.may_leave S.Disk.left_at h state.now site.old → IsSome (S.Disk.view site.old).contents
         → Belongs h.point.machine.log writer.old → Belongs h.point.machine.log writer.new }

@@ -6,8 +6,7 @@ ghost use Rattle.sm_model.specs.Fragments.{IsValid, sample_bytes};
 ghost use Rattle.sm_log.specs.Adds.{Add};
 ghost use Rattle.sm_log.specs.Digests.{bytes_of, keeps_of};
 ghost use Rattle.sm_site.specs.Clauses.{Rose};
-ghost use Rattle.sm_origin.specs.Machine.{Machine};
-ghost use Rattle.sm_serve.specs.Standing.{History, StandsOn};
+ghost use Rattle.sm_serve.specs.Standing.{History, StandsForSome};
 ghost use Rattle.sm_serve.specs.Serving.{Serves};
 ghost use Rattle.sm_shelf.specs.Parts.{addresses_in};
 ghost use Rattle.sm_show.specs.declared.outcome.Lack.TheVariants as lack;
@@ -49,10 +48,10 @@ fn recall<S: Site>(
     index: u64,
     address: &Address,
 ) -> Result<Fragment, Lack>
-    requires stands { (m : Machine) × StandsOn S.Disk.view S.Disk.may_leave m state.now.origin site.old }
+    requires stands { StandsForSome S.Disk.view S.Disk.may_leave state.now.origin site.old }
     requires of { Shows (archive_of state.now.origin) (Some catalog.now) }
     requires at { (x : Add) × (slice_get catalog.now.adds index ≡ Some x) × (address.now ≡ x.address) }
-    ensures stands { (m : Machine) × StandsOn S.Disk.view S.Disk.may_leave m state.now.origin site.new }
+    ensures stands { StandsForSome S.Disk.view S.Disk.may_leave state.now.origin site.new }
     ensures recalls { Recalls S.Disk.view S.Disk.may_leave S.Disk.left_at state.now site.old site.new }
     ensures reads { IfOk result (Reads S.Disk.view S.Disk.may_leave S.Disk.left_at state.now catalog.now.adds index site.old) }
     ensures fault { IsErrOf result lack.Disk → IsSome (S.Disk.view site.old).contents → Rose (S.Disk.view site.old).disk_faults (S.Disk.view site.new).disk_faults }
@@ -69,9 +68,9 @@ pub fn fetch<S: Site>(
     catalog: &Catalog,
     index: u64,
 ) -> Result<Fragment, Lack>
-    requires stands { (m : Machine) × StandsOn S.Disk.view S.Disk.may_leave m state.now.origin site.old }
+    requires stands { StandsForSome S.Disk.view S.Disk.may_leave state.now.origin site.old }
     requires of { Shows (archive_of state.now.origin) (Some catalog.now) }
-    ensures stands { (m : Machine) × StandsOn S.Disk.view S.Disk.may_leave m state.now.origin site.new }
+    ensures stands { StandsForSome S.Disk.view S.Disk.may_leave state.now.origin site.new }
     ensures recalls { Recalls S.Disk.view S.Disk.may_leave S.Disk.left_at state.now site.old site.new }
     ensures reads { IfOk result (Reads S.Disk.view S.Disk.may_leave S.Disk.left_at state.now catalog.now.adds index site.old) }
     ensures fault { IsErrOf result lack.Disk → IsSome (S.Disk.view site.old).contents → Rose (S.Disk.view site.old).disk_faults (S.Disk.view site.new).disk_faults }
@@ -90,9 +89,9 @@ fn read_next<S: Site>(
     index: u64,
     read: &mut Vec<Fragment>,
 ) -> Result<u64, Lack>
-    requires stands { (m : Machine) × StandsOn S.Disk.view S.Disk.may_leave m state.now.origin site.old }
+    requires stands { StandsForSome S.Disk.view S.Disk.may_leave state.now.origin site.old }
     requires of { Shows (archive_of state.now.origin) (Some catalog.now) }
-    ensures stands { (m : Machine) × StandsOn S.Disk.view S.Disk.may_leave m state.now.origin site.new }
+    ensures stands { StandsForSome S.Disk.view S.Disk.may_leave state.now.origin site.new }
     ensures recalls { Recalls S.Disk.view S.Disk.may_leave S.Disk.left_at state.now site.old site.new }
     ensures read { IfOk result (λ n. (f : Fragment) × (read.new.items ≡ read.old.items ++ f ∷ []) × (n ≡ sample_bytes f.samples)
         × Reads S.Disk.view S.Disk.may_leave S.Disk.left_at state.now catalog.now.adds index site.old f) }
@@ -124,9 +123,9 @@ pub fn read_back<S: Site>(
     state: &State,
     catalog: &Catalog,
 ) -> Result<Vec<Fragment>, Lack>
-    requires stands { (m : Machine) × StandsOn S.Disk.view S.Disk.may_leave m state.now.origin site.old }
+    requires stands { StandsForSome S.Disk.view S.Disk.may_leave state.now.origin site.old }
     requires of { Shows (archive_of state.now.origin) (Some catalog.now) }
-    ensures stands { (m : Machine) × StandsOn S.Disk.view S.Disk.may_leave m state.now.origin site.new }
+    ensures stands { StandsForSome S.Disk.view S.Disk.may_leave state.now.origin site.new }
     ensures recalls { Recalls S.Disk.view S.Disk.may_leave S.Disk.left_at state.now site.old site.new }
     ensures last { IfOk result (λ v. IsEndOf S.Disk.view S.Disk.may_leave S.Disk.left_at state.now catalog.now.adds site.old v.items) }
     ensures fault { IsErrOf result lack.Disk → IsSome (S.Disk.view site.old).contents → Rose (S.Disk.view site.old).disk_faults (S.Disk.view site.new).disk_faults }

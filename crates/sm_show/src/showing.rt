@@ -1,8 +1,7 @@
 //! The loop.
 ghost use Rattle.std.specs.Prelude.{◌≡◌, ◌≤◌, ℕ, IsSome, is_some};
 ghost use Rattle.sm_site.specs.Clauses.{Rose};
-ghost use Rattle.sm_origin.specs.Machine.{Machine};
-ghost use Rattle.sm_serve.specs.Standing.{History, StandsOn};
+ghost use Rattle.sm_serve.specs.Standing.{History, StandsForSome};
 ghost use Rattle.sm_serve.specs.Serving.{TurnsBy, Serves, Known, Served as HasServed};
 ghost use Rattle.sm_shelf.specs.Shelf.{Belongs};
 ghost use Rattle.sm_show.specs.Marks.{HasShown};
@@ -26,7 +25,7 @@ pub fn serve_shown<R: Wait, S: Site>(
     writer: &mut ShelfWriter,
     turns: u64,
 ) -> Served
-    requires stands { (m : Machine) × StandsOn S.Disk.view S.Disk.may_leave m state.old.origin site.old }
+    requires stands { StandsForSome S.Disk.view S.Disk.may_leave state.old.origin site.old }
     requires known { Known S.Disk.view S.Disk.may_leave S.Disk.left_at state.old site.old }
     ensures runs { (h : History) → Serves S.Disk.view S.Disk.may_leave S.Disk.left_at h state.old site.old
         → HasServed S.Disk.view S.Disk.may_leave S.Disk.left_at h result turns state.new site.new }
@@ -37,7 +36,7 @@ pub fn serve_shown<R: Wait, S: Site>(
         → (run : HasServed S.Disk.view S.Disk.may_leave S.Disk.left_at h result turns state.new site.new) × HasShown h result run.later writer.new }
     ensures goes_on { (h : History) → Serves S.Disk.view S.Disk.may_leave S.Disk.left_at h state.old site.old → (n : ℕ)
         × TurnsBy S.Disk.view S.Disk.may_leave S.Disk.left_at h n (S.Disk.view site.old).script state.new site.new }
-    ensures stands { (m : Machine) × StandsOn S.Disk.view S.Disk.may_leave m state.new.origin site.new }
+    ensures stands { StandsForSome S.Disk.view S.Disk.may_leave state.new.origin site.new }
     ensures told { is_some (S.Disk.view site.new).transcript ≡ is_some (S.Disk.view site.old).transcript }
     ensures link_faults { (S.Disk.view site.old).link_faults ≤ (S.Disk.view site.new).link_faults }
     ensures chosen { (S.Disk.view site.new).chosen ≡ (S.Disk.view site.old).chosen }

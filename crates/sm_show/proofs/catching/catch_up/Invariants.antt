@@ -1,6 +1,5 @@
 use Rattle.std.proofs.Common.{IsSome}
-use Rattle.sm_origin.specs.Machine.{Machine}
-use Rattle.sm_serve.specs.Standing.{History, StandsOn}
+use Rattle.sm_serve.specs.Standing.{History, StandsForSome}
 use Rattle.sm_serve.specs.Serving.{Serves}
 use Rattle.sm_shelf.specs.Shelf.{Belongs}
 use Rattle.sm_show.specs.Recalling.{Recalls}
@@ -8,7 +7,7 @@ use Rattle.sm_show.proofs.catching.catch_up.Given as goal
 
 abbrev pub invariant-loop : goal.invariant-loop
 invariant-loop g l = record {
-  stands : (m : Machine) × StandsOn g.S.Disk.view g.S.Disk.may_leave m l.state.origin l.site;
+  stands : StandsForSome g.S.Disk.view g.S.Disk.may_leave l.state.origin l.site;
   recalls : Recalls g.S.Disk.view g.S.Disk.may_leave g.S.Disk.left_at l.state l.initial.site l.site;
   belongs : (h : History) → Serves g.S.Disk.view g.S.Disk.may_leave g.S.Disk.left_at h l.state l.initial.site → IsSome (g.S.Disk.view l.initial.site).contents
       → Belongs h.point.machine.log l.initial.writer → Belongs h.point.machine.log l.writer;

@@ -1,13 +1,12 @@
 use Rattle.std.proofs.Common.{◌≤◌, reverse}
-use Rattle.sm_origin.specs.Machine.{Machine}
-use Rattle.sm_serve.specs.Standing.{StandsOn}
+use Rattle.sm_serve.specs.Standing.{StandsForSome}
 use Rattle.sm_show.specs.Recalling.{Recalls}
 use Rattle.sm_show.proofs.Readings.{Gathered}
 use Rattle.sm_show.proofs.reading.read_back.Given as goal
 
 abbrev pub invariant-loop-site : goal.invariant-loop-site
 invariant-loop-site g l = record {
-  stands : (m : Machine) × StandsOn g.S.Disk.view g.S.Disk.may_leave m l.state.origin l.site;
+  stands : StandsForSome g.S.Disk.view g.S.Disk.may_leave l.state.origin l.site;
   recalls : Recalls g.S.Disk.view g.S.Disk.may_leave g.S.Disk.left_at l.state l.initial.site l.site;
   gathered : Gathered g.S.Disk.view g.S.Disk.may_leave g.S.Disk.left_at l.state l.catalog.adds l.initial.site l.left l.bytes (reverse l.read.items);
   short : l.bytes ≤ 134217728;

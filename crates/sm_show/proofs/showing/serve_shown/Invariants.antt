@@ -1,6 +1,5 @@
 use Rattle.std.proofs.Common.{◌≡◌, ◌≤◌, ◌+◌, IsSome, is_some}
-use Rattle.sm_origin.specs.Machine.{Machine}
-use Rattle.sm_serve.specs.Standing.{History, StandsOn}
+use Rattle.sm_serve.specs.Standing.{History, StandsForSome}
 use Rattle.sm_serve.specs.Serving.{Serves, TurnsBy, NoneIsOver}
 use Rattle.sm_shelf.specs.Shelf.{Belongs}
 use Rattle.sm_show.specs.Marks.{Shows}
@@ -8,7 +7,7 @@ use Rattle.sm_show.proofs.showing.serve_shown.Given as goal
 
 abbrev pub invariant-loop-taken : goal.invariant-loop-taken
 invariant-loop-taken g l = record {
-  stands : (m : Machine) × StandsOn g.S.Disk.view g.S.Disk.may_leave m l.state.origin l.site;
+  stands : StandsForSome g.S.Disk.view g.S.Disk.may_leave l.state.origin l.site;
   told : is_some (g.S.Disk.view l.site).transcript ≡ is_some (g.S.Disk.view l.fn.site).transcript;
   chosen : (g.S.Disk.view l.site).chosen ≡ (g.S.Disk.view l.fn.site).chosen;
   link_faults : (g.S.Disk.view l.fn.site).link_faults ≤ (g.S.Disk.view l.site).link_faults;
