@@ -1,4 +1,6 @@
 pub mod Heads
+pub mod Gathered
+pub mod Passing
 pub mod Texts
 pub mod Kept
 pub mod Answering

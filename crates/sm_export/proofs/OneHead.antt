@@ -13,7 +13,8 @@ fronts (x ∷ f) [] r s e = inr (x ∷ f, refl)
 fronts (x ∷ f) (y ∷ g) r s e =
     let first : x ≡ y = cc in
     let rest : f ++ r ≡ g ++ s = cc in
-    ⊎_elim (λ p. inl (p.0, ap (λ (l : List ℕ). y ∷ l) p.1 ∙ ap (λ (z : ℕ). z ∷ (f ++ p.0)) (sym first))) (λ p. inr (p.0, ap (λ (l : List ℕ). x ∷ l) p.1 ∙ ap (λ (z : ℕ). z ∷ (g ++ p.0)) first)) (fronts f g r s rest)
+    ⊎_elim (λ p. inl (p.0, ap (λ (l : List ℕ). y ∷ l) p.1 ∙ ap (λ (z : ℕ). z ∷ (f ++ p.0)) (sym first)))
+    (λ p. inr (p.0, ap (λ (l : List ℕ). x ∷ l) p.1 ∙ ap (λ (z : ℕ). z ∷ (g ++ p.0)) first)) (fronts f g r s rest)
 
 no_more : (front : List ℕ) (channel : List Track) (other q : List ℕ) → header_given (body false front).items ≡ Some channel
     → ((p q : List ℕ) → other ≡ p ++ q → 0 < length q → header_given (body false p).items ≡ None) → other ≡ front ++ q → other ≡ front

@@ -16,7 +16,9 @@ use Rattle.sm_log.specs.Times.{with_entry}
 use Rattle.sm_log.specs.Adds.{Add, times_from}
 use Rattle.sm_log.specs.Logs.{times_in, adds_of, adds_from, IsSound}
 use Rattle.sm_export.specs.Exporting.{texts_from}
+use Rattle.sm_export.specs.Gathering.{Leaves, LeavesFront}
 use Rattle.sm_export.specs.Qualities.{kept_list, kept_among}
+use Rattle.sm_export.proofs.Gathered.{leaves_more, front_more, front_of_longer}
 
 pub texts_both : (seq id : ℕ) (xs ys : List Fragment) → texts_from seq id (xs ++ ys) ≡ texts_from seq id xs ++ texts_from (seq + length xs) id ys
 texts_both seq id [] ys = ap (λ (n : ℕ). texts_from n id ys) (omega arith)
@@ -64,37 +66,45 @@ kept_next log name bitrate address times i t lt here is =
 texts_next : (id written : ℕ) (ks fs : List Fragment) → written ≡ length ks → texts_from 1 id (ks ++ fs) ≡ texts_from 1 id ks ++ texts_from (written + 1) id fs
 texts_next id written ks fs count = texts_both 1 id ks fs ∙ ap (λ (n : ℕ). texts_from 1 id ks ++ texts_from n id fs) (omega (arith, count))
 
-pub wrote_more : (a b c : Option (List ℕ)) (log : List Entry) (name : List ℕ) (bitrate : ℕ) (address : Address) (times : List (ℕ × ℕ)) (i : ℕ) (t : ℕ × ℕ) (id written n : ℕ) → i < length times
-    → t ≡ slice_index_or times i t → address ≡ record { stream = name; bitrate = bitrate; time = t.0 }
-    → Appends a b (texts_from 1 id (kept_among log name bitrate (take i times))) → written ≡ length (kept_among log name bitrate (take i times))
-    → Appends b c (texts_from (written + 1) id (kept_list log address)) → length (kept_list log address) ≡ n
-    → Appends a c (texts_from 1 id (kept_among log name bitrate (take (i + 1) times))) × (written + n ≡ length (kept_among log name bitrate (take (i + 1) times)))
-wrote_more a b c log name bitrate address times i t id written n lt here is p count q one =
+pub wrote_more : (a b c : Option (List ℕ)) (before g h : List ℕ) (log : List Entry) (name : List ℕ) (bitrate : ℕ) (address : Address) (times : List (ℕ × ℕ)) (i : ℕ) (t : ℕ × ℕ) (id written n : ℕ)
+    → i < length times → t ≡ slice_index_or times i t → address ≡ record { stream = name; bitrate = bitrate; time = t.0 }
+    → Leaves a b (before ++ texts_from 1 id (kept_among log name bitrate (take i times))) g → written ≡ length (kept_among log name bitrate (take i times))
+    → Leaves b c (g ++ texts_from (written + 1) id (kept_list log address)) h → length (kept_list log address) ≡ n
+    → Leaves a c (before ++ texts_from 1 id (kept_among log name bitrate (take (i + 1) times))) h × (written + n ≡ length (kept_among log name bitrate (take (i + 1) times)))
+wrote_more a b c before g h log name bitrate address times i t id written n lt here is p count q one =
     let next = kept_next log name bitrate address times i t lt here is in
-    let text : texts_from 1 id (kept_among log name bitrate (take (i + 1) times)) ≡ texts_from 1 id (kept_among log name bitrate (take i times)) ++ texts_from (written + 1) id (kept_list log address) =
+    let was : List ℕ = texts_from 1 id (kept_among log name bitrate (take i times)) in
+    let more : List ℕ = texts_from (written + 1) id (kept_list log address) in
+    let text : texts_from 1 id (kept_among log name bitrate (take (i + 1) times)) ≡ was ++ more =
     ap (texts_from 1 id) next ∙ texts_next id written (kept_among log name bitrate (take i times)) (kept_list log address) count in
     let len : length (kept_among log name bitrate (take (i + 1) times)) ≡ length (kept_among log name bitrate (take i times)) + length (kept_list log address) =
-    ap length next ∙ length-append (kept_among log name bitrate (take i times)) (kept_list log address) in (
-      subst (Appends a c) (sym text) (Appends-trans a b c _ _ p q),
+    ap length next ∙ length-append (kept_among log name bitrate (take i times)) (kept_list log address) in
+    let all : (before ++ was) ++ more ≡ before ++ texts_from 1 id (kept_among log name bitrate (take (i + 1) times)) =
+    append_assoc before was more ∙ ap (λ (l : List ℕ). before ++ l) (sym text) in (
+      subst (λ (l : List ℕ). Leaves a c l h) all (leaves_more a b c (before ++ was) more g h p q),
       omega (arith, count, one, len),
     )
 
--- what went out of one text, behind all before it, is a front of all
-pub wrote_part : (a b c : Option (List ℕ)) (log : List Entry) (name : List ℕ) (bitrate : ℕ) (address : Address) (times : List (ℕ × ℕ)) (i : ℕ) (t : ℕ × ℕ) (id written : ℕ) → i < length times
-    → t ≡ slice_index_or times i t → address ≡ record { stream = name; bitrate = bitrate; time = t.0 }
-    → Appends a b (texts_from 1 id (kept_among log name bitrate (take i times))) → written ≡ length (kept_among log name bitrate (take i times))
-    → AppendsFront b c (texts_from (written + 1) id (kept_list log address)) → AppendsFront a c (texts_from 1 id (kept_among log name bitrate times))
-wrote_part a b c log name bitrate address times i t id written lt here is p count q =
+-- what was passed on of one text, behind all before it, is a front of all
+pub wrote_part : (a b c : Option (List ℕ)) (before g h : List ℕ) (log : List Entry) (name : List ℕ) (bitrate : ℕ) (address : Address) (times : List (ℕ × ℕ)) (i : ℕ) (t : ℕ × ℕ) (id written : ℕ)
+    → i < length times → t ≡ slice_index_or times i t → address ≡ record { stream = name; bitrate = bitrate; time = t.0 }
+    → Leaves a b (before ++ texts_from 1 id (kept_among log name bitrate (take i times))) g → written ≡ length (kept_among log name bitrate (take i times))
+    → LeavesFront b c (g ++ texts_from (written + 1) id (kept_list log address)) h → LeavesFront a c (before ++ texts_from 1 id (kept_among log name bitrate times)) h
+wrote_part a b c before g h log name bitrate address times i t id written lt here is p count q =
     let ks : List Fragment = kept_among log name bitrate (take i times) in
     let fs : List Fragment = kept_list log address in
-    let more : List Fragment = kept_among log name bitrate (drop (i + 1) times) in
-    let all : kept_among log name bitrate times ≡ ks ++ (fs ++ more) =
+    let later : List Fragment = kept_among log name bitrate (drop (i + 1) times) in
+    let all : kept_among log name bitrate times ≡ ks ++ (fs ++ later) =
     ap (λ (ts : List (ℕ × ℕ)). kept_among log name bitrate ts) (sym (take-append-drop (i + 1) times))
-    ∙ (kept_both log name bitrate (take (i + 1) times) (drop (i + 1) times) ∙ (ap (λ (gs : List Fragment). gs ++ more) (kept_next log name bitrate address times i t lt here is) ∙ append_assoc ks fs more)) in
-    let rest : List ℕ = texts_from ((written + 1) + length fs) id more in
-    let text : texts_from 1 id (kept_among log name bitrate times) ≡ texts_from 1 id ks ++ (texts_from (written + 1) id fs ++ rest) =
-    ap (texts_from 1 id) all ∙ (texts_next id written ks (fs ++ more) count ∙ ap (λ (x : List ℕ). texts_from 1 id ks ++ x) (texts_both (written + 1) id fs more)) in
-    subst (AppendsFront a c) (sym text) (front_then a b c (texts_from 1 id ks) (texts_from (written + 1) id fs) rest p q)
+    ∙ (kept_both log name bitrate (take (i + 1) times) (drop (i + 1) times) ∙ (ap (λ (gs : List Fragment). gs ++ later) (kept_next log name bitrate address times i t lt here is) ∙ append_assoc ks fs later)) in
+    let was : List ℕ = texts_from 1 id ks in
+    let more : List ℕ = texts_from (written + 1) id fs in
+    let rest : List ℕ = texts_from ((written + 1) + length fs) id later in
+    let text : texts_from 1 id (kept_among log name bitrate times) ≡ was ++ (more ++ rest) =
+    ap (texts_from 1 id) all ∙ (texts_next id written ks (fs ++ later) count ∙ ap (λ (x : List ℕ). was ++ x) (texts_both (written + 1) id fs later)) in
+    let joined : ((before ++ was) ++ more) ++ rest ≡ before ++ texts_from 1 id (kept_among log name bitrate times) =
+    append_assoc (before ++ was) more rest ∙ (append_assoc before was (more ++ rest) ∙ ap (λ (x : List ℕ). before ++ x) (sym text)) in
+    subst (λ (l : List ℕ). LeavesFront a c l h) joined (front_of_longer a c ((before ++ was) ++ more) rest h (front_more a b c (before ++ was) more g h p q))
 
 -- what stands at an index, whatever else would
 pub at_any : (xs : List (ℕ × ℕ)) (i : ℕ) (d e : ℕ × ℕ) → i < length xs → slice_index_or xs i d ≡ slice_index_or xs i e

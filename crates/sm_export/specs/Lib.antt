@@ -1,4 +1,5 @@
 pub mod Heads
 pub mod Qualities
 pub mod Exporting
+pub mod Gathering
 pub mod Storing

@@ -1,5 +1,5 @@
 //! Exporting one quality.
-ghost use Rattle.std.specs.Prelude.{◌≡◌, ◌≤◌, ◌<◌, ◌^◌, ℕ, List, [], ◌++◌, Option, None, Some, IfOk, OnOk, OnErr, IsErrOf, IsSome, length};
+ghost use Rattle.std.specs.Prelude.{◌≡◌, ◌≤◌, ◌<◌, ◌^◌, List, [], ◌++◌, Option, Some, IfOk, OnErr, IsErrOf, IsSome, length};
 ghost use Rattle.std.specs.Io.KnownBytes.{Appends};
 ghost use Rattle.sm_ends.specs.Moves.{AppendsFront};
 ghost use Rattle.sm_ends.specs.Faults.{Rose as FaultsRose};
@@ -10,12 +10,13 @@ ghost use Rattle.sm_archive.specs.Stands.{Stands};
 ghost use Rattle.sm_export.specs.Exporting.{texts_from, ExportedAs};
 ghost use Rattle.sm_export.specs.Qualities.{kept_among};
 ghost use Rattle.sm_export.specs.declared.exported.Exported.TheVariants as exported;
-ghost use Rattle.sm_export.specs.declared.writing.Broken.TheVariants as broken;
+ghost use Rattle.sm_export.specs.declared.gathering.Broken.TheVariants as broken;
 
 use crate::Exported;
 use crate::fit::{Unfit, id_in};
+use crate::gathering::Broken;
 use crate::head::{Unread, read_head};
-use crate::writing::{Broken, write_times};
+use crate::writing::write_times;
 use sm_archive::Archive;
 use sm_ends::{Failed, Sink, write_all};
 use sm_model::{Cause, Name};

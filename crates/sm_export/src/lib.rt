@@ -5,6 +5,7 @@
 mod call;
 mod exported;
 mod fit;
+mod gathering;
 mod head;
 pub mod law;
 mod storing;

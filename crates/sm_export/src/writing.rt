@@ -1,5 +1,5 @@
 //! Writing the fragments of one quality.
-ghost use Rattle.std.specs.Prelude.{◌≡◌, ◌≤◌, ◌<◌, ◌+◌, ◌^◌, ℕ, [], ◌∷◌, ◌++◌, true, false, List, Option, None, Some, Err, IfOk, OnOk, OnErr, IsErr, IsErrOf, IsSome, is_some};
+ghost use Rattle.std.specs.Prelude.{◌≡◌, ◌≤◌, ◌<◌, ◌+◌, ◌^◌, [], ◌++◌, List, Option, None, Some, Err, IfOk, OnErr, IsErrOf, IsSome, is_some};
 ghost use Rattle.std.specs.Prelude.{length};
 ghost use Rattle.std.specs.List.{flat_map};
 ghost use Rattle.std.specs.Io.KnownBytes.{Appends};
@@ -13,71 +13,40 @@ ghost use Rattle.sm_site.specs.Clauses.{Rose, Throughout};
 ghost use Rattle.sm_site.specs.Meanings.{SameLink};
 ghost use Rattle.sm_archive.specs.Stands.{Stands};
 ghost use Rattle.sm_export.specs.Exporting.{texts_from};
+ghost use Rattle.sm_export.specs.Gathering.{IsPassedOn, Leaves, LeavesFront};
 ghost use Rattle.sm_export.specs.Qualities.{kept_list, kept_among};
-ghost use Rattle.sm_export.specs.declared.writing.Broken.{Broken as Ended};
-ghost use Rattle.sm_export.specs.declared.writing.Broken.TheVariants as broken;
+ghost use Rattle.sm_export.specs.declared.gathering.Broken.TheVariants as broken;
 
+use crate::gathering::{Broken, ROOM, pass_on, write_gathered, write_if_full};
 use sm_archive::{Archive, Fetched};
-use sm_ends::{Failed, Sink, write_all};
+use sm_ends::Sink;
 use sm_log::law::kept_is_added;
 use sm_model::{Address, Fragment, Name, NoMemory};
 use sm_moof::{append_fragment_head, put_fragment};
 use sm_site::Disk;
 use std::alloc::Global;
 
-/// Why a file ends too early.
-#[derive(Clone, Copy, Debug, PartialEq, Eq)]
-pub(crate) enum Broken {
-    DiskFault,
-    Damaged,
-    WriteFault,
-    NoMemory,
-}
-
-// How much room the front of a text is given at first, in bytes: that of 250 samples needs no more.
-const ROOM: usize = 4_096;
-
-// All of these, and all of those behind them.
-fn write_both<O: Sink>(head: &[u8], body: &[u8], out: &mut O) -> Result<(), Broken>
-    ensures ok { OnOk result (Appends (O.held out.old) (O.held out.new) (head.now ++ body.now)) }
-    ensures err { OnErr result (AppendsFront (O.held out.old) (O.held out.new) (head.now ++ body.now)) }
-    ensures end { (end : Ended) → result ≡ Err end → end ≡ broken.WriteFault }
-    ensures fault { IsErr result → FaultsRose (O.faults out.old) (O.faults out.new) }
-    ensures later { O.faults out.old ≤ O.faults out.new }
-{
-    match write_all(out, head) {
-        Ok(()) => match write_all(out, body) {
-            Ok(()) => Ok(()),
-            Err(Failed) => Err(Broken::WriteFault),
-        },
-        Err(Failed) => Err(Broken::WriteFault),
-    }
-}
-
-// The text of one fragment, whose samples have these bytes together. None of them is copied.
+// The text of one fragment, whose samples have these bytes together.
 fn write_joined<O: Sink>(
-    alloc: Global,
     fragment: &Fragment,
     body: &[u8],
     seq: u32,
     id: u32,
+    gathered: &mut Vec<u8>,
     out: &mut O,
 ) -> Result<(), Broken>
     requires valid { IsValid fragment.now }
     requires body { body.now ≡ flat_map (λ s. s.bytes) fragment.now.samples }
-    ensures ok { OnOk result (Appends (O.held out.old) (O.held out.new) (frag_text seq id fragment.now [])) }
-    ensures err { OnErr result (AppendsFront (O.held out.old) (O.held out.new) (frag_text seq id fragment.now [])) }
-    ensures disk { IsErrOf result broken.DiskFault → ⊥ }
-    ensures damaged { IsErrOf result broken.Damaged → ⊥ }
-    ensures fault { IsErrOf result broken.WriteFault → FaultsRose (O.faults out.old) (O.faults out.new) }
-    ensures later { O.faults out.old ≤ O.faults out.new }
+    ensures { IsPassedOn (O.held out.old) (O.held out.new) (O.faults out.old) (O.faults out.new)
+        gathered.old.items gathered.new.items (frag_text seq id fragment.now []) result }
 {
-    let Ok(mut head) = Vec::with_capacity(alloc, ROOM) else {
-        return Err(Broken::NoMemory);
-    };
-    match append_fragment_head(&mut head, seq, id, fragment, &[]) {
-        Ok(()) => write_both(&head, body, out),
-        Err(NoMemory) => Err(Broken::NoMemory),
+    let before = gathered.as_slice().len();
+    match append_fragment_head(gathered, seq, id, fragment, &[]) {
+        Ok(()) => pass_on(body, gathered, out),
+        Err(NoMemory) => {
+            gathered.truncate(before);
+            Err(Broken::NoMemory)
+        }
     }
 }
 
@@ -87,48 +56,42 @@ fn write_text<O: Sink>(
     fragment: &Fragment,
     seq: u32,
     id: u32,
+    gathered: &mut Vec<u8>,
     out: &mut O,
 ) -> Result<(), Broken>
     requires { IsValid fragment.now }
-    ensures ok { OnOk result (Appends (O.held out.old) (O.held out.new) (frag_text seq id fragment.now [])) }
-    ensures err { OnErr result (AppendsFront (O.held out.old) (O.held out.new) (frag_text seq id fragment.now [])) }
-    ensures disk { IsErrOf result broken.DiskFault → ⊥ }
-    ensures damaged { IsErrOf result broken.Damaged → ⊥ }
-    ensures fault { IsErrOf result broken.WriteFault → FaultsRose (O.faults out.old) (O.faults out.new) }
-    ensures later { O.faults out.old ≤ O.faults out.new }
+    ensures { IsPassedOn (O.held out.old) (O.held out.new) (O.faults out.old) (O.faults out.new)
+        gathered.old.items gathered.new.items (frag_text seq id fragment.now []) result }
 {
-    let Ok(text) = put_fragment(alloc, seq, id, fragment, &[]) else {
-        return Err(Broken::NoMemory);
-    };
-    match write_all(out, text.as_slice()) {
-        Ok(()) => Ok(()),
-        Err(Failed) => Err(Broken::WriteFault),
+    match put_fragment(alloc, seq, id, fragment, &[]) {
+        Ok(text) => pass_on(text.as_slice(), gathered, out),
+        Err(NoMemory) => Err(Broken::NoMemory),
     }
 }
 
-// The text of one fragment.
+// The text of one fragment, behind all that is gathered.
 fn write_fragment<O: Sink>(
     alloc: Global,
     fragment: &Fragment,
     seq: u32,
     id: u32,
+    gathered: &mut Vec<u8>,
     out: &mut O,
 ) -> Result<(), Broken>
     requires { IsValid fragment.now }
-    ensures ok { OnOk result (Appends (O.held out.old) (O.held out.new) (frag_text seq id fragment.now [])) }
-    ensures err { OnErr result (AppendsFront (O.held out.old) (O.held out.new) (frag_text seq id fragment.now [])) }
-    ensures disk { IsErrOf result broken.DiskFault → ⊥ }
-    ensures damaged { IsErrOf result broken.Damaged → ⊥ }
-    ensures fault { IsErrOf result broken.WriteFault → FaultsRose (O.faults out.old) (O.faults out.new) }
-    ensures later { O.faults out.old ≤ O.faults out.new }
+    ensures { IsPassedOn (O.held out.old) (O.held out.new) (O.faults out.old) (O.faults out.new)
+        gathered.old.items gathered.new.items (frag_text seq id fragment.now []) result }
 {
-    match fragment.samples.joined() {
-        Some(body) => write_joined(alloc, fragment, body, seq, id, out),
-        None => write_text(alloc, fragment, seq, id, out),
+    match write_if_full(gathered, out) {
+        Ok(()) => match fragment.samples.joined() {
+            Some(body) => write_joined(fragment, body, seq, id, gathered, out),
+            None => write_text(alloc, fragment, seq, id, gathered, out),
+        },
+        Err(broken) => Err(broken),
     }
 }
 
-// What is kept at an address, if anything is: whether it was written.
+// What is kept at an address, if anything is: whether its text was passed on.
 fn write_at<D: Disk, O: Sink>(
     alloc: Global,
     disk: &mut D,
@@ -136,15 +99,17 @@ fn write_at<D: Disk, O: Sink>(
     address: &Address,
     seq: u32,
     id: u32,
+    gathered: &mut Vec<u8>,
     out: &mut O,
 ) -> Result<u32, Broken>
     requires stands { (log : List Entry) × (doubt : Option Entry) × Stands archive.now log doubt (D.may_leave disk.old) }
     ensures few { IfOk result (λ wrote. wrote ≤ 1) }
     ensures ok { IfOk result (λ wrote. (log : List Entry) (doubt : Option Entry) → Stands archive.now log doubt (D.may_leave disk.old)
         → IsSome (D.view disk.old).contents
-        → Appends (O.held out.old) (O.held out.new) (texts_from seq id (kept_list log address.now)) × (length (kept_list log address.now) ≡ wrote)) }
+        → Leaves (O.held out.old) (O.held out.new) (gathered.old.items ++ texts_from seq id (kept_list log address.now)) gathered.new.items
+        × (length (kept_list log address.now) ≡ wrote)) }
     ensures err { OnErr result ((log : List Entry) (doubt : Option Entry) → Stands archive.now log doubt (D.may_leave disk.old) → IsSome (D.view disk.old).contents
-        → AppendsFront (O.held out.old) (O.held out.new) (texts_from seq id (kept_list log address.now))) }
+        → LeavesFront (O.held out.old) (O.held out.new) (gathered.old.items ++ texts_from seq id (kept_list log address.now)) gathered.new.items) }
     ensures damaged { IsErrOf result broken.Damaged → IsSome (D.view disk.old).contents → ⊥ }
     ensures disk_fault { IsErrOf result broken.DiskFault → Rose (D.view disk.old).disk_faults (D.view disk.new).disk_faults }
     ensures fault { IsErrOf result broken.WriteFault → FaultsRose (O.faults out.old) (O.faults out.new) }
@@ -159,7 +124,7 @@ fn write_at<D: Disk, O: Sink>(
     kept_is_added();
     match archive.fetch(alloc, disk, address) {
         Fetched::Found { place: _, fragment } => match write_fragment(
-            alloc, &fragment, seq, id, out,
+            alloc, &fragment, seq, id, gathered, out,
         ) {
             Ok(()) => Ok(1),
             Err(broken) => Err(broken),
@@ -171,7 +136,66 @@ fn write_at<D: Disk, O: Sink>(
     }
 }
 
-/// What is kept of a quality at these times, in their order, numbered from 1: how many fragments there are.
+// What is kept of a quality at these times, in their order, numbered from 1, of which an end may stay gathered: how many fragments there are.
+fn gather_times<D: Disk, O: Sink>(
+    alloc: Global,
+    disk: &mut D,
+    archive: &Archive,
+    name: &Name,
+    bitrate: u32,
+    times: &[(u64, u64)],
+    id: u32,
+    gathered: &mut Vec<u8>,
+    out: &mut O,
+) -> Result<u64, Broken>
+    requires stands { (log : List Entry) × (doubt : Option Entry) × Stands archive.now log doubt (D.may_leave disk.old) }
+    requires few { length times.now < 2 ^ 32 }
+    ensures ok { IfOk result (λ written. (log : List Entry) (doubt : Option Entry) → Stands archive.now log doubt (D.may_leave disk.old)
+        → IsSome (D.view disk.old).contents
+        → Leaves (O.held out.old) (O.held out.new) (gathered.old.items ++ texts_from 1 id (kept_among log name.now bitrate times.now)) gathered.new.items
+        × (written ≡ length (kept_among log name.now bitrate times.now))) }
+    ensures err { OnErr result ((log : List Entry) (doubt : Option Entry) → Stands archive.now log doubt (D.may_leave disk.old) → IsSome (D.view disk.old).contents
+        → LeavesFront (O.held out.old) (O.held out.new) (gathered.old.items ++ texts_from 1 id (kept_among log name.now bitrate times.now)) gathered.new.items) }
+    ensures damaged { IsErrOf result broken.Damaged → IsSome (D.view disk.old).contents → ⊥ }
+    ensures disk_fault { IsErrOf result broken.DiskFault → Rose (D.view disk.old).disk_faults (D.view disk.new).disk_faults }
+    ensures fault { IsErrOf result broken.WriteFault → FaultsRose (O.faults out.old) (O.faults out.new) }
+    ensures later { O.faults out.old ≤ O.faults out.new }
+    ensures stands { (log : List Entry) (doubt : Option Entry) → Stands archive.now log doubt (D.may_leave disk.old)
+        → Stands archive.now log doubt (D.may_leave disk.new) }
+    ensures any_moment { Throughout D.view D.left_at disk.old disk.new (λ t c. D.may_leave disk.old c) }
+    ensures no_fewer { (D.view disk.old).disk_faults ≤ (D.view disk.new).disk_faults }
+    ensures link { SameLink (D.view disk.old) (D.view disk.new) }
+{
+    let Ok(stream) = name.copy(alloc) else {
+        return Err(Broken::NoMemory);
+    };
+    let mut address = Address {
+        stream,
+        bitrate,
+        time: 0,
+    };
+    let mut written: u32 = 0;
+    for time in times {
+        address.time = time.0;
+        match write_at(
+            alloc,
+            disk,
+            archive,
+            &address,
+            written + 1,
+            id,
+            gathered,
+            out,
+        ) {
+            Ok(wrote) => written += wrote,
+            Err(broken) => return Err(broken),
+        }
+    }
+    Ok(written as u64)
+}
+
+/// What is kept of a quality at these times, in their order, numbered from 1: how many fragments there are. Whatever the answer, all that
+/// was gathered goes out, unless the sink fails.
 pub(crate) fn write_times<D: Disk, O: Sink>(
     alloc: Global,
     disk: &mut D,
@@ -200,21 +224,22 @@ pub(crate) fn write_times<D: Disk, O: Sink>(
     ensures no_fewer { (D.view disk.old).disk_faults ≤ (D.view disk.new).disk_faults }
     ensures link { SameLink (D.view disk.old) (D.view disk.new) }
 {
-    let Ok(stream) = name.copy(alloc) else {
+    let Ok(mut gathered) = Vec::with_capacity(alloc, ROOM) else {
         return Err(Broken::NoMemory);
     };
-    let mut address = Address {
-        stream,
+    let ended = gather_times(
+        alloc,
+        disk,
+        archive,
+        name,
         bitrate,
-        time: 0,
-    };
-    let mut written: u32 = 0;
-    for time in times {
-        address.time = time.0;
-        match write_at(alloc, disk, archive, &address, written + 1, id, out) {
-            Ok(wrote) => written += wrote,
-            Err(broken) => return Err(broken),
-        }
+        times,
+        id,
+        &mut gathered,
+        out,
+    );
+    match write_gathered(&mut gathered, out) {
+        Ok(()) => ended,
+        Err(broken) => Err(broken),
     }
-    Ok(written as u64)
 }

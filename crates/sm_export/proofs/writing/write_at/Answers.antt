@@ -1,10 +1,10 @@
-use Rattle.std.proofs.Common.{List, [], refl, sym, ap, subst, length, append-nil}
-use Rattle.std.specs.Io.KnownBytes.{Appends}
-use Rattle.std.proofs.KnownBytes.{Appends-nil}
-use Rattle.sm_ends.specs.Moves.{AppendsFront}
+use Rattle.std.proofs.Common.{List, ℕ, [], ◌++◌, refl, sym, ap, subst, length, append-nil}
 use Rattle.sm_model.specs.declared.fragment.Fragment.{Fragment}
 use Rattle.sm_model.specs.FragText.{frag_text}
 use Rattle.sm_export.specs.Exporting.{texts_from}
+use Rattle.sm_export.specs.Qualities.{kept_list}
+use Rattle.sm_export.specs.Gathering.{Leaves, LeavesFront}
+use Rattle.sm_export.proofs.Gathered.{all_gathered, nothing_more}
 use Rattle.sm_export.proofs.Kept.{kept_entry, none_entry}
 use Rattle.sm_export.proofs.writing.write_at.Goals as goal
 
@@ -14,8 +14,11 @@ returns-in-Ok-clause-ok g c log doubt s told =
     let kept = kept_entry c.kept_is_added.ensures.one log c.in-Found.place c.in-Found.fragment c.args.address.now s.keeps.sound ((f.1 log doubt s).1 told) f.0 in
     let text = frag_text c.args.seq c.args.id c.in-Found.fragment [] in
     let a = g.O.Sink.held c.args.out.now in
-    let b = g.O.Sink.held c.write_fragment.new.out in (
-      subst (λ (fs : List Fragment). Appends a b (texts_from c.args.seq c.args.id fs)) (sym kept) (subst (Appends a b) (sym (append-nil text)) c.in-Ok.ensures.ok),
+    let b = g.O.Sink.held c.write_fragment.new.out in
+    let before : List ℕ = c.args.gathered.now.items in
+    let after : List ℕ = c.write_fragment.new.gathered.items in (
+      subst (λ (fs : List Fragment). Leaves a b (before ++ texts_from c.args.seq c.args.id fs) after) (sym kept)
+          (subst (λ (l : List ℕ). Leaves a b (before ++ l) after) (sym (append-nil text)) c.in-Ok.ensures.ok),
       ap length kept,
     )
 
@@ -26,16 +29,29 @@ returns-in-Found-clause-err g c log doubt s told =
     let text = frag_text c.args.seq c.args.id c.in-Found.fragment [] in
     let a = g.O.Sink.held c.args.out.now in
     let b = g.O.Sink.held c.write_fragment.new.out in
-    subst (λ (fs : List Fragment). AppendsFront a b (texts_from c.args.seq c.args.id fs)) (sym kept) (subst (AppendsFront a b) (sym (append-nil text)) c.in-Err.ensures.err)
+    let before : List ℕ = c.args.gathered.now.items in
+    let after : List ℕ = c.write_fragment.new.gathered.items in
+    subst (λ (fs : List Fragment). LeavesFront a b (before ++ texts_from c.args.seq c.args.id fs) after) (sym kept)
+    (subst (λ (l : List ℕ). LeavesFront a b (before ++ l) after) (sym (append-nil text)) c.in-Err.ensures.err)
 
 pub returns-in-Absent-clause-ok : goal.returns-in-Absent-clause-ok
 returns-in-Absent-clause-ok g c log doubt s told =
     let none = (c.in-Absent.ensures.absent log doubt s).0 refl in
     let kept = none_entry c.kept_is_added.ensures.place log c.args.address.now none in
-    let a = g.O.Sink.held c.args.out.now in (
-      subst (λ (fs : List Fragment). Appends a a (texts_from c.args.seq c.args.id fs)) (sym kept) (Appends-nil a),
+    let a = g.O.Sink.held c.args.out.now in
+    let before : List ℕ = c.args.gathered.now.items in (
+      subst (λ (fs : List Fragment). Leaves a a (before ++ texts_from c.args.seq c.args.id fs) before) (sym kept) (all_gathered a (before ++ []) before (append-nil before)),
       ap length kept,
     )
 
 pub returns-in-Damaged-clause-damaged : goal.returns-in-Damaged-clause-damaged
 returns-in-Damaged-clause-damaged g c = λ e told. c.in-Damaged.ensures.damaged refl c.requires.stands.0 c.requires.stands.1 c.requires.stands.2 told
+
+pub returns-in-DiskFault-clause-err : goal.returns-in-DiskFault-clause-err
+returns-in-DiskFault-clause-err g c log doubt s told = nothing_more (g.O.Sink.held c.args.out.now) c.args.gathered.now.items (texts_from c.args.seq c.args.id (kept_list log c.args.address.now))
+
+pub returns-in-Damaged-clause-err : goal.returns-in-Damaged-clause-err
+returns-in-Damaged-clause-err g c log doubt s told = nothing_more (g.O.Sink.held c.args.out.now) c.args.gathered.now.items (texts_from c.args.seq c.args.id (kept_list log c.args.address.now))
+
+pub returns-clause-err : goal.returns-clause-err
+returns-clause-err g c log doubt s told = nothing_more (g.O.Sink.held c.args.out.now) c.args.gathered.now.items (texts_from c.args.seq c.args.id (kept_list log c.args.address.now))

@@ -1,81 +1,63 @@
-use Rattle.std.proofs.Common.{◌≡◌, ◌∙◌, ℕ, List, take, length, ap, subst, arith}
-use Rattle.std.specs.Prelude.{slice_index_or}
-use Rattle.std.specs.Io.KnownBytes.{Appends}
-use Rattle.std.proofs.lemmas.List.{take_all}
-use Rattle.sm_model.specs.declared.address.Address.{Address}
+use Rattle.std.proofs.Common.{ℕ, List, [], ◌++◌, arith}
+use Rattle.std.proofs.lemmas.Result.{IfOk-weaker, on_err_weaker}
 use Rattle.sm_export.specs.Exporting.{texts_from}
+use Rattle.sm_export.specs.Gathering.{LeavesFront}
 use Rattle.sm_export.specs.Qualities.{kept_among}
-use Rattle.sm_export.proofs.Texts.{wrote_more, wrote_part, at_any}
-use Rattle.sm_command.proofs.Lasting.{no_other}
+use Rattle.sm_export.specs.declared.gathering.Broken.TheVariants as broken
+use Rattle.sm_export.proofs.Gathered.{all_sent, front_sent, front_of_all}
+use Rattle.sm_export.proofs.Passing.{either, rose_before, rose_then, same_error}
 use Rattle.sm_export.proofs.writing.write_times.Goals as goal
 
-pub returns-in-Err-clause-err : goal.returns-in-Err-clause-err
-returns-in-Err-clause-err g c = λ log doubt s told.
-    let inv = c.loop-time.invariant in
-    let i = c.loop-time.time-index in
-    let times = c.args.times.now in
-    let inside = c.loop-time-test.true in
-    let t : ℕ × ℕ = slice_index_or times i (0, 0) in
-    let was = inv.wrote log doubt s told in
-    let address : Address = record { stream = c.loop-time.address.stream; bitrate = c.loop-time.address.bitrate; time = t.0 } in
-    let named : address ≡ record { stream = c.args.name.now; bitrate = c.args.bitrate; time = t.0 } =
-    ap (λ (n : List ℕ). record { stream = n; bitrate = c.loop-time.address.bitrate; time = t.0 }) inv.stream ∙ ap (λ (b : ℕ). record { stream = c.args.name.now; bitrate = b; time = t.0 }) inv.bitrate in
-    wrote_part (g.O.Sink.held c.args.out.now) (g.O.Sink.held c.loop-time.out) (g.O.Sink.held c.write_at.new.out) log c.args.name.now c.args.bitrate address times i t c.args.id c.loop-time.written inside
-    (at_any times i (0, 0) t inside) named was.0 was.1 (c.in-Err.ensures.err log doubt (inv.stands log doubt s) (inv.told ∙ told))
+pub returns-in-Ok-write_gathered-clause-ok : goal.returns-in-Ok-write_gathered-clause-ok
+returns-in-Ok-write_gathered-clause-ok g c =
+    let held = g.O.Sink.held in
+    let last = c.in-Ok-write_gathered.ensures in
+    IfOk-weaker c.gather_times-ended.result _ _
+    (λ written p log doubt s told.
+    let w = p log doubt s told in (
+      all_sent (held c.args.out.now) (held c.gather_times-ended.new.out) (held c.write_gathered.new.out) c.in-Ok.gathered.items (texts_from 1 c.args.id (kept_among log c.args.name.now c.args.bitrate c.args.times.now))
+          c.gather_times-ended.new.gathered.items c.write_gathered.new.gathered.items c.in-Ok.ensures.items w.0 last.none last.wrote.ok,
+      w.1,
+    ))
+    c.gather_times-ended.ensures.ok
 
-pub returns-in-Err-clause-any_moment : goal.returns-in-Err-clause-any_moment
-returns-in-Err-clause-any_moment g c = no_other g.D.Disk.view g.D.Disk.may_leave g.D.Disk.left_at g.met.D.Disk.at_now g.met.D.Disk.now_at c.args.disk.now c.loop-time.disk c.write_at.new.disk
-    c.loop-time.invariant.any_moment c.in-Err.ensures.any_moment
+pub returns-in-Ok-write_gathered-clause-err : goal.returns-in-Ok-write_gathered-clause-err
+returns-in-Ok-write_gathered-clause-err g c =
+    let held = g.O.Sink.held in
+    let last = c.in-Ok-write_gathered.ensures in
+    let left : List ℕ = c.gather_times-ended.new.gathered.items in
+    on_err_weaker c.gather_times-ended.result
+    (λ p log doubt s told.
+    front_sent (held c.args.out.now) (held c.gather_times-ended.new.out) (held c.write_gathered.new.out) c.in-Ok.gathered.items (texts_from 1 c.args.id (kept_among log c.args.name.now c.args.bitrate c.args.times.now))
+    left c.write_gathered.new.gathered.items c.in-Ok.ensures.items (p log doubt s told)
+    (front_of_all (held c.gather_times-ended.new.out) (held c.write_gathered.new.out) (left ++ []) c.write_gathered.new.gathered.items last.wrote.ok))
+    c.gather_times-ended.ensures.err
 
-pub loop-time-preserved : goal.loop-time-preserved
-loop-time-preserved g c =
-    let inv = c.loop-time.invariant in
-    let e = c.in-Ok-write_at.ensures in
-    let i = c.loop-time.time-index in
-    let times = c.args.times.now in
-    let inside = c.loop-time-test.true in
-    let t : ℕ × ℕ = slice_index_or times i (0, 0) in
-    let address : Address = record { stream = c.loop-time.address.stream; bitrate = c.loop-time.address.bitrate; time = t.0 } in
-    let named : address ≡ record { stream = c.args.name.now; bitrate = c.args.bitrate; time = t.0 } =
-    ap (λ (n : List ℕ). record { stream = n; bitrate = c.loop-time.address.bitrate; time = t.0 }) inv.stream ∙ ap (λ (b : ℕ). record { stream = c.args.name.now; bitrate = b; time = t.0 }) inv.bitrate in
-    let fewer = inv.no_fewer in
-    let fewer_yet = e.no_fewer in
-    let later = inv.later in
-    let later_yet = e.later in
-    let same = inv.link in
-    let same_yet = e.link in
-    let few = inv.few in
-    let one = e.few in
-    record {
-      some = (inv.some.0, inv.some.1, e.stands inv.some.0 inv.some.1 inv.some.2);
-      stands = λ log doubt s. e.stands log doubt (inv.stands log doubt s);
-      told = e.told ∙ inv.told;
-      no_fewer = omega (arith, fewer, fewer_yet);
-      later = omega (arith, later, later_yet);
-      any_moment = no_other g.D.Disk.view g.D.Disk.may_leave g.D.Disk.left_at g.met.D.Disk.at_now g.met.D.Disk.now_at c.args.disk.now c.loop-time.disk c.write_at.new.disk inv.any_moment e.any_moment;
-      link = record {
-        transcript = same_yet.transcript ∙ same.transcript;
-        script = same_yet.script ∙ same.script;
-        link_faults = same_yet.link_faults ∙ same.link_faults;
-        send_faults = same_yet.send_faults ∙ same.send_faults;
-        chosen = same_yet.chosen ∙ same.chosen;
-      };
-      few = omega (arith, few, one);
-      stream = inv.stream;
-      bitrate = inv.bitrate;
-      wrote = λ log doubt s told.
-          let was = inv.wrote log doubt s told in
-          let now = e.ok log doubt (inv.stands log doubt s) (inv.told ∙ told) in
-          wrote_more (g.O.Sink.held c.args.out.now) (g.O.Sink.held c.loop-time.out) (g.O.Sink.held c.write_at.new.out) log c.args.name.now c.args.bitrate address times i t c.args.id c.loop-time.written
-          c.in-Ok-write_at.wrote inside (at_any times i (0, 0) t inside) named was.0 was.1 now.0 now.1;
-    }
+pub returns-in-Ok-write_gathered-clause-fault : goal.returns-in-Ok-write_gathered-clause-fault
+returns-in-Ok-write_gathered-clause-fault g c = λ e.
+    rose_then (g.O.Sink.faults c.args.out.now) (g.O.Sink.faults c.gather_times-ended.new.out) (g.O.Sink.faults c.write_gathered.new.out) (c.gather_times-ended.ensures.fault e)
+    c.in-Ok-write_gathered.ensures.wrote.later
 
-pub returns-clause-ok : goal.returns-clause-ok
-returns-clause-ok g c = λ log doubt s told.
-    let was = c.loop-time.invariant.wrote log doubt s told in
-    let outside = c.loop-time-test.false in
-    let within = c.loop-time.auto.time-index-end in
-    let all : take c.loop-time.time-index c.args.times.now ≡ c.args.times.now = take_all c.loop-time.time-index c.args.times.now (omega (arith, outside)) in (
-      subst (λ (ts : List (ℕ × ℕ)). Appends (g.O.Sink.held c.args.out.now) (g.O.Sink.held c.loop-time.out) (texts_from 1 c.args.id (kept_among log c.args.name.now c.args.bitrate ts))) all was.0,
-      was.1 ∙ ap (λ (ts : List (ℕ × ℕ)). length (kept_among log c.args.name.now c.args.bitrate ts)) all,
-    )
+pub returns-clause-err : goal.returns-clause-err
+returns-clause-err g c = λ log doubt s told.
+    let held = g.O.Sink.held in
+    let e = c.gather_times-ended.ensures in
+    let texts : List ℕ = texts_from 1 c.args.id (kept_among log c.args.name.now c.args.bitrate c.args.times.now) in
+    let left : List ℕ = c.gather_times-ended.new.gathered.items in
+    let all : List ℕ = c.in-Ok.gathered.items ++ texts in
+    let before : LeavesFront (held c.args.out.now) (held c.gather_times-ended.new.out) all left =
+    either c.gather_times-ended.result (LeavesFront (held c.args.out.now) (held c.gather_times-ended.new.out) all left) _ _
+    (λ written p. front_of_all (held c.args.out.now) (held c.gather_times-ended.new.out) all left (p log doubt s told).0) (λ p. p log doubt s told) e.ok e.err in
+    front_sent (held c.args.out.now) (held c.gather_times-ended.new.out) (held c.write_gathered.new.out) c.in-Ok.gathered.items texts left c.write_gathered.new.gathered.items c.in-Ok.ensures.items before
+    c.in-Err.ensures.wrote.err
+
+pub returns-clause-fault : goal.returns-clause-fault
+returns-clause-fault g c = λ e.
+    rose_before (g.O.Sink.faults c.args.out.now) (g.O.Sink.faults c.gather_times-ended.new.out) (g.O.Sink.faults c.write_gathered.new.out) c.gather_times-ended.ensures.later
+    (c.in-Err.ensures.wrote.fault (same_error c.in-Err.broken broken.WriteFault e))
+
+pub returns-clause-disk_fault : goal.returns-clause-disk_fault
+returns-clause-disk_fault g c = λ e. absurd (c.in-Err.ensures.wrote.disk (same_error c.in-Err.broken broken.DiskFault e))
+
+pub returns-clause-damaged : goal.returns-clause-damaged
+returns-clause-damaged g c = λ e told. c.in-Err.ensures.wrote.damaged (same_error c.in-Err.broken broken.Damaged e)

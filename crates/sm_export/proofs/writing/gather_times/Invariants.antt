@@ -1,13 +1,13 @@
-use Rattle.std.proofs.Common.{◌≡◌, ◌≤◌, List, Option, length, take, IsSome}
+use Rattle.std.proofs.Common.{◌≡◌, ◌≤◌, ◌++◌, List, Option, length, take, IsSome}
 use Rattle.std.specs.Prelude.{is_some}
-use Rattle.std.specs.Io.KnownBytes.{Appends}
 use Rattle.sm_model.specs.declared.entry.Entry.{Entry}
 use Rattle.sm_site.specs.Clauses.{Throughout}
 use Rattle.sm_site.specs.Meanings.{SameLink}
 use Rattle.sm_archive.specs.Stands.{Stands}
 use Rattle.sm_export.specs.Exporting.{texts_from}
+use Rattle.sm_export.specs.Gathering.{Leaves}
 use Rattle.sm_export.specs.Qualities.{kept_among}
-use Rattle.sm_export.proofs.writing.write_times.Given as goal
+use Rattle.sm_export.proofs.writing.gather_times.Given as goal
 
 abbrev pub invariant-loop-time : goal.invariant-loop-time
 invariant-loop-time g l = record {
@@ -22,6 +22,6 @@ invariant-loop-time g l = record {
   stream : l.address.stream ≡ l.name;
   bitrate : l.address.bitrate ≡ l.bitrate;
   wrote : (log : List Entry) (doubt : Option Entry) → Stands l.archive log doubt (g.D.Disk.may_leave l.fn.disk) → IsSome (g.D.Disk.view l.fn.disk).contents
-      → Appends (g.O.Sink.held l.fn.out) (g.O.Sink.held l.out) (texts_from 1 l.id (kept_among log l.name l.bitrate (take l.time-index l.times)))
+      → Leaves (g.O.Sink.held l.fn.out) (g.O.Sink.held l.out) (l.fn.gathered.items ++ texts_from 1 l.id (kept_among log l.name l.bitrate (take l.time-index l.times))) l.gathered.items
       × (l.written ≡ length (kept_among log l.name l.bitrate (take l.time-index l.times)));
 }

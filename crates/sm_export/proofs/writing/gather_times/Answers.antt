@@ -1,0 +1,94 @@
+use Rattle.std.proofs.Common.{◌≡◌, ◌∙◌, ◌++◌, ℕ, List, take, length, ap, subst, arith}
+use Rattle.std.specs.Prelude.{slice_index_or}
+use Rattle.std.proofs.lemmas.List.{take_all}
+use Rattle.sm_model.specs.declared.address.Address.{Address}
+use Rattle.sm_export.specs.Exporting.{texts_from}
+use Rattle.sm_export.specs.Gathering.{Leaves}
+use Rattle.sm_export.specs.Qualities.{kept_among}
+use Rattle.sm_export.proofs.Texts.{wrote_more, wrote_part, at_any}
+use Rattle.sm_export.proofs.Gathered.{nothing_more}
+use Rattle.sm_command.proofs.Lasting.{no_other}
+use Rattle.sm_export.proofs.writing.gather_times.Goals as goal
+
+pub returns-in-Err-clause-err : goal.returns-in-Err-clause-err
+returns-in-Err-clause-err g c = λ log doubt s told.
+    let inv = c.loop-time.invariant in
+    let i = c.loop-time.time-index in
+    let times = c.args.times.now in
+    let inside = c.loop-time-test.true in
+    let t : ℕ × ℕ = slice_index_or times i (0, 0) in
+    let was = inv.wrote log doubt s told in
+    let address : Address = record { stream = c.loop-time.address.stream; bitrate = c.loop-time.address.bitrate; time = t.0 } in
+    let named : address ≡ record { stream = c.args.name.now; bitrate = c.args.bitrate; time = t.0 } =
+    ap (λ (n : List ℕ). record { stream = n; bitrate = c.loop-time.address.bitrate; time = t.0 }) inv.stream ∙ ap (λ (b : ℕ). record { stream = c.args.name.now; bitrate = b; time = t.0 }) inv.bitrate in
+    wrote_part (g.O.Sink.held c.args.out.now) (g.O.Sink.held c.loop-time.out) (g.O.Sink.held c.write_at.new.out)
+    c.args.gathered.now.items c.loop-time.gathered.items c.write_at.new.gathered.items log c.args.name.now c.args.bitrate address times i t c.args.id c.loop-time.written inside
+    (at_any times i (0, 0) t inside) named was.0 was.1 (c.in-Err.ensures.err log doubt (inv.stands log doubt s) (inv.told ∙ told))
+
+pub returns-in-Err-clause-any_moment : goal.returns-in-Err-clause-any_moment
+returns-in-Err-clause-any_moment g c = no_other g.D.Disk.view g.D.Disk.may_leave g.D.Disk.left_at g.met.D.Disk.at_now g.met.D.Disk.now_at c.args.disk.now c.loop-time.disk c.write_at.new.disk
+    c.loop-time.invariant.any_moment c.in-Err.ensures.any_moment
+
+pub loop-time-preserved : goal.loop-time-preserved
+loop-time-preserved g c =
+    let inv = c.loop-time.invariant in
+    let e = c.in-Ok-write_at.ensures in
+    let i = c.loop-time.time-index in
+    let times = c.args.times.now in
+    let inside = c.loop-time-test.true in
+    let t : ℕ × ℕ = slice_index_or times i (0, 0) in
+    let address : Address = record { stream = c.loop-time.address.stream; bitrate = c.loop-time.address.bitrate; time = t.0 } in
+    let named : address ≡ record { stream = c.args.name.now; bitrate = c.args.bitrate; time = t.0 } =
+    ap (λ (n : List ℕ). record { stream = n; bitrate = c.loop-time.address.bitrate; time = t.0 }) inv.stream ∙ ap (λ (b : ℕ). record { stream = c.args.name.now; bitrate = b; time = t.0 }) inv.bitrate in
+    let fewer = inv.no_fewer in
+    let fewer_yet = e.no_fewer in
+    let later = inv.later in
+    let later_yet = e.later in
+    let same = inv.link in
+    let same_yet = e.link in
+    let few = inv.few in
+    let one = e.few in
+    record {
+      some = (inv.some.0, inv.some.1, e.stands inv.some.0 inv.some.1 inv.some.2);
+      stands = λ log doubt s. e.stands log doubt (inv.stands log doubt s);
+      told = e.told ∙ inv.told;
+      no_fewer = omega (arith, fewer, fewer_yet);
+      later = omega (arith, later, later_yet);
+      any_moment = no_other g.D.Disk.view g.D.Disk.may_leave g.D.Disk.left_at g.met.D.Disk.at_now g.met.D.Disk.now_at c.args.disk.now c.loop-time.disk c.write_at.new.disk inv.any_moment e.any_moment;
+      link = record {
+        transcript = same_yet.transcript ∙ same.transcript;
+        script = same_yet.script ∙ same.script;
+        link_faults = same_yet.link_faults ∙ same.link_faults;
+        send_faults = same_yet.send_faults ∙ same.send_faults;
+        chosen = same_yet.chosen ∙ same.chosen;
+      };
+      few = omega (arith, few, one);
+      stream = inv.stream;
+      bitrate = inv.bitrate;
+      wrote = λ log doubt s told.
+          let was = inv.wrote log doubt s told in
+          let now = e.ok log doubt (inv.stands log doubt s) (inv.told ∙ told) in
+          wrote_more (g.O.Sink.held c.args.out.now) (g.O.Sink.held c.loop-time.out) (g.O.Sink.held c.write_at.new.out)
+          c.args.gathered.now.items c.loop-time.gathered.items c.write_at.new.gathered.items log c.args.name.now c.args.bitrate address times i t c.args.id c.loop-time.written
+          c.in-Ok-write_at.wrote inside (at_any times i (0, 0) t inside) named was.0 was.1 now.0 now.1;
+    }
+
+pub returns-clause-ok : goal.returns-clause-ok
+returns-clause-ok g c = λ log doubt s told.
+    let was = c.loop-time.invariant.wrote log doubt s told in
+    let outside = c.loop-time-test.false in
+    let within = c.loop-time.auto.time-index-end in
+    let all : take c.loop-time.time-index c.args.times.now ≡ c.args.times.now = take_all c.loop-time.time-index c.args.times.now (omega (arith, outside)) in (
+      subst
+          (λ (ts : List (ℕ × ℕ)). Leaves (g.O.Sink.held c.args.out.now) (g.O.Sink.held c.loop-time.out) (c.args.gathered.now.items ++ texts_from 1 c.args.id (kept_among log c.args.name.now c.args.bitrate ts))
+          c.loop-time.gathered.items)
+          all was.0,
+      was.1 ∙ ap (λ (ts : List (ℕ × ℕ)). length (kept_among log c.args.name.now c.args.bitrate ts)) all,
+    )
+
+pub returns-in_default-clause-err : goal.returns-in_default-clause-err
+returns-in_default-clause-err g c = λ log doubt s told.
+    nothing_more (g.O.Sink.held c.args.out.now) c.args.gathered.now.items (texts_from 1 c.args.id (kept_among log c.args.name.now c.args.bitrate c.args.times.now))
+
+pub returns-in-Err-clause-stands : goal.returns-in-Err-clause-stands
+returns-in-Err-clause-stands g c = λ log doubt s. c.in-Err.ensures.stands log doubt (c.loop-time.invariant.stands log doubt s)
