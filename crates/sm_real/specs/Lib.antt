@@ -6,3 +6,4 @@ pub mod Late
 pub mod Waiting
 pub mod Numbers
 pub mod Whose
+pub mod Seconds

@@ -1,5 +1,6 @@
 // Numbers as text.
 ghost use Rattle.std.specs.Prelude.{◌≡◌, ◌++◌, decimal, OnOk};
+ghost use Rattle.sm_real.specs.Seconds.{digit as digit_of, seconds};
 
 use itoa::Buffer;
 use std::alloc::AllocError;
@@ -13,9 +14,16 @@ pub fn put_number(line: &mut Vec<u8>, number: u64) -> Result<(), AllocError>
 }
 
 /// Puts so many milliseconds behind a line, as seconds with three digits behind a point.
-pub fn put_seconds(line: &mut Vec<u8>, millis: u64) -> Result<(), AllocError> {
+pub fn put_seconds(line: &mut Vec<u8>, millis: u64) -> Result<(), AllocError>
+    ensures { OnOk result (line.new.items ≡ line.old.items ++ seconds millis) }
+{
     put_number(line, millis / 1_000)?;
-    let rest = millis % 1_000;
-    let digit = |n: u64| b'0'.wrapping_add((n % 10) as u8);
-    line.extend_from_slice(&[b'.', digit(rest / 100), digit(rest / 10), digit(rest)])
+    line.extend_from_slice(&[b'.', digit(millis / 100), digit(millis / 10), digit(millis)])
+}
+
+// The last digit of a number.
+fn digit(number: u64) -> u8
+    ensures { result ≡ digit_of number }
+{
+    b'0' + (number % 10) as u8
 }

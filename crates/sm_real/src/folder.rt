@@ -110,6 +110,8 @@ impl Folder {
         {
             return fill(&reading.handle, at, into);
         }
+        // Where no more files may be open, the one that is given up makes room.
+        self.reading = None;
         match self.look(files, alloc, file)? {
             Some(handle) => {
                 let filled = fill(&handle, at, into);

@@ -3,6 +3,7 @@
 use crate::Trouble;
 use crate::digits::{put_number, put_seconds};
 use crate::outlet::Outlet;
+use crate::stamp::Stamp;
 use crate::talk::{Asked, Talk};
 use crate::tally::Tally;
 use crate::viewers::Viewers;
@@ -22,8 +23,8 @@ const APART: u128 = 10_000;
 /// The most bytes of lines that wait.
 const MOST: usize = 1_048_576;
 
-/// From so many bytes on they are written at once.
-const LONG: usize = 65_536;
+/// From so many bytes on they are written within a round.
+const LONG: usize = 524_288;
 
 /// The most bytes of the line of a refusal that are told.
 const CAUSE: usize = 128;
@@ -41,6 +42,8 @@ pub struct Journal {
     // How many lines were lost since one went out.
     lost: u64,
     talks: Vec<Talk>,
+    // Room for the line of the next request, for all connections together: mostly the one that was told last had it.
+    spare: Vec<u8>,
     // The place of the one that was looked for last: the next one that is looked for is mostly there, or next to it.
     last: usize,
     // Since the last line of counts, and up to that line.
@@ -50,11 +53,8 @@ pub struct Journal {
     viewers: Option<Viewers>,
     // When the journal was opened.
     begun: Instant,
-    // Milliseconds since 1970 at the last round, by the clock that was read last.
-    stamp: u64,
-    // Such a stamp as it stands in a line, and which one.
-    moment: Vec<u8>,
-    written_as: u64,
+    // The moment of the last round, by the clock that was read last.
+    stamp: Stamp,
     clock: Reading,
     written: Instant,
     counted: Instant,
@@ -104,14 +104,13 @@ impl Journal {
             whole: 0,
             lost: 0,
             talks: Vec::new(alloc),
+            spare: Vec::new(alloc),
             last: 0,
             tally: Tally::new(),
             before: Tally::new(),
             viewers,
             begun: now,
-            stamp: clock.stamp,
-            moment: Vec::new(alloc),
-            written_as: 0,
+            stamp: Stamp::new(alloc, clock.stamp),
             clock,
             written: now,
             counted: now,
@@ -139,7 +138,7 @@ impl Journal {
     /// The origin of this store ends.
     pub fn end(&mut self, rt: &impl Clock, store: &str) {
         let now = Instant::now(rt).unwrap_or(self.written);
-        self.stamp = Reading::of(rt, now).stamp;
+        self.stamp.turn_to(Reading::of(rt, now).stamp);
         self.before.join(&self.tally);
         self.tally = Tally::new();
         let made = self.tell_end(store, now.saturating_duration_since(self.begun));
@@ -179,7 +178,7 @@ impl Journal {
         if now.saturating_duration_since(self.clock.at).as_millis() >= WAIT {
             self.clock = Reading::of(rt, now);
         }
-        self.stamp = self.clock.stamp_at(now);
+        self.stamp.turn_to(self.clock.stamp_at(now));
         if now.saturating_duration_since(self.written).as_millis() >= WAIT || self.is_long() {
             self.written = now;
             self.write();
@@ -254,7 +253,7 @@ impl Journal {
             return;
         };
         if let Some(talk) = self.talks.get_mut(place)
-            && talk.note(self.alloc, bytes, now).is_err()
+            && talk.note(self.alloc, &mut self.spare, bytes, now).is_err()
         {
             self.lose();
         }
@@ -279,9 +278,14 @@ impl Journal {
         let bytes = (head.len() as u64).saturating_add(tail.len() as u64);
         let made = self.tell_reply(place, &asked, head, bytes, now, went);
         self.put(made);
-        if let Some(talk) = self.talks.get_mut(place) {
-            talk.give_back(asked);
-        }
+        self.give_back(asked);
+    }
+
+    // A request is told: what its line took is room for the next one.
+    fn give_back(&mut self, asked: Asked) {
+        let Asked { line, .. } = asked;
+        self.spare = line;
+        self.spare.clear();
     }
 
     fn tell_reply(
@@ -363,13 +367,7 @@ impl Journal {
         if self.lost > 0 {
             self.tell_lost()?;
         }
-        if self.moment.is_empty() || self.written_as != self.stamp {
-            self.moment.clear();
-            put_seconds(&mut self.moment, self.stamp)?;
-            self.moment.push(b' ')?;
-            self.written_as = self.stamp;
-        }
-        self.line.extend_from_slice(&self.moment)?;
+        self.stamp.put(&mut self.line)?;
         self.line.extend_from_slice(name)
     }
 
@@ -389,6 +387,9 @@ impl Journal {
             && self.line.push(b'\n').is_ok();
         if is_kept {
             self.whole = self.line.len();
+            if self.whole >= LONG {
+                self.write();
+            }
         } else {
             self.line.truncate(self.whole);
             self.lose();
@@ -401,7 +402,7 @@ impl Journal {
 
     // Whether so much waits that it is written without waiting for more.
     fn is_long(&self) -> bool {
-        self.outlet.len().saturating_add(self.line.len()) >= LONG
+        self.outlet.len().saturating_add(self.line.len()) >= self.outlet.enough()
     }
 
     // Writes what waits, or as much of it as is taken at once.

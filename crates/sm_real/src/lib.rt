@@ -21,6 +21,7 @@ mod peers;
 mod real_site;
 mod sharing;
 mod sockets;
+mod stamp;
 mod talk;
 mod tally;
 mod tcp_dial;

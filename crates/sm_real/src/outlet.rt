@@ -19,6 +19,12 @@ const AT_ONCE: usize = 4_096;
 /// How many such pieces are written in one go.
 const PIECES: u32 = 64;
 
+/// So many bytes are worth a write. A pipe has room for no more of them as a rule, and a file takes a byte at the less cost the more
+/// come at once.
+const PIPE_FULL: usize = 65_536;
+
+const FILE_FULL: usize = 262_144;
+
 // What says whether a pipe has room.
 #[derive(Drop)]
 struct Room {
@@ -56,6 +62,14 @@ impl Outlet {
     /// How many bytes a pipe hasn't taken yet.
     pub fn len(&self) -> usize {
         self.lines.len()
+    }
+
+    /// How many bytes are worth a write at once, without waiting for more.
+    pub fn enough(&self) -> usize {
+        match &self.room {
+            Some(_) => PIPE_FULL,
+            None => FILE_FULL,
+        }
     }
 
     /// Writes whole lines behind those that wait, or as much of all as is taken at once, and says how many lines were lost.

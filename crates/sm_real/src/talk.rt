@@ -30,14 +30,14 @@ pub struct Talk {
     pub name: String,
     // The first line of the head that is coming.
     first: Vec<u8>,
-    // Room for that of the next one.
-    spare: Vec<u8>,
     // How many lines of that head are whole, and whether the one that is coming has a byte.
     lines: u64,
     is_empty: bool,
     // What comes is the body of a push.
     in_body: bool,
-    asked: VecDeque<Asked>,
+    // The request that is answered next, and those behind it. The first one stands here itself, since mostly there is no other.
+    next: Option<Asked>,
+    behind: VecDeque<Asked>,
 }
 
 impl Talk {
@@ -46,11 +46,11 @@ impl Talk {
             number,
             name,
             first: Vec::new(alloc),
-            spare: Vec::new(alloc),
             lines: 0,
             is_empty: true,
             in_body: false,
-            asked: VecDeque::new(alloc),
+            next: None,
+            behind: VecDeque::new(alloc),
         }
     }
 
@@ -59,29 +59,41 @@ impl Talk {
         self.in_body
     }
 
-    /// These bytes came.
-    pub fn note(&mut self, alloc: Global, bytes: &[u8], now: Instant) -> Result<(), AllocError> {
+    /// These bytes came. The spare one is room for the line of a head that begins, and is empty.
+    pub fn note(
+        &mut self,
+        alloc: Global,
+        spare: &mut Vec<u8>,
+        bytes: &[u8],
+        now: Instant,
+    ) -> Result<(), AllocError> {
         if self.in_body {
             return Ok(());
         }
         let mut from = 0;
         for end in memchr_iter(b'\n', bytes) {
-            self.take(bytes.get(from..end).unwrap_or(b""))?;
+            self.take(spare, bytes.get(from..end).unwrap_or(b""))?;
             self.end_line(alloc, now)?;
             if self.in_body {
                 return Ok(());
             }
             from = end.saturating_add(1);
         }
-        self.take(bytes.get(from..).unwrap_or(b""))
+        self.take(spare, bytes.get(from..).unwrap_or(b""))
     }
 
     // Takes as much of a line of a head as came.
-    fn take(&mut self, part: &[u8]) -> Result<(), AllocError> {
+    fn take(&mut self, spare: &mut Vec<u8>, part: &[u8]) -> Result<(), AllocError> {
         let text = part.strip_suffix(b"\r").unwrap_or(part);
-        self.is_empty = self.is_empty && text.is_empty();
+        if text.is_empty() {
+            return Ok(());
+        }
+        self.is_empty = false;
         if self.lines > 0 {
             return Ok(());
+        }
+        if self.first.is_empty() {
+            std::mem::swap(&mut self.first, spare);
         }
         let room = TOLD.saturating_sub(self.first.len());
         self.first.extend_from_slice(&text[..text.len().min(room)])
@@ -104,16 +116,17 @@ impl Talk {
     fn ask(&mut self, alloc: Global, now: Instant) -> Result<(), AllocError> {
         let asked = self.begun(alloc, now);
         self.in_body = asked.is_push;
-        if self.asked.len() < WAITING {
-            self.asked.push_back(asked)?;
+        if self.next.is_none() {
+            self.next = Some(asked);
+        } else if self.behind.len() < WAITING - 1 {
+            self.behind.push_back(asked)?;
         }
         Ok(())
     }
 
     // The head that is coming, which ends here.
     fn begun(&mut self, alloc: Global, now: Instant) -> Asked {
-        let room = std::mem::replace(&mut self.spare, Vec::new(alloc));
-        let line = std::mem::replace(&mut self.first, room);
+        let line = std::mem::replace(&mut self.first, Vec::new(alloc));
         self.lines = 0;
         self.is_empty = true;
         let is_push = line.starts_with(b"POST ");
@@ -126,8 +139,11 @@ impl Talk {
 
     /// The request that a reply answers: the first one that waits, or else the head that is coming.
     pub fn answered(&mut self, alloc: Global, now: Instant) -> Asked {
-        let asked = match self.asked.pop_front() {
-            Some(asked) => asked,
+        let asked = match self.next.take() {
+            Some(asked) => {
+                self.next = self.behind.pop_front();
+                asked
+            }
             None => self.begun(alloc, now),
         };
         if asked.is_push {
@@ -136,18 +152,11 @@ impl Talk {
         asked
     }
 
-    /// A request is told: what its line took is room for the next one.
-    pub fn give_back(&mut self, asked: Asked) {
-        let Asked { line, .. } = asked;
-        self.spare = line;
-        self.spare.clear();
-    }
-
     /// The line of the last request that waits for its reply.
     pub fn last(&self) -> &[u8] {
-        match self.asked.back() {
-            Some(asked) => asked.line.as_slice(),
-            None => b"",
+        match (self.behind.back(), &self.next) {
+            (Some(asked), _) | (None, Some(asked)) => asked.line.as_slice(),
+            (None, None) => b"",
         }
     }
 }

@@ -1,5 +1,6 @@
 // A folder in the system's own for such, and peers in the same thread.
 use super::*;
+use crate::talk::Talk;
 use sm_ends::Tracks;
 use sm_fetch::{Answer, Dial, DialError};
 use sm_site::{Disk, Event, Failed, Link, Selection, Site, SiteError};
@@ -7,7 +8,7 @@ use std::alloc::{AllocError, Global};
 use std::io::{Read, Write};
 use std::net::{Ipv4Addr, Shutdown, SocketAddr, TcpListener, TcpStream};
 use std::test::Fail;
-use std::time::Duration;
+use std::time::{Duration, Instant};
 use std::{fs, process, thread};
 
 // A path that no other run of the tests has.
@@ -220,6 +221,35 @@ fn a_journal_tells_what_was_opened(rt: HostRuntime) -> Result<(), Fail> {
     assert!(rt; told.as_str().ends_with(end.as_str()));
     fs::remove_file(&rt, &path)?;
     fs::remove_dir_all(&rt, &store)?;
+    Ok(())
+}
+
+#[test]
+fn requests_are_told_in_order(rt: HostRuntime) -> Result<(), Fail> {
+    let now = Instant::now(&rt)?;
+    let name = String::from_str(rt.alloc(), " 1 peer")?;
+    let mut talk = Talk::new(rt.alloc(), 1, name);
+    let mut spare = Vec::new(rt.alloc());
+    // two heads and a front of the second one's end, that end and the head of a push, and a body that looks like a head
+    let pieces = [
+        b"GET /a H\r\nHost: h\r\n\r\nGET /b H\r\n\r".as_slice(),
+        b"\n\nPOST /c H\n\n".as_slice(),
+        b"GET /d H\r\n\r\n".as_slice(),
+    ];
+    for piece in pieces {
+        talk.note(rt.alloc(), &mut spare, piece, now)?;
+    }
+    assert!(rt; talk.is_pushing());
+    assert_eq!(rt; talk.last(), b"POST /c H".as_slice());
+    for line in [
+        b"GET /a H".as_slice(),
+        b"GET /b H".as_slice(),
+        b"POST /c H".as_slice(),
+    ] {
+        assert_eq!(rt; talk.answered(rt.alloc(), now).line.as_slice(), line);
+    }
+    assert!(rt; !talk.is_pushing());
+    assert_eq!(rt; talk.last(), b"".as_slice());
     Ok(())
 }
 
