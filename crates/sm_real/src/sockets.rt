@@ -62,6 +62,19 @@ struct Given {
     worked: bool,
     // How often something was brought to rest for it.
     rests: u32,
+    // When something was sent for it last, if the clock was read then.
+    sent: Option<Instant>,
+}
+
+impl Given {
+    // When the loop is done with it: now, or at its last reply, where nothing was brought to rest for it and the clock was read then. What
+    // such a turn does behind that is soon done.
+    fn end(&self, rt: &impl Clock) -> Option<Instant> {
+        match self.sent {
+            Some(sent) if self.rests == 0 => Some(sent),
+            _ => Instant::now(rt).ok(),
+        }
+    }
 }
 
 /// One or two listeners and their peers.
@@ -197,6 +210,7 @@ impl Sockets {
                 length: piece.as_slice().len(),
                 worked: false,
                 rests: 0,
+                sent: None,
             });
         }
         asked
@@ -224,7 +238,7 @@ impl Sockets {
     // The loop is done with the piece that was given last.
     fn weigh(&mut self, rt: &impl Clock) {
         if let Some(given) = self.given.take()
-            && let Ok(now) = Instant::now(rt)
+            && let Some(now) = given.end(rt)
         {
             let took = now.saturating_duration_since(given.at);
             self.done = now;
@@ -501,6 +515,9 @@ impl Sockets {
             && let Ok(now) = Instant::now(rt)
         {
             journal.sent(number, head, tail, now, went);
+            if let Some(given) = &mut self.given {
+                given.sent = Some(now);
+            }
         }
     }
 
