@@ -129,6 +129,10 @@ fn a_store_is_had_by_one(rt: HostRuntime) -> Result<(), Fail> {
     drop(first);
     assert_eq!(rt; second.select(at_port(rt.alloc(), &store, 0)?), Ok(()));
     assert_eq!(rt; second.size(0), Ok(1));
+    let refused = format!(in rt.alloc(); "{}", OpenFault::Failed)?;
+    assert_eq!(rt; refused.as_str(), "refused by the system");
+    let wanting = format!(in rt.alloc(); "{}", OpenFault::NoMemory)?;
+    assert_eq!(rt; wanting.as_str(), "out of memory");
     fs::remove_dir_all(&rt, &store)?;
     Ok(())
 }
