@@ -1,9 +1,9 @@
 //! The archive, and what it does with a doubt.
-ghost use Rattle.std.specs.Prelude.{◌≡◌, ◌⊎◌, ℕ, ◌+◌, ◌≤◌, List, [], ◌∷◌, ◌++◌, length, Option, None, Some, OnOk, OnErr, IsErr, IsSome};
+ghost use Rattle.std.specs.Prelude.{◌≡◌, ◌⊎◌, ℕ, ◌+◌, List, [], ◌∷◌, ◌++◌, length, Option, None, Some, OnOk, OnErr, IsErr, IsSome};
 ghost use Rattle.sm_model.specs.declared.track.Track.{Track};
 ghost use Rattle.sm_model.specs.declared.entry.Entry.{Entry};
 ghost use Rattle.sm_archive.specs.Steps.{Clears, Settles};
-ghost use Rattle.sm_site.specs.Meanings.{SameLink};
+ghost use Rattle.sm_site.specs.Meanings.{DiskAlone};
 ghost use Rattle.sm_site.specs.Clauses.{Acted, Recorded, Rose, Throughout};
 ghost use Rattle.sm_archive.specs.Seen.{limits_of};
 ghost use Rattle.sm_archive.specs.Store.{IsStore};
@@ -84,8 +84,7 @@ impl Archive {
         ensures reserved { StaysReserved self.old self.new }
         ensures recorded { Recorded (D.view disk.old) (D.view disk.new) }
         ensures limits { limits_of self.new ≡ limits_of self.old }
-        ensures no_fewer { (D.view disk.old).disk_faults ≤ (D.view disk.new).disk_faults }
-        ensures link { SameLink (D.view disk.old) (D.view disk.new) }
+        ensures disk_alone { DiskAlone (D.view disk.old) (D.view disk.new) }
     {
         match self.doubt.take() {
             None => Ok(()),
@@ -127,8 +126,7 @@ impl Archive {
         ensures fault { result ≡ None → Rose (D.view disk.old).disk_faults (D.view disk.new).disk_faults }
         ensures recorded { Recorded (D.view disk.old) (D.view disk.new) }
         ensures limits { limits_of self.new ≡ limits_of self.old }
-        ensures no_fewer { (D.view disk.old).disk_faults ≤ (D.view disk.new).disk_faults }
-        ensures link { SameLink (D.view disk.old) (D.view disk.new) }
+        ensures disk_alone { DiskAlone (D.view disk.old) (D.view disk.new) }
     {
         let bytes = 5 + body.len();
         match bodies::append(&mut self.log, disk, body.as_slice()) {

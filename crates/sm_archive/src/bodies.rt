@@ -1,7 +1,7 @@
 //! The log of bodies under an archive, in the words in which the archive speaks of it: each call is one of the log's.
 ghost use Rattle.std.specs.Prelude.{◌≡◌, ◌⊎◌, ℕ, ◌+◌, ◌≤◌, ◌<◌, ◌^◌, true, None, Some, List, ◌∷◌, ◌++◌, [], length, get_or, slice_get, Option, IfSome, IsSome, OnOk, IfOk, IsErrOf, is_some};
 ghost use Rattle.sm_site.specs.Image.{Image};
-ghost use Rattle.sm_site.specs.Meanings.{SameLink};
+ghost use Rattle.sm_site.specs.Meanings.{DiskAlone};
 ghost use Rattle.sm_site.specs.Clauses.{Recorded, Rose, Throughout};
 ghost use Rattle.sm_gatelog.specs.Logs.{Acts, SettleActs};
 ghost use Rattle.sm_gatelog.specs.declared.answer.Appended.TheVariants as appended;
@@ -47,8 +47,7 @@ pub(crate) fn append<D: Disk>(log: &mut SegLog, disk: &mut D, body: &[u8]) -> Ap
     ensures acts { Acts result (D.view disk.old) (D.view disk.new) }
     ensures recorded { Recorded (D.view disk.old) (D.view disk.new) }
     ensures fault { IsFault result → Rose (D.view disk.old).disk_faults (D.view disk.new).disk_faults }
-    ensures no_fewer { (D.view disk.old).disk_faults ≤ (D.view disk.new).disk_faults }
-    ensures link { SameLink (D.view disk.old) (D.view disk.new) }
+    ensures disk_alone { DiskAlone (D.view disk.old) (D.view disk.new) }
 {
     log.append(disk, body)
 }
@@ -69,8 +68,7 @@ pub(crate) fn settle<D: Disk>(log: &mut SegLog, disk: &mut D) -> Settled
     ensures contents { (D.view disk.new).contents ≡ (D.view disk.old).contents }
     ensures no_more { (c : Image) → D.may_leave disk.new c → D.may_leave disk.old c }
     ensures any_moment { Throughout D.view D.left_at disk.old disk.new (λ t c. D.may_leave disk.old c) }
-    ensures no_fewer { (D.view disk.old).disk_faults ≤ (D.view disk.new).disk_faults }
-    ensures link { SameLink (D.view disk.old) (D.view disk.new) }
+    ensures disk_alone { DiskAlone (D.view disk.old) (D.view disk.new) }
 {
     log.settle(disk)
 }
@@ -89,8 +87,7 @@ pub(crate) fn read<D: Disk>(
     ensures any_moment { Throughout D.view D.left_at disk.old disk.new (λ t c. D.may_leave disk.old c) }
     ensures contents { (D.view disk.new).contents ≡ (D.view disk.old).contents }
     ensures fault { IsErrOf result read_fault.DiskFault → Rose (D.view disk.old).disk_faults (D.view disk.new).disk_faults }
-    ensures no_fewer { (D.view disk.old).disk_faults ≤ (D.view disk.new).disk_faults }
-    ensures link { SameLink (D.view disk.old) (D.view disk.new) }
+    ensures disk_alone { DiskAlone (D.view disk.old) (D.view disk.new) }
 {
     log.read(alloc, disk, place)
 }

@@ -6,7 +6,7 @@ ghost use Rattle.sm_model.specs.declared.entry.Entry.TheVariants.{Declare};
 ghost use Rattle.sm_model.specs.Channels.{IsChannel};
 ghost use Rattle.sm_archive.specs.Steps.{Grows};
 ghost use Rattle.sm_record.specs.Bodies.{body_len};
-ghost use Rattle.sm_site.specs.Meanings.{SameLink};
+ghost use Rattle.sm_site.specs.Meanings.{DiskAlone};
 ghost use Rattle.sm_site.specs.Clauses.{Acted, Recorded, Rose, Throughout};
 ghost use Rattle.sm_seglog.specs.Segments.{OnlyReserved};
 ghost use Rattle.sm_archive.specs.declared.answers.Declared.TheVariants as answer;
@@ -98,8 +98,7 @@ impl Archive {
         ensures fault { result ≡ answer.DiskFault → Rose (D.view disk.old).disk_faults (D.view disk.new).disk_faults }
         ensures recorded { Recorded (D.view disk.old) (D.view disk.new) }
         ensures limits { limits_of self.new ≡ limits_of self.old }
-        ensures no_fewer { (D.view disk.old).disk_faults ≤ (D.view disk.new).disk_faults }
-        ensures link { SameLink (D.view disk.old) (D.view disk.new) }
+        ensures disk_alone { DiskAlone (D.view disk.old) (D.view disk.new) }
     {
         if self.is_full_for(&header) {
             return Declared::Full;
@@ -154,8 +153,7 @@ impl Archive {
         ensures fault { result ≡ answer.DiskFault → Rose (D.view disk.old).disk_faults (D.view disk.new).disk_faults }
         ensures recorded { Recorded (D.view disk.old) (D.view disk.new) }
         ensures limits { limits_of self.new ≡ limits_of self.old }
-        ensures no_fewer { (D.view disk.old).disk_faults ≤ (D.view disk.new).disk_faults }
-        ensures link { SameLink (D.view disk.old) (D.view disk.new) }
+        ensures disk_alone { DiskAlone (D.view disk.old) (D.view disk.new) }
     {
         match &self.index {
             Some(index) => Archive::compare(index, channel, tracks),
@@ -186,8 +184,7 @@ impl Archive {
         ensures fault { result ≡ answer.DiskFault → Rose (D.view disk.old).disk_faults (D.view disk.new).disk_faults }
         ensures recorded { Recorded (D.view disk.old) (D.view disk.new) }
         ensures limits { limits_of self.new ≡ limits_of self.old }
-        ensures no_fewer { (D.view disk.old).disk_faults ≤ (D.view disk.new).disk_faults }
-        ensures link { SameLink (D.view disk.old) (D.view disk.new) }
+        ensures disk_alone { DiskAlone (D.view disk.old) (D.view disk.new) }
     {
         match self.header(alloc, channel) {
             Err(NoMemory) => Declared::NoMemory,
@@ -215,8 +212,7 @@ impl Archive {
         ensures fault { result ≡ answer.DiskFault → Rose (D.view disk.old).disk_faults (D.view disk.new).disk_faults }
         ensures recorded { Recorded (D.view disk.old) (D.view disk.new) }
         ensures limits { limits_of self.new ≡ limits_of self.old }
-        ensures no_fewer { (D.view disk.old).disk_faults ≤ (D.view disk.new).disk_faults }
-        ensures link { SameLink (D.view disk.old) (D.view disk.new) }
+        ensures disk_alone { DiskAlone (D.view disk.old) (D.view disk.new) }
     {
         match channel.copy(alloc) {
             Err(NoMemory) => Declared::NoMemory,

@@ -1,5 +1,5 @@
 //! Reading a fragment back.
-ghost use Rattle.std.specs.Prelude.{◌≡◌, ℕ, ◌+◌, ◌≤◌, ◌<◌, ◌↔◌, List, Option, None, Some, Err, IfOk, OnErr, IsTrue, IsSome, IfSome, slice_get};
+ghost use Rattle.std.specs.Prelude.{◌≡◌, ℕ, ◌+◌, ◌<◌, ◌↔◌, List, Option, None, Some, Err, IfOk, OnErr, IsTrue, IsSome, IfSome, slice_get};
 ghost use Rattle.sm_model.specs.declared.fragment.Fragment.{Fragment};
 ghost use Rattle.sm_model.specs.declared.entry.Entry.{Entry};
 ghost use Rattle.sm_model.specs.declared.entry.Entry.TheVariants.{Keep};
@@ -8,7 +8,7 @@ ghost use Rattle.sm_model.specs.Fragments.{IsValid};
 ghost use Rattle.sm_log.specs.Adds.{place_of};
 ghost use Rattle.sm_log.specs.Logs.{adds_of};
 ghost use Rattle.sm_site.specs.Image.{Image};
-ghost use Rattle.sm_site.specs.Meanings.{SameLink};
+ghost use Rattle.sm_site.specs.Meanings.{DiskAlone};
 ghost use Rattle.sm_site.specs.Clauses.{Recorded, Rose, Throughout};
 ghost use Rattle.sm_archive.specs.declared.fetch.Fetched.TheVariants.{Found, Absent, DiskFault, Damaged};
 ghost use Rattle.sm_record.specs.Bodies.{IsBody};
@@ -123,8 +123,7 @@ impl Archive {
         ensures any_moment { Throughout D.view D.left_at disk.old disk.new (λ t c. D.may_leave disk.old c) }
         ensures contents { (D.view disk.new).contents ≡ (D.view disk.old).contents }
         ensures recorded { Recorded (D.view disk.old) (D.view disk.new) }
-        ensures no_fewer { (D.view disk.old).disk_faults ≤ (D.view disk.new).disk_faults }
-        ensures link { SameLink (D.view disk.old) (D.view disk.new) }
+        ensures disk_alone { DiskAlone (D.view disk.old) (D.view disk.new) }
     {
         match bodies::read(&self.log, alloc, disk, place) {
             Err(ReadFault::DiskFault) => Fetched::DiskFault,
@@ -157,8 +156,7 @@ impl Archive {
         ensures any_moment { Throughout D.view D.left_at disk.old disk.new (λ t c. D.may_leave disk.old c) }
         ensures contents { (D.view disk.new).contents ≡ (D.view disk.old).contents }
         ensures recorded { Recorded (D.view disk.old) (D.view disk.new) }
-        ensures no_fewer { (D.view disk.old).disk_faults ≤ (D.view disk.new).disk_faults }
-        ensures link { SameLink (D.view disk.old) (D.view disk.new) }
+        ensures disk_alone { DiskAlone (D.view disk.old) (D.view disk.new) }
     {
         match &self.index {
             None => Fetched::Absent,

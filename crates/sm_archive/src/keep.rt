@@ -9,7 +9,7 @@ ghost use Rattle.sm_model.specs.Entries.{address_of};
 ghost use Rattle.sm_log.specs.declared.verdict.Judged.TheVariants.{New};
 ghost use Rattle.sm_log.specs.Logs.{verdict_on};
 ghost use Rattle.sm_archive.specs.Steps.{Grows};
-ghost use Rattle.sm_site.specs.Meanings.{SameLink};
+ghost use Rattle.sm_site.specs.Meanings.{DiskAlone};
 ghost use Rattle.sm_site.specs.Clauses.{Acted, Recorded, Rose, Throughout};
 ghost use Rattle.sm_seglog.specs.Segments.{OnlyReserved};
 ghost use Rattle.sm_model.specs.declared.cause.Cause.TheVariants as cause;
@@ -179,8 +179,7 @@ impl Archive {
         ensures fault { result ≡ keeping.DiskFault → Rose (D.view disk.old).disk_faults (D.view disk.new).disk_faults }
         ensures recorded { Recorded (D.view disk.old) (D.view disk.new) }
         ensures limits { limits_of self.new ≡ limits_of self.old }
-        ensures no_fewer { (D.view disk.old).disk_faults ≤ (D.view disk.new).disk_faults }
-        ensures link { SameLink (D.view disk.old) (D.view disk.new) }
+        ensures disk_alone { DiskAlone (D.view disk.old) (D.view disk.new) }
     {
         match self.append(
             disk,
@@ -204,8 +203,7 @@ impl Archive {
         ensures fault { result ≡ keeping.DiskFault → Rose (D.view disk.old).disk_faults (D.view disk.new).disk_faults }
         ensures recorded { Recorded (D.view disk.old) (D.view disk.new) }
         ensures limits { limits_of self.new ≡ limits_of self.old }
-        ensures no_fewer { (D.view disk.old).disk_faults ≤ (D.view disk.new).disk_faults }
-        ensures link { SameLink (D.view disk.old) (D.view disk.new) }
+        ensures disk_alone { DiskAlone (D.view disk.old) (D.view disk.new) }
     {
         match self.judge(&ready) {
             Judged::Known { place } => Keeping::Known { place },
@@ -245,8 +243,7 @@ impl Archive {
         ensures fault { result ≡ keeping.DiskFault → Rose (D.view disk.old).disk_faults (D.view disk.new).disk_faults }
         ensures recorded { Recorded (D.view disk.old) (D.view disk.new) }
         ensures limits { limits_of self.new ≡ limits_of self.old }
-        ensures no_fewer { (D.view disk.old).disk_faults ≤ (D.view disk.new).disk_faults }
-        ensures link { SameLink (D.view disk.old) (D.view disk.new) }
+        ensures disk_alone { DiskAlone (D.view disk.old) (D.view disk.new) }
     {
         match self.ready(alloc, fragment) {
             Err(NoMemory) => Keeping::NoMemory,
@@ -278,8 +275,7 @@ impl Archive {
         ensures fault { result ≡ keeping.DiskFault → Rose (D.view disk.old).disk_faults (D.view disk.new).disk_faults }
         ensures recorded { Recorded (D.view disk.old) (D.view disk.new) }
         ensures limits { limits_of self.new ≡ limits_of self.old }
-        ensures no_fewer { (D.view disk.old).disk_faults ≤ (D.view disk.new).disk_faults }
-        ensures link { SameLink (D.view disk.old) (D.view disk.new) }
+        ensures disk_alone { DiskAlone (D.view disk.old) (D.view disk.new) }
     {
         match Address::of(alloc, fragment) {
             Err(NoMemory) => Keeping::NoMemory,

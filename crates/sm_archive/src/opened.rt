@@ -2,7 +2,7 @@
 ghost use Rattle.std.specs.Prelude.{◌≡◌, ◌++◌, ℕ, ◌≤◌, ◌<◌, ◌^◌, List, [], None, Some, IfOk, IfSome, IsSome, IsErrOf, slice_get};
 ghost use Rattle.sm_model.specs.declared.entry.Entry.{Entry};
 ghost use Rattle.sm_site.specs.Image.{Image};
-ghost use Rattle.sm_site.specs.Meanings.{SameLink};
+ghost use Rattle.sm_site.specs.Meanings.{DiskAlone};
 ghost use Rattle.sm_site.specs.Clauses.{NoMore, Recorded, Rose, Throughout};
 ghost use Rattle.sm_archive.specs.Bodies as seg;
 ghost use Rattle.sm_seglog.specs.Stores.{HasStore};
@@ -56,8 +56,7 @@ fn walk<D: Disk>(
     ensures no_more { (c : Image) → D.may_leave disk.new c → D.may_leave disk.old c }
     ensures any_moment { Throughout D.view D.left_at disk.old disk.new (λ t c. D.may_leave disk.old c) }
     ensures fault { IsErrOf result open_fault.DiskFault → Rose (D.view disk.old).disk_faults (D.view disk.new).disk_faults }
-    ensures no_fewer { (D.view disk.old).disk_faults ≤ (D.view disk.new).disk_faults }
-    ensures link { SameLink (D.view disk.old) (D.view disk.new) }
+    ensures disk_alone { DiskAlone (D.view disk.old) (D.view disk.new) }
 {
     let mut index = None;
     let mut used = 0;
@@ -107,8 +106,7 @@ pub fn open_store<D: Disk>(
         → Throughout D.view D.left_at disk.old disk.new (λ t c. HasStore bodies c) }
     ensures recorded { Recorded (D.view disk.old) (D.view disk.new) }
     ensures fault { IsErrOf result open_fault.DiskFault → Rose (D.view disk.old).disk_faults (D.view disk.new).disk_faults }
-    ensures no_fewer { (D.view disk.old).disk_faults ≤ (D.view disk.new).disk_faults }
-    ensures link { SameLink (D.view disk.old) (D.view disk.new) }
+    ensures disk_alone { DiskAlone (D.view disk.old) (D.view disk.new) }
 {
     bodies_have_one_log();
     stores_have_one_reading();

@@ -2,7 +2,7 @@
 ghost use Rattle.std.specs.Prelude.{◌≡◌, ◌≤◌, ◌++◌, ℕ, List, Option, None, IfOk, IfErr, IfSome, OnOk, IsErrOf, IsSome, is_some, string_bytes, slice_get, false};
 ghost use Rattle.sm_model.specs.declared.entry.Entry.{Entry};
 ghost use Rattle.sm_site.specs.Clauses.{NoMore, Throughout};
-ghost use Rattle.sm_site.specs.Meanings.{SameLink};
+ghost use Rattle.sm_site.specs.Meanings.{DiskAlone};
 ghost use Rattle.sm_archive.specs.Stands.{Keeps, Stands};
 ghost use Rattle.sm_archive.specs.Store.{IsStore};
 ghost use Rattle.sm_origin.specs.Opening.{HasOneStore};
@@ -93,8 +93,7 @@ fn line_of<D: Disk>(
     ensures why { IfErr result (λ why. WhyUnput (D.view disk.old) (D.view disk.new) why) }
     ensures told { is_some (D.view disk.new).contents ≡ is_some (D.view disk.old).contents }
     ensures any_moment { Throughout D.view D.left_at disk.old disk.new (λ t c. D.may_leave disk.old c) }
-    ensures no_fewer { (D.view disk.old).disk_faults ≤ (D.view disk.new).disk_faults }
-    ensures link { SameLink (D.view disk.old) (D.view disk.new) }
+    ensures disk_alone { DiskAlone (D.view disk.old) (D.view disk.new) }
 {
     kept_is_added();
     let address = match address_at(alloc, archive, place) {
@@ -127,8 +126,7 @@ fn lines<D: Disk>(alloc: Global, disk: &mut D, archive: &Archive) -> Result<Byte
         → text ≡ lines_of log) }
     ensures why { IfErr result (λ why. WhyUnput (D.view disk.old) (D.view disk.new) why) }
     ensures any_moment { Throughout D.view D.left_at disk.old disk.new (λ t c. D.may_leave disk.old c) }
-    ensures no_fewer { (D.view disk.old).disk_faults ≤ (D.view disk.new).disk_faults }
-    ensures link { SameLink (D.view disk.old) (D.view disk.new) }
+    ensures disk_alone { DiskAlone (D.view disk.old) (D.view disk.new) }
 {
     let mut text = String::new(alloc);
     for place in 0..archive.len() {
@@ -145,13 +143,12 @@ fn lines<D: Disk>(alloc: Global, disk: &mut D, archive: &Archive) -> Result<Byte
 fn list_disk<D: Disk>(alloc: Global, disk: &mut D) -> Result<Bytes, StoreFault>
     ensures listed { IfOk result (λ text. IfSome (D.view disk.old).contents (λ c. (log : List Entry) × IsStore log c × (text ≡ lines_of log))) }
     ensures why { IfErr result (λ why. UnlistedBy (D.view disk.old) (D.view disk.new) why) }
-    ensures no_fewer { (D.view disk.old).disk_faults ≤ (D.view disk.new).disk_faults }
     ensures any_moment { (log : List Entry) → HasOneStore log (D.may_leave disk.old)
         → Throughout D.view D.left_at disk.old disk.new (λ t c. IsStore log c) }
     ensures untouched { (at : ℕ) → IsErrOf result (fault.NotAStore at) → ((D.view disk.new).contents ≡ (D.view disk.old).contents)
         × NoMore (D.may_leave disk.old) (D.may_leave disk.new) × Throughout D.view D.left_at disk.old disk.new (λ t c. D.may_leave disk.old c) }
     ensures spared { Spared D.view D.may_leave D.left_at disk.old disk.new }
-    ensures link { SameLink (D.view disk.old) (D.view disk.new) }
+    ensures disk_alone { DiskAlone (D.view disk.old) (D.view disk.new) }
 {
     match open_archive(alloc, disk) {
         Ok(archive) => lines(alloc, disk, &archive),

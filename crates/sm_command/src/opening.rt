@@ -1,9 +1,9 @@
 //! Opening a store as an archive, for commands that don't serve it.
-ghost use Rattle.std.specs.Prelude.{◌≡◌, ◌≤◌, ◌⊎◌, ℕ, List, Option, None, Ok, IfOk, IfErr, IsErrOf, IsSome, OnOk, is_some};
+ghost use Rattle.std.specs.Prelude.{◌≡◌, ◌⊎◌, ℕ, List, Option, None, Ok, IfOk, IfErr, IsErrOf, IsSome, OnOk, is_some};
 ghost use Rattle.sm_model.specs.Channels.{IsChannel};
 ghost use Rattle.sm_model.specs.declared.entry.Entry.{Entry};
 ghost use Rattle.sm_site.specs.Clauses.{NoMore, Throughout};
-ghost use Rattle.sm_site.specs.Meanings.{SameLink};
+ghost use Rattle.sm_site.specs.Meanings.{DiskAlone};
 ghost use Rattle.sm_archive.specs.Stands.{Stands};
 ghost use Rattle.sm_archive.specs.Store.{IsStore};
 ghost use Rattle.sm_origin.specs.Opening.{HasOneStore};
@@ -36,8 +36,7 @@ pub fn open_archive<D: Disk>(alloc: Global, disk: &mut D) -> Result<Archive, Sto
         × NoMore (D.may_leave disk.old) (D.may_leave disk.new) × Throughout D.view D.left_at disk.old disk.new (λ t c. D.may_leave disk.old c) }
     ensures spared { Spared D.view D.may_leave D.left_at disk.old disk.new }
     ensures told { is_some (D.view disk.new).contents ≡ is_some (D.view disk.old).contents }
-    ensures no_fewer { (D.view disk.old).disk_faults ≤ (D.view disk.new).disk_faults }
-    ensures link { SameLink (D.view disk.old) (D.view disk.new) }
+    ensures disk_alone { DiskAlone (D.view disk.old) (D.view disk.new) }
 {
     match open_store(alloc, disk, Limits::standard()) {
         Ok(archive) => Ok(archive),
@@ -62,8 +61,7 @@ fn declare_to<D: Disk>(
     ensures any_moment { (log : List Entry) → Stands archive.old log None (D.may_leave disk.old) → IsSome (D.view disk.old).contents
         → Throughout D.view D.left_at disk.old disk.new (λ t c. BeginsWith log c) }
     ensures limits { limits_of archive.new ≡ limits_of archive.old }
-    ensures no_fewer { (D.view disk.old).disk_faults ≤ (D.view disk.new).disk_faults }
-    ensures link { SameLink (D.view disk.old) (D.view disk.new) }
+    ensures disk_alone { DiskAlone (D.view disk.old) (D.view disk.new) }
 {
     let answer = archive.declare(alloc, disk, channel);
     outcome_of(answer)
@@ -85,8 +83,7 @@ fn declare_input<I: Source, D: Disk>(
     ensures any_moment { (log : List Entry) → Stands archive.old log None (D.may_leave disk.old) → IsSome (D.view disk.old).contents
         → Throughout D.view D.left_at disk.old disk.new (λ t c. BeginsWith log c) }
     ensures limits { limits_of archive.new ≡ limits_of archive.old }
-    ensures no_fewer { (D.view disk.old).disk_faults ≤ (D.view disk.new).disk_faults }
-    ensures link { SameLink (D.view disk.old) (D.view disk.new) }
+    ensures disk_alone { DiskAlone (D.view disk.old) (D.view disk.new) }
 {
     match ladder_of(alloc, input) {
         Ok(channel) => declare_to(alloc, disk, archive, &channel),
@@ -114,8 +111,7 @@ pub fn open_declared<I: Source, D: Disk>(
     ensures untouched { (at : ℕ) → IsErrOf result (fault.NotAStore at) → ((D.view disk.new).contents ≡ (D.view disk.old).contents)
         × NoMore (D.may_leave disk.old) (D.may_leave disk.new) × Throughout D.view D.left_at disk.old disk.new (λ t c. D.may_leave disk.old c) }
     ensures spared { Spared D.view D.may_leave D.left_at disk.old disk.new }
-    ensures no_fewer { (D.view disk.old).disk_faults ≤ (D.view disk.new).disk_faults }
-    ensures link { SameLink (D.view disk.old) (D.view disk.new) }
+    ensures disk_alone { DiskAlone (D.view disk.old) (D.view disk.new) }
 {
     bodies_have_one_log();
     stores_have_one_reading();

@@ -1,9 +1,9 @@
 //! One act is one step.
-ghost use Rattle.std.specs.Prelude.{◌≡◌, ◌≤◌, Some, IsSome, is_some};
+ghost use Rattle.std.specs.Prelude.{◌≡◌, Some, IsSome, is_some};
 ghost use Rattle.sm_model.specs.declared.address.Address.{Address};
 ghost use Rattle.sm_model.specs.declared.act.Act.TheVariants.{Fragment as Ask};
 ghost use Rattle.sm_cache.specs.declared.cache.Kept.{Kept};
-ghost use Rattle.sm_site.specs.Meanings.{SameLink};
+ghost use Rattle.sm_site.specs.Meanings.{DiskAlone};
 ghost use Rattle.sm_site.specs.Clauses.{Rose};
 ghost use Rattle.sm_origin.specs.Machine.{Machine};
 ghost use Rattle.sm_origin.specs.Acting.{StandsFor, IsValidAct, ActGives};
@@ -42,8 +42,7 @@ impl Origin {
             → (S.Disk.view site.new).reads ≡ (S.Disk.view site.old).reads }
         ensures remembers { Remembers act.now result (cache_of self.old) (cache_of self.new) }
         ensures told { is_some (S.Disk.view site.new).contents ≡ is_some (S.Disk.view site.old).contents }
-        ensures no_fewer { (S.Disk.view site.old).disk_faults ≤ (S.Disk.view site.new).disk_faults }
-        ensures link { SameLink (S.Disk.view site.old) (S.Disk.view site.new) }
+        ensures disk_alone { DiskAlone (S.Disk.view site.old) (S.Disk.view site.new) }
     {
         an_image_fits::<S>();
         match act {

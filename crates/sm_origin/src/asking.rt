@@ -1,10 +1,10 @@
 //! A fragment that is asked for.
-ghost use Rattle.std.specs.Prelude.{◌≡◌, ◌≤◌, ◌<◌, ◌^◌, Some, None, IsSome, is_some, IfOk, OnOk, OnErr};
+ghost use Rattle.std.specs.Prelude.{◌≡◌, ◌<◌, ◌^◌, Some, None, IsSome, is_some, IfOk, OnOk, OnErr};
 ghost use Rattle.sm_model.specs.Fragments.{IsValid};
 ghost use Rattle.sm_log.specs.Logs.{channel_of};
 ghost use Rattle.sm_model.specs.declared.act.Act.TheVariants.{Fragment as Ask};
 ghost use Rattle.sm_cache.specs.declared.cache.Kept.{Kept};
-ghost use Rattle.sm_site.specs.Meanings.{SameLink};
+ghost use Rattle.sm_site.specs.Meanings.{DiskAlone};
 ghost use Rattle.sm_site.specs.Clauses.{Rose};
 ghost use Rattle.sm_origin.specs.Machine.{Machine};
 ghost use Rattle.sm_origin.specs.Acting.{StandsFor, ActGives};
@@ -84,8 +84,7 @@ impl Origin {
             (D.may_leave disk.new) m self.new (Ask address.now) result }
         ensures remembers { Remembers (Ask address.now) result self.old.cache self.new.cache }
         ensures told { is_some (D.view disk.new).contents ≡ is_some (D.view disk.old).contents }
-        ensures no_fewer { (D.view disk.old).disk_faults ≤ (D.view disk.new).disk_faults }
-        ensures link { SameLink (D.view disk.old) (D.view disk.new) }
+        ensures disk_alone { DiskAlone (D.view disk.old) (D.view disk.new) }
     {
         an_image_fits::<D>();
         kept_is_added();
@@ -118,8 +117,7 @@ impl Origin {
         ensures unread { (kept : Kept) → held_at address.now self.old.cache ≡ Some kept → (D.view disk.new).reads ≡ (D.view disk.old).reads }
         ensures remembers { Remembers (Ask address.now) result self.old.cache self.new.cache }
         ensures told { is_some (D.view disk.new).contents ≡ is_some (D.view disk.old).contents }
-        ensures no_fewer { (D.view disk.old).disk_faults ≤ (D.view disk.new).disk_faults }
-        ensures link { SameLink (D.view disk.old) (D.view disk.new) }
+        ensures disk_alone { DiskAlone (D.view disk.old) (D.view disk.new) }
     {
         an_image_fits::<D>();
         kept_is_added();

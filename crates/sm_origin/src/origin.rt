@@ -2,7 +2,7 @@
 ghost use Rattle.std.specs.Prelude.{◌≡◌, ◌≤◌, ◌<◌, ◌^◌, ℕ, List, [], None, IfOk, IfSome, IsSome, IsErrOf};
 ghost use Rattle.sm_model.specs.declared.entry.Entry.{Entry};
 ghost use Rattle.lru.specs.LruCache.{lru_cache};
-ghost use Rattle.sm_site.specs.Meanings.{SameLink};
+ghost use Rattle.sm_site.specs.Meanings.{DiskAlone};
 ghost use Rattle.sm_site.specs.Clauses.{Rose, NoMore, Throughout};
 ghost use Rattle.sm_archive.specs.declared.opened.OpenFault.TheVariants as open_fault;
 ghost use Rattle.sm_archive.specs.Store.{IsStore};
@@ -53,8 +53,7 @@ impl Origin {
             → Throughout S.Disk.view S.Disk.left_at site.old site.new (λ t c. IsStore log c) }
         ensures stays { (log : List Entry) → HasOneStore log (S.Disk.may_leave site.old) → HasOneStore log (S.Disk.may_leave site.new) }
         ensures fault { IsErrOf result open_fault.DiskFault → Rose (S.Disk.view site.old).disk_faults (S.Disk.view site.new).disk_faults }
-        ensures no_fewer { (S.Disk.view site.old).disk_faults ≤ (S.Disk.view site.new).disk_faults }
-        ensures link { SameLink (S.Disk.view site.old) (S.Disk.view site.new) }
+        ensures disk_alone { DiskAlone (S.Disk.view site.old) (S.Disk.view site.new) }
     {
         match Cache::new(alloc, 16) {
             Err(NoMemory) => Err(OpenFault::NoMemory),

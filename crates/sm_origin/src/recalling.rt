@@ -1,12 +1,12 @@
 //! A fragment that is read back, without a reply.
-ghost use Rattle.std.specs.Prelude.{◌≡◌, ◌⊎◌, ◌↔◌, ◌≤◌, ℕ, None, IsSome, is_some};
+ghost use Rattle.std.specs.Prelude.{◌≡◌, ◌⊎◌, ◌↔◌, ℕ, None, IsSome, is_some};
 ghost use Rattle.sm_model.specs.declared.act.Act.TheVariants.{Fragment as Ask};
 ghost use Rattle.sm_model.specs.declared.fragment.Fragment.{Fragment};
 ghost use Rattle.sm_model.specs.Entries.{address_of};
 ghost use Rattle.sm_model.specs.Fragments.{IsValid};
 ghost use Rattle.sm_log.specs.Adds.{place_of};
 ghost use Rattle.sm_log.specs.Logs.{adds_of};
-ghost use Rattle.sm_site.specs.Meanings.{SameLink};
+ghost use Rattle.sm_site.specs.Meanings.{DiskAlone};
 ghost use Rattle.sm_site.specs.Clauses.{Rose};
 ghost use Rattle.sm_archive.specs.declared.fetch.Fetched.TheVariants.{Found, Absent, DiskFault, Damaged, NoMemory};
 ghost use Rattle.sm_origin.specs.Answers.{reply_to_fetched};
@@ -54,8 +54,7 @@ impl Origin {
         ensures damaged { result ≡ Damaged → IsSome (D.view disk.old).contents → ⊥ }
         ensures fault { result ≡ DiskFault → Rose (D.view disk.old).disk_faults (D.view disk.new).disk_faults }
         ensures told { is_some (D.view disk.new).contents ≡ is_some (D.view disk.old).contents }
-        ensures no_fewer { (D.view disk.old).disk_faults ≤ (D.view disk.new).disk_faults }
-        ensures link { SameLink (D.view disk.old) (D.view disk.new) }
+        ensures disk_alone { DiskAlone (D.view disk.old) (D.view disk.new) }
     {
         an_image_fits::<D>();
         kept_is_added();

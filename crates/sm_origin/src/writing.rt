@@ -1,10 +1,10 @@
 //! Headers and fragments of pushes.
-ghost use Rattle.std.specs.Prelude.{◌≡◌, ◌⊎◌, ◌≤◌, ℕ, IsSome, is_some};
+ghost use Rattle.std.specs.Prelude.{◌≡◌, ◌⊎◌, ℕ, IsSome, is_some};
 ghost use Rattle.lru.specs.LruCache.{LruCache};
 ghost use Rattle.sm_model.specs.declared.act.Act.TheVariants.{Header, Frag};
 ghost use Rattle.sm_model.specs.Channels.{IsChannel};
 ghost use Rattle.sm_model.specs.Fragments.{IsValid};
-ghost use Rattle.sm_site.specs.Meanings.{SameLink};
+ghost use Rattle.sm_site.specs.Meanings.{DiskAlone};
 ghost use Rattle.sm_site.specs.Clauses.{Rose};
 ghost use Rattle.sm_archive.specs.declared.answers.Declared.TheVariants as answer;
 ghost use Rattle.sm_origin.specs.Answers.{reply_to_header};
@@ -56,8 +56,7 @@ impl Origin {
             m self.new (Frag fragment.now) result }
         ensures remembers { Remembers (Frag fragment.now) result self.old.cache self.new.cache }
         ensures told { is_some (D.view disk.new).contents ≡ is_some (D.view disk.old).contents }
-        ensures no_fewer { (D.view disk.old).disk_faults ≤ (D.view disk.new).disk_faults }
-        ensures link { SameLink (D.view disk.old) (D.view disk.new) }
+        ensures disk_alone { DiskAlone (D.view disk.old) (D.view disk.new) }
     {
         an_image_fits::<D>();
         kept_is_added();
@@ -85,8 +84,7 @@ impl Origin {
         ensures cache { cache_of self.new ≡ cache_of self.old }
         ensures fault { result ≡ answer.DiskFault → Rose (S.Disk.view site.old).disk_faults (S.Disk.view site.new).disk_faults }
         ensures told { is_some (S.Disk.view site.new).contents ≡ is_some (S.Disk.view site.old).contents }
-        ensures no_fewer { (S.Disk.view site.old).disk_faults ≤ (S.Disk.view site.new).disk_faults }
-        ensures link { SameLink (S.Disk.view site.old) (S.Disk.view site.new) }
+        ensures disk_alone { DiskAlone (S.Disk.view site.old) (S.Disk.view site.new) }
     {
         an_image_fits::<S>();
         kept_is_added();
@@ -112,8 +110,7 @@ impl Origin {
             m self.new (Header channel.now) result }
         ensures remembers { Remembers (Header channel.now) result self.old.cache self.new.cache }
         ensures told { is_some (D.view disk.new).contents ≡ is_some (D.view disk.old).contents }
-        ensures no_fewer { (D.view disk.old).disk_faults ≤ (D.view disk.new).disk_faults }
-        ensures link { SameLink (D.view disk.old) (D.view disk.new) }
+        ensures disk_alone { DiskAlone (D.view disk.old) (D.view disk.new) }
     {
         an_image_fits::<D>();
         kept_is_added();

@@ -1,5 +1,5 @@
 //! A relay, whole.
-ghost use Rattle.std.specs.Prelude.{◌≡◌, ◌≤◌, ◌<◌, ◌++◌, List, Option, None, Some, IfOk, IsSome, Contains, length};
+ghost use Rattle.std.specs.Prelude.{◌≡◌, ◌<◌, ◌++◌, List, Option, None, Some, IfOk, IsSome, Contains, length};
 ghost use Rattle.std.specs.List.{AllByRecursion};
 ghost use Rattle.sm_model.specs.declared.entry.Entry.{Entry};
 ghost use Rattle.sm_model.specs.declared.track.Track.{Track};
@@ -7,7 +7,7 @@ ghost use Rattle.sm_model.specs.Channels.{IsChannel};
 ghost use Rattle.sm_log.specs.Logs.{channel_of};
 ghost use Rattle.sm_archive.specs.Stands.{Stands};
 ghost use Rattle.sm_site.specs.Clauses.{Rose, Throughout};
-ghost use Rattle.sm_site.specs.Meanings.{SameLink};
+ghost use Rattle.sm_site.specs.Meanings.{DiskAlone};
 ghost use Rattle.sm_fetch.specs.declared.dial.Exchange.{Exchange};
 ghost use Rattle.sm_fetch.specs.Exchanges as exchanges;
 ghost use Rattle.sm_client.specs.declared.report.Miss.TheVariants as miss;
@@ -105,8 +105,7 @@ pub fn relay<C: Dial, D: Disk>(
     // It stands for some log again, whichever it stood for.
     ensures stands { (log : List Entry) × (doubt : Option Entry) × Stands archive.new log doubt (D.may_leave disk.new) }
     ensures asks { (made : List Exchange) × Asks C.log C.store C.later C.dial_faults C.chosen dial.old dial.new made }
-    ensures no_fewer { (D.view disk.old).disk_faults ≤ (D.view disk.new).disk_faults }
-    ensures link { SameLink (D.view disk.old) (D.view disk.new) }
+    ensures disk_alone { DiskAlone (D.view disk.old) (D.view disk.new) }
 {
     let before = archive.len();
     let end = relay_all(alloc, dial, disk, archive, plan);

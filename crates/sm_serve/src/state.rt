@@ -8,7 +8,7 @@ ghost use Rattle.sm_model.specs.Fragments.{IsValid};
 ghost use Rattle.sm_log.specs.Adds.{place_of};
 ghost use Rattle.sm_log.specs.Logs.{adds_of};
 ghost use Rattle.sm_site.specs.Clauses.{Rose, NoMore, Throughout};
-ghost use Rattle.sm_site.specs.Meanings.{SameLink};
+ghost use Rattle.sm_site.specs.Meanings.{DiskAlone};
 ghost use Rattle.sm_archive.specs.declared.opened.OpenFault.TheVariants as open_fault;
 ghost use Rattle.sm_archive.specs.declared.answers.Declared.TheVariants as answer;
 ghost use Rattle.sm_archive.specs.declared.fetch.Fetched.TheVariants.{Found, Absent, DiskFault, Damaged};
@@ -63,8 +63,7 @@ impl State {
             → Throughout S.Disk.view S.Disk.left_at site.old site.new (λ t c. IsStore log c) }
         ensures stays { (log : List Entry) → HasOneStore log (S.Disk.may_leave site.old) → HasOneStore log (S.Disk.may_leave site.new) }
         ensures fault { IsErrOf result open_fault.DiskFault → Rose (S.Disk.view site.old).disk_faults (S.Disk.view site.new).disk_faults }
-        ensures no_fewer { (S.Disk.view site.old).disk_faults ≤ (S.Disk.view site.new).disk_faults }
-        ensures link { SameLink (S.Disk.view site.old) (S.Disk.view site.new) }
+        ensures disk_alone { DiskAlone (S.Disk.view site.old) (S.Disk.view site.new) }
     {
         an_image_fits::<S>();
         let origin = Origin::open_origin(alloc, site, limits)?;
@@ -85,8 +84,7 @@ impl State {
         ensures stands { StandsForSome S.Disk.view S.Disk.may_leave self.new.origin site.new }
         ensures lives { self.new.lives ≡ self.old.lives }
         ensures fault { result ≡ answer.DiskFault → Rose (S.Disk.view site.old).disk_faults (S.Disk.view site.new).disk_faults }
-        ensures no_fewer { (S.Disk.view site.old).disk_faults ≤ (S.Disk.view site.new).disk_faults }
-        ensures link { SameLink (S.Disk.view site.old) (S.Disk.view site.new) }
+        ensures disk_alone { DiskAlone (S.Disk.view site.old) (S.Disk.view site.new) }
     {
         an_image_fits::<S>();
         self.origin.declare(self.alloc, site, channel)
@@ -109,8 +107,7 @@ impl State {
         ensures damaged { result ≡ Damaged → IsSome (S.Disk.view site.old).contents → ⊥ }
         ensures fault { result ≡ DiskFault → Rose (S.Disk.view site.old).disk_faults (S.Disk.view site.new).disk_faults }
         ensures told { is_some (S.Disk.view site.new).contents ≡ is_some (S.Disk.view site.old).contents }
-        ensures no_fewer { (S.Disk.view site.old).disk_faults ≤ (S.Disk.view site.new).disk_faults }
-        ensures link { SameLink (S.Disk.view site.old) (S.Disk.view site.new) }
+        ensures disk_alone { DiskAlone (S.Disk.view site.old) (S.Disk.view site.new) }
     {
         an_image_fits::<S>();
         self.origin.recall(self.alloc, site, address)

@@ -1,6 +1,6 @@
 -- What a disk, a link and a site mean, beside the two tests of an image. A real link tells no transcript and no script,
 -- and a real disk no contents and no calls.
-use Rattle.std.specs.Prelude.{◌≡◌, ◌++◌, ℕ, Bool, true, false, List, [], ◌∷◌, Option, if◌then◌else◌, ◌==◌, IsTrue}
+use Rattle.std.specs.Prelude.{◌≡◌, ◌≤◌, ◌++◌, ℕ, Bool, true, false, List, [], ◌∷◌, Option, if◌then◌else◌, ◌==◌, IsTrue}
 use Rattle.sm_site.specs.Image.{Image}
 
 -- a call of a disk: the size of a file, a read of so many bytes from a place on, a write of these bytes from a place on, a sync
@@ -61,6 +61,11 @@ pub record SameLink (old new : View) : Type 0 where
   pub link_faults : new.link_faults ≡ old.link_faults
   pub send_faults : new.send_faults ≡ old.send_faults
   pub chosen : new.chosen ≡ old.chosen
+
+-- a call touches the disk alone: the link is as it was, and the disk's faults are no fewer
+pub record DiskAlone (old new : View) : Type 0 where
+  pub link : SameLink old new
+  pub no_fewer : old.disk_faults ≤ new.disk_faults
 
 -- what a call of a link leaves as it was
 pub record SameDisk (old new : View) : Type 0 where

@@ -6,7 +6,7 @@ ghost use Rattle.sm_serve.specs.Connections.{is_among};
 ghost use Rattle.sm_serve.specs.Serving.{numbers_of};
 ghost use Rattle.sm_site.specs.declared.event.Event.{Event};
 ghost use Rattle.sm_site.specs.Clauses.{Both, Rose};
-ghost use Rattle.sm_site.specs.Meanings.{SameLink, sent_on};
+ghost use Rattle.sm_site.specs.Meanings.{sent_on, DiskAlone};
 ghost use Rattle.sm_site.specs.Scripts.{deals_of, is_script, numbers_after};
 ghost use Rattle.sm_site.specs.Sites.{SameBut};
 ghost use Rattle.sm_world.specs.Answering.{HasCause, HasSent};
@@ -47,8 +47,7 @@ fn opened<S: Crashing>(
     // An image that has a log is a store.
     ensures never { (w : World) → Stands S.Disk.view S.Disk.may_leave S.Disk.left_at w state site.old
         → (at : ℕ) → IsErrOf result (open_fault.NotAStore at) → ⊥ }
-    ensures no_fewer { (S.Disk.view site.old).disk_faults ≤ (S.Disk.view site.new).disk_faults }
-    ensures link { SameLink (S.Disk.view site.old) (S.Disk.view site.new) }
+    ensures disk_alone { DiskAlone (S.Disk.view site.old) (S.Disk.view site.new) }
 {
     bodies_have_one_log();
     stores_have_one_reading();

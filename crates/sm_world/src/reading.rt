@@ -3,7 +3,7 @@ ghost use Rattle.std.specs.Prelude.{◌≡◌, ◌<◌, ◌≤◌, ◌^◌, ℕ,
 ghost use Rattle.sm_model.specs.declared.entry.Entry.{Entry};
 ghost use Rattle.sm_model.specs.declared.entry.Entry.TheVariants.{Keep};
 ghost use Rattle.sm_log.specs.Logs.{channel_of};
-ghost use Rattle.sm_site.specs.Meanings.{SameLink};
+ghost use Rattle.sm_site.specs.Meanings.{DiskAlone};
 ghost use Rattle.sm_archive.specs.Stands.{Keeps, Stands as Holds};
 ghost use Rattle.sm_world.specs.Encoders.{KeepsRound, channel, entries_after, log_of, of_encoder_a};
 ghost use Rattle.sm_world.specs.Worlds.{World, IsClosed, Stands};
@@ -42,8 +42,7 @@ fn keeps_one<S: Crashing>(
     ensures kept { IfOk result (λ same. IsTrue same → (log : List Entry) → Holds archive.now log None (S.Disk.may_leave site.old)
         → slice_get log place ≡ Some (Keep (of_encoder_a i id))) }
     ensures stands { (log : List Entry) → Holds archive.now log None (S.Disk.may_leave site.old) → Holds archive.now log None (S.Disk.may_leave site.new) }
-    ensures no_fewer { (S.Disk.view site.old).disk_faults ≤ (S.Disk.view site.new).disk_faults }
-    ensures link { SameLink (S.Disk.view site.old) (S.Disk.view site.new) }
+    ensures disk_alone { DiskAlone (S.Disk.view site.old) (S.Disk.view site.new) }
 {
     let wanted = of_encoder_a(alloc, i, id)?;
     let address = Address::of(alloc, &wanted)?;
@@ -73,8 +72,7 @@ fn keeps_round<S: Crashing>(
     requires early { i < 2 ^ 32 }
     ensures kept { IfOk result (λ same. IsTrue same → (log : List Entry) → Holds archive.now log None (S.Disk.may_leave site.old) → KeepsRound log i) }
     ensures stands { (log : List Entry) → Holds archive.now log None (S.Disk.may_leave site.old) → Holds archive.now log None (S.Disk.may_leave site.new) }
-    ensures no_fewer { (S.Disk.view site.old).disk_faults ≤ (S.Disk.view site.new).disk_faults }
-    ensures link { SameLink (S.Disk.view site.old) (S.Disk.view site.new) }
+    ensures disk_alone { DiskAlone (S.Disk.view site.old) (S.Disk.view site.new) }
 {
     if !keeps_one(alloc, site, archive, 3 * i + 1, i, 1)? {
         return Ok(false);
@@ -108,8 +106,7 @@ fn keeps_all<S: Crashing>(
     requires few { rounds ≤ 2000 }
     ensures kept { IfOk result (λ same. IsTrue same → (log : List Entry) → Holds archive.now log None (S.Disk.may_leave site.old) → log ≡ log_of rounds) }
     ensures stands { (log : List Entry) → Holds archive.now log None (S.Disk.may_leave site.old) → Holds archive.now log None (S.Disk.may_leave site.new) }
-    ensures no_fewer { (S.Disk.view site.old).disk_faults ≤ (S.Disk.view site.new).disk_faults }
-    ensures link { SameLink (S.Disk.view site.old) (S.Disk.view site.new) }
+    ensures disk_alone { DiskAlone (S.Disk.view site.old) (S.Disk.view site.new) }
 {
     if archive.len() != entries_after(rounds) {
         return Ok(false);
@@ -141,8 +138,7 @@ fn read_all<S: Crashing>(
     requires few { rounds ≤ 2000 }
     ensures stays { (w : World) → IsClosed S.Disk.view S.Disk.may_leave w site.old → IsClosed S.Disk.view S.Disk.may_leave w site.new }
     ensures kept { IfOk result (λ same. IsTrue same → (w : World) → IsClosed S.Disk.view S.Disk.may_leave w site.old → w.log ≡ log_of rounds) }
-    ensures no_fewer { (S.Disk.view site.old).disk_faults ≤ (S.Disk.view site.new).disk_faults }
-    ensures link { SameLink (S.Disk.view site.old) (S.Disk.view site.new) }
+    ensures disk_alone { DiskAlone (S.Disk.view site.old) (S.Disk.view site.new) }
 {
     bodies_have_one_log();
     stores_have_one_reading();
@@ -171,8 +167,7 @@ impl<S: Crashing> OriginDial<S> {
         ensures dialing { self.new.1 ≡ self.old.1 }
         ensures stays { (w : World) → IsClosed S.Disk.view S.Disk.may_leave w self.old.0 → IsClosed S.Disk.view S.Disk.may_leave w self.new.0 }
         ensures kept { IfOk result (λ same. IsTrue same → (w : World) → IsClosed S.Disk.view S.Disk.may_leave w self.old.0 → w.log ≡ log_of rounds) }
-        ensures no_fewer { (S.Disk.view self.old.0).disk_faults ≤ (S.Disk.view self.new.0).disk_faults }
-        ensures link { SameLink (S.Disk.view self.old.0) (S.Disk.view self.new.0) }
+        ensures disk_alone { DiskAlone (S.Disk.view self.old.0) (S.Disk.view self.new.0) }
     {
         read_all(self.alloc, &mut self.site, self.limits, rounds)
     }

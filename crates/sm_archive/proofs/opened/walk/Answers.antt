@@ -34,7 +34,7 @@ loop-place-preserved g c =
       contents = c.in-Ok.ensures.contents ∙ i.contents;
       crash = λ x left. i.crash x (c.in-Ok.ensures.no_more x left);
       moments = and_then g.D.Disk.view g.D.Disk.left_at _ _ _ _ i.moments (weakened g.D.Disk.view g.D.Disk.left_at _ _ _ _ c.in-Ok.ensures.any_moment (λ t x left. i.crash x left));
-      faults = omega (arith, i.faults, c.in-Ok.ensures.no_fewer);
+      faults = omega (arith, i.faults, c.in-Ok.ensures.disk_alone.no_fewer);
       link = search rules;
     }
 

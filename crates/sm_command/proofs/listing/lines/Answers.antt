@@ -7,9 +7,9 @@ pub loop-place-preserved : goal.loop-place-preserved
 loop-place-preserved g c =
     let inv = c.loop-place.invariant in
     let fewer = inv.no_fewer in
-    let fewer_yet = c.line_of.ensures.no_fewer in
+    let fewer_yet = c.line_of.ensures.disk_alone.no_fewer in
     let same = inv.link in
-    let same_yet = c.line_of.ensures.link in
+    let same_yet = c.line_of.ensures.disk_alone.link in
     record {
       some = (inv.some.0, c.line_of.ensures.stands inv.some.0 inv.some.1);
       stands = λ log s. c.line_of.ensures.stands log (inv.stands log s);

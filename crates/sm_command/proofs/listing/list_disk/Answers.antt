@@ -13,7 +13,7 @@ returns-in-Ok-clause-listed g c =
 
 pub returns-in-Ok-clause-why : goal.returns-in-Ok-clause-why
 returns-in-Ok-clause-why g c =
-    why_of (g.D.Disk.view c.args.disk.now) (g.D.Disk.view c.open_archive.new.disk) (g.D.Disk.view c.lines.new.disk) c.lines.result c.in-Ok.ensures.no_fewer c.in-Ok.ensures.told c.lines.ensures.why
+    why_of (g.D.Disk.view c.args.disk.now) (g.D.Disk.view c.open_archive.new.disk) (g.D.Disk.view c.lines.new.disk) c.lines.result c.in-Ok.ensures.disk_alone.no_fewer c.in-Ok.ensures.told c.lines.ensures.why
 
 pub returns-in-Ok-clause-any_moment : goal.returns-in-Ok-clause-any_moment
 returns-in-Ok-clause-any_moment g c log one =

@@ -26,7 +26,7 @@ returns-in-Ok-clause-lasts g c some log one base told =
     (one_by_one V L c.args.site.now c.choose.new.site c.list_disk.new.disk (IsStore log)
     (weaker V L c.args.site.now c.choose.new.site _ (IsStore log) c.choose.ensures.any_moment (one_here log _ one))
     (at_each V L c.choose.new.site c.list_disk.new.disk _ (IsStore log) (c.list_disk.ensures.any_moment log (one_still log _ _ c.choose.ensures.crash one)) (λ t image is. is)))
-    (c.list_disk.ensures.link.transcript ∙ c.choose.ensures.transcript ∙ told)
+    (c.list_disk.ensures.disk_alone.link.transcript ∙ c.choose.ensures.transcript ∙ told)
 
 pub returns-in-Err-clause-lasts : goal.returns-in-Err-clause-lasts
 returns-in-Err-clause-lasts g c some log one base told =
@@ -37,7 +37,7 @@ returns-in-Err-clause-lasts g c some log one base told =
 pub returns-in-Ok-clause-no_fewer : goal.returns-in-Ok-clause-no_fewer
 returns-in-Ok-clause-no_fewer g c =
     counts_then (g.S.Disk.view c.args.site.now) (g.S.Disk.view c.choose.new.site) (g.S.Disk.view c.list_disk.new.disk)
-    (record { disk = c.choose.ensures.disk_faults; link = c.choose.ensures.link_faults }) c.list_disk.ensures.no_fewer c.list_disk.ensures.link.link_faults
+    (record { disk = c.choose.ensures.disk_faults; link = c.choose.ensures.link_faults }) c.list_disk.ensures.disk_alone.no_fewer c.list_disk.ensures.disk_alone.link.link_faults
 
 pub returns-in-Err-clause-no_fewer : goal.returns-in-Err-clause-no_fewer
 returns-in-Err-clause-no_fewer g c = record { disk = c.choose.ensures.disk_faults; link = c.choose.ensures.link_faults }
@@ -48,7 +48,7 @@ returns-in-Ok-clause-why g c =
     let L = g.S.Disk.left_at in
     let chosen : NoFewer (V c.args.site.now) (V c.choose.new.site) = record { disk = c.choose.ensures.disk_faults; link = c.choose.ensures.link_faults } in
     why_unlisted V g.S.Disk.may_leave L c.args.site.now c.choose.new.site c.list_disk.new.disk c.list_disk.result c.choose.ensures.contents chosen c.list_disk.ensures.why
-    (counts_then (V c.args.site.now) (V c.choose.new.site) (V c.list_disk.new.disk) chosen c.list_disk.ensures.no_fewer c.list_disk.ensures.link.link_faults)
+    (counts_then (V c.args.site.now) (V c.choose.new.site) (V c.list_disk.new.disk) chosen c.list_disk.ensures.disk_alone.no_fewer c.list_disk.ensures.disk_alone.link.link_faults)
     (λ at is.
     let u = c.list_disk.ensures.untouched at is in
     record {
@@ -64,7 +64,7 @@ returns-in-Err-clause-why g c =
 
 pub returns-in-Ok-clause-chosen : goal.returns-in-Ok-clause-chosen
 returns-in-Ok-clause-chosen g c =
-    chosen_still c.list_disk.result _ (g.S.Disk.view c.choose.new.site) (g.S.Disk.view c.list_disk.new.disk) c.in-Ok.ensures.chosen c.list_disk.ensures.link.chosen
+    chosen_still c.list_disk.result _ (g.S.Disk.view c.choose.new.site) (g.S.Disk.view c.list_disk.new.disk) c.in-Ok.ensures.chosen c.list_disk.ensures.disk_alone.link.chosen
 
 pub returns-in-Ok-clause-spared : goal.returns-in-Ok-clause-spared
 returns-in-Ok-clause-spared g c =

@@ -52,7 +52,7 @@ returns-in-Err-NoMemory-clause-told g c = told_stays g.D.Disk.view g.met.D.Disk.
 
 pub returns-in-Err-NoMemory-clause-why : goal.returns-in-Err-NoMemory-clause-why
 returns-in-Err-NoMemory-clause-why g c =
-    let link = c.in-Err-NoMemory.ensures.link.link_faults in record { disk = c.in-Err-NoMemory.ensures.no_fewer; link = omega (arith, link) }
+    let link = c.in-Err-NoMemory.ensures.disk_alone.link.link_faults in record { disk = c.in-Err-NoMemory.ensures.disk_alone.no_fewer; link = omega (arith, link) }
 
 pub returns-in-Ok-clause-spared : goal.returns-in-Ok-clause-spared
 returns-in-Ok-clause-spared g c = opened_spared g.D.Disk.view g.D.Disk.may_leave g.D.Disk.left_at c.args.disk.now c.open_store.new.disk c.in-Ok.ensures.spared

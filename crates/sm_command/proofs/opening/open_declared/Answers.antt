@@ -14,7 +14,7 @@ returns-in-Ok-clause-declared g c =
     let o = c.in_ok-archive.ensures.opened in
     let before : Input = record { told = g.I.Source.left c.args.input.now; faults = g.I.Source.faults c.args.input.now } in
     let behind : Input = record { told = g.I.Source.left c.declare_input.new.input; faults = g.I.Source.faults c.declare_input.new.input } in
-    declared_as g.D.Disk.view g.D.Disk.may_leave before behind c.in_ok-archive.archive c.declare_input.new.archive c.args.disk.now c.open_archive.new.disk c.declare_input.new.disk o c.in_ok-archive.ensures.no_fewer
+    declared_as g.D.Disk.view g.D.Disk.may_leave before behind c.in_ok-archive.archive c.declare_input.new.archive c.args.disk.now c.open_archive.new.disk c.declare_input.new.disk o c.in_ok-archive.ensures.disk_alone.no_fewer
     (c.in-Ok.ensures.means o.log o.stands) c.in-Ok.ensures.stands c.declare_input.ensures.limits
 
 pub returns-in-Err-clause-why : goal.returns-in-Err-clause-why
@@ -23,7 +23,7 @@ returns-in-Err-clause-why g c =
     let before : Input = record { told = g.I.Source.left c.args.input.now; faults = g.I.Source.faults c.args.input.now } in
     let behind : Input = record { told = g.I.Source.left c.declare_input.new.input; faults = g.I.Source.faults c.declare_input.new.input } in
     undeclared g.D.Disk.view g.D.Disk.may_leave before behind c.in_ok-archive.archive c.declare_input.new.archive c.args.disk.now c.open_archive.new.disk c.declare_input.new.disk c.in-Err.fault o
-    c.in_ok-archive.ensures.no_fewer (c.in-Err.ensures.means o.log o.stands)
+    c.in_ok-archive.ensures.disk_alone.no_fewer (c.in-Err.ensures.means o.log o.stands)
 
 pub returns-in_err-archive-clause-any_moment : goal.returns-in_err-archive-clause-any_moment
 returns-in_err-archive-clause-any_moment g c some log one =

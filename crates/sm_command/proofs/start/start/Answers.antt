@@ -8,7 +8,7 @@ returns-in-Ok-clause-found g c = found g.S.Disk.view g.S.Disk.may_leave c.in-Ok.
 
 pub returns-in-Err-NoMemory-clause-why : goal.returns-in-Err-NoMemory-clause-why
 returns-in-Err-NoMemory-clause-why g c =
-    let link = c.in-Err-NoMemory.ensures.link.link_faults in record { disk = c.in-Err-NoMemory.ensures.no_fewer; link = omega (arith, link) }
+    let link = c.in-Err-NoMemory.ensures.disk_alone.link.link_faults in record { disk = c.in-Err-NoMemory.ensures.disk_alone.no_fewer; link = omega (arith, link) }
 
 pub returns-in-Ok-clause-spared : goal.returns-in-Ok-clause-spared
 returns-in-Ok-clause-spared g c = opened_spared g.S.Disk.view g.S.Disk.may_leave g.S.Disk.left_at c.args.site.now c.start.new.site c.in-Ok.ensures.spared

@@ -19,7 +19,7 @@ returns-in-Ok-turn-clause-opened g c =
     (λ edge store. record {
       selected = c.choose.new.site;
       site = site;
-      no_fewer = counts_then (V c.args.site.now) (V c.choose.new.site) (V c.open_beside.new.disk) chosen c.open_beside.ensures.no_fewer c.open_beside.ensures.link.link_faults;
+      no_fewer = counts_then (V c.args.site.now) (V c.choose.new.site) (V c.open_beside.new.disk) chosen c.open_beside.ensures.disk_alone.no_fewer c.open_beside.ensures.disk_alone.link.link_faults;
       store = store;
     })
     c.open_beside.ensures.opened
@@ -34,12 +34,12 @@ returns-in-Ok-turn-clause-why g c =
 
 pub returns-in-Ok-turn-clause-chosen : goal.returns-in-Ok-turn-clause-chosen
 returns-in-Ok-turn-clause-chosen g c =
-    chosen_still c.open_beside.result c.args.selection (g.S.Disk.view c.choose.new.site) (g.S.Disk.view c.open_beside.new.disk) c.in-Ok.ensures.chosen c.open_beside.ensures.link.chosen
+    chosen_still c.open_beside.result c.args.selection (g.S.Disk.view c.choose.new.site) (g.S.Disk.view c.open_beside.new.disk) c.in-Ok.ensures.chosen c.open_beside.ensures.disk_alone.link.chosen
 
 pub returns-in-Ok-turn-clause-no_fewer : goal.returns-in-Ok-turn-clause-no_fewer
 returns-in-Ok-turn-clause-no_fewer g c =
     counts_then (g.S.Disk.view c.args.site.now) (g.S.Disk.view c.choose.new.site) (g.S.Disk.view c.open_beside.new.disk)
-    (record { disk = c.choose.ensures.disk_faults; link = c.choose.ensures.link_faults }) c.open_beside.ensures.no_fewer c.open_beside.ensures.link.link_faults
+    (record { disk = c.choose.ensures.disk_faults; link = c.choose.ensures.link_faults }) c.open_beside.ensures.disk_alone.no_fewer c.open_beside.ensures.disk_alone.link.link_faults
 
 pub returns-in-Err-turn-clause-no_fewer : goal.returns-in-Err-turn-clause-no_fewer
 returns-in-Err-turn-clause-no_fewer g c = record { disk = c.choose.ensures.disk_faults; link = c.choose.ensures.link_faults }

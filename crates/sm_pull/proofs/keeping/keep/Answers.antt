@@ -29,7 +29,7 @@ returns-clause-ok g c =
     (λ is. (
       is.0,
       adds_kept is.1 (λ some. weakened g.D.Disk.view g.D.Disk.left_at c.args.disk.now c.keep.new.disk _ _ (k.any_moment log None s some) (λ t i left. (left.0, left.1, grows_none log _ left.0 left.2)))
-          (contents_told (g.D.Disk.view c.args.disk.now) (g.D.Disk.view c.keep.new.disk) k.recorded (g.met.D.Disk.calls_told c.args.disk.now) (g.met.D.Disk.calls_told c.keep.new.disk)) k.no_fewer k.link k.limits,
+          (contents_told (g.D.Disk.view c.args.disk.now) (g.D.Disk.view c.keep.new.disk) k.recorded (g.met.D.Disk.calls_told c.args.disk.now) (g.met.D.Disk.calls_told c.keep.new.disk)) k.disk_alone.no_fewer k.disk_alone.link k.limits,
     ))
     (kept_step _ (g.D.Disk.may_leave c.keep.new.disk) c.keep.new.self log c.args.fragment.now c.keep.result c.args.address c.stop_of.result c.stop_of.ensures.stop (k.step log None s)))
 
@@ -45,7 +45,7 @@ returns-clause-err g c =
     (λ why is. (
       is.0,
       adds_tried is.1 (λ some. weakened g.D.Disk.view g.D.Disk.left_at c.args.disk.now c.keep.new.disk _ _ (k.any_moment log None s some) (λ t i left. (left.0, left.1, grows_none log _ left.0 left.2)))
-          (contents_told (g.D.Disk.view c.args.disk.now) (g.D.Disk.view c.keep.new.disk) k.recorded (g.met.D.Disk.calls_told c.args.disk.now) (g.met.D.Disk.calls_told c.keep.new.disk)) k.no_fewer k.link k.limits,
+          (contents_told (g.D.Disk.view c.args.disk.now) (g.D.Disk.view c.keep.new.disk) k.recorded (g.met.D.Disk.calls_told c.args.disk.now) (g.met.D.Disk.calls_told c.keep.new.disk)) k.disk_alone.no_fewer k.disk_alone.link k.limits,
     ))
     (other_step _ (g.D.Disk.may_leave c.keep.new.disk) c.keep.new.self log c.args.fragment.now c.keep.result c.args.address c.stop_of.result c.stop_of.ensures.stop (k.step log None s)))
 

@@ -37,11 +37,10 @@ returns-clause-asks g c =
     let p = c.relay_all-end.ensures.relayed c.requires.stands.0 c.requires.stands.1 c.requires.stands.2 c.requires.stands.3 in
     (made_in p.rounds ++ p.made, p.asks)
 
-pub returns-clause-no_fewer : goal.returns-clause-no_fewer
-returns-clause-no_fewer g c = (c.relay_all-end.ensures.relayed c.requires.stands.0 c.requires.stands.1 c.requires.stands.2 c.requires.stands.3).adds.no_fewer
-
-pub returns-clause-link : goal.returns-clause-link
-returns-clause-link g c = (c.relay_all-end.ensures.relayed c.requires.stands.0 c.requires.stands.1 c.requires.stands.2 c.requires.stands.3).adds.link
+pub returns-clause-disk_alone : goal.returns-clause-disk_alone
+returns-clause-disk_alone g c =
+    let adds = (c.relay_all-end.ensures.relayed c.requires.stands.0 c.requires.stands.1 c.requires.stands.2 c.requires.stands.3).adds in
+    record { link = adds.link; no_fewer = adds.no_fewer }
 
 pub returns-clause-lost : goal.returns-clause-lost
 returns-clause-lost g c = λ there.

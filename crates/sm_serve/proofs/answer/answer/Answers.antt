@@ -17,7 +17,7 @@ returns-then-send_reply-clause-goes_on g c h item more keeps stands phase does c
     let act = c.args.act.now in
     let reply = c.act-reply.result in
     let a = acted V A L g.met.S.Disk.told h d e o act reply (Some n) keeps c.act-reply.ensures.told g.met.S.Disk.now_at g.met.S.Disk.calls_told
-    (λ has. c.act-reply.ensures.step has h.point.machine stands) c.act-reply.ensures.stands c.act-reply.ensures.link c.act-reply.ensures.no_fewer in
+    (λ has. c.act-reply.ensures.step has h.point.machine stands) c.act-reply.ensures.stands c.act-reply.ensures.disk_alone.link c.act-reply.ensures.disk_alone.no_fewer in
     let k = behind V A L h e o act reply n item more a phase does in
     let kept = behind_keeps V A L h e o act reply n item more a phase does in
     let follows = behind_follows V A L h e o act reply n item more a phase does in
@@ -39,7 +39,7 @@ returns-clause-goes_on g c h item more keeps stands phase does close =
     let act = c.args.act.now in
     let reply = c.act-reply.result in
     let a = acted V A L g.met.S.Disk.told h d e o act reply (Some n) keeps c.act-reply.ensures.told g.met.S.Disk.now_at g.met.S.Disk.calls_told
-    (λ has. c.act-reply.ensures.step has h.point.machine stands) c.act-reply.ensures.stands c.act-reply.ensures.link c.act-reply.ensures.no_fewer in
+    (λ has. c.act-reply.ensures.step has h.point.machine stands) c.act-reply.ensures.stands c.act-reply.ensures.disk_alone.link c.act-reply.ensures.disk_alone.no_fewer in
     let k = behind V A L h e o act reply n item more a phase does in
     let kept = behind_keeps V A L h e o act reply n item more a phase does in
     let follows = behind_follows V A L h e o act reply n item more a phase does in

@@ -10,8 +10,8 @@ returns-clause-recalls g c =
     record {
       rests = λ h serves. rests_by g.S.Disk.view g.S.Disk.may_leave g.S.Disk.left_at h c.args.address.now c.recall-fetched.result c.args.state.now c.recall-fetched.new.site (r.runs h serves);
       told = r.told;
-      no_fewer = r.no_fewer;
-      link = r.link;
+      no_fewer = r.disk_alone.no_fewer;
+      link = r.disk_alone.link;
     }
 
 pub returns-clause-reads : goal.returns-clause-reads

@@ -14,7 +14,7 @@ returns-in-Ok-clause-opened g c w stands =
     in
     opens g.S.Disk.view g.S.Disk.may_leave g.S.Disk.left_at c.stores_have_one_reading.ensures.one_list c.bodies_have_one_log.ensures w d e c.in-Ok.state
     (g.met.S.Crashing.tells d).contents (g.met.S.Disk.contents_pass d) c.in-Ok.ensures.store c.in-Ok.ensures.begins
-    (g.met.S.Crashing.tells e).contents c.in-Ok.ensures.link.transcript closed
+    (g.met.S.Crashing.tells e).contents c.in-Ok.ensures.disk_alone.link.transcript closed
 
 pub returns-in-Err-clause-never : goal.returns-in-Err-clause-never
 returns-in-Err-clause-never g c w stands at is =

@@ -16,7 +16,7 @@ returns-in-Ok-clause-stays g c w closed =
     let holds = holds_log V A c.stores_have_one_reading.ensures.one_list c.bodies_have_one_log.ensures w d c.start.new.site c.in-Ok.state
     (g.met.S.Crashing.tells d).contents (g.met.S.Disk.contents_pass d) c.in-Ok.ensures.store closed in
     let lent = subst (λ (a : Archive). Holds a w.log None (A c.start.new.site)) (sym c.archive.ensures) holds in
-    closed_again V A w d c.keeps_all.new.site (c.keeps_all.ensures.link.transcript ∙ c.in-Ok.ensures.link.transcript)
+    closed_again V A w d c.keeps_all.new.site (c.keeps_all.ensures.disk_alone.link.transcript ∙ c.in-Ok.ensures.disk_alone.link.transcript)
     (one_store_of c.archive.result.now w.log (A c.keeps_all.new.site) (c.keeps_all.ensures.stands w.log lent)) closed
 
 pub returns-in-Ok-clause-kept : goal.returns-in-Ok-clause-kept

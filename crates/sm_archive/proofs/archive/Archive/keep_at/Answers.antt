@@ -95,7 +95,7 @@ returns-in-Some-clause-any_moment g c = λ log doubt s told.
     and_then g.D.Disk.view g.D.Disk.left_at _ _ _ P first second
 
 pub returns-in-Some-clause-fault : goal.returns-in-Some-clause-fault
-returns-in-Some-clause-fault g c = λ is. rose_later _ _ _ c.settle.ensures.no_fewer (c.keep_ready.ensures.fault is)
+returns-in-Some-clause-fault g c = λ is. rose_later _ _ _ c.settle.ensures.disk_alone.no_fewer (c.keep_ready.ensures.fault is)
 
 pub returns-in-Some-clause-recorded : goal.returns-in-Some-clause-recorded
 returns-in-Some-clause-recorded g c = recorded_then (g.D.Disk.view c.args.disk.now) (g.D.Disk.view c.settle.new.disk) (g.D.Disk.view c.keep_ready.new.disk) c.settle.ensures.recorded c.keep_ready.ensures.recorded

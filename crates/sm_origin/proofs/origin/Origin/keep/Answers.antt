@@ -135,6 +135,5 @@ returns-in_default g c = record {
       };
   told = same_told (g.D.Disk.view c.args.disk.now) (g.D.Disk.view c.keep.new.disk) (g.met.D.Disk.calls_told c.args.disk.now) (g.met.D.Disk.calls_told c.keep.new.disk) c.keep.ensures.recorded;
   remembers = same_behind c.args.fragment.now c.tell_kept.result c.args.self.now.cache;
-  no_fewer = c.keep.ensures.no_fewer;
-  link = c.keep.ensures.link;
+  disk_alone = c.keep.ensures.disk_alone;
 }

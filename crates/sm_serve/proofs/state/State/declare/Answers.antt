@@ -13,5 +13,5 @@ returns-clause-runs g c h serves =
     let d = c.args.site.now in
     let e = c.declare.new.site in
     let a = acted V A L g.met.S.Disk.told h d e c.declare.new.self (Header c.args.channel.now) (reply_to_header c.declare.result) None serves.keeps c.declare.ensures.told
-    g.met.S.Disk.now_at g.met.S.Disk.calls_told (λ has. c.declare.ensures.step has h.point.machine serves.rest.stands) c.declare.ensures.stands c.declare.ensures.link c.declare.ensures.no_fewer in
+    g.met.S.Disk.now_at g.met.S.Disk.calls_told (λ has. c.declare.ensures.step has h.point.machine serves.rest.stands) c.declare.ensures.stands c.declare.ensures.disk_alone.link c.declare.ensures.disk_alone.no_fewer in
     declares V A L h c.args.channel.now c.declare.result c.args.self.now _ d e serves refl a

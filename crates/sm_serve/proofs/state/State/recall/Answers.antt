@@ -13,5 +13,5 @@ returns-clause-runs g c h serves =
     let d = c.args.site.now in
     let e = c.recall.new.disk in
     let a = acted V A L g.met.S.Disk.told h d e c.args.self.now.origin (Ask c.args.address.now) (reply_to_fetched h.point.machine.log c.args.address.now c.recall.result) None serves.keeps
-    c.recall.ensures.told g.met.S.Disk.now_at g.met.S.Disk.calls_told (λ has. c.recall.ensures.step has h.point.machine serves.rest.stands) c.recall.ensures.stands c.recall.ensures.link c.recall.ensures.no_fewer in
+    c.recall.ensures.told g.met.S.Disk.now_at g.met.S.Disk.calls_told (λ has. c.recall.ensures.step has h.point.machine serves.rest.stands) c.recall.ensures.stands c.recall.ensures.disk_alone.link c.recall.ensures.disk_alone.no_fewer in
     recalls V A L h c.args.address.now c.recall.result c.args.self.now d e serves a
