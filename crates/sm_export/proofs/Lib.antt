@@ -1,6 +1,7 @@
 pub mod Heads
 pub mod Gathered
 pub mod Passing
+pub mod Reading
 pub mod Texts
 pub mod Kept
 pub mod Answering

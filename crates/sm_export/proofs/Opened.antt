@@ -2,7 +2,6 @@
 use Rattle.std.proofs.Common.{◌≡◌, ◌≤◌, ℕ, List, Option, Some, IsSome, true, false, inl, ap, subst, ◌∙◌, arith}
 use Rattle.std.specs.Prelude.{is_some, IfSome}
 use Rattle.sm_model.specs.declared.entry.Entry.{Entry}
-use Rattle.sm_site.specs.Clauses.{Rose}
 use Rattle.sm_site.specs.Image.{Image}
 use Rattle.sm_site.specs.Meanings.{Chosen, View}
 use Rattle.sm_archive.specs.Opening.{NotAStore}
@@ -16,6 +15,7 @@ use Rattle.sm_export.specs.declared.exported.StoreExport.{StoreExport}
 use Rattle.sm_export.specs.declared.exported.StoreExport.TheVariants as ends
 use Rattle.sm_export.specs.Exporting.{ExportedAs, IsBegun}
 use Rattle.sm_export.specs.Storing.{ComesTo, End, IsChosenFor, IsTaken, TakesTo}
+use Rattle.sm_export.proofs.Reading.{rose_later}
 
 -- ---- under a stronger premise
 
@@ -32,11 +32,6 @@ under T U so log b name bitrate held held' exported.Damaged h = (λ u. h.0 (so u
 under T U so log b name bitrate held held' exported.WriteFault h = begun_under T U so log b name bitrate held held' h
 under T U so log b name bitrate held held' (exported.NoMemory false) h = h
 under T U so log b name bitrate held held' (exported.NoMemory true) h = begun_under T U so log b name bitrate held held' h
-
-rose_later : (a b c : ℕ) → a ≤ b → Rose b c → Rose a c
-rose_later a b c le rose =
-    let later = rose.later in
-    record { later = omega (arith, le, later); rose = λ last. (let now = rose.rose last in omega (arith, le, now)) }
 
 taken_under : (T U : Type 0) → (U → T) → (log : List Entry) (name : List ℕ) (bitrate : ℕ) (old mid new : View) (input input' output output' : End) (e : Exported) → old.disk_faults ≤ mid.disk_faults
     → IsTaken T log name bitrate mid new input input' output output' e → IsTaken U log name bitrate old new input input' output output' e

@@ -1,16 +1,16 @@
 //! Exporting one quality.
-ghost use Rattle.std.specs.Prelude.{◌≡◌, ◌≤◌, ◌<◌, ◌^◌, List, [], ◌++◌, Option, Some, IfOk, OnErr, IsErrOf, IsSome, length};
+ghost use Rattle.std.specs.Prelude.{◌≡◌, ◌≤◌, ◌<◌, ◌^◌, List, [], ◌++◌, Option, Some, IfOk, OnErr, IsSome, length};
 ghost use Rattle.std.specs.Io.KnownBytes.{Appends};
 ghost use Rattle.sm_ends.specs.Moves.{AppendsFront};
 ghost use Rattle.sm_ends.specs.Faults.{Rose as FaultsRose};
 ghost use Rattle.sm_model.specs.declared.entry.Entry.{Entry};
 ghost use Rattle.sm_site.specs.Clauses.{Rose, Throughout};
-ghost use Rattle.sm_site.specs.Meanings.{SameLink};
+ghost use Rattle.sm_site.specs.Meanings.{DiskAlone};
 ghost use Rattle.sm_archive.specs.Stands.{Stands};
 ghost use Rattle.sm_export.specs.Exporting.{texts_from, ExportedAs};
 ghost use Rattle.sm_export.specs.Qualities.{kept_among};
+ghost use Rattle.sm_export.specs.Reading.{IsOnlyRead, WhyBroken};
 ghost use Rattle.sm_export.specs.declared.exported.Exported.TheVariants as exported;
-ghost use Rattle.sm_export.specs.declared.gathering.Broken.TheVariants as broken;
 
 use crate::Exported;
 use crate::fit::{Unfit, id_in};
@@ -45,15 +45,8 @@ fn write_file<D: Disk, O: Sink>(
         × (written ≡ length (kept_among log name.now bitrate times.now))) }
     ensures err { OnErr result ((log : List Entry) (doubt : Option Entry) → Stands archive.now log doubt (D.may_leave disk.old) → IsSome (D.view disk.old).contents
         → AppendsFront (O.held out.old) (O.held out.new) (header.now ++ texts_from 1 id (kept_among log name.now bitrate times.now))) }
-    ensures damaged { IsErrOf result broken.Damaged → IsSome (D.view disk.old).contents → ⊥ }
-    ensures disk_fault { IsErrOf result broken.DiskFault → Rose (D.view disk.old).disk_faults (D.view disk.new).disk_faults }
-    ensures fault { IsErrOf result broken.WriteFault → FaultsRose (O.faults out.old) (O.faults out.new) }
-    ensures later { O.faults out.old ≤ O.faults out.new }
-    ensures stands { (log : List Entry) (doubt : Option Entry) → Stands archive.now log doubt (D.may_leave disk.old)
-        → Stands archive.now log doubt (D.may_leave disk.new) }
-    ensures any_moment { Throughout D.view D.left_at disk.old disk.new (λ t c. D.may_leave disk.old c) }
-    ensures no_fewer { (D.view disk.old).disk_faults ≤ (D.view disk.new).disk_faults }
-    ensures link { SameLink (D.view disk.old) (D.view disk.new) }
+    ensures cause { WhyBroken (D.view disk.old) (D.view disk.new) (O.faults out.old) (O.faults out.new) result }
+    ensures read { IsOnlyRead D.view D.may_leave D.left_at archive.now disk.old disk.new }
 {
     match write_all(out, header) {
         Ok(()) => write_times(alloc, disk, archive, name, bitrate, times, id, out),
@@ -83,8 +76,7 @@ pub fn export<D: Disk, O: Sink>(
     ensures stands { (log : List Entry) (doubt : Option Entry) → Stands archive.now log doubt (D.may_leave disk.old)
         → Stands archive.now log doubt (D.may_leave disk.new) }
     ensures any_moment { Throughout D.view D.left_at disk.old disk.new (λ t c. D.may_leave disk.old c) }
-    ensures no_fewer { (D.view disk.old).disk_faults ≤ (D.view disk.new).disk_faults }
-    ensures link { SameLink (D.view disk.old) (D.view disk.new) }
+    ensures disk_alone { DiskAlone (D.view disk.old) (D.view disk.new) }
 {
     let head = match read_head(alloc, input, name, bitrate) {
         Ok(head) => head,

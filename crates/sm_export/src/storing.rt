@@ -2,13 +2,14 @@
 ghost use Rattle.std.specs.Prelude.{◌≡◌, ◌≤◌, ℕ, List, None, IsSome, false, string_bytes};
 ghost use Rattle.sm_model.specs.declared.entry.Entry.{Entry};
 ghost use Rattle.sm_site.specs.Clauses.{NoMore, Throughout};
-ghost use Rattle.sm_site.specs.Meanings.{SameLink};
+ghost use Rattle.sm_site.specs.Meanings.{DiskAlone};
 ghost use Rattle.sm_archive.specs.Stands.{Stands};
 ghost use Rattle.sm_archive.specs.Store.{IsStore};
 ghost use Rattle.sm_origin.specs.Opening.{HasOneStore};
 ghost use Rattle.sm_command.specs.declared.fault.StoreFault.TheVariants as fault;
 ghost use Rattle.sm_command.specs.Lasting.{AtEachMoment, Lasts, NoFewer, Spared, Untouched};
 ghost use Rattle.sm_export.specs.declared.exported.StoreExport.TheVariants as ends;
+ghost use Rattle.sm_export.specs.Reading.{IsOnlyRead};
 ghost use Rattle.sm_export.specs.Storing.{ComesTo, IsChosenFor, TakesTo};
 
 use crate::{StoreExport, export};
@@ -39,9 +40,7 @@ fn export_input<I: Source, O: Sink, D: Disk>(
         (record { told = O.held out.old; faults = O.faults out.old }) (record { told = O.held out.new; faults = O.faults out.new }) result }
     ensures counted { I.faults input.old ≤ I.faults input.new }
     ensures later { O.faults out.old ≤ O.faults out.new }
-    ensures any_moment { Throughout D.view D.left_at disk.old disk.new (λ t c. D.may_leave disk.old c) }
-    ensures no_fewer { (D.view disk.old).disk_faults ≤ (D.view disk.new).disk_faults }
-    ensures link { SameLink (D.view disk.old) (D.view disk.new) }
+    ensures read { IsOnlyRead D.view D.may_leave D.left_at archive.now disk.old disk.new }
 {
     match read_input(alloc, input, MOST) {
         Ok(text) => {
@@ -71,8 +70,7 @@ fn export_disk<I: Source, O: Sink, D: Disk>(
     ensures untouched { (at : ℕ) → result ≡ ends.Unopened (fault.NotAStore at) → ((D.view disk.new).contents ≡ (D.view disk.old).contents)
         × NoMore (D.may_leave disk.old) (D.may_leave disk.new) × Throughout D.view D.left_at disk.old disk.new (λ t c. D.may_leave disk.old c) }
     ensures spared { Spared D.view D.may_leave D.left_at disk.old disk.new }
-    ensures no_fewer { (D.view disk.old).disk_faults ≤ (D.view disk.new).disk_faults }
-    ensures link { SameLink (D.view disk.old) (D.view disk.new) }
+    ensures disk_alone { DiskAlone (D.view disk.old) (D.view disk.new) }
 {
     match open_archive(alloc, disk) {
         Ok(archive) => export_input(alloc, input, out, disk, &archive, name, bitrate),

@@ -1,21 +1,18 @@
 //! Writing the fragments of one quality.
-ghost use Rattle.std.specs.Prelude.{◌≡◌, ◌≤◌, ◌<◌, ◌+◌, ◌^◌, [], ◌++◌, List, Option, None, Some, Err, IfOk, OnErr, IsErrOf, IsSome, is_some};
+ghost use Rattle.std.specs.Prelude.{◌≡◌, ◌≤◌, ◌<◌, ◌+◌, ◌^◌, [], ◌++◌, List, Option, None, Some, Err, IfOk, OnErr, IsSome, is_some};
 ghost use Rattle.std.specs.Prelude.{length};
 ghost use Rattle.std.specs.List.{flat_map};
 ghost use Rattle.std.specs.Io.KnownBytes.{Appends};
 ghost use Rattle.sm_ends.specs.Moves.{AppendsFront};
-ghost use Rattle.sm_ends.specs.Faults.{Rose as FaultsRose};
 ghost use Rattle.sm_model.specs.declared.address.Address.{Address};
 ghost use Rattle.sm_model.specs.declared.entry.Entry.{Entry};
 ghost use Rattle.sm_model.specs.Fragments.{IsValid};
 ghost use Rattle.sm_model.specs.FragText.{frag_text};
-ghost use Rattle.sm_site.specs.Clauses.{Rose, Throughout};
-ghost use Rattle.sm_site.specs.Meanings.{SameLink};
 ghost use Rattle.sm_archive.specs.Stands.{Stands};
 ghost use Rattle.sm_export.specs.Exporting.{texts_from};
 ghost use Rattle.sm_export.specs.Gathering.{IsPassedOn, Leaves, LeavesFront};
 ghost use Rattle.sm_export.specs.Qualities.{kept_list, kept_among};
-ghost use Rattle.sm_export.specs.declared.gathering.Broken.TheVariants as broken;
+ghost use Rattle.sm_export.specs.Reading.{IsOnlyRead, WhyBroken};
 
 use crate::gathering::{Broken, ROOM, pass_on, write_gathered, write_if_full};
 use sm_archive::{Archive, Fetched};
@@ -110,16 +107,9 @@ fn write_at<D: Disk, O: Sink>(
         × (length (kept_list log address.now) ≡ wrote)) }
     ensures err { OnErr result ((log : List Entry) (doubt : Option Entry) → Stands archive.now log doubt (D.may_leave disk.old) → IsSome (D.view disk.old).contents
         → LeavesFront (O.held out.old) (O.held out.new) (gathered.old.items ++ texts_from seq id (kept_list log address.now)) gathered.new.items) }
-    ensures damaged { IsErrOf result broken.Damaged → IsSome (D.view disk.old).contents → ⊥ }
-    ensures disk_fault { IsErrOf result broken.DiskFault → Rose (D.view disk.old).disk_faults (D.view disk.new).disk_faults }
-    ensures fault { IsErrOf result broken.WriteFault → FaultsRose (O.faults out.old) (O.faults out.new) }
-    ensures later { O.faults out.old ≤ O.faults out.new }
-    ensures stands { (log : List Entry) (doubt : Option Entry) → Stands archive.now log doubt (D.may_leave disk.old)
-        → Stands archive.now log doubt (D.may_leave disk.new) }
+    ensures cause { WhyBroken (D.view disk.old) (D.view disk.new) (O.faults out.old) (O.faults out.new) result }
+    ensures read { IsOnlyRead D.view D.may_leave D.left_at archive.now disk.old disk.new }
     ensures told { is_some (D.view disk.new).contents ≡ is_some (D.view disk.old).contents }
-    ensures any_moment { Throughout D.view D.left_at disk.old disk.new (λ t c. D.may_leave disk.old c) }
-    ensures no_fewer { (D.view disk.old).disk_faults ≤ (D.view disk.new).disk_faults }
-    ensures link { SameLink (D.view disk.old) (D.view disk.new) }
 {
     kept_is_added();
     match archive.fetch(alloc, disk, address) {
@@ -156,15 +146,8 @@ fn gather_times<D: Disk, O: Sink>(
         × (written ≡ length (kept_among log name.now bitrate times.now))) }
     ensures err { OnErr result ((log : List Entry) (doubt : Option Entry) → Stands archive.now log doubt (D.may_leave disk.old) → IsSome (D.view disk.old).contents
         → LeavesFront (O.held out.old) (O.held out.new) (gathered.old.items ++ texts_from 1 id (kept_among log name.now bitrate times.now)) gathered.new.items) }
-    ensures damaged { IsErrOf result broken.Damaged → IsSome (D.view disk.old).contents → ⊥ }
-    ensures disk_fault { IsErrOf result broken.DiskFault → Rose (D.view disk.old).disk_faults (D.view disk.new).disk_faults }
-    ensures fault { IsErrOf result broken.WriteFault → FaultsRose (O.faults out.old) (O.faults out.new) }
-    ensures later { O.faults out.old ≤ O.faults out.new }
-    ensures stands { (log : List Entry) (doubt : Option Entry) → Stands archive.now log doubt (D.may_leave disk.old)
-        → Stands archive.now log doubt (D.may_leave disk.new) }
-    ensures any_moment { Throughout D.view D.left_at disk.old disk.new (λ t c. D.may_leave disk.old c) }
-    ensures no_fewer { (D.view disk.old).disk_faults ≤ (D.view disk.new).disk_faults }
-    ensures link { SameLink (D.view disk.old) (D.view disk.new) }
+    ensures cause { WhyBroken (D.view disk.old) (D.view disk.new) (O.faults out.old) (O.faults out.new) result }
+    ensures read { IsOnlyRead D.view D.may_leave D.left_at archive.now disk.old disk.new }
 {
     let Ok(stream) = name.copy(alloc) else {
         return Err(Broken::NoMemory);
@@ -214,15 +197,8 @@ pub(crate) fn write_times<D: Disk, O: Sink>(
         × (written ≡ length (kept_among log name.now bitrate times.now))) }
     ensures err { OnErr result ((log : List Entry) (doubt : Option Entry) → Stands archive.now log doubt (D.may_leave disk.old) → IsSome (D.view disk.old).contents
         → AppendsFront (O.held out.old) (O.held out.new) (texts_from 1 id (kept_among log name.now bitrate times.now))) }
-    ensures damaged { IsErrOf result broken.Damaged → IsSome (D.view disk.old).contents → ⊥ }
-    ensures disk_fault { IsErrOf result broken.DiskFault → Rose (D.view disk.old).disk_faults (D.view disk.new).disk_faults }
-    ensures fault { IsErrOf result broken.WriteFault → FaultsRose (O.faults out.old) (O.faults out.new) }
-    ensures later { O.faults out.old ≤ O.faults out.new }
-    ensures stands { (log : List Entry) (doubt : Option Entry) → Stands archive.now log doubt (D.may_leave disk.old)
-        → Stands archive.now log doubt (D.may_leave disk.new) }
-    ensures any_moment { Throughout D.view D.left_at disk.old disk.new (λ t c. D.may_leave disk.old c) }
-    ensures no_fewer { (D.view disk.old).disk_faults ≤ (D.view disk.new).disk_faults }
-    ensures link { SameLink (D.view disk.old) (D.view disk.new) }
+    ensures cause { WhyBroken (D.view disk.old) (D.view disk.new) (O.faults out.old) (O.faults out.new) result }
+    ensures read { IsOnlyRead D.view D.may_leave D.left_at archive.now disk.old disk.new }
 {
     let Ok(mut gathered) = Vec::with_capacity(alloc, ROOM) else {
         return Err(Broken::NoMemory);

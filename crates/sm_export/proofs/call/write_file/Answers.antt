@@ -5,6 +5,7 @@ use Rattle.sm_ends.specs.Moves.{AppendsFront}
 use Rattle.sm_export.specs.Exporting.{texts_from}
 use Rattle.sm_export.specs.Qualities.{kept_among}
 use Rattle.sm_export.proofs.Texts.{front_then, front_of_first}
+use Rattle.sm_export.proofs.Reading.{cause_since, not_read, sink_broke}
 use Rattle.sm_export.proofs.call.write_file.Goals as goal
 
 pub returns-in-Ok-clause-ok : goal.returns-in-Ok-clause-ok
@@ -22,3 +23,17 @@ returns-in-Ok-clause-err g c = on_err_weaker c.write_times.result
 pub returns-in-Err-clause-err : goal.returns-in-Err-clause-err
 returns-in-Err-clause-err g c = λ log doubt s told. front_of_first (g.O.Sink.held c.args.out.now) (g.O.Sink.held c.write_all.new.sink) c.args.header.now
     (texts_from 1 c.args.id (kept_among log c.args.name.now c.args.bitrate c.args.times.now)) c.in-Err.ensures.err
+
+pub returns-in-Ok-clause-cause : goal.returns-in-Ok-clause-cause
+returns-in-Ok-clause-cause g c =
+    cause_since (g.D.Disk.view c.args.disk.now) (g.D.Disk.view c.write_times.new.disk)
+    (g.O.Sink.faults c.args.out.now) (g.O.Sink.faults c.write_all.new.sink) (g.O.Sink.faults c.write_times.new.out)
+    c.write_times.result c.in-Ok.ensures.cause.later c.write_times.ensures.cause
+
+pub returns-in-Err-clause-cause : goal.returns-in-Err-clause-cause
+returns-in-Err-clause-cause g c =
+    sink_broke (g.D.Disk.view c.args.disk.now) (g.D.Disk.view c.args.disk.now)
+    (g.O.Sink.faults c.args.out.now) (g.O.Sink.faults c.write_all.new.sink) c.in-Err.ensures.cause.failed c.in-Err.ensures.cause.later
+
+pub returns-in-Err-clause-read : goal.returns-in-Err-clause-read
+returns-in-Err-clause-read g c = not_read g.D.Disk.view g.D.Disk.may_leave g.D.Disk.left_at g.met.D.Disk.no_later c.args.archive.now c.args.disk.now

@@ -10,14 +10,14 @@ export_input-requires g c = record { stands = (c.in-Ok.ensures.opened.log, c.in-
 pub returns-in-Ok-clause-means : goal.returns-in-Ok-clause-means
 returns-in-Ok-clause-means g c =
     let o = c.in-Ok.ensures.opened in
-    opened_comes o.log c.args.name.now c.args.bitrate _ _ _ _ _ _ _ c.export_input.result c.in-Ok.ensures.no_fewer c.in-Ok.ensures.told o.store (c.export_input.ensures.means o.log o.stands)
+    opened_comes o.log c.args.name.now c.args.bitrate _ _ _ _ _ _ _ c.export_input.result c.in-Ok.ensures.disk_alone.no_fewer c.in-Ok.ensures.told o.store (c.export_input.ensures.means o.log o.stands)
 
 pub returns-in-Ok-clause-any_moment : goal.returns-in-Ok-clause-any_moment
 returns-in-Ok-clause-any_moment g c log one =
     let V = g.D.Disk.view in
     let L = g.D.Disk.left_at in
     and_then V L c.args.disk.now c.open_archive.new.disk c.export_input.new.disk (λ t x. IsStore log x) (c.in-Ok.ensures.any_moment log one)
-    (weakened V L c.open_archive.new.disk c.export_input.new.disk _ (λ t x. IsStore log x) c.export_input.ensures.any_moment (λ t x left. one_here log _ (c.in-Ok.ensures.stays log one) x left))
+    (weakened V L c.open_archive.new.disk c.export_input.new.disk _ (λ t x. IsStore log x) c.export_input.ensures.read.any_moment (λ t x left. one_here log _ (c.in-Ok.ensures.stays log one) x left))
 
 pub returns-in-Ok-clause-untouched : goal.returns-in-Ok-clause-untouched
 returns-in-Ok-clause-untouched g c at is =

@@ -1,5 +1,6 @@
 use Rattle.std.proofs.Common.{ℕ, List, None, IsSome, subst}
 use Rattle.sm_export.specs.Exporting.{ExportedAs}
+use Rattle.sm_export.proofs.Reading.{not_read}
 use Rattle.sm_export.proofs.storing.export_input.Goals as goal
 
 pub returns-in-Ok-clause-means : goal.returns-in-Ok-clause-means
@@ -15,3 +16,9 @@ returns-in-Ok-clause-means g c log stands = record {
   disk_fault = c.export-exported.ensures.disk_fault;
   fault = c.export-exported.ensures.fault;
 }
+
+pub returns-in-Ok-clause-read : goal.returns-in-Ok-clause-read
+returns-in-Ok-clause-read g c = let e = c.export-exported.ensures in record { stands = e.stands; any_moment = e.any_moment; disk_alone = e.disk_alone }
+
+pub returns-in-Err-clause-read : goal.returns-in-Err-clause-read
+returns-in-Err-clause-read g c = not_read g.D.Disk.view g.D.Disk.may_leave g.D.Disk.left_at g.met.D.Disk.no_later c.args.archive.now c.args.disk.now

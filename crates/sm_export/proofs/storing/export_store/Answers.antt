@@ -25,7 +25,7 @@ returns-in-Ok-clause-lasts g c some log one base told =
     (one_by_one V L c.args.site.now c.choose.new.site c.export_disk.new.disk (IsStore log)
     (weaker V L c.args.site.now c.choose.new.site _ (IsStore log) c.choose.ensures.any_moment (one_here log _ one))
     (at_each V L c.choose.new.site c.export_disk.new.disk _ (IsStore log) (c.export_disk.ensures.any_moment log (one_still log _ _ c.choose.ensures.crash one)) (λ t image is. is)))
-    (c.export_disk.ensures.link.transcript ∙ c.choose.ensures.transcript ∙ told)
+    (c.export_disk.ensures.disk_alone.link.transcript ∙ c.choose.ensures.transcript ∙ told)
 
 pub returns-in-Err-clause-lasts : goal.returns-in-Err-clause-lasts
 returns-in-Err-clause-lasts g c some log one base told =
@@ -36,7 +36,7 @@ returns-in-Err-clause-lasts g c some log one base told =
 pub returns-in-Ok-clause-no_fewer : goal.returns-in-Ok-clause-no_fewer
 returns-in-Ok-clause-no_fewer g c =
     counts_then (g.S.Disk.view c.args.site.now) (g.S.Disk.view c.choose.new.site) (g.S.Disk.view c.export_disk.new.disk)
-    (record { disk = c.choose.ensures.disk_faults; link = c.choose.ensures.link_faults }) c.export_disk.ensures.no_fewer c.export_disk.ensures.link.link_faults
+    (record { disk = c.choose.ensures.disk_faults; link = c.choose.ensures.link_faults }) c.export_disk.ensures.disk_alone.no_fewer c.export_disk.ensures.disk_alone.link.link_faults
 
 pub returns-in-Err-clause-no_fewer : goal.returns-in-Err-clause-no_fewer
 returns-in-Err-clause-no_fewer g c = record { disk = c.choose.ensures.disk_faults; link = c.choose.ensures.link_faults }
@@ -63,7 +63,7 @@ pub returns-in-Err-clause-untouched : goal.returns-in-Err-clause-untouched
 returns-in-Err-clause-untouched g c at is = record { contents = c.choose.ensures.contents; each = c.choose.ensures.any_moment }
 
 pub returns-in-Ok-clause-chosen : goal.returns-in-Ok-clause-chosen
-returns-in-Ok-clause-chosen g c = chosen_for c.export_disk.result _ (g.S.Disk.view c.choose.new.site) (g.S.Disk.view c.export_disk.new.disk) c.in-Ok.ensures.chosen c.export_disk.ensures.link.chosen
+returns-in-Ok-clause-chosen g c = chosen_for c.export_disk.result _ (g.S.Disk.view c.choose.new.site) (g.S.Disk.view c.export_disk.new.disk) c.in-Ok.ensures.chosen c.export_disk.ensures.disk_alone.link.chosen
 
 pub returns-in-Ok-clause-spared : goal.returns-in-Ok-clause-spared
 returns-in-Ok-clause-spared g c =

@@ -7,7 +7,7 @@ use Rattle.sm_export.specs.Gathering.{Leaves}
 use Rattle.sm_export.specs.Qualities.{kept_among}
 use Rattle.sm_export.proofs.Texts.{wrote_more, wrote_part, at_any}
 use Rattle.sm_export.proofs.Gathered.{nothing_more}
-use Rattle.sm_command.proofs.Lasting.{no_other}
+use Rattle.sm_export.proofs.Reading.{cause_behind, no_memory, not_read, read_then, same_cause, well}
 use Rattle.sm_export.proofs.writing.gather_times.Goals as goal
 
 pub returns-in-Err-clause-err : goal.returns-in-Err-clause-err
@@ -23,11 +23,7 @@ returns-in-Err-clause-err g c = λ log doubt s told.
     ap (λ (n : List ℕ). record { stream = n; bitrate = c.loop-time.address.bitrate; time = t.0 }) inv.stream ∙ ap (λ (b : ℕ). record { stream = c.args.name.now; bitrate = b; time = t.0 }) inv.bitrate in
     wrote_part (g.O.Sink.held c.args.out.now) (g.O.Sink.held c.loop-time.out) (g.O.Sink.held c.write_at.new.out)
     c.args.gathered.now.items c.loop-time.gathered.items c.write_at.new.gathered.items log c.args.name.now c.args.bitrate address times i t c.args.id c.loop-time.written inside
-    (at_any times i (0, 0) t inside) named was.0 was.1 (c.in-Err.ensures.err log doubt (inv.stands log doubt s) (inv.told ∙ told))
-
-pub returns-in-Err-clause-any_moment : goal.returns-in-Err-clause-any_moment
-returns-in-Err-clause-any_moment g c = no_other g.D.Disk.view g.D.Disk.may_leave g.D.Disk.left_at g.met.D.Disk.at_now g.met.D.Disk.now_at c.args.disk.now c.loop-time.disk c.write_at.new.disk
-    c.loop-time.invariant.any_moment c.in-Err.ensures.any_moment
+    (at_any times i (0, 0) t inside) named was.0 was.1 (c.in-Err.ensures.err log doubt (inv.read.stands log doubt s) (inv.told ∙ told))
 
 pub loop-time-preserved : goal.loop-time-preserved
 loop-time-preserved g c =
@@ -40,34 +36,21 @@ loop-time-preserved g c =
     let address : Address = record { stream = c.loop-time.address.stream; bitrate = c.loop-time.address.bitrate; time = t.0 } in
     let named : address ≡ record { stream = c.args.name.now; bitrate = c.args.bitrate; time = t.0 } =
     ap (λ (n : List ℕ). record { stream = n; bitrate = c.loop-time.address.bitrate; time = t.0 }) inv.stream ∙ ap (λ (b : ℕ). record { stream = c.args.name.now; bitrate = b; time = t.0 }) inv.bitrate in
-    let fewer = inv.no_fewer in
-    let fewer_yet = e.no_fewer in
     let later = inv.later in
-    let later_yet = e.later in
-    let same = inv.link in
-    let same_yet = e.link in
+    let later_yet = e.cause.later in
     let few = inv.few in
     let one = e.few in
     record {
-      some = (inv.some.0, inv.some.1, e.stands inv.some.0 inv.some.1 inv.some.2);
-      stands = λ log doubt s. e.stands log doubt (inv.stands log doubt s);
+      some = (inv.some.0, inv.some.1, e.read.stands inv.some.0 inv.some.1 inv.some.2);
+      read = read_then g.D.Disk.view g.D.Disk.may_leave g.D.Disk.left_at g.met.D.Disk.at_now g.met.D.Disk.now_at c.args.archive.now c.args.disk.now c.loop-time.disk c.write_at.new.disk inv.read e.read;
       told = e.told ∙ inv.told;
-      no_fewer = omega (arith, fewer, fewer_yet);
       later = omega (arith, later, later_yet);
-      any_moment = no_other g.D.Disk.view g.D.Disk.may_leave g.D.Disk.left_at g.met.D.Disk.at_now g.met.D.Disk.now_at c.args.disk.now c.loop-time.disk c.write_at.new.disk inv.any_moment e.any_moment;
-      link = record {
-        transcript = same_yet.transcript ∙ same.transcript;
-        script = same_yet.script ∙ same.script;
-        link_faults = same_yet.link_faults ∙ same.link_faults;
-        send_faults = same_yet.send_faults ∙ same.send_faults;
-        chosen = same_yet.chosen ∙ same.chosen;
-      };
       few = omega (arith, few, one);
       stream = inv.stream;
       bitrate = inv.bitrate;
       wrote = λ log doubt s told.
           let was = inv.wrote log doubt s told in
-          let now = e.ok log doubt (inv.stands log doubt s) (inv.told ∙ told) in
+          let now = e.ok log doubt (inv.read.stands log doubt s) (inv.told ∙ told) in
           wrote_more (g.O.Sink.held c.args.out.now) (g.O.Sink.held c.loop-time.out) (g.O.Sink.held c.write_at.new.out)
           c.args.gathered.now.items c.loop-time.gathered.items c.write_at.new.gathered.items log c.args.name.now c.args.bitrate address times i t c.args.id c.loop-time.written
           c.in-Ok-write_at.wrote inside (at_any times i (0, 0) t inside) named was.0 was.1 now.0 now.1;
@@ -90,5 +73,25 @@ pub returns-in_default-clause-err : goal.returns-in_default-clause-err
 returns-in_default-clause-err g c = λ log doubt s told.
     nothing_more (g.O.Sink.held c.args.out.now) c.args.gathered.now.items (texts_from 1 c.args.id (kept_among log c.args.name.now c.args.bitrate c.args.times.now))
 
-pub returns-in-Err-clause-stands : goal.returns-in-Err-clause-stands
-returns-in-Err-clause-stands g c = λ log doubt s. c.in-Err.ensures.stands log doubt (c.loop-time.invariant.stands log doubt s)
+pub returns-in_default-clause-cause : goal.returns-in_default-clause-cause
+returns-in_default-clause-cause g c = no_memory (g.D.Disk.view c.args.disk.now) (g.D.Disk.view c.args.disk.now) (g.O.Sink.faults c.args.out.now)
+
+pub returns-in_default-clause-read : goal.returns-in_default-clause-read
+returns-in_default-clause-read g c = not_read g.D.Disk.view g.D.Disk.may_leave g.D.Disk.left_at g.met.D.Disk.no_later c.args.archive.now c.args.disk.now
+
+pub returns-in-Err-clause-cause : goal.returns-in-Err-clause-cause
+returns-in-Err-clause-cause g c =
+    let inv = c.loop-time.invariant in
+    let faults = g.O.Sink.faults in
+    let old = g.D.Disk.view c.args.disk.now in
+    let new = g.D.Disk.view c.write_at.new.disk in
+    same_cause old new (faults c.args.out.now) (faults c.write_at.new.out) c.in-Err.broken
+    (cause_behind old (g.D.Disk.view c.loop-time.disk) new (faults c.args.out.now) (faults c.loop-time.out) (faults c.write_at.new.out) _ inv.told inv.read.disk_alone.no_fewer inv.later c.in-Err.ensures.cause)
+
+pub returns-in-Err-clause-read : goal.returns-in-Err-clause-read
+returns-in-Err-clause-read g c =
+    read_then g.D.Disk.view g.D.Disk.may_leave g.D.Disk.left_at g.met.D.Disk.at_now g.met.D.Disk.now_at c.args.archive.now
+    c.args.disk.now c.loop-time.disk c.write_at.new.disk c.loop-time.invariant.read c.in-Err.ensures.read
+
+pub returns-clause-cause : goal.returns-clause-cause
+returns-clause-cause g c = well _ _ (g.O.Sink.faults c.args.out.now) (g.O.Sink.faults c.loop-time.out) _ c.loop-time.invariant.later

@@ -1,23 +1,19 @@
 use Rattle.std.proofs.Common.{◌≡◌, ◌≤◌, ◌++◌, List, Option, length, take, IsSome}
 use Rattle.std.specs.Prelude.{is_some}
 use Rattle.sm_model.specs.declared.entry.Entry.{Entry}
-use Rattle.sm_site.specs.Clauses.{Throughout}
-use Rattle.sm_site.specs.Meanings.{SameLink}
 use Rattle.sm_archive.specs.Stands.{Stands}
 use Rattle.sm_export.specs.Exporting.{texts_from}
 use Rattle.sm_export.specs.Gathering.{Leaves}
 use Rattle.sm_export.specs.Qualities.{kept_among}
+use Rattle.sm_export.specs.Reading.{IsOnlyRead}
 use Rattle.sm_export.proofs.writing.gather_times.Given as goal
 
 abbrev pub invariant-loop-time : goal.invariant-loop-time
 invariant-loop-time g l = record {
   some : (log : List Entry) × (doubt : Option Entry) × Stands l.archive log doubt (g.D.Disk.may_leave l.disk);
-  stands : (log : List Entry) (doubt : Option Entry) → Stands l.archive log doubt (g.D.Disk.may_leave l.fn.disk) → Stands l.archive log doubt (g.D.Disk.may_leave l.disk);
+  read : IsOnlyRead g.D.Disk.view g.D.Disk.may_leave g.D.Disk.left_at l.archive l.fn.disk l.disk;
   told : is_some (g.D.Disk.view l.disk).contents ≡ is_some (g.D.Disk.view l.fn.disk).contents;
-  no_fewer : (g.D.Disk.view l.fn.disk).disk_faults ≤ (g.D.Disk.view l.disk).disk_faults;
   later : g.O.Sink.faults l.fn.out ≤ g.O.Sink.faults l.out;
-  any_moment : Throughout g.D.Disk.view g.D.Disk.left_at l.fn.disk l.disk (λ t c. g.D.Disk.may_leave l.fn.disk c);
-  link : SameLink (g.D.Disk.view l.fn.disk) (g.D.Disk.view l.disk);
   few : l.written ≤ l.time-index;
   stream : l.address.stream ≡ l.name;
   bitrate : l.address.bitrate ≡ l.bitrate;

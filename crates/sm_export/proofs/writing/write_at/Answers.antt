@@ -1,4 +1,4 @@
-use Rattle.std.proofs.Common.{List, ℕ, [], ◌++◌, refl, sym, ap, subst, length, append-nil}
+use Rattle.std.proofs.Common.{List, ℕ, [], ◌++◌, refl, sym, ap, subst, length, append-nil, le_refl}
 use Rattle.sm_model.specs.declared.fragment.Fragment.{Fragment}
 use Rattle.sm_model.specs.FragText.{frag_text}
 use Rattle.sm_export.specs.Exporting.{texts_from}
@@ -6,6 +6,7 @@ use Rattle.sm_export.specs.Qualities.{kept_list}
 use Rattle.sm_export.specs.Gathering.{Leaves, LeavesFront}
 use Rattle.sm_export.proofs.Gathered.{all_gathered, nothing_more}
 use Rattle.sm_export.proofs.Kept.{kept_entry, none_entry}
+use Rattle.sm_export.proofs.Reading.{disk_failed, no_memory, not_passed, was_damaged, well}
 use Rattle.sm_export.proofs.writing.write_at.Goals as goal
 
 pub returns-in-Ok-clause-ok : goal.returns-in-Ok-clause-ok
@@ -44,9 +45,6 @@ returns-in-Absent-clause-ok g c log doubt s told =
       ap length kept,
     )
 
-pub returns-in-Damaged-clause-damaged : goal.returns-in-Damaged-clause-damaged
-returns-in-Damaged-clause-damaged g c = λ e told. c.in-Damaged.ensures.damaged refl c.requires.stands.0 c.requires.stands.1 c.requires.stands.2 told
-
 pub returns-in-DiskFault-clause-err : goal.returns-in-DiskFault-clause-err
 returns-in-DiskFault-clause-err g c log doubt s told = nothing_more (g.O.Sink.held c.args.out.now) c.args.gathered.now.items (texts_from c.args.seq c.args.id (kept_list log c.args.address.now))
 
@@ -55,3 +53,43 @@ returns-in-Damaged-clause-err g c log doubt s told = nothing_more (g.O.Sink.held
 
 pub returns-clause-err : goal.returns-clause-err
 returns-clause-err g c log doubt s told = nothing_more (g.O.Sink.held c.args.out.now) c.args.gathered.now.items (texts_from c.args.seq c.args.id (kept_list log c.args.address.now))
+
+pub returns-in-Ok-clause-cause : goal.returns-in-Ok-clause-cause
+returns-in-Ok-clause-cause g c = well _ _ (g.O.Sink.faults c.args.out.now) (g.O.Sink.faults c.write_fragment.new.out) _ c.in-Ok.ensures.later
+
+pub returns-in-Found-clause-cause : goal.returns-in-Found-clause-cause
+returns-in-Found-clause-cause g c =
+    not_passed _ _ (g.O.Sink.held c.args.out.now) (g.O.Sink.held c.write_fragment.new.out) (g.O.Sink.faults c.args.out.now) (g.O.Sink.faults c.write_fragment.new.out)
+    c.args.gathered.now.items c.write_fragment.new.gathered.items (frag_text c.args.seq c.args.id c.in-Found.fragment []) c.in-Err.broken c.in-Err.ensures
+
+pub returns-in-Absent-clause-cause : goal.returns-in-Absent-clause-cause
+returns-in-Absent-clause-cause g c = well _ _ (g.O.Sink.faults c.args.out.now) (g.O.Sink.faults c.args.out.now) _ (le_refl (g.O.Sink.faults c.args.out.now))
+
+pub returns-in-DiskFault-clause-cause : goal.returns-in-DiskFault-clause-cause
+returns-in-DiskFault-clause-cause g c = disk_failed (g.D.Disk.view c.args.disk.now) (g.D.Disk.view c.fetch.new.disk) (g.O.Sink.faults c.args.out.now) (c.in-DiskFault.ensures.fault refl)
+
+pub returns-in-Damaged-clause-cause : goal.returns-in-Damaged-clause-cause
+returns-in-Damaged-clause-cause g c =
+    was_damaged (g.D.Disk.view c.args.disk.now) (g.D.Disk.view c.fetch.new.disk) (g.O.Sink.faults c.args.out.now)
+    (λ told. c.in-Damaged.ensures.damaged refl c.requires.stands.0 c.requires.stands.1 c.requires.stands.2 told)
+
+pub returns-clause-cause : goal.returns-clause-cause
+returns-clause-cause g c = no_memory (g.D.Disk.view c.args.disk.now) (g.D.Disk.view c.fetch.new.disk) (g.O.Sink.faults c.args.out.now)
+
+pub returns-in-Ok-clause-read : goal.returns-in-Ok-clause-read
+returns-in-Ok-clause-read g c = let e = c.fetch.ensures in record { stands = e.stands; any_moment = e.any_moment; disk_alone = e.disk_alone }
+
+pub returns-in-Found-clause-read : goal.returns-in-Found-clause-read
+returns-in-Found-clause-read g c = let e = c.fetch.ensures in record { stands = e.stands; any_moment = e.any_moment; disk_alone = e.disk_alone }
+
+pub returns-in-Absent-clause-read : goal.returns-in-Absent-clause-read
+returns-in-Absent-clause-read g c = let e = c.fetch.ensures in record { stands = e.stands; any_moment = e.any_moment; disk_alone = e.disk_alone }
+
+pub returns-in-DiskFault-clause-read : goal.returns-in-DiskFault-clause-read
+returns-in-DiskFault-clause-read g c = let e = c.fetch.ensures in record { stands = e.stands; any_moment = e.any_moment; disk_alone = e.disk_alone }
+
+pub returns-in-Damaged-clause-read : goal.returns-in-Damaged-clause-read
+returns-in-Damaged-clause-read g c = let e = c.fetch.ensures in record { stands = e.stands; any_moment = e.any_moment; disk_alone = e.disk_alone }
+
+pub returns-clause-read : goal.returns-clause-read
+returns-clause-read g c = let e = c.fetch.ensures in record { stands = e.stands; any_moment = e.any_moment; disk_alone = e.disk_alone }

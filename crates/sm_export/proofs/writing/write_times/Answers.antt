@@ -1,11 +1,11 @@
-use Rattle.std.proofs.Common.{ℕ, List, [], ◌++◌, arith}
+use Rattle.std.proofs.Common.{ℕ, List, [], ◌++◌}
 use Rattle.std.proofs.lemmas.Result.{IfOk-weaker, on_err_weaker}
 use Rattle.sm_export.specs.Exporting.{texts_from}
 use Rattle.sm_export.specs.Gathering.{LeavesFront}
 use Rattle.sm_export.specs.Qualities.{kept_among}
-use Rattle.sm_export.specs.declared.gathering.Broken.TheVariants as broken
 use Rattle.sm_export.proofs.Gathered.{all_sent, front_sent, front_of_all}
-use Rattle.sm_export.proofs.Passing.{either, rose_before, rose_then, same_error}
+use Rattle.sm_export.proofs.Passing.{either}
+use Rattle.sm_export.proofs.Reading.{cause_since, cause_then, no_memory, not_passed, not_read}
 use Rattle.sm_export.proofs.writing.write_times.Goals as goal
 
 pub returns-in-Ok-write_gathered-clause-ok : goal.returns-in-Ok-write_gathered-clause-ok
@@ -33,11 +33,6 @@ returns-in-Ok-write_gathered-clause-err g c =
     (front_of_all (held c.gather_times-ended.new.out) (held c.write_gathered.new.out) (left ++ []) c.write_gathered.new.gathered.items last.wrote.ok))
     c.gather_times-ended.ensures.err
 
-pub returns-in-Ok-write_gathered-clause-fault : goal.returns-in-Ok-write_gathered-clause-fault
-returns-in-Ok-write_gathered-clause-fault g c = λ e.
-    rose_then (g.O.Sink.faults c.args.out.now) (g.O.Sink.faults c.gather_times-ended.new.out) (g.O.Sink.faults c.write_gathered.new.out) (c.gather_times-ended.ensures.fault e)
-    c.in-Ok-write_gathered.ensures.wrote.later
-
 pub returns-clause-err : goal.returns-clause-err
 returns-clause-err g c = λ log doubt s told.
     let held = g.O.Sink.held in
@@ -51,13 +46,23 @@ returns-clause-err g c = λ log doubt s told.
     front_sent (held c.args.out.now) (held c.gather_times-ended.new.out) (held c.write_gathered.new.out) c.in-Ok.gathered.items texts left c.write_gathered.new.gathered.items c.in-Ok.ensures.items before
     c.in-Err.ensures.wrote.err
 
-pub returns-clause-fault : goal.returns-clause-fault
-returns-clause-fault g c = λ e.
-    rose_before (g.O.Sink.faults c.args.out.now) (g.O.Sink.faults c.gather_times-ended.new.out) (g.O.Sink.faults c.write_gathered.new.out) c.gather_times-ended.ensures.later
-    (c.in-Err.ensures.wrote.fault (same_error c.in-Err.broken broken.WriteFault e))
+pub returns-in-Ok-write_gathered-clause-cause : goal.returns-in-Ok-write_gathered-clause-cause
+returns-in-Ok-write_gathered-clause-cause g c =
+    cause_then (g.D.Disk.view c.args.disk.now) (g.D.Disk.view c.gather_times-ended.new.disk)
+    (g.O.Sink.faults c.args.out.now) (g.O.Sink.faults c.gather_times-ended.new.out) (g.O.Sink.faults c.write_gathered.new.out)
+    c.gather_times-ended.result c.gather_times-ended.ensures.cause c.in-Ok-write_gathered.ensures.wrote.later
 
-pub returns-clause-disk_fault : goal.returns-clause-disk_fault
-returns-clause-disk_fault g c = λ e. absurd (c.in-Err.ensures.wrote.disk (same_error c.in-Err.broken broken.DiskFault e))
+pub returns-clause-cause : goal.returns-clause-cause
+returns-clause-cause g c =
+    let faults = g.O.Sink.faults in
+    let old = g.D.Disk.view c.args.disk.now in
+    let new = g.D.Disk.view c.gather_times-ended.new.disk in
+    cause_since old new (faults c.args.out.now) (faults c.gather_times-ended.new.out) (faults c.write_gathered.new.out) _ c.gather_times-ended.ensures.cause.later
+    (not_passed old new (g.O.Sink.held c.gather_times-ended.new.out) (g.O.Sink.held c.write_gathered.new.out) (faults c.gather_times-ended.new.out) (faults c.write_gathered.new.out)
+    c.gather_times-ended.new.gathered.items c.write_gathered.new.gathered.items [] c.in-Err.broken c.in-Err.ensures.wrote)
 
-pub returns-clause-damaged : goal.returns-clause-damaged
-returns-clause-damaged g c = λ e told. c.in-Err.ensures.wrote.damaged (same_error c.in-Err.broken broken.Damaged e)
+pub returns-in_default-clause-cause : goal.returns-in_default-clause-cause
+returns-in_default-clause-cause g c = no_memory (g.D.Disk.view c.args.disk.now) (g.D.Disk.view c.args.disk.now) (g.O.Sink.faults c.args.out.now)
+
+pub returns-in_default-clause-read : goal.returns-in_default-clause-read
+returns-in_default-clause-read g c = not_read g.D.Disk.view g.D.Disk.may_leave g.D.Disk.left_at g.met.D.Disk.no_later c.args.archive.now c.args.disk.now

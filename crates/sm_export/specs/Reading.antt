@@ -1,0 +1,26 @@
+-- What is left behind a reading of the store, and why a file that is read from it ends too early.
+use Rattle.std.specs.Prelude.{◌≤◌, ℕ, List, Option, Result, IsErrOf, IsSome}
+use Rattle.sm_ends.specs.Faults.{Rose as FaultsRose}
+use Rattle.sm_model.specs.declared.entry.Entry.{Entry}
+use Rattle.sm_site.specs.Clauses.{Rose, Throughout}
+use Rattle.sm_site.specs.Image.{Image}
+use Rattle.sm_site.specs.Meanings.{DiskAlone, View}
+use Rattle.sm_archive.specs.Stands.{Stands}
+use Rattle.sm_archive.specs.declared.archive.Archive.{Archive}
+use Rattle.sm_export.specs.declared.gathering.Broken.{Broken}
+use Rattle.sm_export.specs.declared.gathering.Broken.TheVariants as broken
+
+-- The disk was only read: the archive stands for the log that it stood for, and at each moment a crash leaves what it could leave before.
+pub record IsOnlyRead {D : Type 0} (view : D → View) (leave : D → Image → Type 0) (left_at : D → ℕ → Image → Type 0)
+    (archive : Archive) (old new : D) : Type 0 where
+  pub stands : (log : List Entry) (doubt : Option Entry) → Stands archive log doubt (leave old) → Stands archive log doubt (leave new)
+  pub any_moment : Throughout view left_at old new (λ t c. leave old c)
+  pub disk_alone : DiskAlone (view old) (view new)
+
+-- Each error has its cause: what was read is damaged only on a disk that doesn't tell its contents, and a fault of the disk or of the sink
+-- was counted. The sink's count of faults doesn't fall, whatever the answer.
+pub record WhyBroken {T : Type 0} (old new : View) (faults faults' : ℕ) (result : Result T Broken) : Type 0 where
+  pub damaged : IsErrOf result broken.Damaged → IsSome old.contents → ⊥
+  pub disk_fault : IsErrOf result broken.DiskFault → Rose old.disk_faults new.disk_faults
+  pub fault : IsErrOf result broken.WriteFault → FaultsRose faults faults'
+  pub later : faults ≤ faults'
