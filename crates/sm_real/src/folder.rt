@@ -1,8 +1,9 @@
 // A folder of files with numbers, locked against all others.
 ghost use Rattle.std.specs.Prelude.{◌≡◌, ◌≢◌, ◌<◌, ◌^◌, [], true, IfOk, OnOk, IsErr};
-ghost use Rattle.sm_real.specs.AtRest.{IsAtRest, IsPending, IsSynced};
+ghost use Rattle.sm_real.specs.AtRest.{IsAtRest, IsPending, IsSynced, IsUnread};
 
 use crate::file_limit::{may_reach, past_limit};
+use crate::reading::{Reading, fill};
 use crate::{Doing, Trouble};
 use std::alloc::{AllocError, Global};
 use std::fs::{self, File, OpenOptions, TryLockError};
@@ -24,13 +25,6 @@ struct Writing {
     synced: bool,
 }
 
-// The file that was read last, where it isn't the one that was written last.
-#[derive(Drop)]
-struct Reading {
-    file: u32,
-    handle: File,
-}
-
 /// An open folder. File k is named by k in eight digits, and `.seg`.
 ///
 /// All files but the one that was written last are at rest: before another one is written, that one is synced. A sync of a file
@@ -42,6 +36,7 @@ pub struct Folder {
     // in it.
     handle: File,
     writing: Option<Writing>,
+    // The file that was read last, where it isn't the one that was written last. Nothing of it is kept once it may change.
     reading: Option<Reading>,
     // No name came since the folder was last synced.
     named: bool,
@@ -105,17 +100,18 @@ impl Folder {
         {
             return fill(&writing.handle, at, into);
         }
-        if let Some(reading) = &self.reading
+        if let Some(reading) = &mut self.reading
             && reading.file == file
         {
-            return fill(&reading.handle, at, into);
+            return reading.fill(at, into);
         }
         // Where no more files may be open, the one that is given up makes room.
         self.reading = None;
         match self.look(files, alloc, file)? {
             Some(handle) => {
-                let filled = fill(&handle, at, into);
-                self.reading = Some(Reading { file, handle });
+                let mut reading = Reading::new(alloc, file, handle);
+                let filled = reading.fill(at, into);
+                self.reading = Some(reading);
                 filled
             }
             None => {
@@ -150,6 +146,7 @@ impl Folder {
         bytes: &[u8],
     ) -> io::Result<()>
         ensures pending { OnOk result (bytes.now ≢ [] → IsPending file self.new) }
+        ensures unread { OnOk result (bytes.now ≢ [] → IsUnread file self.new) }
         ensures broken { self.old.broken ≡ true → bytes.now ≢ [] → IsErr result }
     {
         if bytes.is_empty() {
@@ -162,6 +159,20 @@ impl Folder {
         written
     }
 
+    // Gives up what was read of this file.
+    fn unread(&mut self, file: u32)
+        ensures unread { IsUnread file self.new }
+        ensures writing { self.new.writing ≡ self.old.writing }
+        ensures named { self.new.named ≡ self.old.named }
+        ensures broken { self.new.broken ≡ self.old.broken }
+    {
+        if let Some(reading) = &self.reading
+            && reading.file == file
+        {
+            self.reading = None;
+        }
+    }
+
     // The file that is to be written, open for it. It is made where it isn't there.
     fn turn_to(
         &mut self,
@@ -170,9 +181,11 @@ impl Folder {
         file: u32,
     ) -> io::Result<Writing>
         ensures file { IfOk result (λ writing. writing.file ≡ file) }
+        ensures unread { OnOk result (IsUnread file self.new) }
         ensures broken { self.old.broken ≡ true → IsErr result }
     {
         self.test()?;
+        self.unread(file);
         if let Some(writing) = self.writing.take() {
             if writing.file == file {
                 return Ok(writing);
@@ -213,6 +226,7 @@ impl Folder {
         ensures result { result ≡ synced }
         ensures broken { IsErr synced → self.new.broken ≡ true }
         ensures writing { self.new.writing ≡ self.old.writing }
+        ensures reading { self.new.reading ≡ self.old.reading }
     {
         if synced.is_err() {
             self.broken = true;
@@ -228,6 +242,7 @@ impl Folder {
         file: u32,
     ) -> io::Result<()>
         ensures at_rest { OnOk result (IsAtRest file self.new) }
+        ensures unread { OnOk result (IsUnread file self.new) }
         ensures broken { self.old.broken ≡ true → IsErr result }
     {
         self.test()?;
@@ -242,7 +257,9 @@ impl Folder {
         file: u32,
     ) -> io::Result<()>
         ensures synced { OnOk result (IsSynced file self.new) }
+        ensures unread { OnOk result (IsUnread file self.new) }
     {
+        self.unread(file);
         match self.writing.take() {
             Some(mut writing) if writing.file == file => {
                 self.note(writing.handle.sync_data())?;
@@ -267,6 +284,7 @@ impl Folder {
     fn sync_names(&mut self) -> io::Result<()>
         ensures named { OnOk result (self.new.named ≡ true) }
         ensures writing { self.new.writing ≡ self.old.writing }
+        ensures reading { self.new.reading ≡ self.old.reading }
     {
         if !self.named {
             let synced = self.handle.sync_all();
@@ -340,17 +358,4 @@ fn forget(handle: &File) -> io::Result<()> {
         0 => Ok(()),
         error => Err(io::Error::from_raw_os_error(error)),
     }
-}
-
-// Fills the buffer from this place of a file on, with 0 past its end. Mostly one reading does.
-fn fill(handle: &File, at: u64, into: &mut [u8]) -> io::Result<()> {
-    if let Ok(count) = handle.read_at(into, at)
-        && count == into.len()
-    {
-        return Ok(());
-    }
-    let size = handle.metadata()?.len();
-    let there = size.saturating_sub(at).min(into.len() as u64) as usize;
-    into[there..].fill(0);
-    handle.read_exact_at(&mut into[..there], at)
 }

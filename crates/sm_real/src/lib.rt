@@ -18,6 +18,7 @@ mod outlet;
 mod pace;
 mod peer;
 mod peers;
+mod reading;
 mod real_site;
 mod sharing;
 mod sockets;
