@@ -2,17 +2,16 @@
 //! threads if asked for, and lists it, pushes an input to an origin, plays streams of one, and rehearses both together.
 #![tactic(auto)]
 
-ghost use Rattle.std.specs.Prelude.{◌≡◌, ◌≤◌, ℕ, List, IfErr, IfOk, IsErr, length, map, string_bytes};
+ghost use Rattle.std.specs.Prelude.{◌≡◌, ◌≤◌, ℕ, List, IfErr, IfOk, IsErr, OnErr, OnOk, length, map, string_bytes};
 ghost use Rattle.std.specs.IoError.{error_kind};
 ghost use Rattle.std.specs.Option.{option_map};
 ghost use Rattle.std.specs.Process.{exit_status};
 ghost use Rattle.std.specs.Result.{result_ok};
-ghost use Rattle.sm_ends.specs.Moves.{AppendsFront};
 ghost use Rattle.sm_tool.specs.Ran.{Prints};
 ghost use Rattle.sm_tool.specs.declared.answer.Answer.TheVariants.{Starved};
 ghost use Rattle.sm_run.specs.Runs.{EndsAs};
 ghost use Rattle.smooth.specs.Given.{words_in};
-ghost use Rattle.smooth.specs.Troubles.{first_trouble};
+ghost use Rattle.smooth.specs.Troubles.{TellsLine, first_trouble};
 
 mod std_ends;
 
@@ -131,14 +130,17 @@ fn trouble_of(status: ExitCode, troubles: &[(u8, Option<Trouble>)]) -> Option<Tr
     None
 }
 
-// What the system said, for people: a line behind those of a failure. Nothing that stands there is lost.
-fn tell<O: Sink>(alloc: Global, output: &mut O, trouble: Trouble)
-    ensures front { (line : List ℕ) × AppendsFront (O.held output.old) (O.held output.new) line }
+// What the system said, for people: a line behind those of a failure. Nothing that stands there is lost. Without memory for the line none is
+// told.
+fn tell<O: Sink>(alloc: Global, output: &mut O, trouble: Trouble) -> Result<(), NoMemory>
+    ensures told { OnOk result (TellsLine (O.held output.old) (O.held output.new) (O.faults output.old) (O.faults output.new)) }
+    ensures untold { OnErr result (O.held output.new ≡ O.held output.old) }
     ensures later { O.faults output.old ≤ O.faults output.new }
 {
-    if let Ok(line) = format!(in alloc; "{trouble}\n") {
-        let _ = write_all(output, line.as_bytes());
-    }
+    let mut line = format!(in alloc; "{trouble}")?;
+    line.push_str("\n")?;
+    let _ = write_all(output, line.as_bytes());
+    Ok(())
 }
 
 fn main(rt: HostRuntime) -> ExitCode {
@@ -199,7 +201,7 @@ fn main(rt: HostRuntime) -> ExitCode {
     if output.has_failure()
         && let Some(trouble) = trouble_of(status, &troubles)
     {
-        tell(rt.alloc(), &mut output, trouble);
+        let _ = tell(rt.alloc(), &mut output, trouble);
     }
     status
 }
