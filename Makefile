@@ -46,8 +46,7 @@ bench: build
 	bash scripts/bench_conn $(BENCH)
 	bash scripts/bench_catalog $(BENCH)
 	bash scripts/bench_archive $(BENCH)
-	cd crates/shelf_bench && rt run > /dev/null
-	scripts/bench_shelf crates/shelf_bench/out/shelf_bench
+	scripts/bench_shelf $(BENCH)
 	SMOOTH=$(PROGRAM) scripts/bench_rehearse
 	SMOOTH=$(PROGRAM) scripts/bench_serve
 	SMOOTH=$(PROGRAM) scripts/bench_players

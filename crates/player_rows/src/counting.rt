@@ -22,11 +22,11 @@ impl<L: Link + Drop> CountingLink<L> {
 }
 
 impl<L: Link + Drop> Link for CountingLink<L> {
-    ghost view = { λ c. L.view c.link };
-
-    ghost may_leave = { λ c i. L.may_leave c.link i };
-
-    ghost left_at = { λ c t i. L.left_at c.link t i };
+    ghost seen = { record {
+      view = λ c. L.seen.view c.link;
+      may_leave = λ c i. L.seen.may_leave c.link i;
+      left_at = λ c t i. L.seen.left_at c.link t i;
+    } };
 
     ghost numbers = { λ c. L.numbers c.link };
 

@@ -1,14 +1,21 @@
-//! Plays each row in the files of `data/`, players over wires in memory and the top call with players, and prints how what it gives differs
-//! from what it has to give.
+//! Plays each row in the files of `data/`, on shelves whose readers stand in threads of their own, players over wires in memory and the top
+//! call with players, and prints how what it gives differs from what it has to give.
 //!
 //! A last line says how many rows there are. `sm_rows` says how a row is written.
 #![tactic(auto)]
 
+mod asking;
 mod counting;
+mod filling;
 mod meeting;
 mod playing;
 mod publishing;
 mod running;
+mod seats;
+mod serving;
+mod shelves;
+mod values;
+mod watching;
 
 use anyhow::{Result, bail};
 use sm_rows::{Case, Page};
@@ -19,7 +26,13 @@ use std::sync::Wait;
 use std::thread::Threads;
 
 // In the order in which they are read: names and blocks of one are known in those behind it.
-const PAGES: [&str; 3] = ["fixtures.txt", "players.txt", "runs.txt"];
+const PAGES: [&str; 5] = [
+    "fixtures.txt",
+    "shelves.txt",
+    "shown.txt",
+    "players.txt",
+    "runs.txt",
+];
 
 fn answer<R: Threads + Wait + Copy + Drop>(
     rt: &R,
@@ -27,6 +40,8 @@ fn answer<R: Threads + Wait + Copy + Drop>(
     case: &Case<'_>,
 ) -> Result<String> {
     match case.call() {
+        "shelf" => shelves::play(rt, alloc, case),
+        "shown" => serving::play(rt, alloc, case),
         "player" => playing::play(rt, alloc, case),
         "two players" => playing::play_two(rt, alloc, case),
         "run" => running::play(rt, alloc, case),

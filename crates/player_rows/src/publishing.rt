@@ -1,5 +1,5 @@
 //! What the loop has published before players are asked.
-ghost use Rattle.sm_site.specs.Memory.{site_view, site_may_leave, site_left_at};
+ghost use Rattle.sm_site.specs.Memory.{site_seen};
 ghost use Rattle.sm_origin.specs.Machine.{Machine};
 ghost use Rattle.sm_serve.specs.Standing.{StandsOn};
 ghost use Rattle.sm_serve.specs.Serving.{Known};
@@ -22,8 +22,8 @@ fn serve<R: Wait>(
     site: &mut MemorySite,
     writer: &mut ShelfWriter,
 ) -> Result<()>
-    requires stands { (m : Machine) × StandsOn site_view site_may_leave m state.old.origin site.old }
-    requires known { Known site_view site_may_leave site_left_at state.old site.old }
+    requires stands { (m : Machine) × StandsOn site_seen m state.old.origin site.old }
+    requires known { Known site_seen state.old site.old }
 {
     match serve_shown(rt, site, state, writer, TURNS) {
         Served::Done {

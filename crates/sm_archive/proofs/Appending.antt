@@ -17,8 +17,8 @@ use Rattle.sm_record.specs.Metas.{IsMetaOf}
 use Rattle.sm_site.specs.Image.{Image}
 use Rattle.sm_seglog.specs.Stores.{HasStore}
 use Rattle.sm_seglog.specs.Segments.{Segments}
-use Rattle.sm_archive.specs.Bodies.{EndsWithin, Fits}
-use Rattle.sm_archive.specs.Bodies as seg
+use Rattle.sm_seglog.specs.Standing.{EndsWithin, Fits}
+use Rattle.sm_seglog.specs.Standing as seg
 use Rattle.sm_archive.specs.declared.index.Index.{Index}
 use Rattle.sm_archive.specs.declared.archive.Pending.{Pending}
 use Rattle.sm_archive.specs.declared.archive.Pending.TheVariants as pending
@@ -38,7 +38,7 @@ use Rattle.sm_archive.proofs.Logs.{sound_push, spell_push}
 use Rattle.sm_archive.proofs.Doubts.{store_here}
 use Rattle.sm_archive.proofs.Indexes.{can_take, index_taken}
 use Rattle.sm_archive.proofs.Settling.{archive}
-use Rattle.sm_archive.proofs.Words.{sure_of}
+use Rattle.sm_seglog.proofs.Standing.{sure_of}
 use Rattle.sm_seglog.specs.Segments.{count_of}
 
 pub no_channel : (f : Fragment) → verdict_on [] f ≡ NotDeclared

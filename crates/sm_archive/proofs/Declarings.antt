@@ -9,7 +9,7 @@ use Rattle.sm_log.specs.Logs.{channel_of}
 use Rattle.sm_archive.specs.Steps.{Clears, Settles, Grows}
 use Rattle.sm_record.specs.Bodies.{body_len}
 use Rattle.sm_site.specs.Image.{Image}
-use Rattle.sm_archive.specs.Bodies.{EndsWithin, Fits}
+use Rattle.sm_seglog.specs.Standing.{EndsWithin, Fits}
 use Rattle.sm_archive.specs.declared.index.Index.{Index}
 use Rattle.sm_archive.specs.declared.archive.Pending.TheVariants as pending
 use Rattle.sm_archive.specs.declared.archive.Archive.{Archive}
@@ -21,7 +21,7 @@ use Rattle.sm_archive.specs.Store.{IsStore}
 use Rattle.sm_archive.specs.Stands.{IndexIs, IsIndex, Stands}
 use Rattle.sm_archive.specs.Appending.{CanAppend, IsUnused}
 use Rattle.sm_archive.specs.Declaring.{IsHeader, ReadyHeader, IsWithin, IsWithinNow, Compares, DeclaredNew, DeclareStep, refusal_in}
-use Rattle.sm_archive.specs.Bodies.{room_of}
+use Rattle.sm_seglog.specs.Segments.{HasRoom}
 use Rattle.std.specs.List.{position}
 use Rattle.std.proofs.lemmas.List.Quantifiers.{position-Some}
 use Rattle.sm_model.specs.declared.cause.Cause.TheVariants as cause
@@ -112,14 +112,14 @@ settled_some i log doubt mid is (inr more) = λ e. let x = ap (λ (l : List Entr
 
 pub still_ready : (a b c : Archive) (outcomes : Image → Type 0) (channel : List Track) (log : List Entry) (doubt : Option Entry) (mid : List Entry) (h : Option Header) → Stands a log doubt outcomes → Settles log doubt mid
     → (h ≡ None → (i : Index) × (a.index ≡ Some i)) → ((own : Header) → h ≡ Some own → IsHeader own channel b.log × (2 ≤ b.log.last.spare)) → b.log.last.spare ≤ c.log.last.spare + 1
-    → (room_of b.log) ≤ (room_of c.log)
+    → ((n : ℕ) → HasRoom b.log n → HasRoom c.log n)
     → ReadyHeader h channel c.log mid
 still_ready a b c outcomes channel log doubt mid None s settles unneeded ready spare room =
     let i = unneeded refl in
     settled_some i.0 log doubt mid (subst (λ (o : Option Index). IndexIs o log) i.1 s.keeps.index) settles
 still_ready a b c outcomes channel log doubt mid (Some own) s settles unneeded ready spare room =
     let h = ready own refl in
-    record { index = h.0.index; body = h.0.body; len = h.0.len; short = h.0.short; room = omega (arith, h.0.room); spare = omega (arith, h.1) }
+    record { index = h.0.index; body = h.0.body; len = h.0.len; short = h.0.short; room = room (length own.body) h.0.room; spare = omega (arith, h.1) }
 
 pub grown : (log : List Entry) (doubt : Option Entry) (mid : List Entry) (channel : List Track) (c : Image) → Settles log doubt mid → (after : List Entry) × IsStore after c
     × ((after ≡ mid) ⊎ (after ≡ mid ++ Declare channel ∷ []))

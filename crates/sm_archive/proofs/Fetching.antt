@@ -20,7 +20,7 @@ use Rattle.sm_model.specs.Fragments.{IsValid}
 use Rattle.sm_record.specs.Bodies.{IsBody}
 use Rattle.sm_record.specs.Reads.{Reads, Knows}
 use Rattle.sm_site.specs.Image.{Image}
-use Rattle.sm_archive.specs.Bodies as seg
+use Rattle.sm_seglog.specs.Standing as seg
 use Rattle.sm_archive.specs.declared.index.Index.{Index}
 use Rattle.sm_archive.specs.declared.archive.Archive.{Archive}
 use Rattle.sm_archive.specs.Stands.{IndexIs, IsIndex, Stands}

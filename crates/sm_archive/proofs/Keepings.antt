@@ -1,5 +1,5 @@
 -- Keeping, from its parts.
-use Rattle.std.proofs.Common.{◌≡◌, ℕ, ◌+◌, ◌≤◌, false, List, [], ◌∷◌, ◌++◌, Option, None, Some, refl, sym, ap, subst, ◌∙◌, ◌⊎◌, inl, inr, arith}
+use Rattle.std.proofs.Common.{◌≡◌, ℕ, ◌+◌, ◌≤◌, false, List, [], ◌∷◌, ◌++◌, length, Option, None, Some, refl, sym, ap, subst, ◌∙◌, ◌⊎◌, inl, inr, arith}
 use Rattle.sm_model.specs.declared.track.Track.{Track}
 use Rattle.sm_model.specs.declared.fragment.Fragment.{Fragment}
 use Rattle.sm_model.specs.declared.entry.Entry.{Entry}
@@ -25,11 +25,11 @@ use Rattle.sm_log.specs.declared.verdict.Judged.TheVariants as judged
 use Rattle.sm_archive.specs.Keeping.{HasChannel, SpaceIn, KeepStep, refusal_of}
 use Rattle.sm_archive.specs.Keeper.{IsPrepared, KeptNew}
 use Rattle.sm_archive.proofs.Appending.{no_channel, index_has}
-use Rattle.sm_archive.specs.Bodies.{room_of}
+use Rattle.sm_seglog.specs.Segments.{HasRoom}
 
 -- what was prepared is still so once the doubt is settled
 pub still_prepared : (a b : Archive) (r : Ready) (f : Fragment) → IsPrepared 2 a r f → ((channel : List Track) → HasChannel b channel → HasChannel a channel)
-    → ((n : ℕ) (stream : List ℕ) → SpaceIn a (n + 1) stream → SpaceIn b n stream) → a.log.last.spare ≤ b.log.last.spare + 1 → (room_of a.log) ≤ (room_of b.log) → IsPrepared 1 b r f
+    → ((n : ℕ) (stream : List ℕ) → SpaceIn a (n + 1) stream → SpaceIn b n stream) → a.log.last.spare ≤ b.log.last.spare + 1 → ((n : ℕ) → HasRoom a.log n → HasRoom b.log n) → IsPrepared 1 b r f
 still_prepared a b r f p channel space spare room = record {
   ready = record {
     address = p.ready.address;
@@ -39,7 +39,7 @@ still_prepared a b r f p channel space spare room = record {
     meta = λ c has. p.ready.meta c (channel c has);
     len = p.ready.len;
     short = p.ready.short;
-    room = omega (arith, p.ready.room);
+    room = room (length r.body) p.ready.room;
   };
   spare = omega (arith, p.spare);
   space = space 1 r.address.stream p.space;

@@ -18,7 +18,7 @@ use Rattle.sm_archive.specs.declared.ready.Ready.{Ready}
 use Rattle.sm_archive.specs.Index.{HasSpace}
 use Rattle.sm_archive.specs.Keeping.{HasChannel, SpaceIn}
 use Rattle.sm_archive.specs.Keeper.{ReadyIn, Prepared}
-use Rattle.sm_archive.specs.Bodies.{room_of}
+use Rattle.sm_seglog.specs.Segments.{HasRoom}
 
 -- the archive has one index at most, this one, of the log or in doubt
 pub record IsOnlyIndex (a : Archive) (i : Index) : Type 0 where
@@ -54,7 +54,7 @@ prepared_by a i v (Some r) f log_is only h = record {
     meta = λ channel has. subst (λ (c : List Track). IsMetaOf c f r.meta) (only_of a i channel only has) h.meta;
     len = h.len;
     short = h.short;
-    room = subst (λ (w : Segments). length r.body ≤ (room_of w)) (sym log_is) h.room;
+    room = subst (λ (w : Segments). HasRoom w (length r.body)) (sym log_is) h.room;
   };
   spare = subst (λ (w : Segments). 2 ≤ w.last.spare) (sym log_is) h.spare;
   space = space_of a i 2 r.address.stream only h.space;

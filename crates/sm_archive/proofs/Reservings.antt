@@ -20,7 +20,7 @@ use Rattle.sm_archive.specs.Index.{Reserved}
 use Rattle.sm_archive.specs.Stands.{IsIndex, IsMetaIn, IndexIs, IsPending, Doubted, Stands}
 use Rattle.sm_archive.specs.Reserving.{IndexReserved, PendingReserved, DoubtReserved, IsReserved, HasOneIndex}
 use Rattle.sm_archive.proofs.Doubts.{doubted_some}
-use Rattle.sm_archive.proofs.Words.{same_count, reserved_stands}
+use Rattle.sm_seglog.proofs.Standing.{same_count, reserved_stands}
 
 pub index_same : (i j : Index) (log : List Entry) → Reserved i j → IsIndex i log → IsIndex j log
 index_same i j log r is = record {
@@ -79,7 +79,7 @@ stands_reserved a b outcomes r log doubt s = record {
     used = r.used ∙ s.keeps.used;
     few = subst (λ (l : Limits). l.entries < 2 ^ 32) (sym r.limits) s.keeps.few;
     low = subst (λ (l : Limits). l.store_bytes ≤ 2 ^ 62) (sym r.limits) s.keeps.low;
-    doubted = doubts_same a.doubt b.doubt a.index b.index a.log b.log log s.body doubt r.doubt r.index r.spare s.keeps.doubted;
+    doubted = doubts_same a.doubt b.doubt a.index b.index a.log b.log log s.body doubt r.doubt r.index r.log.spare s.keeps.doubted;
   };
 }
 

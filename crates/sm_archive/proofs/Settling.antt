@@ -9,7 +9,7 @@ use Rattle.sm_archive.specs.Steps.{Clears, Settles}
 use Rattle.sm_record.specs.Bodies.{IsBody}
 use Rattle.sm_site.specs.Image.{Image}
 use Rattle.sm_seglog.specs.Segments.{Segments}
-use Rattle.sm_archive.specs.Bodies as seg
+use Rattle.sm_seglog.specs.Standing as seg
 use Rattle.sm_archive.specs.declared.index.Index.{Index}
 use Rattle.sm_archive.specs.declared.archive.Pending.{Pending}
 use Rattle.sm_archive.specs.declared.archive.Pending.TheVariants as pending
@@ -24,7 +24,7 @@ use Rattle.sm_archive.proofs.Logs.{sound_push, spell_push}
 use Rattle.sm_archive.proofs.Doubts.{doubted_none, doubted_some, InDoubt}
 use Rattle.sm_archive.proofs.Indexes.{can_take, index_taken}
 use Rattle.sm_seglog.specs.Segments.{count_of}
-use Rattle.sm_archive.proofs.Words.{fewer_outcomes}
+use Rattle.sm_seglog.proofs.Standing.{fewer_outcomes}
 
 abbrev pub archive : Archive → Segments → ℕ → Option Index → Option Doubt → Archive
 archive a log used index doubt = record { log = log; limits = a.limits; used = used; index = index; doubt = doubt }

@@ -7,11 +7,13 @@ use Rattle.sm_model.specs.declared.entry.Entry.{Entry}
 use Rattle.sm_log.specs.Logs.{IsSound}
 use Rattle.sm_site.specs.Image.{Image}
 use Rattle.sm_seglog.specs.Stores.{HasStore, slots_in, NotAStore as NoLog}
-use Rattle.sm_seglog.specs.Segments.{Segments, SegStands, IsOpened, slots_of}
+use Rattle.sm_seglog.specs.Segments.{Segments, SegStands, slots_of}
+use Rattle.sm_seglog.specs.Standing.{IsOpened}
 use Rattle.sm_gatelog.specs.declared.slot.Slot.{Slot}
-use Rattle.sm_archive.proofs.Words.{fewer_outcomes, seg_fewer, stands_none, stands_count}
+use Rattle.sm_seglog.proofs.Images.{stands_none}
+use Rattle.sm_seglog.proofs.Standing.{fewer_outcomes, seg_fewer}
 use Rattle.sm_archive.proofs.Admitting.{log_length}
-use Rattle.sm_archive.specs.Bodies as seg
+use Rattle.sm_seglog.specs.Standing as seg
 use Rattle.sm_archive.specs.declared.index.Index.{Index}
 use Rattle.sm_archive.specs.declared.archive.Archive.{Archive}
 use Rattle.sm_archive.specs.declared.limits.Limits.{Limits}
@@ -114,11 +116,9 @@ OneList = (xs ys : List (List ℕ)) (c : Image) → HasStore xs c → HasStore y
 abbrev pub OneCut : Type 0
 OneCut = (xs ys : List (List ℕ)) (c : Image) (a : HasStore xs c) (b : HasStore ys c) → a.parts ≡ b.parts
 
-pub opened_one : OneList → OneCut → (v : Segments) (old : Image → Type 0) → v.last.doubt ≡ None → (c : Image) → IsOpened v c old → IsOne v old c
-opened_one list cut v old sure c o = λ bodies h.
-    let same : o.bodies ≡ bodies = list o.bodies bodies c o.has h in
-    let stands : SegStands bodies None v old = subst (λ (l : List (List ℕ)). SegStands l None v old) same o.stands in
-    (stands_none v bodies old (stands_count bodies None v old stands) sure (λ d left. stands), o.slots ∙ ap slots_in (cut o.bodies bodies c o.has h))
+pub opened_one : OneList → OneCut → (v : Segments) (old : Image → Type 0) (c : Image) → IsOpened v c old → IsOne v old c
+opened_one list cut v old c o = λ bodies h.
+    (subst (λ (l : List (List ℕ)). seg.Stands v l None old) (list o.bodies bodies c o.has h) o.stands, o.slots ∙ ap slots_in (cut o.bodies bodies c o.has h))
 
 pub opened_stands : (contents : Option Image) (v : Segments) (old : Image → Type 0) → IfSome contents (λ c. IsOpened v c old) → v.last.doubt ≡ None → ((c : Image) → old c → IsSome contents) → (bodies : List (List ℕ))
     × seg.Stands v bodies None old
@@ -128,7 +128,7 @@ opened_stands None v old opened sure told =
     length_replicate : (n : ℕ) → length (let one : List ℕ = [] in replicate n one) ≡ n
     length_replicate zero = refl
     length_replicate (suc n) = ap suc (length_replicate n)
-opened_stands (Some c) v old opened sure told = (opened.bodies, stands_none v opened.bodies old (stands_count opened.bodies None v old opened.stands) sure (λ d left. opened.stands))
+opened_stands (Some c) v old opened sure told = (opened.bodies, opened.stands)
 
 pub opened_has : (contents : Option Image) (a : Archive) (now : Image → Type 0) (v : Segments) (old : Image → Type 0) → IfSome contents (λ c. IsOpened v c old) → IfSome contents (IsOne v old)
     → (IsSome contents → (bodies : List (List ℕ)) → seg.Stands v bodies None old → (log : List Entry) × Spell bodies log × Stands a log None now)
@@ -175,9 +175,9 @@ pub same_told : (before contents : Option Image) → is_some contents ≡ is_som
 same_told before contents same some = same ∙ some
 
 -- the same of a result
-pub some_one : (contents : Option Image) (v : Segments) (old : Image → Type 0) → OneList → OneCut → v.last.doubt ≡ None → IfSome contents (λ c. IsOpened v c old) → IfSome contents (IsOne v old)
-some_one None v old list cut sure opened = tt
-some_one (Some c) v old list cut sure opened = opened_one list cut v old sure c opened
+pub some_one : (contents : Option Image) (v : Segments) (old : Image → Type 0) → OneList → OneCut → IfSome contents (λ c. IsOpened v c old) → IfSome contents (IsOne v old)
+some_one None v old list cut opened = tt
+some_one (Some c) v old list cut opened = opened_one list cut v old c opened
 
 pub place_is : {A : Type 0} (a b : ℕ) → (let failed : ℕ → Result A OpenFault = λ n. Err (open_fault.NotAStore n) in failed a ≡ failed b) → a ≡ b
 place_is a b e = cc

@@ -3,11 +3,11 @@ use Rattle.std.specs.Prelude.{◌≡◌, ℕ, ◌+◌, ◌≤◌, ◌<◌, ◌^�
 use Rattle.sm_model.specs.declared.entry.Entry.{Entry}
 use Rattle.sm_log.specs.Logs.{channel_of, FitsBehind}
 use Rattle.sm_record.specs.Bodies.{IsBody}
-use Rattle.sm_archive.specs.Bodies.{Fits}
+use Rattle.sm_seglog.specs.Standing.{Fits}
 use Rattle.sm_archive.specs.declared.archive.Pending.{Pending}
 use Rattle.sm_archive.specs.declared.archive.Archive.{Archive}
 use Rattle.sm_archive.specs.Stands.{IsPending}
-use Rattle.sm_archive.specs.Bodies.{room_of}
+use Rattle.sm_seglog.specs.Segments.{HasRoom}
 
 -- the entry may stand behind the log, its body is there, and it meets no limit
 pub record CanAppend (a : Archive) (p : Pending) (body : List ℕ) (log : List Entry) (e : Entry) : Type 0 where
@@ -17,7 +17,7 @@ pub record CanAppend (a : Archive) (p : Pending) (body : List ℕ) (log : List E
   pub pends : IsPending p a.index log e
   pub some : 1 ≤ length body
   pub short : length body < 2 ^ 32
-  pub room : length body ≤ (room_of a.log)
+  pub room : HasRoom a.log (length body)
   pub spare : 1 ≤ a.log.last.spare
   pub bytes : a.used + (5 + length body) ≤ a.limits.store_bytes
   pub files : Fits a.log (length body)

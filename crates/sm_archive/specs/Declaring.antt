@@ -8,7 +8,7 @@ use Rattle.sm_archive.specs.Steps.{Clears}
 use Rattle.sm_record.specs.Bodies.{IsSealedBody, body_len}
 use Rattle.sm_site.specs.Image.{Image}
 use Rattle.sm_seglog.specs.Segments.{Segments}
-use Rattle.sm_archive.specs.Bodies.{EndsWithin, Fits}
+use Rattle.sm_seglog.specs.Standing.{EndsWithin, Fits}
 use Rattle.sm_log.specs.Headers.{check}
 use Rattle.sm_model.specs.declared.cause.Cause.{Cause}
 use Rattle.sm_model.specs.declared.cause.Cause.TheVariants as cause
@@ -19,7 +19,7 @@ use Rattle.sm_archive.specs.declared.ready.Header.{Header}
 use Rattle.sm_archive.specs.declared.answers.Declared.{Declared}
 use Rattle.sm_archive.specs.declared.answers.Declared.TheVariants as answer
 use Rattle.sm_archive.specs.Stands.{IsIndex, Stands}
-use Rattle.sm_archive.specs.Bodies.{room_of}
+use Rattle.sm_seglog.specs.Segments.{HasRoom}
 
 -- a header that is ready to be declared
 pub record IsHeader (h : Header) (channel : List Track) (v : Segments) : Type 0 where
@@ -27,7 +27,7 @@ pub record IsHeader (h : Header) (channel : List Track) (v : Segments) : Type 0 
   pub body : (known : Option (List Track)) → IsSealedBody known (Declare channel) h.body
   pub len : length h.body ≡ body_len (Declare channel)
   pub short : length h.body < 2 ^ 28
-  pub room : length h.body ≤ (room_of v)
+  pub room : HasRoom v (length h.body)
   pub spare : 1 ≤ v.last.spare
 
 -- ready, where the log is empty

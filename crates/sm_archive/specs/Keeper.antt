@@ -22,7 +22,7 @@ use Rattle.sm_archive.specs.declared.answers.Keeping.TheVariants as keeping
 use Rattle.sm_archive.specs.Index.{HasSpace}
 use Rattle.sm_archive.specs.Stands.{Stands}
 use Rattle.sm_archive.specs.Keeping.{IsReady, SpaceIn, HasChannel, IsWithin, IsWithinNow, MeetsLimit, refusal_of}
-use Rattle.sm_archive.specs.Bodies.{room_of}
+use Rattle.sm_seglog.specs.Segments.{HasRoom}
 
 -- ready by this index
 pub record IsReadyIn (r : Ready) (f : Fragment) (i : Index) (v : Segments) : Type 0 where
@@ -31,7 +31,7 @@ pub record IsReadyIn (r : Ready) (f : Fragment) (i : Index) (v : Segments) : Typ
   pub meta : IsMetaOf i.catalog.channel f r.meta
   pub len : length r.body ≡ body_len (Keep f)
   pub short : length r.body < 2 ^ 28
-  pub room : length r.body ≤ (room_of v)
+  pub room : HasRoom v (length r.body)
   pub spare : 2 ≤ v.last.spare
   pub space : HasSpace i 2 r.address.stream
 

@@ -14,7 +14,7 @@ use Rattle.sm_archive.specs.Steps.{Clears}
 use Rattle.sm_record.specs.Bodies.{IsBody, body_len}
 use Rattle.sm_record.specs.Metas.{IsMetaOf}
 use Rattle.sm_site.specs.Image.{Image}
-use Rattle.sm_archive.specs.Bodies.{EndsWithin, Fits}
+use Rattle.sm_seglog.specs.Standing.{EndsWithin, Fits}
 use Rattle.sm_archive.specs.declared.index.Index.{Index}
 use Rattle.sm_archive.specs.declared.archive.Pending.TheVariants as pending
 use Rattle.sm_archive.specs.declared.archive.Archive.{Archive}
@@ -25,7 +25,7 @@ use Rattle.sm_model.specs.declared.cause.Cause.{Cause}
 use Rattle.sm_model.specs.declared.cause.Cause.TheVariants as cause
 use Rattle.sm_archive.specs.Index.{HasSpace}
 use Rattle.sm_archive.specs.Stands.{Stands}
-use Rattle.sm_archive.specs.Bodies.{room_of}
+use Rattle.sm_seglog.specs.Segments.{HasRoom}
 
 -- ---- the limits
 
@@ -76,7 +76,7 @@ pub record IsReady (r : Ready) (f : Fragment) (a : Archive) : Type 0 where
   pub meta : (channel : List Track) → HasChannel a channel → IsMetaOf channel f r.meta
   pub len : length r.body ≡ body_len (Keep f)
   pub short : length r.body < 2 ^ 28
-  pub room : length r.body ≤ (room_of a.log)
+  pub room : HasRoom a.log (length r.body)
 
 -- ---- the answers
 

@@ -1,5 +1,4 @@
 pub mod Steps
-pub mod Bodies
 pub mod Index
 pub mod Store
 pub mod Seen

@@ -6,7 +6,7 @@ use Rattle.sm_record.specs.Bodies.{IsBody}
 use Rattle.sm_site.specs.Image.{Image}
 use Rattle.sm_seglog.specs.Stores.{HasStore, slots_in, NotAStore as NoLog}
 use Rattle.sm_seglog.specs.Segments.{Segments}
-use Rattle.sm_archive.specs.Bodies as seg
+use Rattle.sm_seglog.specs.Standing as seg
 use Rattle.sm_archive.specs.declared.index.Index.{Index}
 use Rattle.sm_archive.specs.Store.{Spell}
 use Rattle.sm_archive.specs.Stands.{IndexIs, used_by}

@@ -1,5 +1,5 @@
 -- What reserving leaves: the same archive, perhaps with more space.
-use Rattle.std.specs.Prelude.{◌≡◌, ℕ, ◌≤◌, ◌+◌, Option, None, Some}
+use Rattle.std.specs.Prelude.{◌≡◌, ℕ, Option, None, Some}
 use Rattle.sm_seglog.specs.Segments.{OnlyReserved}
 use Rattle.sm_archive.specs.declared.index.Index.{Index}
 use Rattle.sm_archive.specs.declared.archive.Pending.{Pending}
@@ -7,7 +7,7 @@ use Rattle.sm_archive.specs.declared.archive.Pending.TheVariants as pending
 use Rattle.sm_archive.specs.declared.archive.Doubt.{Doubt}
 use Rattle.sm_archive.specs.declared.archive.Archive.{Archive}
 use Rattle.sm_archive.specs.Index.{Reserved}
-use Rattle.sm_archive.specs.Bodies.{room_of}
+use Rattle.sm_seglog.specs.Standing as seg
 
 abbrev pub IndexReserved : Option Index → Option Index → Type 0
 IndexReserved None None = Unit {0}
@@ -30,14 +30,12 @@ pub record IsReserved (a b : Archive) : Type 0 where
   pub limits : b.limits ≡ a.limits
   pub used : b.used ≡ a.used
   pub log : OnlyReserved a.log b.log
-  pub spare : a.log.last.spare ≤ b.log.last.spare
-  pub room : (room_of a.log) ≤ (room_of b.log)
   pub index : IndexReserved a.index b.index
   pub doubt : DoubtReserved a.doubt b.doubt
 
 -- the gates that were reserved are there, but for one that was used, and so is the room
 abbrev pub StaysReserved : Archive → Archive → Type 0
-StaysReserved a b = (a.log.last.spare ≤ b.log.last.spare + 1) × ((room_of a.log) ≤ (room_of b.log))
+StaysReserved a b = seg.StaysReserved a.log b.log
 
 -- a header in doubt and a channel don't stand together
 abbrev pub HasOneIndex : Archive → Type 0

@@ -11,7 +11,7 @@ use Rattle.sm_record.specs.Bodies.{IsBody}
 use Rattle.sm_record.specs.Metas.{IsMetaOf}
 use Rattle.sm_site.specs.Image.{Image}
 use Rattle.sm_seglog.specs.Segments.{Segments}
-use Rattle.sm_archive.specs.Bodies as seg
+use Rattle.sm_seglog.specs.Standing as seg
 use Rattle.sm_archive.specs.declared.index.Index.{Index}
 use Rattle.sm_archive.specs.declared.archive.Pending.{Pending}
 use Rattle.sm_archive.specs.declared.archive.Pending.TheVariants as pending

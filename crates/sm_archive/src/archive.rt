@@ -11,11 +11,10 @@ ghost use Rattle.sm_archive.specs.Stands.{Stands};
 ghost use Rattle.sm_archive.specs.Keeping.{HasChannel, SpaceIn};
 ghost use Rattle.sm_archive.specs.Taking.{CanTake, Taken};
 ghost use Rattle.sm_archive.specs.Appending.{CanAppend, IsUnused};
-ghost use Rattle.sm_archive.specs.Bodies.{EndsWithin};
+ghost use Rattle.sm_seglog.specs.Standing.{EndsWithin};
 ghost use Rattle.sm_archive.specs.Reserving.{StaysReserved};
 
 use crate::answers::DiskFault;
-use crate::bodies;
 use crate::index::Index;
 use crate::limits::Limits;
 use sm_gatelog::{Appended, Settled};
@@ -68,27 +67,27 @@ pub(crate) fn take_in(index: &mut Option<Index>, entry: Pending, place: u64)
 impl Archive {
     /// Finds out whether the entry in doubt is in the log. Without a doubt it makes no disk call.
     pub fn settle<D: Disk>(&mut self, disk: &mut D) -> Result<(), DiskFault>
-        requires stands { (log : List Entry) × (doubt : Option Entry) × Stands self.old log doubt (D.may_leave disk.old) }
+        requires stands { (log : List Entry) × (doubt : Option Entry) × Stands self.old log doubt (D.seen.may_leave disk.old) }
         // It stands for some log again, whichever it stood for.
-        ensures stands { (log : List Entry) × (doubt : Option Entry) × Stands self.new log doubt (D.may_leave disk.new) }
-        ensures settled { OnOk result ((log : List Entry) (doubt : Option Entry) → Stands self.old log doubt (D.may_leave disk.old) → (after : List Entry)
-            × Clears (Acted (D.view disk.old) (D.view disk.new)) log doubt after × Stands self.new after None (D.may_leave disk.new)) }
-        ensures failed { OnErr result ((log : List Entry) (doubt : Option Entry) → Stands self.old log doubt (D.may_leave disk.old) → (IsSome doubt)
-            × Stands self.new log doubt (D.may_leave disk.new)) }
-        ensures any_moment { (log : List Entry) (doubt : Option Entry) → Stands self.old log doubt (D.may_leave disk.old)
-            → Throughout D.view D.left_at disk.old disk.new (λ t c. (after : List Entry) × IsStore after c × Settles log doubt after) }
-        ensures contents { (D.view disk.new).contents ≡ (D.view disk.old).contents }
-        ensures fault { IsErr result → Rose (D.view disk.old).disk_faults (D.view disk.new).disk_faults }
+        ensures stands { (log : List Entry) × (doubt : Option Entry) × Stands self.new log doubt (D.seen.may_leave disk.new) }
+        ensures settled { OnOk result ((log : List Entry) (doubt : Option Entry) → Stands self.old log doubt (D.seen.may_leave disk.old) → (after : List Entry)
+            × Clears (Acted (D.seen.view disk.old) (D.seen.view disk.new)) log doubt after × Stands self.new after None (D.seen.may_leave disk.new)) }
+        ensures failed { OnErr result ((log : List Entry) (doubt : Option Entry) → Stands self.old log doubt (D.seen.may_leave disk.old) → (IsSome doubt)
+            × Stands self.new log doubt (D.seen.may_leave disk.new)) }
+        ensures any_moment { (log : List Entry) (doubt : Option Entry) → Stands self.old log doubt (D.seen.may_leave disk.old)
+            → Throughout D.seen disk.old disk.new (λ t c. (after : List Entry) × IsStore after c × Settles log doubt after) }
+        ensures contents { (D.seen.view disk.new).contents ≡ (D.seen.view disk.old).contents }
+        ensures fault { IsErr result → Rose (D.seen.view disk.old).disk_faults (D.seen.view disk.new).disk_faults }
         ensures channel { (channel : List Track) → HasChannel self.new channel → HasChannel self.old channel }
         ensures space { (n : ℕ) (stream : List ℕ) → SpaceIn self.old (n + 1) stream → SpaceIn self.new n stream }
         ensures reserved { StaysReserved self.old self.new }
-        ensures recorded { Recorded (D.view disk.old) (D.view disk.new) }
+        ensures recorded { Recorded (D.seen.view disk.old) (D.seen.view disk.new) }
         ensures limits { limits_of self.new ≡ limits_of self.old }
-        ensures disk_alone { DiskAlone (D.view disk.old) (D.view disk.new) }
+        ensures disk_alone { DiskAlone (D.seen.view disk.old) (D.seen.view disk.new) }
     {
         match self.doubt.take() {
             None => Ok(()),
-            Some(doubt) => match bodies::settle(&mut self.log, disk) {
+            Some(doubt) => match self.log.settle(disk) {
                 Settled::Stored { place } => {
                     self.used = self.used.saturating_add(doubt.bytes);
                     take_in(&mut self.index, doubt.entry, place);
@@ -111,25 +110,25 @@ impl Archive {
         entry: Pending,
         body: Bytes,
     ) -> Option<u64>
-        requires can { (log : List Entry) × (e : Entry) × Stands self.old log None (D.may_leave disk.old) × CanAppend self.old entry body log e }
-        ensures stored { (place : ℕ) → result ≡ Some place → (log : List Entry) (e : Entry) → Stands self.old log None (D.may_leave disk.old)
-            → CanAppend self.old entry body log e → (place ≡ length log) × Stands self.new (log ++ e ∷ []) None (D.may_leave disk.new) }
+        requires can { (log : List Entry) × (e : Entry) × Stands self.old log None (D.seen.may_leave disk.old) × CanAppend self.old entry body log e }
+        ensures stored { (place : ℕ) → result ≡ Some place → (log : List Entry) (e : Entry) → Stands self.old log None (D.seen.may_leave disk.old)
+            → CanAppend self.old entry body log e → (place ≡ length log) × Stands self.new (log ++ e ∷ []) None (D.seen.may_leave disk.new) }
         ensures used { (place : ℕ) → result ≡ Some place → self.new.used ≡ self.old.used + (5 + length body) }
         ensures ends { (place : ℕ) → result ≡ Some place → EndsWithin self.new.log }
-        ensures acts { (place : ℕ) → result ≡ Some place → Acted (D.view disk.old) (D.view disk.new) }
-        ensures failed { result ≡ None → (log : List Entry) (e : Entry) → Stands self.old log None (D.may_leave disk.old) → CanAppend self.old entry body log e
-            → IsUnused self.old self.new × (Stands self.new log None (D.may_leave disk.new)
-            ⊎ (Acted (D.view disk.old) (D.view disk.new) × Stands self.new log (Some e) (D.may_leave disk.new))) }
-        ensures any_moment { (log : List Entry) (e : Entry) → Stands self.old log None (D.may_leave disk.old) → CanAppend self.old entry body log e
-            → IsSome (D.view disk.old).contents → Throughout D.view D.left_at disk.old disk.new (λ t c. (after : List Entry) × IsStore after c × ((after ≡ log)
+        ensures acts { (place : ℕ) → result ≡ Some place → Acted (D.seen.view disk.old) (D.seen.view disk.new) }
+        ensures failed { result ≡ None → (log : List Entry) (e : Entry) → Stands self.old log None (D.seen.may_leave disk.old) → CanAppend self.old entry body log e
+            → IsUnused self.old self.new × (Stands self.new log None (D.seen.may_leave disk.new)
+            ⊎ (Acted (D.seen.view disk.old) (D.seen.view disk.new) × Stands self.new log (Some e) (D.seen.may_leave disk.new))) }
+        ensures any_moment { (log : List Entry) (e : Entry) → Stands self.old log None (D.seen.may_leave disk.old) → CanAppend self.old entry body log e
+            → IsSome (D.seen.view disk.old).contents → Throughout D.seen disk.old disk.new (λ t c. (after : List Entry) × IsStore after c × ((after ≡ log)
             ⊎ (after ≡ log ++ e ∷ []))) }
-        ensures fault { result ≡ None → Rose (D.view disk.old).disk_faults (D.view disk.new).disk_faults }
-        ensures recorded { Recorded (D.view disk.old) (D.view disk.new) }
+        ensures fault { result ≡ None → Rose (D.seen.view disk.old).disk_faults (D.seen.view disk.new).disk_faults }
+        ensures recorded { Recorded (D.seen.view disk.old) (D.seen.view disk.new) }
         ensures limits { limits_of self.new ≡ limits_of self.old }
-        ensures disk_alone { DiskAlone (D.view disk.old) (D.view disk.new) }
+        ensures disk_alone { DiskAlone (D.seen.view disk.old) (D.seen.view disk.new) }
     {
         let bytes = 5 + body.len();
-        match bodies::append(&mut self.log, disk, body.as_slice()) {
+        match self.log.append(disk, body.as_slice()) {
             Appended::Stored { place } => {
                 self.used += bytes;
                 take_in(&mut self.index, entry, place);

@@ -17,11 +17,9 @@ ghost use Rattle.sm_archive.specs.Stands.{Stands};
 ghost use Rattle.sm_archive.specs.Reserving.{IsReserved};
 ghost use Rattle.sm_archive.specs.Declaring.{IsHeader, ReadyHeader, IsWithin, MeetsLimit, Compares, DeclaredNew, DeclareStep};
 ghost use Rattle.sm_archive.specs.declared.ready.Header.{Header};
-ghost use Rattle.sm_archive.specs.Bodies.{room_of};
 
 use crate::answers::{Declared, DiskFault};
 use crate::archive::{Archive, Pending};
-use crate::bodies;
 use crate::index::Index;
 use crate::ready::Header;
 use sm_catalog::Checked;
@@ -34,12 +32,11 @@ use std::alloc::Global;
 fn header_in(alloc: Global, log: &mut SegLog, channel: &Channel) -> Result<Header, NoMemory>
     requires { IsChannel channel.now }
     ensures log { OnlyReserved log.old log.new }
-    ensures no_less { (log.old.last.spare ≤ log.new.last.spare) × ((room_of log.old) ≤ (room_of log.new)) }
     ensures ready { IfOk result (λ header. IsHeader header channel.now log.new × (2 ≤ log.new.last.spare)) }
 {
     let index = Index::of_header(alloc, channel)?;
     let body = put_declare(alloc, channel)?;
-    bodies::reserve(log, body.len() as u32)?;
+    log.reserve(body.len() as u32)?;
     Ok(Header { index, body })
 }
 
@@ -88,17 +85,17 @@ impl Archive {
 
     // Declares a channel in an empty log.
     fn fix<D: Disk>(&mut self, disk: &mut D, header: Header) -> Declared
-        requires can { (channel : List Track) × Stands self.old [] None (D.may_leave disk.old) × IsHeader header channel self.old.log × IsChannel channel }
-        ensures step { (channel : List Track) → Stands self.old [] None (D.may_leave disk.old) → IsHeader header channel self.old.log → IsChannel channel
-            → DeclaredNew (Acted (D.view disk.old) (D.view disk.new)) (D.may_leave disk.new) self.new [] channel result }
-        ensures any_moment { (channel : List Track) → Stands self.old [] None (D.may_leave disk.old) → IsHeader header channel self.old.log → IsChannel channel
-            → IsSome (D.view disk.old).contents → Throughout D.view D.left_at disk.old disk.new (λ t c. (after : List Entry) × IsStore after c × ((after ≡ [])
+        requires can { (channel : List Track) × Stands self.old [] None (D.seen.may_leave disk.old) × IsHeader header channel self.old.log × IsChannel channel }
+        ensures step { (channel : List Track) → Stands self.old [] None (D.seen.may_leave disk.old) → IsHeader header channel self.old.log → IsChannel channel
+            → DeclaredNew (Acted (D.seen.view disk.old) (D.seen.view disk.new)) (D.seen.may_leave disk.new) self.new [] channel result }
+        ensures any_moment { (channel : List Track) → Stands self.old [] None (D.seen.may_leave disk.old) → IsHeader header channel self.old.log → IsChannel channel
+            → IsSome (D.seen.view disk.old).contents → Throughout D.seen disk.old disk.new (λ t c. (after : List Entry) × IsStore after c × ((after ≡ [])
             ⊎ (after ≡ Declare channel ∷ []))) }
         ensures no_memory { result ≡ answer.NoMemory → ⊥ }
-        ensures fault { result ≡ answer.DiskFault → Rose (D.view disk.old).disk_faults (D.view disk.new).disk_faults }
-        ensures recorded { Recorded (D.view disk.old) (D.view disk.new) }
+        ensures fault { result ≡ answer.DiskFault → Rose (D.seen.view disk.old).disk_faults (D.seen.view disk.new).disk_faults }
+        ensures recorded { Recorded (D.seen.view disk.old) (D.seen.view disk.new) }
         ensures limits { limits_of self.new ≡ limits_of self.old }
-        ensures disk_alone { DiskAlone (D.view disk.old) (D.view disk.new) }
+        ensures disk_alone { DiskAlone (D.seen.view disk.old) (D.seen.view disk.new) }
     {
         if self.is_full_for(&header) {
             return Declared::Full;
@@ -143,17 +140,17 @@ impl Archive {
     ) -> Declared
         requires tracks { tracks ≡ channel.now }
         requires valid { IsChannel channel.now }
-        requires can { (log : List Entry) × Stands self.old log None (D.may_leave disk.old) × ReadyHeader header channel.now self.old.log log }
-        ensures step { (log : List Entry) → Stands self.old log None (D.may_leave disk.old) → ReadyHeader header channel.now self.old.log log
-            → DeclaredNew (Acted (D.view disk.old) (D.view disk.new)) (D.may_leave disk.new) self.new log channel.now result }
-        ensures any_moment { (log : List Entry) → Stands self.old log None (D.may_leave disk.old) → ReadyHeader header channel.now self.old.log log
-            → IsSome (D.view disk.old).contents → Throughout D.view D.left_at disk.old disk.new (λ t c. (after : List Entry) × IsStore after c × ((after ≡ log)
+        requires can { (log : List Entry) × Stands self.old log None (D.seen.may_leave disk.old) × ReadyHeader header channel.now self.old.log log }
+        ensures step { (log : List Entry) → Stands self.old log None (D.seen.may_leave disk.old) → ReadyHeader header channel.now self.old.log log
+            → DeclaredNew (Acted (D.seen.view disk.old) (D.seen.view disk.new)) (D.seen.may_leave disk.new) self.new log channel.now result }
+        ensures any_moment { (log : List Entry) → Stands self.old log None (D.seen.may_leave disk.old) → ReadyHeader header channel.now self.old.log log
+            → IsSome (D.seen.view disk.old).contents → Throughout D.seen disk.old disk.new (λ t c. (after : List Entry) × IsStore after c × ((after ≡ log)
             ⊎ (after ≡ log ++ Declare channel.now ∷ []))) }
         ensures no_memory { result ≡ answer.NoMemory → ⊥ }
-        ensures fault { result ≡ answer.DiskFault → Rose (D.view disk.old).disk_faults (D.view disk.new).disk_faults }
-        ensures recorded { Recorded (D.view disk.old) (D.view disk.new) }
+        ensures fault { result ≡ answer.DiskFault → Rose (D.seen.view disk.old).disk_faults (D.seen.view disk.new).disk_faults }
+        ensures recorded { Recorded (D.seen.view disk.old) (D.seen.view disk.new) }
         ensures limits { limits_of self.new ≡ limits_of self.old }
-        ensures disk_alone { DiskAlone (D.view disk.old) (D.view disk.new) }
+        ensures disk_alone { DiskAlone (D.seen.view disk.old) (D.seen.view disk.new) }
     {
         match &self.index {
             Some(index) => Archive::compare(index, channel, tracks),
@@ -174,17 +171,17 @@ impl Archive {
     ) -> Declared
         requires tracks { tracks ≡ channel.now }
         requires valid { IsChannel channel.now }
-        requires stands { (log : List Entry) × (doubt : Option Entry) × Stands self.old log doubt (D.may_leave disk.old) }
-        ensures step { (log : List Entry) (doubt : Option Entry) → Stands self.old log doubt (D.may_leave disk.old)
-            → DeclareStep (Acted (D.view disk.old) (D.view disk.new)) (D.may_leave disk.new) self.new log doubt channel.now result }
-        ensures any_moment { (log : List Entry) (doubt : Option Entry) → Stands self.old log doubt (D.may_leave disk.old)
-            → IsSome (D.view disk.old).contents → Throughout D.view D.left_at disk.old disk.new (λ t c. (after : List Entry) × IsStore after c
+        requires stands { (log : List Entry) × (doubt : Option Entry) × Stands self.old log doubt (D.seen.may_leave disk.old) }
+        ensures step { (log : List Entry) (doubt : Option Entry) → Stands self.old log doubt (D.seen.may_leave disk.old)
+            → DeclareStep (Acted (D.seen.view disk.old) (D.seen.view disk.new)) (D.seen.may_leave disk.new) self.new log doubt channel.now result }
+        ensures any_moment { (log : List Entry) (doubt : Option Entry) → Stands self.old log doubt (D.seen.may_leave disk.old)
+            → IsSome (D.seen.view disk.old).contents → Throughout D.seen disk.old disk.new (λ t c. (after : List Entry) × IsStore after c
             × Grows log doubt (Declare channel.now) after) }
         ensures memory_first { result ≡ answer.NoMemory → disk.new ≡ disk.old }
-        ensures fault { result ≡ answer.DiskFault → Rose (D.view disk.old).disk_faults (D.view disk.new).disk_faults }
-        ensures recorded { Recorded (D.view disk.old) (D.view disk.new) }
+        ensures fault { result ≡ answer.DiskFault → Rose (D.seen.view disk.old).disk_faults (D.seen.view disk.new).disk_faults }
+        ensures recorded { Recorded (D.seen.view disk.old) (D.seen.view disk.new) }
         ensures limits { limits_of self.new ≡ limits_of self.old }
-        ensures disk_alone { DiskAlone (D.view disk.old) (D.view disk.new) }
+        ensures disk_alone { DiskAlone (D.seen.view disk.old) (D.seen.view disk.new) }
     {
         match self.header(alloc, channel) {
             Err(NoMemory) => Declared::NoMemory,
@@ -199,20 +196,20 @@ impl Archive {
     /// what is said of the log is then said of the log after that. All memory is taken before the disk is called.
     pub fn declare<D: Disk>(&mut self, alloc: Global, disk: &mut D, channel: &Channel) -> Declared
         requires valid { IsChannel channel.now }
-        requires stands { (log : List Entry) × (doubt : Option Entry) × Stands self.old log doubt (D.may_leave disk.old) }
+        requires stands { (log : List Entry) × (doubt : Option Entry) × Stands self.old log doubt (D.seen.may_leave disk.old) }
         // It stands for some log again, whichever it stood for.
-        ensures stands { (log : List Entry) × (doubt : Option Entry) × Stands self.new log doubt (D.may_leave disk.new) }
-        ensures step { (log : List Entry) (doubt : Option Entry) → Stands self.old log doubt (D.may_leave disk.old)
-            → DeclareStep (Acted (D.view disk.old) (D.view disk.new)) (D.may_leave disk.new) self.new log doubt channel.now result }
-        ensures any_moment { (log : List Entry) (doubt : Option Entry) → Stands self.old log doubt (D.may_leave disk.old)
-            → IsSome (D.view disk.old).contents → Throughout D.view D.left_at disk.old disk.new (λ t c. (after : List Entry) × IsStore after c
+        ensures stands { (log : List Entry) × (doubt : Option Entry) × Stands self.new log doubt (D.seen.may_leave disk.new) }
+        ensures step { (log : List Entry) (doubt : Option Entry) → Stands self.old log doubt (D.seen.may_leave disk.old)
+            → DeclareStep (Acted (D.seen.view disk.old) (D.seen.view disk.new)) (D.seen.may_leave disk.new) self.new log doubt channel.now result }
+        ensures any_moment { (log : List Entry) (doubt : Option Entry) → Stands self.old log doubt (D.seen.may_leave disk.old)
+            → IsSome (D.seen.view disk.old).contents → Throughout D.seen disk.old disk.new (λ t c. (after : List Entry) × IsStore after c
             × Grows log doubt (Declare channel.now) after) }
         // All memory is taken before the disk is called.
         ensures memory_first { result ≡ answer.NoMemory → disk.new ≡ disk.old }
-        ensures fault { result ≡ answer.DiskFault → Rose (D.view disk.old).disk_faults (D.view disk.new).disk_faults }
-        ensures recorded { Recorded (D.view disk.old) (D.view disk.new) }
+        ensures fault { result ≡ answer.DiskFault → Rose (D.seen.view disk.old).disk_faults (D.seen.view disk.new).disk_faults }
+        ensures recorded { Recorded (D.seen.view disk.old) (D.seen.view disk.new) }
         ensures limits { limits_of self.new ≡ limits_of self.old }
-        ensures disk_alone { DiskAlone (D.view disk.old) (D.view disk.new) }
+        ensures disk_alone { DiskAlone (D.seen.view disk.old) (D.seen.view disk.new) }
     {
         match channel.copy(alloc) {
             Err(NoMemory) => Declared::NoMemory,

@@ -18,7 +18,6 @@ ghost use Rattle.sm_archive.specs.Store.{IsStore};
 ghost use Rattle.sm_archive.specs.Stands.{Stands};
 
 use crate::archive::Archive;
-use crate::bodies;
 use crate::index::Index;
 use sm_gatelog::ReadFault;
 use sm_model::{Address, Bytes, Entry, Fragment, Part};
@@ -108,24 +107,24 @@ impl Archive {
         address: &Address,
         place: u64,
     ) -> Fetched
-        requires stands { (log : List Entry) × (doubt : Option Entry) × Stands self.now log doubt (D.may_leave disk.old) }
+        requires stands { (log : List Entry) × (doubt : Option Entry) × Stands self.now log doubt (D.seen.may_leave disk.old) }
         requires index { self.now.index ≡ Some index.now }
         requires place { place_of address.now index.now.catalog.adds ≡ Some place }
         ensures found { (at : ℕ) (f : Fragment) → result ≡ Found at f → (at ≡ place) × (address_of f ≡ address.now)
             × ((log : List Entry) (doubt : Option Entry)
-            → Stands self.now log doubt (D.may_leave disk.old) → IsSome (D.view disk.old).contents → slice_get log place ≡ Some (Keep f)) }
+            → Stands self.now log doubt (D.seen.may_leave disk.old) → IsSome (D.seen.view disk.old).contents → slice_get log place ≡ Some (Keep f)) }
         ensures valid { (at : ℕ) (f : Fragment) → result ≡ Found at f → IsValid f }
         ensures present { result ≡ Absent → ⊥ }
-        ensures damaged { result ≡ Damaged → (log : List Entry) (doubt : Option Entry) → Stands self.now log doubt (D.may_leave disk.old)
-            → IsSome (D.view disk.old).contents → ⊥ }
-        ensures fault { result ≡ DiskFault → Rose (D.view disk.old).disk_faults (D.view disk.new).disk_faults }
-        ensures no_more { (c : Image) → D.may_leave disk.new c → D.may_leave disk.old c }
-        ensures any_moment { Throughout D.view D.left_at disk.old disk.new (λ t c. D.may_leave disk.old c) }
-        ensures contents { (D.view disk.new).contents ≡ (D.view disk.old).contents }
-        ensures recorded { Recorded (D.view disk.old) (D.view disk.new) }
-        ensures disk_alone { DiskAlone (D.view disk.old) (D.view disk.new) }
+        ensures damaged { result ≡ Damaged → (log : List Entry) (doubt : Option Entry) → Stands self.now log doubt (D.seen.may_leave disk.old)
+            → IsSome (D.seen.view disk.old).contents → ⊥ }
+        ensures fault { result ≡ DiskFault → Rose (D.seen.view disk.old).disk_faults (D.seen.view disk.new).disk_faults }
+        ensures no_more { (c : Image) → D.seen.may_leave disk.new c → D.seen.may_leave disk.old c }
+        ensures any_moment { Throughout D.seen disk.old disk.new (λ t c. D.seen.may_leave disk.old c) }
+        ensures contents { (D.seen.view disk.new).contents ≡ (D.seen.view disk.old).contents }
+        ensures recorded { Recorded (D.seen.view disk.old) (D.seen.view disk.new) }
+        ensures disk_alone { DiskAlone (D.seen.view disk.old) (D.seen.view disk.new) }
     {
-        match bodies::read(&self.log, alloc, disk, place) {
+        match self.log.read(alloc, disk, place) {
             Err(ReadFault::DiskFault) => Fetched::DiskFault,
             Err(ReadFault::NoMemory) => Fetched::NoMemory,
             Ok(body) => match kept_at(alloc, index, place, body, address) {
@@ -141,22 +140,22 @@ impl Archive {
     /// The fragment that is kept at an address, with its place. On a disk that tells its contents it is the log's, and
     /// nothing is ever damaged.
     pub fn fetch<D: Disk>(&self, alloc: Global, disk: &mut D, address: &Address) -> Fetched
-        requires stands { (log : List Entry) × (doubt : Option Entry) × Stands self.now log doubt (D.may_leave disk.old) }
+        requires stands { (log : List Entry) × (doubt : Option Entry) × Stands self.now log doubt (D.seen.may_leave disk.old) }
         ensures found { (place : ℕ) (f : Fragment) → result ≡ Found place f → (address_of f ≡ address.now) × ((log : List Entry) (doubt : Option Entry)
-            → Stands self.now log doubt (D.may_leave disk.old)
-            → (place_of address.now (adds_of log) ≡ Some place) × (IsSome (D.view disk.old).contents → slice_get log place ≡ Some (Keep f))) }
+            → Stands self.now log doubt (D.seen.may_leave disk.old)
+            → (place_of address.now (adds_of log) ≡ Some place) × (IsSome (D.seen.view disk.old).contents → slice_get log place ≡ Some (Keep f))) }
         ensures valid { (place : ℕ) (f : Fragment) → result ≡ Found place f → IsValid f }
-        ensures absent { (log : List Entry) (doubt : Option Entry) → Stands self.now log doubt (D.may_leave disk.old)
+        ensures absent { (log : List Entry) (doubt : Option Entry) → Stands self.now log doubt (D.seen.may_leave disk.old)
             → (result ≡ Absent) ↔ (place_of address.now (adds_of log) ≡ None) }
-        ensures damaged { result ≡ Damaged → (log : List Entry) (doubt : Option Entry) → Stands self.now log doubt (D.may_leave disk.old)
-            → IsSome (D.view disk.old).contents → ⊥ }
-        ensures fault { result ≡ DiskFault → Rose (D.view disk.old).disk_faults (D.view disk.new).disk_faults }
-        ensures stands { (log : List Entry) (doubt : Option Entry) → Stands self.now log doubt (D.may_leave disk.old)
-            → Stands self.now log doubt (D.may_leave disk.new) }
-        ensures any_moment { Throughout D.view D.left_at disk.old disk.new (λ t c. D.may_leave disk.old c) }
-        ensures contents { (D.view disk.new).contents ≡ (D.view disk.old).contents }
-        ensures recorded { Recorded (D.view disk.old) (D.view disk.new) }
-        ensures disk_alone { DiskAlone (D.view disk.old) (D.view disk.new) }
+        ensures damaged { result ≡ Damaged → (log : List Entry) (doubt : Option Entry) → Stands self.now log doubt (D.seen.may_leave disk.old)
+            → IsSome (D.seen.view disk.old).contents → ⊥ }
+        ensures fault { result ≡ DiskFault → Rose (D.seen.view disk.old).disk_faults (D.seen.view disk.new).disk_faults }
+        ensures stands { (log : List Entry) (doubt : Option Entry) → Stands self.now log doubt (D.seen.may_leave disk.old)
+            → Stands self.now log doubt (D.seen.may_leave disk.new) }
+        ensures any_moment { Throughout D.seen disk.old disk.new (λ t c. D.seen.may_leave disk.old c) }
+        ensures contents { (D.seen.view disk.new).contents ≡ (D.seen.view disk.old).contents }
+        ensures recorded { Recorded (D.seen.view disk.old) (D.seen.view disk.new) }
+        ensures disk_alone { DiskAlone (D.seen.view disk.old) (D.seen.view disk.new) }
     {
         match &self.index {
             None => Fetched::Absent,

@@ -25,11 +25,9 @@ ghost use Rattle.sm_archive.specs.declared.archive.Pending.TheVariants as pendin
 ghost use Rattle.sm_archive.specs.declared.index.Index.{Index};
 ghost use Rattle.sm_record.specs.Bodies.{body_len};
 ghost use Rattle.sm_seglog.specs.Segments.{count_of};
-ghost use Rattle.sm_archive.specs.Bodies.{room_of};
 
 use crate::answers::{DiskFault, Keeping};
 use crate::archive::{Archive, Pending};
-use crate::bodies;
 use crate::check::check_of;
 use crate::index::Index;
 use crate::ready::Ready;
@@ -51,7 +49,6 @@ fn ready_in(
     requires channel { IsChannel index.old.catalog.channel }
     ensures index { Reserved index.old index.new }
     ensures log { OnlyReserved log.old log.new }
-    ensures no_less { (log.old.last.spare ≤ log.new.last.spare) × ((room_of log.old) ≤ (room_of log.new)) }
     ensures ready { IfOk result (λ ready. ReadyIn ready fragment.now index.new log.new) }
 {
     let address = Address::of(alloc, fragment)?;
@@ -60,7 +57,7 @@ fn ready_in(
     }
     index.reserve(&address)?;
     let body = put_keep(alloc, fragment, index.catalog.channel())?;
-    bodies::reserve(log, body.len() as u32)?;
+    log.reserve(body.len() as u32)?;
     let check = check_of(body.as_slice());
     front_of_a_fragment();
     match read_meta(body.as_slice()) {
@@ -85,7 +82,6 @@ fn ready_pending(
     requires channel { (i : Index) → entry.old ≡ pending.Declare i → IsChannel i.catalog.channel }
     ensures entry { PendingReserved entry.old entry.new }
     ensures log { OnlyReserved log.old log.new }
-    ensures no_less { (log.old.last.spare ≤ log.new.last.spare) × ((room_of log.old) ≤ (room_of log.new)) }
     ensures ready { IfOk result (λ ready. ReadyPending ready fragment.now entry.new log.new) }
 {
     match entry {
@@ -166,20 +162,20 @@ impl Archive {
 
     // Appends a fragment that is new and meets no limit.
     fn append_keep<D: Disk>(&mut self, disk: &mut D, ready: Ready) -> Keeping
-        requires can { (log : List Entry) × (f : Fragment) × Stands self.old log None (D.may_leave disk.old) × IsPrepared 1 self.old ready f × IsValid f
+        requires can { (log : List Entry) × (f : Fragment) × Stands self.old log None (D.seen.may_leave disk.old) × IsPrepared 1 self.old ready f × IsValid f
             × (verdict_on log f ≡ New) × IsWithin self.old log f }
-        ensures step { (log : List Entry) (f : Fragment) → Stands self.old log None (D.may_leave disk.old) → IsPrepared 1 self.old ready f → IsValid f
+        ensures step { (log : List Entry) (f : Fragment) → Stands self.old log None (D.seen.may_leave disk.old) → IsPrepared 1 self.old ready f → IsValid f
             → verdict_on log f ≡ New → IsWithin self.old log f
-            → KeptNew (Acted (D.view disk.old) (D.view disk.new)) (D.may_leave disk.new) self.new log f result }
-        ensures any_moment { (log : List Entry) (f : Fragment) → Stands self.old log None (D.may_leave disk.old) → IsPrepared 1 self.old ready f → IsValid f
+            → KeptNew (Acted (D.seen.view disk.old) (D.seen.view disk.new)) (D.seen.may_leave disk.new) self.new log f result }
+        ensures any_moment { (log : List Entry) (f : Fragment) → Stands self.old log None (D.seen.may_leave disk.old) → IsPrepared 1 self.old ready f → IsValid f
             → verdict_on log f ≡ New → IsWithin self.old log f
-            → IsSome (D.view disk.old).contents → Throughout D.view D.left_at disk.old disk.new (λ t c. (after : List Entry) × IsStore after c × ((after ≡ log)
+            → IsSome (D.seen.view disk.old).contents → Throughout D.seen disk.old disk.new (λ t c. (after : List Entry) × IsStore after c × ((after ≡ log)
             ⊎ (after ≡ log ++ Keep f ∷ []))) }
         ensures no_memory { result ≡ keeping.NoMemory → ⊥ }
-        ensures fault { result ≡ keeping.DiskFault → Rose (D.view disk.old).disk_faults (D.view disk.new).disk_faults }
-        ensures recorded { Recorded (D.view disk.old) (D.view disk.new) }
+        ensures fault { result ≡ keeping.DiskFault → Rose (D.seen.view disk.old).disk_faults (D.seen.view disk.new).disk_faults }
+        ensures recorded { Recorded (D.seen.view disk.old) (D.seen.view disk.new) }
         ensures limits { limits_of self.new ≡ limits_of self.old }
-        ensures disk_alone { DiskAlone (D.view disk.old) (D.view disk.new) }
+        ensures disk_alone { DiskAlone (D.seen.view disk.old) (D.seen.view disk.new) }
     {
         match self.append(
             disk,
@@ -193,17 +189,17 @@ impl Archive {
 
     // Keeps a fragment where no entry is in doubt.
     fn keep_ready<D: Disk>(&mut self, disk: &mut D, ready: Ready) -> Keeping
-        requires can { (log : List Entry) × (f : Fragment) × Stands self.old log None (D.may_leave disk.old) × IsPrepared 1 self.old ready f × IsValid f }
-        ensures step { (log : List Entry) (f : Fragment) → Stands self.old log None (D.may_leave disk.old) → IsPrepared 1 self.old ready f → IsValid f
-            → KeptNew (Acted (D.view disk.old) (D.view disk.new)) (D.may_leave disk.new) self.new log f result }
-        ensures any_moment { (log : List Entry) (f : Fragment) → Stands self.old log None (D.may_leave disk.old) → IsPrepared 1 self.old ready f → IsValid f
-            → IsSome (D.view disk.old).contents → Throughout D.view D.left_at disk.old disk.new (λ t c. (after : List Entry) × IsStore after c × ((after ≡ log)
+        requires can { (log : List Entry) × (f : Fragment) × Stands self.old log None (D.seen.may_leave disk.old) × IsPrepared 1 self.old ready f × IsValid f }
+        ensures step { (log : List Entry) (f : Fragment) → Stands self.old log None (D.seen.may_leave disk.old) → IsPrepared 1 self.old ready f → IsValid f
+            → KeptNew (Acted (D.seen.view disk.old) (D.seen.view disk.new)) (D.seen.may_leave disk.new) self.new log f result }
+        ensures any_moment { (log : List Entry) (f : Fragment) → Stands self.old log None (D.seen.may_leave disk.old) → IsPrepared 1 self.old ready f → IsValid f
+            → IsSome (D.seen.view disk.old).contents → Throughout D.seen disk.old disk.new (λ t c. (after : List Entry) × IsStore after c × ((after ≡ log)
             ⊎ (after ≡ log ++ Keep f ∷ []))) }
         ensures no_memory { result ≡ keeping.NoMemory → ⊥ }
-        ensures fault { result ≡ keeping.DiskFault → Rose (D.view disk.old).disk_faults (D.view disk.new).disk_faults }
-        ensures recorded { Recorded (D.view disk.old) (D.view disk.new) }
+        ensures fault { result ≡ keeping.DiskFault → Rose (D.seen.view disk.old).disk_faults (D.seen.view disk.new).disk_faults }
+        ensures recorded { Recorded (D.seen.view disk.old) (D.seen.view disk.new) }
         ensures limits { limits_of self.new ≡ limits_of self.old }
-        ensures disk_alone { DiskAlone (D.view disk.old) (D.view disk.new) }
+        ensures disk_alone { DiskAlone (D.seen.view disk.old) (D.seen.view disk.new) }
     {
         match self.judge(&ready) {
             Judged::Known { place } => Keeping::Known { place },
@@ -233,17 +229,17 @@ impl Archive {
     ) -> Keeping
         requires address { address ≡ address_of fragment.now }
         requires valid { IsValid fragment.now }
-        requires stands { (log : List Entry) × (doubt : Option Entry) × Stands self.old log doubt (D.may_leave disk.old) }
-        ensures step { (log : List Entry) (doubt : Option Entry) → Stands self.old log doubt (D.may_leave disk.old)
-            → KeepStep (Acted (D.view disk.old) (D.view disk.new)) (D.may_leave disk.new) self.new log doubt fragment.now result }
-        ensures any_moment { (log : List Entry) (doubt : Option Entry) → Stands self.old log doubt (D.may_leave disk.old)
-            → IsSome (D.view disk.old).contents → Throughout D.view D.left_at disk.old disk.new (λ t c. (after : List Entry) × IsStore after c
+        requires stands { (log : List Entry) × (doubt : Option Entry) × Stands self.old log doubt (D.seen.may_leave disk.old) }
+        ensures step { (log : List Entry) (doubt : Option Entry) → Stands self.old log doubt (D.seen.may_leave disk.old)
+            → KeepStep (Acted (D.seen.view disk.old) (D.seen.view disk.new)) (D.seen.may_leave disk.new) self.new log doubt fragment.now result }
+        ensures any_moment { (log : List Entry) (doubt : Option Entry) → Stands self.old log doubt (D.seen.may_leave disk.old)
+            → IsSome (D.seen.view disk.old).contents → Throughout D.seen disk.old disk.new (λ t c. (after : List Entry) × IsStore after c
             × Grows log doubt (Keep fragment.now) after) }
         ensures memory_first { result ≡ keeping.NoMemory → disk.new ≡ disk.old }
-        ensures fault { result ≡ keeping.DiskFault → Rose (D.view disk.old).disk_faults (D.view disk.new).disk_faults }
-        ensures recorded { Recorded (D.view disk.old) (D.view disk.new) }
+        ensures fault { result ≡ keeping.DiskFault → Rose (D.seen.view disk.old).disk_faults (D.seen.view disk.new).disk_faults }
+        ensures recorded { Recorded (D.seen.view disk.old) (D.seen.view disk.new) }
         ensures limits { limits_of self.new ≡ limits_of self.old }
-        ensures disk_alone { DiskAlone (D.view disk.old) (D.view disk.new) }
+        ensures disk_alone { DiskAlone (D.seen.view disk.old) (D.seen.view disk.new) }
     {
         match self.ready(alloc, fragment) {
             Err(NoMemory) => Keeping::NoMemory,
@@ -261,21 +257,21 @@ impl Archive {
     /// is then said of the log after that. All memory is taken before the disk is called.
     pub fn keep<D: Disk>(&mut self, alloc: Global, disk: &mut D, fragment: &Fragment) -> Keeping
         requires valid { IsValid fragment.now }
-        requires stands { (log : List Entry) × (doubt : Option Entry) × Stands self.old log doubt (D.may_leave disk.old) }
+        requires stands { (log : List Entry) × (doubt : Option Entry) × Stands self.old log doubt (D.seen.may_leave disk.old) }
         // It stands for some log again, whichever it stood for.
-        ensures stands { (log : List Entry) × (doubt : Option Entry) × Stands self.new log doubt (D.may_leave disk.new) }
-        ensures step { (log : List Entry) (doubt : Option Entry) → Stands self.old log doubt (D.may_leave disk.old)
-            → KeepStep (Acted (D.view disk.old) (D.view disk.new)) (D.may_leave disk.new) self.new log doubt fragment.now result }
+        ensures stands { (log : List Entry) × (doubt : Option Entry) × Stands self.new log doubt (D.seen.may_leave disk.new) }
+        ensures step { (log : List Entry) (doubt : Option Entry) → Stands self.old log doubt (D.seen.may_leave disk.old)
+            → KeepStep (Acted (D.seen.view disk.old) (D.seen.view disk.new)) (D.seen.may_leave disk.new) self.new log doubt fragment.now result }
         // A crash at any moment of the call leaves the log from before it, perhaps followed by the doubt, by the fragment, or by both in this order.
-        ensures any_moment { (log : List Entry) (doubt : Option Entry) → Stands self.old log doubt (D.may_leave disk.old)
-            → IsSome (D.view disk.old).contents → Throughout D.view D.left_at disk.old disk.new (λ t c. (after : List Entry) × IsStore after c
+        ensures any_moment { (log : List Entry) (doubt : Option Entry) → Stands self.old log doubt (D.seen.may_leave disk.old)
+            → IsSome (D.seen.view disk.old).contents → Throughout D.seen disk.old disk.new (λ t c. (after : List Entry) × IsStore after c
             × Grows log doubt (Keep fragment.now) after) }
         // All memory is taken before the disk is called.
         ensures memory_first { result ≡ keeping.NoMemory → disk.new ≡ disk.old }
-        ensures fault { result ≡ keeping.DiskFault → Rose (D.view disk.old).disk_faults (D.view disk.new).disk_faults }
-        ensures recorded { Recorded (D.view disk.old) (D.view disk.new) }
+        ensures fault { result ≡ keeping.DiskFault → Rose (D.seen.view disk.old).disk_faults (D.seen.view disk.new).disk_faults }
+        ensures recorded { Recorded (D.seen.view disk.old) (D.seen.view disk.new) }
         ensures limits { limits_of self.new ≡ limits_of self.old }
-        ensures disk_alone { DiskAlone (D.view disk.old) (D.view disk.new) }
+        ensures disk_alone { DiskAlone (D.seen.view disk.old) (D.seen.view disk.new) }
     {
         match Address::of(alloc, fragment) {
             Err(NoMemory) => Keeping::NoMemory,

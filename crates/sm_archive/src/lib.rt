@@ -4,7 +4,6 @@
 mod admit;
 mod answers;
 mod archive;
-mod bodies;
 mod check;
 mod declare;
 mod fetch;

@@ -5,6 +5,7 @@ use Rattle.sm_ends.specs.Faults.{Rose}
 use Rattle.sm_ends.specs.Moves.{TakesCount, TakesAtMost}
 use Rattle.sm_ends.specs.declared.input.InputFault.{InputFault}
 use Rattle.sm_ends.specs.declared.input.InputFault.TheVariants as input_fault
+use Rattle.sm_ends.specs.Ended.{End}
 use Rattle.sm_fetch.specs.declared.dial.DialError.{DialError}
 use Rattle.sm_fetch.specs.declared.dial.DialError.TheVariants as dial_fault
 use Rattle.sm_fetch.specs.declared.dial.Exchange.{Exchange}
@@ -16,16 +17,14 @@ use Rattle.sm_fetch.specs.Fetched.{PushedBody}
 use Rattle.sm_client.specs.declared.fault.VisitFault.{VisitFault}
 use Rattle.sm_client.specs.declared.fault.VisitFault.TheVariants as fault
 
--- an input before a call and after it: what it tells, and its count of faults
-pub record Input : Type 0 where
-  pub told : Option (List ℕ)
-  pub faults : ℕ
-
 -- a dial before a call and after it: the exchanges that it tells, its count of faults, and what it is turned to
 pub record Line : Type 0 where
   pub log : Option (List Exchange)
   pub faults : ℕ
   pub chosen : Option Peer
+
+abbrev pub line_of : {C : Type 0} → (C → Option (List Exchange)) → (C → ℕ) → (C → Option Peer) → C → Line
+line_of log faults chosen c = record { log = log c; faults = faults c; chosen = chosen c }
 
 abbrev pub push_most : ℕ
 push_most = 268435456
@@ -40,7 +39,7 @@ fault_of_input input_fault.TooLong = fault.TooLong
 fault_of_input input_fault.NoMemory = fault.NoMemory
 
 -- the dial was turned to this host and to the port of the place, the whole input was pushed once, and this came of it
-pub record HasPushed (host : List ℕ) (place : Place) (id : List ℕ) (input input' : Input) (dial dial' : Line) (p : Pushed) : Type 0 where
+pub record HasPushed (host : List ℕ) (place : Place) (id : List ℕ) (input input' : End) (dial dial' : Line) (p : Pushed) : Type 0 where
   pub body : List ℕ
   pub consumed : Consumes input.told input'.told body
   pub ended : IsAtEnd input'.told
@@ -51,31 +50,31 @@ pub record HasPushed (host : List ℕ) (place : Place) (id : List ℕ) (input in
   pub lost : p ≡ pushed.Lost → Rose dial.faults dial'.faults
 
 -- nothing was read and nothing was sent
-pub record IsUnasked (input input' : Input) (dial dial' : Line) : Type 0 where
+pub record IsUnasked (input input' : End) (dial dial' : Line) : Type 0 where
   pub input_is : input' ≡ input
   pub log_is : dial'.log ≡ dial.log
 
 -- more bytes came than the limit, of which one more than that was taken
-pub record IsTooLong (input input' : Input) (dial dial' : Line) : Type 0 where
+pub record IsTooLong (input input' : End) (dial dial' : Line) : Type 0 where
   pub long : IfSome input.told (λ text. push_most < length text)
   pub taken : TakesCount input.told input'.told (push_most + 1)
   pub log_is : dial'.log ≡ dial.log
 
 -- the source failed
-pub record IsUnread (input input' : Input) (dial dial' : Line) : Type 0 where
+pub record IsUnread (input input' : End) (dial dial' : Line) : Type 0 where
   pub rose : Rose input.faults input'.faults
   pub taken : TakesAtMost input.told input'.told push_most
   pub log_is : dial'.log ≡ dial.log
 
 -- Memory ran out before or while the input was read, of which at most the limit was taken. Nothing was sent, and no count fell.
-pub record IsStarved (input input' : Input) (dial dial' : Line) : Type 0 where
+pub record IsStarved (input input' : End) (dial dial' : Line) : Type 0 where
   pub taken : TakesAtMost input.told input'.told push_most
   pub no_fewer : input.faults ≤ input'.faults
   pub later : dial.faults ≤ dial'.faults
   pub log_is : dial'.log ≡ dial.log
 
 -- why nothing was pushed
-abbrev pub WhyUnpushed : Input → Input → Line → Line → VisitFault → Type 0
+abbrev pub WhyUnpushed : End → End → Line → Line → VisitFault → Type 0
 WhyUnpushed input input' dial dial' fault.LinkFault = IsUnasked input input' dial dial' × Rose dial.faults dial'.faults
 WhyUnpushed input input' dial dial' fault.Unread = IsUnread input input' dial dial'
 WhyUnpushed input input' dial dial' fault.TooLong = IsTooLong input input' dial dial'

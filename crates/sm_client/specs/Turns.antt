@@ -7,6 +7,9 @@ pub record Meaning (P : Type 0) : Type 0 where
   pub pick : P → List Heard → List ℕ → ℕ → ℕ
   pub retired : P → List Heard → Bool
 
+abbrev pub meant : {P : Type 0} → (P → List Heard → List ℕ → ℕ → ℕ) → (P → List Heard → Bool) → Meaning P
+meant pick retired = record { pick = pick; retired = retired }
+
 -- the policy that acts, what it has heard, and those after it
 pub record Turn (P : Type 0) : Type 0 where
   pub who : P

@@ -1,7 +1,7 @@
 //! Streams, played one after another.
 ghost use Rattle.std.specs.Prelude.{◌≡◌, ◌≤◌, ◌<◌, ◌-◌, ◌^◌, ℕ, length};
 ghost use Rattle.sm_ends.specs.Faults.{Rose};
-ghost use Rattle.sm_client.specs.Turns.{fresh, settle};
+ghost use Rattle.sm_client.specs.Turns.{fresh, settle, meant};
 ghost use Rattle.sm_client.specs.Plays.{Played, PlaysKept, PlayedKept};
 ghost use Rattle.sm_client.specs.Dials.{Dialed, carried};
 ghost use Rattle.sm_client.specs.Served.{PlayedServed};
@@ -28,7 +28,7 @@ fn play_all<C: Dial, T: Tracks>(
     requires tries { 0 < plan.now.tries }
     requires refresh { 0 < plan.now.refresh }
     requires few { length names.now ≤ 16 }
-    ensures plays { PlaysKept (record { pick = pick_after; retired = retired_after }) plan.now (fresh policies.old.acting policies.old.rest.items) 0 names.now
+    ensures plays { PlaysKept (meant pick_after retired_after) plan.now (fresh policies.old.acting policies.old.rest.items) 0 names.now
         (C.log dial.old) (C.log dial.new) (C.store dial.old) (C.store dial.new) (T.held tracks.old) (T.held tracks.new) result }
     ensures later { T.faults tracks.old ≤ T.faults tracks.new }
     ensures fault { result.end ≡ End.WriteFault → Rose (T.faults tracks.old) (T.faults tracks.new) }
@@ -69,16 +69,16 @@ pub fn play<C: Dial, T: Tracks>(
     requires count { plan.now.count ≤ 2 ^ 32 - 1 }
     requires tries { 0 < plan.now.tries }
     requires refresh { 0 < plan.now.refresh }
-    ensures played { Played (record { pick = pick_after; retired = retired_after }) plan.now policies.items
+    ensures played { Played (meant pick_after retired_after) plan.now policies.items
         (C.log dial.old) (C.log dial.new) (T.held tracks.old) (T.held tracks.new) result }
-    ensures kept { PlayedKept (record { pick = pick_after; retired = retired_after }) plan.now policies.items
+    ensures kept { PlayedKept (meant pick_after retired_after) plan.now policies.items
         (C.log dial.old) (C.log dial.new) (C.store dial.old) (C.store dial.new) (T.held tracks.old) (T.held tracks.new) result }
     ensures later { T.faults tracks.old ≤ T.faults tracks.new }
     ensures fault { result.end ≡ End.WriteFault → Rose (T.faults tracks.old) (T.faults tracks.new) }
     ensures goes_on { C.later dial.old dial.new }
     ensures chosen { C.chosen dial.new ≡ C.chosen dial.old }
     ensures dial { Dialed (C.log dial.old) (C.log dial.new) (C.dial_faults dial.old) (C.dial_faults dial.new) (C.store dial.old) (C.store dial.new) (carried result.end) }
-    ensures served { PlayedServed (record { pick = pick_after; retired = retired_after }) plan.now policies.items
+    ensures served { PlayedServed (meant pick_after retired_after) plan.now policies.items
         (C.log dial.old) (C.log dial.new) (T.held tracks.old) (T.held tracks.new) result }
 {
     let mut policies = Policies::new(policies);

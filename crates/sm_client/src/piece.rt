@@ -1,7 +1,7 @@
 //! Fragments, asked for.
 ghost use Rattle.std.specs.Prelude.{◌≡◌, ◌≤◌, ◌<◌, ℕ, length, IfOk, Some};
 ghost use Rattle.sm_manin.specs.declared.listing.StreamListing.{StreamListing};
-ghost use Rattle.sm_client.specs.Turns.{fresh};
+ghost use Rattle.sm_client.specs.Turns.{fresh, meant};
 ghost use Rattle.sm_client.specs.Starts.{has, AreAfter};
 ghost use Rattle.sm_client.specs.Stands.{Standing, address_at, ladder_of, miss_of};
 ghost use Rattle.sm_client.specs.Asks.{outcome_of};
@@ -83,7 +83,7 @@ fn ask_once<C: Dial>(
     ahead: u64,
 ) -> Asked
     requires { 0 < length stream.now.levels }
-    ensures once { PieceOnce (record { pick = pick_after; retired = retired_after }) plan.now name.now stream.now start ahead
+    ensures once { PieceOnce (meant pick_after retired_after) plan.now name.now stream.now start ahead
         policies.old.acting policies.new.acting (C.log dial.old) (C.log dial.new) result }
     ensures rest { policies.new.rest.items ≡ policies.old.rest.items }
     ensures goes_on { C.later dial.old dial.new }
@@ -132,7 +132,7 @@ fn ask_again<C: Dial>(
     again: bool,
 ) -> Asked
     requires { 0 < length stream.now.levels }
-    ensures once { PieceOnce (record { pick = pick_after; retired = retired_after }) plan.now name.now stream.now start ahead
+    ensures once { PieceOnce (meant pick_after retired_after) plan.now name.now stream.now start ahead
         policies.old.acting policies.new.acting (C.log dial.old) (C.log dial.new) result }
     ensures rest { policies.new.rest.items ≡ policies.old.rest.items }
     ensures goes_on { C.later dial.old dial.new }
@@ -160,7 +160,7 @@ pub fn ask<C: Dial>(
     requires { 0 < length stream.now.levels }
     ensures took { TookValid stream.now start result }
     ensures made { (p : Standing) → MayPiece plan.now p stream.now start ahead →
-        PiecesBy (record { pick = pick_after; retired = retired_after }) plan.now name.now p stream.now
+        PiecesBy (meant pick_after retired_after) plan.now name.now p stream.now
         (fresh policies.old.acting policies.old.rest.items) (fresh policies.new.acting policies.new.rest.items)
         (C.log dial.old) (C.log dial.new) result }
     ensures goes_on { C.later dial.old dial.new }

@@ -11,7 +11,7 @@ pub struct Policies {
 }
 
 impl Policies {
-    ghost use Rattle.sm_client.specs.Turns.{Continues, settle, fresh};
+    ghost use Rattle.sm_client.specs.Turns.{Continues, settle, fresh, meant};
 
     /// The first of the list acts, even if it has retired.
     pub fn new(mut policies: Vec<Box<dyn Policy>>) -> Policies
@@ -37,7 +37,7 @@ impl Policies {
 
     /// The one that acts takes in what came of a request.
     pub fn hear(&mut self, heard: Heard)
-        ensures heard { Continues (record { pick = pick_after; retired = retired_after }) self.old.acting self.new.acting heard }
+        ensures heard { Continues (meant pick_after retired_after) self.old.acting self.new.acting heard }
         ensures rest { self.new.rest.items ≡ self.old.rest.items }
     {
         self.acting.hear(heard);
@@ -66,7 +66,7 @@ impl Policies {
 
     /// Until one acts that hasn't retired, or is the last, the next one acts.
     pub fn settle(&mut self)
-        ensures { settle (record { pick = pick_after; retired = retired_after }) self.old.acting [] self.old.rest.items ≡ fresh self.new.acting self.new.rest.items }
+        ensures { settle (meant pick_after retired_after) self.old.acting [] self.old.rest.items ≡ fresh self.new.acting self.new.rest.items }
     {
         while self.is_over() {
             self.take_over();

@@ -1,7 +1,8 @@
 //! Pushing an input.
 ghost use Rattle.std.specs.Prelude.{◌≡◌, ◌≤◌, IfOk, IfErr};
 ghost use Rattle.sm_fetch.specs.Origins.{Answered};
-ghost use Rattle.sm_client.specs.Pushing.{HasPushed, WhyUnpushed};
+ghost use Rattle.sm_client.specs.Pushing.{HasPushed, WhyUnpushed, line_of};
+ghost use Rattle.sm_ends.specs.Ended.{end_of};
 
 use crate::VisitFault;
 use sm_ends::{Source, read_input};
@@ -23,13 +24,13 @@ pub fn push_input<I: Source, C: Dial>(
     id: &Name,
 ) -> Result<Pushed, VisitFault>
     ensures pushed { IfOk result (λ pushed. HasPushed host.now place.now id.now
-        (record { told = I.left input.old; faults = I.faults input.old }) (record { told = I.left input.new; faults = I.faults input.new })
-        (record { log = C.log dial.old; faults = C.dial_faults dial.old; chosen = C.chosen dial.old })
-        (record { log = C.log dial.new; faults = C.dial_faults dial.new; chosen = C.chosen dial.new }) pushed) }
+        (end_of I.left I.faults input.old) (end_of I.left I.faults input.new)
+        (line_of C.log C.dial_faults C.chosen dial.old)
+        (line_of C.log C.dial_faults C.chosen dial.new) pushed) }
     ensures why { IfErr result (λ why. WhyUnpushed
-        (record { told = I.left input.old; faults = I.faults input.old }) (record { told = I.left input.new; faults = I.faults input.new })
-        (record { log = C.log dial.old; faults = C.dial_faults dial.old; chosen = C.chosen dial.old })
-        (record { log = C.log dial.new; faults = C.dial_faults dial.new; chosen = C.chosen dial.new }) why) }
+        (end_of I.left I.faults input.old) (end_of I.left I.faults input.new)
+        (line_of C.log C.dial_faults C.chosen dial.old)
+        (line_of C.log C.dial_faults C.chosen dial.new) why) }
     ensures later { C.dial_faults dial.old ≤ C.dial_faults dial.new }
     ensures goes_on { C.later dial.old dial.new }
     ensures answered { Answered (C.log dial.old) (C.log dial.new) (C.store dial.old) (C.store dial.new) }

@@ -4,7 +4,7 @@ ghost use Rattle.std.specs.Io.KnownBytes.{Keeps};
 ghost use Rattle.sm_ends.specs.Faults.{Rose};
 ghost use Rattle.sm_model.specs.Fragments.{IsValid};
 ghost use Rattle.sm_fetch.specs.Spelt.{given};
-ghost use Rattle.sm_client.specs.Turns.{fresh};
+ghost use Rattle.sm_client.specs.Turns.{fresh, meant};
 ghost use Rattle.sm_client.specs.Starts.{has};
 ghost use Rattle.sm_client.specs.Stands as stand;
 ghost use Rattle.sm_client.specs.Stands.{piece_of};
@@ -68,7 +68,7 @@ fn add_piece<C: Dial, T: Tracks>(
     requires levels { HasLevels standing.old.listing }
     requires few { standing.old.written < 2 ^ 32 - 1 }
     ensures added { (p : stand.Standing) → Holds standing.old p → length p.written < plan.now.count → has p.expected p.known ≡ true →
-        StreamsBy (record { pick = pick_after; retired = retired_after }) plan.now name.now number p
+        StreamsBy (meant pick_after retired_after) plan.now name.now number p
         (fresh policies.old.acting policies.old.rest.items) (fresh policies.new.acting policies.new.rest.items)
         standing.new (C.log dial.old) (C.log dial.new) (C.store dial.old) (C.store dial.new) (T.held tracks.old number) (T.held tracks.new number) result }
     ensures others { (k : ℕ) → k ≢ number → Keeps (T.held tracks.old k) (T.held tracks.new k) }
@@ -130,7 +130,7 @@ fn play_one<C: Dial, T: Tracks>(
     requires levels { HasLevels standing.old.listing }
     requires few { standing.old.written < 2 ^ 32 - 1 }
     ensures added { (p : stand.Standing) → Holds standing.old p → length p.written < plan.now.count →
-        StreamsBy (record { pick = pick_after; retired = retired_after }) plan.now name.now number p
+        StreamsBy (meant pick_after retired_after) plan.now name.now number p
         (fresh policies.old.acting policies.old.rest.items) (fresh policies.new.acting policies.new.rest.items)
         standing.new (C.log dial.old) (C.log dial.new) (C.store dial.old) (C.store dial.new) (T.held tracks.old number) (T.held tracks.new number) result }
     ensures others { (k : ℕ) → k ≢ number → Keeps (T.held tracks.old k) (T.held tracks.new k) }
@@ -160,7 +160,7 @@ pub fn play_stream<C: Dial, T: Tracks>(
     number: u32,
 ) -> Count
     requires count { plan.now.count ≤ 2 ^ 32 - 1 }
-    ensures streamed { Streamed (record { pick = pick_after; retired = retired_after }) plan.now name.now number
+    ensures streamed { Streamed (meant pick_after retired_after) plan.now name.now number
         (fresh policies.old.acting policies.old.rest.items) (fresh policies.new.acting policies.new.rest.items)
         result.written result.end (C.log dial.old) (C.log dial.new) (C.store dial.old) (C.store dial.new) (T.held tracks.old number) (T.held tracks.new number) }
     ensures others { (k : ℕ) → k ≢ number → Keeps (T.held tracks.old k) (T.held tracks.new k) }

@@ -6,7 +6,7 @@ use Rattle.std.proofs.lemmas.Bool.{cases_lt}
 use Rattle.sm_model.specs.declared.entry.Entry.{Entry}
 use Rattle.sm_site.specs.Clauses.{Elapses, NoMore, SameOutcomes, Throughout}
 use Rattle.sm_site.specs.Image.{Image}
-use Rattle.sm_site.specs.Meanings.{View, Item}
+use Rattle.sm_site.specs.Meanings.{View, Item, Seen}
 use Rattle.sm_site.proofs.Moments.{and_then, weakened}
 use Rattle.sm_seglog.specs.Stores.{HasStore}
 use Rattle.sm_archive.specs.Store.{IsNoStore, IsStore, Spell}
@@ -20,26 +20,26 @@ use Rattle.sm_command.specs.Lasting.{AtEachMoment, NoFewer, Outlasts, Spared, Un
 
 -- ---- one part, and then another
 
-module _ {D : Type 0} (view : D → View) (left_at : D → ℕ → Image → Type 0) where
-  pub at_each : (old new : D) (P : ℕ → Image → Type 0) (Q : Image → Type 0) → Throughout view left_at old new P → ((t : ℕ) (c : Image) → P t c → Q c)
-      → AtEachMoment view left_at old new Q
+module _ {D : Type 0} (site : Seen D) where
+  pub at_each : (old new : D) (P : ℕ → Image → Type 0) (Q : Image → Type 0) → Throughout site old new P → ((t : ℕ) (c : Image) → P t c → Q c)
+      → AtEachMoment site old new Q
   at_each old new P Q all so = record { later = all.later; keeps = all.keeps; each = λ t c after left. so t c (all.each t c after left) }
 
-  pub weaker : (old new : D) (P Q : Image → Type 0) → AtEachMoment view left_at old new P → ((c : Image) → P c → Q c) → AtEachMoment view left_at old new Q
+  pub weaker : (old new : D) (P Q : Image → Type 0) → AtEachMoment site old new P → ((c : Image) → P c → Q c) → AtEachMoment site old new Q
   weaker old new P Q all so = record { later = all.later; keeps = all.keeps; each = λ t c after left. so c (all.each t c after left) }
 
-  pub one_by_one : (old mid new : D) (P : Image → Type 0) → AtEachMoment view left_at old mid P → AtEachMoment view left_at mid new P → AtEachMoment view left_at old new P
+  pub one_by_one : (old mid new : D) (P : Image → Type 0) → AtEachMoment site old mid P → AtEachMoment site mid new P → AtEachMoment site old new P
   one_by_one old mid new P first second = record {
     later = omega (arith, first.later, second.later);
     keeps = λ t c le.
         let so_far = first.keeps t c le in
         let on = second.keeps t c (omega (arith, le, first.later)) in
         (λ left. so_far.0 (on.0 left), λ left. on.1 (so_far.1 left));
-    each = λ t c after left. ⊎_elim (λ later. second.each t c later left) (λ before. first.each t c after ((second.keeps t c before).0 left)) (cases_lt (view mid).moment t);
+    each = λ t c after left. ⊎_elim (λ later. second.each t c later left) (λ before. first.each t c after ((second.keeps t c before).0 left)) (cases_lt (site.view mid).moment t);
   }
 
   -- a call that leaves the outcomes as they are
-  pub chosen : (old new : D) (was is : Image → Type 0) → Elapses (view old) (view new) (left_at old) (left_at new) was is → SameOutcomes was is → AtEachMoment view left_at old new was
+  pub chosen : (old new : D) (was is : Image → Type 0) → Elapses (site.view old) (site.view new) (site.left_at old) (site.left_at new) was is → SameOutcomes was is → AtEachMoment site old new was
   chosen old new was is time same = record {
     later = time.later;
     keeps = time.keeps;
@@ -75,34 +75,34 @@ log_is one_list one_log (Some c) outcomes found log some pass store one =
 pub fits_found : (m : Machine) (log : List Entry) (image : Image) → m.log ≡ log → IsStore log image → Fits m image
 fits_found m log image is store = record { doubt = []; of_doubt = inl refl; store = subst (λ (l : List Entry). IsStore l image) (sym (append-nil m.log ∙ is)) store }
 
-module _ {D : Type 0} (view : D → View) (leave : D → Image → Type 0) (left_at : D → ℕ → Image → Type 0) (at_now : (d : D) (c : Image) → left_at d (view d).moment c → leave d c) where
+module _ {D : Type 0} (site : Seen D) (at_now : (d : D) (c : Image) → site.left_at d (site.view d).moment c → site.may_leave d c) where
   -- the moment at which the call began is one of those at which the store stood
-  pub store_since : (log : List Entry) (old new : D) → HasOneStore log (leave old) → AtEachMoment view left_at old new (IsStore log) → (t : ℕ) (image : Image) → (view old).moment ≤ t
-      → left_at new t image → IsStore log image
+  pub store_since : (log : List Entry) (old new : D) → HasOneStore log (site.may_leave old) → AtEachMoment site old new (IsStore log) → (t : ℕ) (image : Image) → (site.view old).moment ≤ t
+      → site.left_at new t image → IsStore log image
   store_since log old new one all t image from left =
       ⊎_elim (λ after. all.each t image after left)
-      (λ (before : t ≤ (view old).moment).
-      let now : t ≡ (view old).moment = omega (arith, before, from) in
-      one_here log (leave old) one image (at_now old image (subst (λ (k : ℕ). left_at old k image) now ((all.keeps t image before).0 left))))
-      (cases_lt (view old).moment t)
+      (λ (before : t ≤ (site.view old).moment).
+      let now : t ≡ (site.view old).moment = omega (arith, before, from) in
+      one_here log (site.may_leave old) one image (at_now old image (subst (λ (k : ℕ). site.left_at old k image) now ((all.keeps t image before).0 left))))
+      (cases_lt (site.view old).moment t)
 
   -- what is left after a call that leaves nothing else
-  pub no_more : (now_at : (d : D) (c : Image) → leave d c → left_at d (view d).moment c) → (old new : D) → Throughout view left_at old new (λ t c. leave old c) → (c : Image) → leave new c
-      → leave old c
+  pub no_more : (now_at : (d : D) (c : Image) → site.may_leave d c → site.left_at d (site.view d).moment c) → (old new : D) → Throughout site old new (λ t c. site.may_leave old c) → (c : Image) → site.may_leave new c
+      → site.may_leave old c
   no_more now_at old new all c left =
-      ⊎_elim (λ after. all.each (view new).moment c after (now_at new c left))
-      (λ (before : (view new).moment ≤ (view old).moment).
+      ⊎_elim (λ after. all.each (site.view new).moment c after (now_at new c left))
+      (λ (before : (site.view new).moment ≤ (site.view old).moment).
       let later = all.later in
-      let still : (view new).moment ≡ (view old).moment = omega (arith, before, later) in
-      at_now old c (subst (λ (k : ℕ). left_at old k c) still ((all.keeps (view new).moment c before).0 (now_at new c left))))
-      (cases_lt (view old).moment (view new).moment)
+      let still : (site.view new).moment ≡ (site.view old).moment = omega (arith, before, later) in
+      at_now old c (subst (λ (k : ℕ). site.left_at old k c) still ((all.keeps (site.view new).moment c before).0 (now_at new c left))))
+      (cases_lt (site.view old).moment (site.view new).moment)
 
   -- a part that leaves nothing else, and then another
-  pub no_other : (now_at : (d : D) (c : Image) → leave d c → left_at d (view d).moment c) → (old mid new : D) → Throughout view left_at old mid (λ t c. leave old c)
-      → Throughout view left_at mid new (λ t c. leave mid c) → Throughout view left_at old new (λ t c. leave old c)
+  pub no_other : (now_at : (d : D) (c : Image) → site.may_leave d c → site.left_at d (site.view d).moment c) → (old mid new : D) → Throughout site old mid (λ t c. site.may_leave old c)
+      → Throughout site mid new (λ t c. site.may_leave mid c) → Throughout site old new (λ t c. site.may_leave old c)
   no_other now_at old mid new first second =
-      and_then view left_at old mid new (λ t c. leave old c) first
-      (weakened view left_at mid new (λ t c. leave mid c) (λ t c. leave old c) second (λ t c left. no_more now_at old mid first c left))
+      and_then site old mid new (λ t c. site.may_leave old c) first
+      (weakened site mid new (λ t c. site.may_leave mid c) (λ t c. site.may_leave old c) second (λ t c left. no_more now_at old mid first c left))
 
 -- ---- what is no store
 
@@ -111,40 +111,40 @@ a_store : (contents : Option Image) (P : Type 0) (log : List Entry) → IfSome c
 a_store None P log store = tt
 a_store (Some c) P log store = λ none. absurd (none log store)
 
-module _ {D : Type 0} (view : D → View) (leave : D → Image → Type 0) (left_at : D → ℕ → Image → Type 0) where
+module _ {D : Type 0} (site : Seen D) where
   -- a call that writes nothing
-  pub unwritten_spared : (old new : D) → Untouched view leave left_at old new → Spared view leave left_at old new
-  unwritten_spared old new same = some_of (view old).contents (λ c. IsNoStore c → Untouched view leave left_at old new) (λ c none. same)
+  pub unwritten_spared : (old new : D) → Untouched site old new → Spared site old new
+  unwritten_spared old new same = some_of (site.view old).contents (λ c. IsNoStore c → Untouched site old new) (λ c none. same)
 
   -- a call that found a store
-  pub found_spared : (log : List Entry) (old new : D) → IfSome (view old).contents (IsStore log) → Spared view leave left_at old new
-  found_spared log old new store = a_store (view old).contents (Untouched view leave left_at old new) log store
+  pub found_spared : (log : List Entry) (old new : D) → IfSome (site.view old).contents (IsStore log) → Spared site old new
+  found_spared log old new store = a_store (site.view old).contents (Untouched site old new) log store
 
-  alone : (old new : D) → ((view new).contents ≡ (view old).contents) × NoMore (leave old) (leave new) × Throughout view left_at old new (λ t c. leave old c)
-      → Untouched view leave left_at old new
-  alone old new is = record { contents = is.0; each = at_each view left_at old new (λ t c. leave old c) (leave old) is.2 (λ t c left. left) }
+  alone : (old new : D) → ((site.view new).contents ≡ (site.view old).contents) × NoMore (site.may_leave old) (site.may_leave new) × Throughout site old new (λ t c. site.may_leave old c)
+      → Untouched site old new
+  alone old new is = record { contents = is.0; each = at_each site old new (λ t c. site.may_leave old c) (site.may_leave old) is.2 (λ t c left. left) }
 
   -- a call that writes the store of an empty log alone
-  pub opened_spared : (old new : D) → WritesEmptyAlone view leave left_at old new → Spared view leave left_at old new
+  pub opened_spared : (old new : D) → WritesEmptyAlone site old new → Spared site old new
   opened_spared old new is =
-      if_some (view old).contents
-      (λ c. (IsStore [] c → ⊥) → ((view new).contents ≡ (view old).contents) × NoMore (leave old) (leave new) × Throughout view left_at old new (λ t c. leave old c))
-      (λ c. IsNoStore c → Untouched view leave left_at old new) (λ c spares none. alone old new (spares (none []))) is
+      if_some (site.view old).contents
+      (λ c. (IsStore [] c → ⊥) → ((site.view new).contents ≡ (site.view old).contents) × NoMore (site.may_leave old) (site.may_leave new) × Throughout site old new (λ t c. site.may_leave old c))
+      (λ c. IsNoStore c → Untouched site old new) (λ c spares none. alone old new (spares (none []))) is
 
-  behind : (old mid new : D) → (view mid).contents ≡ (view old).contents → AtEachMoment view left_at old mid (leave old) → SameOutcomes (leave old) (leave mid)
-      → Untouched view leave left_at mid new → Untouched view leave left_at old new
+  behind : (old mid new : D) → (site.view mid).contents ≡ (site.view old).contents → AtEachMoment site old mid (site.may_leave old) → SameOutcomes (site.may_leave old) (site.may_leave mid)
+      → Untouched site mid new → Untouched site old new
   behind old mid new is first same u = record {
     contents = u.contents ∙ is;
-    each = one_by_one view left_at old mid new (leave old) first (weaker view left_at mid new (leave mid) (leave old) u.each (λ c left. (same c).0 left));
+    each = one_by_one site old mid new (site.may_leave old) first (weaker site mid new (site.may_leave mid) (site.may_leave old) u.each (λ c left. (same c).0 left));
   }
 
   -- a site was chosen, and then a call was made on it
-  pub chosen_spared : (old mid new : D) → (view mid).contents ≡ (view old).contents → AtEachMoment view left_at old mid (leave old) → SameOutcomes (leave old) (leave mid)
-      → Spared view leave left_at mid new → Spared view leave left_at old new
+  pub chosen_spared : (old mid new : D) → (site.view mid).contents ≡ (site.view old).contents → AtEachMoment site old mid (site.may_leave old) → SameOutcomes (site.may_leave old) (site.may_leave mid)
+      → Spared site mid new → Spared site old new
   chosen_spared old mid new is first same yet =
-      if_some (view old).contents (λ c. IsNoStore c → Untouched view leave left_at mid new) (λ c. IsNoStore c → Untouched view leave left_at old new)
+      if_some (site.view old).contents (λ c. IsNoStore c → Untouched site mid new) (λ c. IsNoStore c → Untouched site old new)
       (λ c spares none. behind old mid new is first same (spares none))
-      (subst (λ (o : Option Image). IfSome o (λ c. IsNoStore c → Untouched view leave left_at mid new)) is yet)
+      (subst (λ (o : Option Image). IfSome o (λ c. IsNoStore c → Untouched site mid new)) is yet)
 
 -- ---- nothing was shown
 
@@ -155,16 +155,16 @@ nothing_shown : (t : ℕ) (claim : Claim) → Shown [] t claim → ⊥
 unfolding replies
 nothing_shown t claim shown = none_there shown.index shown.part shown.replied
 
-module _ {D : Type 0} (view : D → View) (leave : D → Image → Type 0) (left_at : D → ℕ → Image → Type 0) (at_now : (d : D) (c : Image) → left_at d (view d).moment c → leave d c) where
+module _ {D : Type 0} (site : Seen D) (at_now : (d : D) (c : Image) → site.left_at d (site.view d).moment c → site.may_leave d c) where
   -- a call without an entry
-  pub silent_lasts : (log : List Entry) (base : List Item) (old new : D) → HasOneStore log (leave old) → AtEachMoment view left_at old new (IsStore log) → (view new).transcript ≡ Some base
-      → Outlasts view left_at log base old new
+  pub silent_lasts : (log : List Entry) (base : List Item) (old new : D) → HasOneStore log (site.may_leave old) → AtEachMoment site old new (IsStore log) → (site.view new).transcript ≡ Some base
+      → Outlasts site log base old new
   silent_lasts log base old new one all told = record {
     items = [];
     told = told ∙ ap (λ (is : List Item). Some is) (sym (append-nil base));
     survives = λ t image from left. record {
       now = log;
-      store = store_since view leave left_at at_now log old new one all t image from left;
+      store = store_since site at_now log old new one all t image from left;
       more = [];
       extends = sym (append-nil log);
       holds = λ claim shown. absurd (nothing_shown t claim shown);

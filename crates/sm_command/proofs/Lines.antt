@@ -12,7 +12,7 @@ use Rattle.sm_log.specs.Adds.{place_of}
 use Rattle.sm_log.specs.Logs.{adds_of, kept_at, IsSound}
 use Rattle.sm_site.specs.Clauses.{Both, Recorded, Rose}
 use Rattle.sm_site.specs.Image.{Image}
-use Rattle.sm_site.specs.Meanings.{View}
+use Rattle.sm_site.specs.Meanings.{View, Seen}
 use Rattle.sm_archive.specs.declared.archive.Archive.{Archive}
 use Rattle.sm_archive.specs.Opening.{NotAStore}
 use Rattle.sm_archive.specs.Stands.{Stands}
@@ -195,12 +195,12 @@ listed : (contents : Option Image) (log : List Entry) (text : List ℕ) → IfSo
 listed None log text store lines = tt
 listed (Some c) log text store lines = (log, store, lines refl)
 
-pub list_of : {D : Type 0} (view : D → View) (leave : D → Image → Type 0) (old mid : D) (archive : Archive) (r : Result (List ℕ) StoreFault)
-    → IsOpened view leave archive old mid → is_some (view mid).contents ≡ is_some (view old).contents
-    → IfOk r (λ text. (log : List Entry) → Stands archive log None (leave mid) → IsSome (view mid).contents → text ≡ lines_of log)
-    → IfOk r (λ text. IfSome (view old).contents (λ c. (log : List Entry) × IsStore log c × (text ≡ lines_of log)))
-list_of view leave old mid archive (Ok text) o told lines = listed (view old).contents o.log text o.store (λ some. lines o.log o.stands (told ∙ some))
-list_of view leave old mid archive (Err why) o told lines = tt
+pub list_of : {D : Type 0} (site : Seen D) (old mid : D) (archive : Archive) (r : Result (List ℕ) StoreFault)
+    → IsOpened site archive old mid → is_some (site.view mid).contents ≡ is_some (site.view old).contents
+    → IfOk r (λ text. (log : List Entry) → Stands archive log None (site.may_leave mid) → IsSome (site.view mid).contents → text ≡ lines_of log)
+    → IfOk r (λ text. IfSome (site.view old).contents (λ c. (log : List Entry) × IsStore log c × (text ≡ lines_of log)))
+list_of site old mid archive (Ok text) o told lines = listed (site.view old).contents o.log text o.store (λ some. lines o.log o.stands (told ∙ some))
+list_of site old mid archive (Err why) o told lines = tt
 
 pub why_of : (a b c : View) (r : Result (List ℕ) StoreFault) → a.disk_faults ≤ b.disk_faults → is_some b.contents ≡ is_some a.contents
     → IfErr r (λ why. WhyUnput b c why) → IfErr r (λ why. UnlistedBy a c why)
@@ -208,21 +208,21 @@ why_of a b c (Ok text) le told h = tt
 why_of a b c (Err why) le told h = unlisted a b c why le told h
 
 -- the site was chosen, and what it found there couldn't be listed
-pub why_unlisted : {D : Type 0} (view : D → View) (leave : D → Image → Type 0) (left_at : D → ℕ → Image → Type 0) (old mid new : D) (r : Result (List ℕ) StoreFault)
-    → (view mid).contents ≡ (view old).contents → NoFewer (view old) (view mid) → IfErr r (λ why. UnlistedBy (view mid) (view new) why) → NoFewer (view old) (view new)
-    → ((at : ℕ) → IsErrOf r (fault.NotAStore at) → Untouched view leave left_at old new) → IfErr r (λ why. WhyUnlisted view leave left_at old new why)
-why_unlisted view leave left_at old mid new (Ok text) same few h counts untouched = tt
-why_unlisted view leave left_at old mid new (Err why) same few h counts untouched = record {
-  cause = unlisted_later (view old) (view mid) (view new) why same few.disk few.link h;
+pub why_unlisted : {D : Type 0} (site : Seen D) (old mid new : D) (r : Result (List ℕ) StoreFault)
+    → (site.view mid).contents ≡ (site.view old).contents → NoFewer (site.view old) (site.view mid) → IfErr r (λ why. UnlistedBy (site.view mid) (site.view new) why) → NoFewer (site.view old) (site.view new)
+    → ((at : ℕ) → IsErrOf r (fault.NotAStore at) → Untouched site old new) → IfErr r (λ why. WhyUnlisted site old new why)
+why_unlisted site old mid new (Ok text) same few h counts untouched = tt
+why_unlisted site old mid new (Err why) same few h counts untouched = record {
+  cause = unlisted_later (site.view old) (site.view mid) (site.view new) why same few.disk few.link h;
   no_fewer = counts;
   untouched = λ at is. untouched at (ap (λ (x : StoreFault). let r : Result (List ℕ) StoreFault = Err x in r) is);
 }
 
 -- no site was chosen
-pub why_unchosen : {D : Type 0} (view : D → View) (leave : D → Image → Type 0) (left_at : D → ℕ → Image → Type 0) (old new : D) (why : StoreFault)
-    → WhyUnchosen (view old) (view new) why → NoFewer (view old) (view new) → WhyUnlisted view leave left_at old new why
-why_unchosen view leave left_at old new why h counts = record {
-  cause = unlisted_chosen (view old) (view new) why h;
+pub why_unchosen : {D : Type 0} (site : Seen D) (old new : D) (why : StoreFault)
+    → WhyUnchosen (site.view old) (site.view new) why → NoFewer (site.view old) (site.view new) → WhyUnlisted site old new why
+why_unchosen site old new why h counts = record {
+  cause = unlisted_chosen (site.view old) (site.view new) why h;
   no_fewer = counts;
-  untouched = λ at is. absurd (chosen_is_placed (view old) (view new) why h at is);
+  untouched = λ at is. absurd (chosen_is_placed (site.view old) (site.view new) why h at is);
 }

@@ -6,7 +6,7 @@ use Rattle.sm_model.specs.declared.entry.Entry.{Entry}
 use Rattle.sm_model.specs.declared.track.Track.{Track}
 use Rattle.sm_site.specs.Clauses.{Both, Rose}
 use Rattle.sm_site.specs.Image.{Image}
-use Rattle.sm_site.specs.Meanings.{View, Item, DiskCall}
+use Rattle.sm_site.specs.Meanings.{View, Item, DiskCall, Seen}
 use Rattle.sm_seglog.specs.Stores.{HasStore}
 use Rattle.sm_archive.specs.declared.answers.Declared.{Declared}
 use Rattle.sm_archive.specs.declared.answers.Declared.TheVariants as declared
@@ -35,20 +35,21 @@ use Rattle.sm_command.specs.declared.fault.StoreFault.{StoreFault}
 use Rattle.sm_command.specs.declared.fault.StoreFault.TheVariants as fault
 use Rattle.sm_command.specs.Choosing.{WhyUnchosen}
 use Rattle.sm_command.specs.Lasting.{AtEachMoment, Lasts, NoFewer, Untouched}
-use Rattle.sm_command.specs.Serving.{Input, Found, DeclaresTo, GoesUnseen, HasRun, IsBegun, PrepareMeans, ReadsLadder, RunLasts, RunsFrom, StopsFrom, WhyUnopened, WhyUnready, LadderMeans, outcome_of, standard}
+use Rattle.sm_command.specs.Serving.{Found, DeclaresTo, GoesUnseen, HasRun, IsBegun, PrepareMeans, ReadsLadder, RunLasts, RunsFrom, StopsFrom, WhyUnopened, WhyUnready, LadderMeans, outcome_of, standard}
 use Rattle.sm_command.proofs.Lasting.{fits_found, log_is, store_since}
+use Rattle.sm_ends.specs.Ended.{End}
 
-pub found : {D : Type 0} (view : D → View) (leave : D → Image → Type 0) (state : State) (old new : D)
-    → ((m : Machine) × (m.doubt ≡ None) × StandsOn view leave m state.origin new)
-    → IfSome (view old).contents (λ c. (m : Machine) × IsStore m.log c × (m.doubt ≡ None) × StandsOn view leave m state.origin new)
-    → state.origin.archive.limits ≡ standard → Found view leave state old new
-found {D} view leave state old new some told limits_are = by_contents (view old).contents refl told
+pub found : {D : Type 0} (site : Seen D) (state : State) (old new : D)
+    → ((m : Machine) × (m.doubt ≡ None) × StandsOn site m state.origin new)
+    → IfSome (site.view old).contents (λ c. (m : Machine) × IsStore m.log c × (m.doubt ≡ None) × StandsOn site m state.origin new)
+    → state.origin.archive.limits ≡ standard → Found site state old new
+found {D} site state old new some told limits_are = by_contents (site.view old).contents refl told
   where
-    under : (m : Machine) → StandsOn view leave m state.origin new → m.archive.limits ≡ standard
+    under : (m : Machine) → StandsOn site m state.origin new → m.archive.limits ≡ standard
     under m stands = ap (λ (a : Archive). a.limits) stands.archive ∙ limits_are
 
-    by_contents : (c : Option Image) → (view old).contents ≡ c
-        → IfSome c (λ c. (m : Machine) × IsStore m.log c × (m.doubt ≡ None) × StandsOn view leave m state.origin new) → Found view leave state old new
+    by_contents : (c : Option Image) → (site.view old).contents ≡ c
+        → IfSome c (λ c. (m : Machine) × IsStore m.log c × (m.doubt ≡ None) × StandsOn site m state.origin new) → Found site state old new
     by_contents None e h = record {
       machine = some.0;
       settled = some.1;
@@ -115,16 +116,16 @@ silent_by declared.DiskFault e = absurd cc
 silent_by declared.NoMemory e = absurd cc
 
 -- a state from which the loop may run: wherever a run began, it is where one is that has the ladder's step alone
-pub record IsPrepared {D : Type 0} (view : D → View) (leave : D → Image → Type 0) (left_at : D → ℕ → Image → Type 0) (ladder : Bool) (told told' : Option (List ℕ)) (state : State) (d : D)
+pub record IsPrepared {D : Type 0} (site : Seen D) (ladder : Bool) (told told' : Option (List ℕ)) (state : State) (d : D)
     (state' : State) (d' : D) : Type 0 where
   pub channel : Option (List Track)
   pub input : ReadsLadder ladder told told' channel
-  pub begun : (b : History) → Serves view leave left_at b state d → b.items ≡ [] → b.steps ≡ []
-      → (h : History) × (h.begin ≡ b.begin) × IsBegun b.found.disk_faults b.first channel b.base h × Serves view leave left_at h state' d'
+  pub begun : (b : History) → Serves site b state d → b.items ≡ [] → b.steps ≡ []
+      → (h : History) × (h.begin ≡ b.begin) × IsBegun b.found.disk_faults b.first channel b.base h × Serves site h state' d'
 
-with_ladder : {D : Type 0} (view : D → View) (leave : D → Image → Type 0) (left_at : D → ℕ → Image → Type 0) (told told' : Option (List ℕ)) (state : State) (d : D) (state' : State) (d' : D)
-    → DeclaresTo view leave left_at told told' state d state' d' (Ok tt) → IsPrepared view leave left_at true told told' state d state' d'
-with_ladder view leave left_at told told' state d state' d' declares = record {
+with_ladder : {D : Type 0} (site : Seen D) (told told' : Option (List ℕ)) (state : State) (d : D) (state' : State) (d' : D)
+    → DeclaresTo site told told' state d state' d' (Ok tt) → IsPrepared site true told told' state d state' d'
+with_ladder site told told' state d state' d' declares = record {
   channel = Some declares.2.channel;
   input = declares.2.input;
   begun = λ b serves none no_step.
@@ -142,29 +143,29 @@ with_ladder view leave left_at told told' state d state' d' declares = record {
       );
 }
 
-without : {D : Type 0} (view : D → View) (leave : D → Image → Type 0) (left_at : D → ℕ → Image → Type 0) (told : Option (List ℕ)) (state : State) (d : D)
-    → IsPrepared view leave left_at false told told state d state d
-without view leave left_at told state d = record {
+without : {D : Type 0} (site : Seen D) (told : Option (List ℕ)) (state : State) (d : D)
+    → IsPrepared site false told told state d state d
+without site told state d = record {
   channel = None;
   input = refl;
   begun = λ b serves none no_step. (b, refl, record { counted = omega arith; first = refl; base_is = refl; items = none; steps = no_step }, serves);
 }
 
-pub prepared : {D : Type 0} (view : D → View) (leave : D → Image → Type 0) (left_at : D → ℕ → Image → Type 0) (ladder : Bool) (input input' : Input) (state : State) (d : D) (state' : State)
-    (d' : D) → PrepareMeans view leave left_at ladder input input' state d state' d' (Ok tt) → IsPrepared view leave left_at ladder input.told input'.told state d state' d'
-prepared view leave left_at true input input' state d state' d' (inl declares) = with_ladder view leave left_at input.told input'.told state d state' d' declares
-prepared view leave left_at true input input' state d state' d' (inr none) = absurd none.why
-prepared {D} view leave left_at false input input' state d state' d' same =
-    subst (λ (x : D). IsPrepared view leave left_at false input.told input'.told state d state' x) (sym same.site_is) (
-    subst (λ (s : State). IsPrepared view leave left_at false input.told input'.told state d s d) (sym same.state_is) (
-    subst (λ (i : Input). IsPrepared view leave left_at false input.told i.told state d state d) (sym same.input_is) (without view leave left_at input.told state d)
+pub prepared : {D : Type 0} (site : Seen D) (ladder : Bool) (input input' : End) (state : State) (d : D) (state' : State)
+    (d' : D) → PrepareMeans site ladder input input' state d state' d' (Ok tt) → IsPrepared site ladder input.told input'.told state d state' d'
+prepared site true input input' state d state' d' (inl declares) = with_ladder site input.told input'.told state d state' d' declares
+prepared site true input input' state d state' d' (inr none) = absurd none.why
+prepared {D} site false input input' state d state' d' same =
+    subst (λ (x : D). IsPrepared site false input.told input'.told state d state' x) (sym same.site_is) (
+    subst (λ (s : State). IsPrepared site false input.told input'.told state d s d) (sym same.state_is) (
+    subst (λ (i : End). IsPrepared site false input.told i.told state d state d) (sym same.input_is) (without site input.told state d)
     )
     )
 
-pub stops : {D : Type 0} (view : D → View) (leave : D → Image → Type 0) (left_at : D → ℕ → Image → Type 0) (ladder : Bool) (input input' : Input) (state : State) (d : D) (state' : State)
-    (d' : D) (why : StoreFault) → PrepareMeans view leave left_at ladder input input' state d state' d' (Err why) → StopsFrom view leave left_at ladder input input' state d d' why
-stops view leave left_at true input input' state d state' d' why means = (refl, (state', means))
-stops view leave left_at false input input' state d state' d' why same = let bad = same.done in absurd cc
+pub stops : {D : Type 0} (site : Seen D) (ladder : Bool) (input input' : End) (state : State) (d : D) (state' : State)
+    (d' : D) (why : StoreFault) → PrepareMeans site ladder input input' state d state' d' (Err why) → StopsFrom site ladder input input' state d d' why
+stops site true input input' state d state' d' why means = (refl, (state', means))
+stops site false input input' state d state' d' why same = let bad = same.done in absurd cc
 
 -- ---- serving
 
@@ -175,24 +176,24 @@ base_of : (told : Option (List Item)) → IsSome told → (base : List Item) × 
 base_of None h = absurd cc
 base_of (Some base) h = (base, refl)
 
-pub known : {D : Type 0} (view : D → View) (leave : D → Image → Type 0) (left_at : D → ℕ → Image → Type 0) (ladder : Bool) (told told' : Option (List ℕ)) (state : State) (d : D) (state' : State)
-    (d' : D) → Begins view leave left_at state d → IsPrepared view leave left_at ladder told told' state d state' d' → ((m : Machine) × StandsOn view leave m state.origin d)
-    → (view d').transcript ≡ (view d).transcript → Known view leave left_at state' d'
-known view leave left_at ladder told told' state d state' d' begin p stands same some =
-    let base = base_of (view d').transcript some in
+pub known : {D : Type 0} (site : Seen D) (ladder : Bool) (told told' : Option (List ℕ)) (state : State) (d : D) (state' : State)
+    (d' : D) → Begins site state d → IsPrepared site ladder told told' state d state' d' → ((m : Machine) × StandsOn site m state.origin d)
+    → (site.view d').transcript ≡ (site.view d).transcript → Known site state' d'
+known site ladder told told' state d state' d' begin p stands same some =
+    let base = base_of (site.view d').transcript some in
     let b = begin stands.0 base.0 stands.1 (sym same ∙ base.1) in
     let h = p.begun b.0 b.6 b.4 b.5 in
     (h.0, h.3)
 
-pub runs_from : {D : Type 0} (view : D → View) (leave : D → Image → Type 0) (left_at : D → ℕ → Image → Type 0) (ladder : Bool) (told told' : Option (List ℕ)) (turns : ℕ) (state : State) (d : D)
-    (state' : State) (d' : D) (after : State) (e : D) (end : Outcome) → IsPrepared view leave left_at ladder told told' state d state' d' → (view d').link_faults ≡ (view d).link_faults
-    → (end ≡ served.LinkFault → Rose (view d').link_faults (view e).link_faults)
-    → ((h : History) → Serves view leave left_at h state' d' → Served view leave left_at h end turns after e)
-    → RunsFrom view leave left_at ladder told told' turns state d e end
-runs_from view leave left_at ladder told told' turns state d state' d' after e end p same blamed runs = record {
+pub runs_from : {D : Type 0} (site : Seen D) (ladder : Bool) (told told' : Option (List ℕ)) (turns : ℕ) (state : State) (d : D)
+    (state' : State) (d' : D) (after : State) (e : D) (end : Outcome) → IsPrepared site ladder told told' state d state' d' → (site.view d').link_faults ≡ (site.view d).link_faults
+    → (end ≡ served.LinkFault → Rose (site.view d').link_faults (site.view e).link_faults)
+    → ((h : History) → Serves site h state' d' → Served site h end turns after e)
+    → RunsFrom site ladder told told' turns state d e end
+runs_from site ladder told told' turns state d state' d' after e end p same blamed runs = record {
   channel = p.channel;
   input = p.input;
-  blamed = λ is. same_rose (view d).link_faults (view d').link_faults (view e).link_faults same (blamed is);
+  blamed = λ is. same_rose (site.view d).link_faults (site.view d').link_faults (site.view e).link_faults same (blamed is);
   run = λ b serves none no_step. (let h = p.begun b serves none no_step in (h.0, h.1, h.2, (after, runs h.0 h.3)));
 }
 
@@ -205,31 +206,31 @@ no_place declared.Full at e = cc
 no_place declared.DiskFault at e = cc
 no_place declared.NoMemory at e = cc
 
-pub ladder_is_placed : {D : Type 0} (view : D → View) (leave : D → Image → Type 0) (left_at : D → ℕ → Image → Type 0) (ladder : Bool) (input input' : Input) (state : State) (d d' : D)
-    (r : Result Outcome StoreFault) → IfErr r (λ why. StopsFrom view leave left_at ladder input input' state d d' why) → (at : ℕ) → IsErrOf r (fault.NotAStore at) → ⊥
-ladder_is_placed view leave left_at ladder input input' state d d' r h at is =
-    by_cause (subst (λ (x : Result Outcome StoreFault). IfErr x (λ why. StopsFrom view leave left_at ladder input input' state d d' why)) is h)
+pub ladder_is_placed : {D : Type 0} (site : Seen D) (ladder : Bool) (input input' : End) (state : State) (d d' : D)
+    (r : Result Outcome StoreFault) → IfErr r (λ why. StopsFrom site ladder input input' state d d' why) → (at : ℕ) → IsErrOf r (fault.NotAStore at) → ⊥
+ladder_is_placed site ladder input input' state d d' r h at is =
+    by_cause (subst (λ (x : Result Outcome StoreFault). IfErr x (λ why. StopsFrom site ladder input input' state d d' why)) is h)
   where
-    by_means : (after : State) → LadderMeans view leave left_at input input' state d after d' (Err (fault.NotAStore at)) → ⊥
+    by_means : (after : State) → LadderMeans site input input' state d after d' (Err (fault.NotAStore at)) → ⊥
     by_means after (inl declares) = no_place declares.0 at declares.1
     by_means after (inr none) = none.why
 
-    by_cause : StopsFrom view leave left_at ladder input input' state d d' (fault.NotAStore at) → ⊥
+    by_cause : StopsFrom site ladder input input' state d d' (fault.NotAStore at) → ⊥
     by_cause (asked, stop) = by_means stop.0 stop.1
 
 -- ---- a run that went on
 
-pub unseen_itself : {D : Type 0} (view : D → View) (leave : D → Image → Type 0) (left_at : D → ℕ → Image → Type 0) (h : History) (state : State) (d : D) → Serves view leave left_at h state d
-    → GoesUnseen view leave left_at h state d
-unseen_itself view leave left_at h state d serves = record { later = h; serves = serves; since = record { first = refl; begin = refl; base = refl; found = refl; on = on_itself h }; same = refl }
+pub unseen_itself : {D : Type 0} (site : Seen D) (h : History) (state : State) (d : D) → Serves site h state d
+    → GoesUnseen site h state d
+unseen_itself site h state d serves = record { later = h; serves = serves; since = record { first = refl; begin = refl; base = refl; found = refl; on = on_itself h }; same = refl }
 
-pub unseen_declared : {D : Type 0} (view : D → View) (leave : D → Image → Type 0) (left_at : D → ℕ → Image → Type 0) (h : History) (channel : List Track) (answer : Declared) (state : State) (d : D)
-    → DeclaresIn view leave left_at h channel answer state d → GoesUnseen view leave left_at h state d
-unseen_declared view leave left_at h channel answer state d k = record { later = k.later; serves = k.serves; since = k.since; same = k.same }
+pub unseen_declared : {D : Type 0} (site : Seen D) (h : History) (channel : List Track) (answer : Declared) (state : State) (d : D)
+    → DeclaresIn site h channel answer state d → GoesUnseen site h state d
+unseen_declared site h channel answer state d k = record { later = k.later; serves = k.serves; since = k.since; same = k.same }
 
-pub served_lasts : {D : Type 0} (view : D → View) (leave : D → Image → Type 0) (left_at : D → ℕ → Image → Type 0) (h : History) (state : State) (d : D) (end : Outcome) (turns : ℕ) (after : State) (e : D)
-    → (u : GoesUnseen view leave left_at h state d) → Served view leave left_at u.later end turns after e → RunLasts view left_at h e
-served_lasts view leave left_at h state d end turns after e u s = record {
+pub served_lasts : {D : Type 0} (site : Seen D) (h : History) (state : State) (d : D) (end : Outcome) (turns : ℕ) (after : State) (e : D)
+    → (u : GoesUnseen site h state d) → Served site u.later end turns after e → RunLasts site h e
+served_lasts site h state d end turns after e u s = record {
   later = s.later;
   since = record { first = s.since.first ∙ u.since.first; begin = s.since.begin ∙ u.since.begin; base = s.since.base ∙ u.since.base; found = s.since.found ∙ u.since.found; on = on_then h u.later s.later u.since.on s.since.on };
   told = s.told;
@@ -237,11 +238,11 @@ served_lasts view leave left_at h state d end turns after e u s = record {
 }
 
 -- where no event was waited for, what a crash leaves is what the run up to then leaves
-pub stopped_lasts : {D : Type 0} (view : D → View) (leave : D → Image → Type 0) (left_at : D → ℕ → Image → Type 0) → ((s : D) (t : ℕ) (image : Image) → left_at s t image → IsSome (view s).contents)
+pub stopped_lasts : {D : Type 0} (site : Seen D) → ((s : D) (t : ℕ) (image : Image) → site.left_at s t image → IsSome (site.view s).contents)
     → ((first : Machine) (begin faults : ℕ) (items : List Item) (steps : List Stepped) (point : Point) → Run true first begin faults items steps point → (t : ℕ) (image : Image) → FitsAt first steps t image
     → (log : List Entry) × IsStore log image × ((more : List Entry) × (log ≡ first.log ++ more)) × ((claim : Claim) → Shown items t claim → Holds log claim))
-    → (h : History) (state : State) (d : D) → GoesUnseen view leave left_at h state d → RunLasts view left_at h d
-stopped_lasts view leave left_at left_told crashes h state d u =
+    → (h : History) (state : State) (d : D) → GoesUnseen site h state d → RunLasts site h d
+stopped_lasts site left_told crashes h state d u =
     let k = u.later in
     let keeps = u.serves.keeps in
     record {
@@ -272,21 +273,21 @@ no_lives (l ∷ ls) e = absurd (cc)
 abbrev pub early : Machine → ℕ → List Item → View → History
 early m begin base found = record { first = m; begin = begin; base = base; found = found; items = []; steps = []; point = start m begin found.disk_faults }
 
-module _ {D : Type 0} (view : D → View) (leave : D → Image → Type 0) (left_at : D → ℕ → Image → Type 0) (pass : (d : D) → IfSome (view d).contents (leave d))
-    (at_now : (d : D) (c : Image) → left_at d (view d).moment c → leave d c) (now_at : (d : D) (c : Image) → leave d c → left_at d (view d).moment c)
+module _ {D : Type 0} (site : Seen D) (pass : (d : D) → IfSome (site.view d).contents (site.may_leave d))
+    (at_now : (d : D) (c : Image) → site.left_at d (site.view d).moment c → site.may_leave d c) (now_at : (d : D) (c : Image) → site.may_leave d c → site.left_at d (site.view d).moment c)
     (one_list : (xs ys : List (List ℕ)) (image : Image) → HasStore xs image → HasStore ys image → xs ≡ ys)
     (one_log : (bodies : List (List ℕ)) (a b : List Entry) → Spell bodies a → Spell bodies b → a ≡ b) where
-  pub found_is : (state : State) (old mid : D) (f : Found view leave state old mid) → IsSome (view old).contents → (log : List Entry) → HasOneStore log (leave old) → f.machine.log ≡ log
-  found_is state old mid f some log one = log_is one_list one_log (view old).contents (leave old) f.machine.log log some (pass old) f.store one
+  pub found_is : (state : State) (old mid : D) (f : Found site state old mid) → IsSome (site.view old).contents → (log : List Entry) → HasOneStore log (site.may_leave old) → f.machine.log ≡ log
+  found_is state old mid f some log one = log_is one_list one_log (site.view old).contents (site.may_leave old) f.machine.log log some (pass old) f.store one
 
-  pub serves_early : (state : State) (old mid : D) (f : Found view leave state old mid) → (view mid).transcript ≡ (view old).transcript → Begins view leave left_at state mid
-      → IsSome (view old).contents → (log : List Entry) → HasOneStore log (leave old) → AtEachMoment view left_at old mid (IsStore log) → (base : List Item) → (view old).transcript ≡ Some base
-      → Serves view leave left_at (early f.machine (view old).moment base (view mid)) state mid
+  pub serves_early : (state : State) (old mid : D) (f : Found site state old mid) → (site.view mid).transcript ≡ (site.view old).transcript → Begins site state mid
+      → IsSome (site.view old).contents → (log : List Entry) → HasOneStore log (site.may_leave old) → AtEachMoment site old mid (IsStore log) → (base : List Item) → (site.view old).transcript ≡ Some base
+      → Serves site (early f.machine (site.view old).moment base (site.view mid)) state mid
   serves_early state old mid f same begin some log one all base told =
       let m = f.machine in
       let b = begin m base f.stands (same ∙ told) in
-      let fits : (t : ℕ) (image : Image) → (view old).moment ≤ t → left_at mid t image → Fits m image =
-      λ t image from left. fits_found m log image (found_is state old mid f some log one) (store_since view leave left_at at_now log old mid one all t image from left) in
+      let fits : (t : ℕ) (image : Image) → (site.view old).moment ≤ t → site.left_at mid t image → Fits m image =
+      λ t image from left. fits_found m log image (found_is state old mid f some log one) (store_since site at_now log old mid one all t image from left) in
       let numbers : numbers_of state.lives.items ≡ live [] = b.6.rest.numbers ∙ ap (λ (is : List Item). live is) b.4 in
       record {
         keeps = record {
@@ -294,9 +295,9 @@ module _ {D : Type 0} (view : D → View) (leave : D → Image → Type 0) (left
           told = same ∙ told ∙ ap (λ (is : List Item). Some is) (sym (append-nil base));
           clock = λ has. all.later;
           current = λ has t le. refl;
-          now = λ image left. fits (view mid).moment image all.later (now_at mid image left);
+          now = λ image left. fits (site.view mid).moment image all.later (now_at mid image left);
           images = λ t image from left. inl (fits t image from left);
-          recorded = recorded_first (view mid).calls;
+          recorded = recorded_first (site.view mid).calls;
           blamed = λ below. omega arith;
           counted = refl;
           still_told = refl;
@@ -305,16 +306,16 @@ module _ {D : Type 0} (view : D → View) (leave : D → Image → Type 0) (left
           stands = f.stands;
           phase_is = refl;
           numbers = numbers;
-          resting = subst (λ (ls : List Live). AreResting (early m (view old).moment base (view mid)) ls) (sym (no_lives state.lives.items (numbers ∙ none_live))) tt;
+          resting = subst (λ (ls : List Live). AreResting (early m (site.view old).moment base (site.view mid)) ls) (sym (no_lives state.lives.items (numbers ∙ none_live))) tt;
         };
       }
 
   -- a call that opened the store and ran from it
-  pub opened_lasts : (state : State) (old mid new : D) (f : Found view leave state old mid) → (view mid).transcript ≡ (view old).transcript → Begins view leave left_at state mid
-      → ((log : List Entry) → HasOneStore log (leave old) → AtEachMoment view left_at old mid (IsStore log)) → ((h : History) → Serves view leave left_at h state mid → RunLasts view left_at h new)
-      → Lasts view leave left_at old new
+  pub opened_lasts : (state : State) (old mid new : D) (f : Found site state old mid) → (site.view mid).transcript ≡ (site.view old).transcript → Begins site state mid
+      → ((log : List Entry) → HasOneStore log (site.may_leave old) → AtEachMoment site old mid (IsStore log)) → ((h : History) → Serves site h state mid → RunLasts site h new)
+      → Lasts site old new
   opened_lasts state old mid new f same begin all lasts some log one base told =
-      let l = lasts (early f.machine (view old).moment base (view mid)) (serves_early state old mid f same begin some log one (all log one) base told) in
+      let l = lasts (early f.machine (site.view old).moment base (site.view mid)) (serves_early state old mid f same begin some log one (all log one) base told) in
       let is : l.later.first.log ≡ log = ap (λ (m : Machine). m.log) l.since.first ∙ found_is state old mid f some log one in
       record {
         items = l.later.items;
@@ -324,10 +325,10 @@ module _ {D : Type 0} (view : D → View) (leave : D → Image → Type 0) (left
             record { now = s.log; store = s.store; more = s.more; extends = s.extends ∙ ap (λ (xs : List Entry). xs ++ s.more) is; holds = s.holds };
       }
 
-  pub has_run : (ladder : Bool) (told told' : Option (List ℕ)) (turns : ℕ) (state : State) (old mid new : D) (r : Result Outcome StoreFault) → Found view leave state old mid
-      → Begins view leave left_at state mid → ((log : List Entry) → HasOneStore log (leave old) → AtEachMoment view left_at old mid (IsStore log))
-      → (view mid).transcript ≡ (view old).transcript → NoFewer (view old) (view mid)
-      → IfOk r (λ end. RunsFrom view leave left_at ladder told told' turns state mid new end) → IfOk r (λ end. HasRun view leave left_at ladder told told' turns old new end)
+  pub has_run : (ladder : Bool) (told told' : Option (List ℕ)) (turns : ℕ) (state : State) (old mid new : D) (r : Result Outcome StoreFault) → Found site state old mid
+      → Begins site state mid → ((log : List Entry) → HasOneStore log (site.may_leave old) → AtEachMoment site old mid (IsStore log))
+      → (site.view mid).transcript ≡ (site.view old).transcript → NoFewer (site.view old) (site.view mid)
+      → IfOk r (λ end. RunsFrom site ladder told told' turns state mid new end) → IfOk r (λ end. HasRun site ladder told told' turns old new end)
   has_run ladder told told' turns state old mid new (Err why) f begin all same le runs = tt
   has_run ladder told told' turns state old mid new (Ok end) f begin all same le runs = record {
     start = state;
@@ -337,7 +338,7 @@ module _ {D : Type 0} (view : D → View) (leave : D → Image → Type 0) (left
     silent = same;
     channel = runs.channel;
     input = runs.input;
-    blamed = λ is. later_rose (view old).link_faults (view mid).link_faults (view new).link_faults le.link (runs.blamed is);
+    blamed = λ is. later_rose (site.view old).link_faults (site.view mid).link_faults (site.view new).link_faults le.link (runs.blamed is);
     run = λ base e.
         let b = begin f.machine base f.stands (same ∙ e) in
         let h = runs.run b.0 b.6 b.4 b.5 in (
@@ -353,7 +354,7 @@ module _ {D : Type 0} (view : D → View) (leave : D → Image → Type 0) (left
           h.3,
         );
     whole = λ some log one base e.
-        let h = runs.run (early f.machine (view old).moment base (view mid)) (serves_early state old mid f same begin some log one (all log one) base e) refl refl in
+        let h = runs.run (early f.machine (site.view old).moment base (site.view mid)) (serves_early state old mid f same begin some log one (all log one) base e) refl refl in
         let more = h.2.counted in
         let few = le.disk in
         (h.0, h.1, record { counted = omega (arith, more, few); first = h.2.first; base_is = h.2.base_is; items = h.2.items; steps = h.2.steps }, h.3);
@@ -368,25 +369,25 @@ more_counts a b c first second =
     record { disk = omega (arith, disk, disk_yet); link = omega (arith, link, link_yet) }
 
 -- behind the opening nothing was served
-pub why_stopped : {D : Type 0} (view : D → View) (leave : D → Image → Type 0) (left_at : D → ℕ → Image → Type 0) (ladder : Bool) (input input' : Input) (state : State) (old mid new : D)
-    (r : Result Outcome StoreFault) → Found view leave state old mid → NoFewer (view old) (view mid) → (view mid).transcript ≡ (view old).transcript → Begins view leave left_at state mid
-    → IfErr r (λ why. StopsFrom view leave left_at ladder input input' state mid new why) → OnErr r ((view new).transcript ≡ (view mid).transcript) → OnErr r (NoFewer (view mid) (view new))
-    → input.faults ≤ input'.faults → IfErr r (λ why. WhyUnready view leave left_at ladder input input' old new why)
-why_stopped view leave left_at ladder input input' state old mid new (Ok end) f few silent begin h still counts counted = tt
-why_stopped view leave left_at ladder input input' state old mid new (Err why) f few silent begin h still counts counted = record {
+pub why_stopped : {D : Type 0} (site : Seen D) (ladder : Bool) (input input' : End) (state : State) (old mid new : D)
+    (r : Result Outcome StoreFault) → Found site state old mid → NoFewer (site.view old) (site.view mid) → (site.view mid).transcript ≡ (site.view old).transcript → Begins site state mid
+    → IfErr r (λ why. StopsFrom site ladder input input' state mid new why) → OnErr r ((site.view new).transcript ≡ (site.view mid).transcript) → OnErr r (NoFewer (site.view mid) (site.view new))
+    → input.faults ≤ input'.faults → IfErr r (λ why. WhyUnready site ladder input input' old new why)
+why_stopped site ladder input input' state old mid new (Ok end) f few silent begin h still counts counted = tt
+why_stopped site ladder input input' state old mid new (Err why) f few silent begin h still counts counted = record {
   cause = inr (h.0, record { state = state; opened = mid; found = f; no_fewer = few; silent = silent; begins = begin; after = h.1.0; means = h.1.1 });
   silent = still ∙ silent;
-  no_fewer = more_counts (view old) (view mid) (view new) few counts;
+  no_fewer = more_counts (site.view old) (site.view mid) (site.view new) few counts;
   counted = counted;
-  untouched = λ at is. absurd (ladder_is_placed view leave left_at ladder input input' state mid new (Err why) h at (ap (λ (x : StoreFault). let r : Result Outcome StoreFault = Err x in r) is));
+  untouched = λ at is. absurd (ladder_is_placed site ladder input input' state mid new (Err why) h at (ap (λ (x : StoreFault). let r : Result Outcome StoreFault = Err x in r) is));
 }
 
 -- no store was opened
-pub why_unopened : {D : Type 0} (view : D → View) (leave : D → Image → Type 0) (left_at : D → ℕ → Image → Type 0) (ladder : Bool) (input : Input) (old new : D) (why : StoreFault)
-    → WhyUnopened (view old) (view new) why → (view new).transcript ≡ (view old).transcript → NoFewer (view old) (view new)
-    → ((at : ℕ) → (let r : Result State StoreFault = Err why in r) ≡ Err (fault.NotAStore at) → Untouched view leave left_at old new)
-    → WhyUnready view leave left_at ladder input input old new why
-why_unopened view leave left_at ladder input old new why cause silent few untouched = record {
+pub why_unopened : {D : Type 0} (site : Seen D) (ladder : Bool) (input : End) (old new : D) (why : StoreFault)
+    → WhyUnopened (site.view old) (site.view new) why → (site.view new).transcript ≡ (site.view old).transcript → NoFewer (site.view old) (site.view new)
+    → ((at : ℕ) → (let r : Result State StoreFault = Err why in r) ≡ Err (fault.NotAStore at) → Untouched site old new)
+    → WhyUnready site ladder input input old new why
+why_unopened site ladder input old new why cause silent few untouched = record {
   cause = inl (cause, refl);
   silent = silent;
   no_fewer = few;

@@ -2,26 +2,26 @@
 use Rattle.std.specs.Prelude.{◌≡◌, ◌≤◌, ◌<◌, ◌↔◌, ◌++◌, ℕ, List, Some, IfSome, IsSome}
 use Rattle.sm_model.specs.declared.entry.Entry.{Entry}
 use Rattle.sm_site.specs.Image.{Image}
-use Rattle.sm_site.specs.Meanings.{View, Item}
+use Rattle.sm_site.specs.Meanings.{View, Item, Seen}
 use Rattle.sm_archive.specs.Store.{IsNoStore, IsStore}
 use Rattle.sm_origin.specs.Opening.{HasOneStore}
 use Rattle.sm_origin.specs.Shown.{Claim, Holds}
 use Rattle.sm_serve.specs.Shown.{Shown}
 
 -- At each moment of a call a crash leaves what has P. What might have been left before it stays.
-pub record AtEachMoment {D : Type 0} (view : D → View) (left_at : D → ℕ → Image → Type 0) (old new : D) (P : Image → Type 0) : Type 0 where
-  pub later : (view old).moment ≤ (view new).moment
-  pub keeps : (t : ℕ) (image : Image) → t ≤ (view old).moment → left_at new t image ↔ left_at old t image
-  pub each : (t : ℕ) (image : Image) → (view old).moment < t → left_at new t image → P image
+pub record AtEachMoment {D : Type 0} (site : Seen D) (old new : D) (P : Image → Type 0) : Type 0 where
+  pub later : (site.view old).moment ≤ (site.view new).moment
+  pub keeps : (t : ℕ) (image : Image) → t ≤ (site.view old).moment → site.left_at new t image ↔ site.left_at old t image
+  pub each : (t : ℕ) (image : Image) → (site.view old).moment < t → site.left_at new t image → P image
 
 -- The files weren't written: the contents stay, and at no moment of the call a crash leaves what it couldn't leave before.
-pub record Untouched {D : Type 0} (view : D → View) (leave : D → Image → Type 0) (left_at : D → ℕ → Image → Type 0) (old new : D) : Type 0 where
-  pub contents : (view new).contents ≡ (view old).contents
-  pub each : AtEachMoment view left_at old new (leave old)
+pub record Untouched {D : Type 0} (site : Seen D) (old new : D) : Type 0 where
+  pub contents : (site.view new).contents ≡ (site.view old).contents
+  pub each : AtEachMoment site old new (site.may_leave old)
 
 -- Files that are no store weren't written, whatever was answered.
-abbrev pub Spared : {D : Type 0} (view : D → View) (leave : D → Image → Type 0) (left_at : D → ℕ → Image → Type 0) → D → D → Type 0
-Spared view leave left_at old new = IfSome (view old).contents (λ c. IsNoStore c → Untouched view leave left_at old new)
+abbrev pub Spared : {D : Type 0} → Seen D → D → D → Type 0
+Spared site old new = IfSome (site.view old).contents (λ c. IsNoStore c → Untouched site old new)
 
 -- no count of faults of the disk or of the link fell
 pub record NoFewer (old new : View) : Type 0 where
@@ -37,13 +37,13 @@ pub record Outlives (log : List Entry) (items : List Item) (t : ℕ) (image : Im
   pub holds : (claim : Claim) → Shown items t claim → Holds now claim
 
 -- The call put entries behind the transcript. Whatever a crash may leave at a moment since the call began outlives what these had shown.
-pub record Outlasts {D : Type 0} (view : D → View) (left_at : D → ℕ → Image → Type 0) (log : List Entry) (base : List Item) (old new : D) : Type 0 where
+pub record Outlasts {D : Type 0} (site : Seen D) (log : List Entry) (base : List Item) (old new : D) : Type 0 where
   pub items : List Item
-  pub told : (view new).transcript ≡ Some (base ++ items)
-  pub survives : (t : ℕ) (image : Image) → (view old).moment ≤ t → left_at new t image → Outlives log items t image
+  pub told : (site.view new).transcript ≡ Some (base ++ items)
+  pub survives : (t : ℕ) (image : Image) → (site.view old).moment ≤ t → site.left_at new t image → Outlives log items t image
 
 -- On a disk that tells its contents, where each image that a crash might have left was one store, that store outlasts the call.
-abbrev pub Lasts : {D : Type 0} (view : D → View) (leave : D → Image → Type 0) (left_at : D → ℕ → Image → Type 0) → D → D → Type 0
-Lasts view leave left_at old new =
-    IsSome (view old).contents → (log : List Entry) → HasOneStore log (leave old) → (base : List Item) → (view old).transcript ≡ Some base
-    → Outlasts view left_at log base old new
+abbrev pub Lasts : {D : Type 0} → Seen D → D → D → Type 0
+Lasts site old new =
+    IsSome (site.view old).contents → (log : List Entry) → HasOneStore log (site.may_leave old) → (base : List Item) → (site.view old).transcript ≡ Some base
+    → Outlasts site log base old new

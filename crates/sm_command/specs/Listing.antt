@@ -6,8 +6,7 @@ use Rattle.sm_model.specs.declared.entry.Entry.TheVariants.{Declare, Keep}
 use Rattle.sm_model.specs.declared.fragment.Fragment.{Fragment}
 use Rattle.sm_model.specs.Entries.{address_of}
 use Rattle.sm_site.specs.Clauses.{Rose}
-use Rattle.sm_site.specs.Image.{Image}
-use Rattle.sm_site.specs.Meanings.{View}
+use Rattle.sm_site.specs.Meanings.{View, Seen}
 use Rattle.sm_archive.specs.Opening.{NotAStore}
 use Rattle.sm_command.specs.declared.fault.StoreFault.{StoreFault}
 use Rattle.sm_command.specs.declared.fault.StoreFault.TheVariants as fault
@@ -59,11 +58,10 @@ UnlistedBy old new fault.Damaged = IsSome old.contents → ⊥
 UnlistedBy old new fault.NoMemory = old.disk_faults ≤ new.disk_faults
 
 -- Why nothing was listed. What is no store wasn't written.
-pub record WhyUnlisted {D : Type 0} (view : D → View) (leave : D → Image → Type 0) (left_at : D → ℕ → Image → Type 0)
-    (old new : D) (why : StoreFault) : Type 0 where
-  pub cause : UnlistedBy (view old) (view new) why
-  pub no_fewer : NoFewer (view old) (view new)
-  pub untouched : (at : ℕ) → why ≡ fault.NotAStore at → Untouched view leave left_at old new
+pub record WhyUnlisted {D : Type 0} (site : Seen D) (old new : D) (why : StoreFault) : Type 0 where
+  pub cause : UnlistedBy (site.view old) (site.view new) why
+  pub no_fewer : NoFewer (site.view old) (site.view new)
+  pub untouched : (at : ℕ) → why ≡ fault.NotAStore at → Untouched site old new
 
 -- why a place was not put into the list; behind want of memory the disk's count didn't fall
 abbrev pub WhyUnput : View → View → StoreFault → Type 0

@@ -10,16 +10,16 @@ use sm_site::{Selection, Site, SiteError};
 /// Chooses the folder of a site's disk and where its link listens: what a command on a store begins with. Nothing is written and nothing
 /// is sent. After a fault the site is selected with nothing.
 pub fn choose<S: Site>(site: &mut S, selection: Selection) -> Result<(), StoreFault>
-    ensures chosen { OnOk result ((S.Disk.view site.new).chosen ≡ Some selection) }
-    ensures unchosen { OnErr result ((S.Disk.view site.new).chosen ≡ None) }
-    ensures contents { (S.Disk.view site.new).contents ≡ (S.Disk.view site.old).contents }
-    ensures transcript { (S.Disk.view site.new).transcript ≡ (S.Disk.view site.old).transcript }
-    ensures send_faults { (S.Disk.view site.new).send_faults ≡ (S.Disk.view site.old).send_faults }
-    ensures crash { SameOutcomes (S.Disk.may_leave site.old) (S.Disk.may_leave site.new) }
-    ensures any_moment { AtEachMoment S.Disk.view S.Disk.left_at site.old site.new (S.Disk.may_leave site.old) }
-    ensures disk_faults { (S.Disk.view site.old).disk_faults ≤ (S.Disk.view site.new).disk_faults }
-    ensures link_faults { (S.Disk.view site.old).link_faults ≤ (S.Disk.view site.new).link_faults }
-    ensures why { IfErr result (λ why. WhyUnchosen (S.Disk.view site.old) (S.Disk.view site.new) why) }
+    ensures chosen { OnOk result ((S.Disk.seen.view site.new).chosen ≡ Some selection) }
+    ensures unchosen { OnErr result ((S.Disk.seen.view site.new).chosen ≡ None) }
+    ensures contents { (S.Disk.seen.view site.new).contents ≡ (S.Disk.seen.view site.old).contents }
+    ensures transcript { (S.Disk.seen.view site.new).transcript ≡ (S.Disk.seen.view site.old).transcript }
+    ensures send_faults { (S.Disk.seen.view site.new).send_faults ≡ (S.Disk.seen.view site.old).send_faults }
+    ensures crash { SameOutcomes (S.Disk.seen.may_leave site.old) (S.Disk.seen.may_leave site.new) }
+    ensures any_moment { AtEachMoment S.Disk.seen site.old site.new (S.Disk.seen.may_leave site.old) }
+    ensures disk_faults { (S.Disk.seen.view site.old).disk_faults ≤ (S.Disk.seen.view site.new).disk_faults }
+    ensures link_faults { (S.Disk.seen.view site.old).link_faults ≤ (S.Disk.seen.view site.new).link_faults }
+    ensures why { IfErr result (λ why. WhyUnchosen (S.Disk.seen.view site.old) (S.Disk.seen.view site.new) why) }
 {
     match site.select(selection) {
         Ok(()) => Ok(()),

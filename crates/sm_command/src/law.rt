@@ -18,7 +18,7 @@ use sm_site::Site;
 /// entries.
 pub fn logs_of_runs_are_real<S: Site>()
     ensures { (first : Machine) (begin faults : ℕ) (items : List Item) (steps : List Stepped) (point : Point) → Run true first begin faults items steps point
-        → (o : Origin) (site : S) → StandsOn S.Disk.view S.Disk.may_leave point.machine o site → IsSome (S.Disk.view site).contents
+        → (o : Origin) (site : S) → StandsOn S.Disk.seen point.machine o site → IsSome (S.Disk.seen.view site).contents
         → (t : ℕ) → IsReal (machine_at first steps t).log }
 {
     an_image_fits::<S>();
@@ -28,7 +28,7 @@ pub fn logs_of_runs_are_real<S: Site>()
 /// So what such a run has shown by a moment is held by the log of the last of its steps that had ended by then.
 pub fn what_a_site_has_shown_is_held<S: Site>()
     ensures { (first : Machine) (begin faults : ℕ) (items : List Item) (steps : List Stepped) (point : Point) → Run true first begin faults items steps point
-        → (o : Origin) (site : S) → StandsOn S.Disk.view S.Disk.may_leave point.machine o site → IsSome (S.Disk.view site).contents
+        → (o : Origin) (site : S) → StandsOn S.Disk.seen point.machine o site → IsSome (S.Disk.seen.view site).contents
         → (t : ℕ) (claim : Claim) → Shown items t claim → Holds (machine_at first steps t).log claim }
 {
     logs_of_runs_are_real::<S>();

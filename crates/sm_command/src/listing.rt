@@ -86,14 +86,14 @@ fn line_of<D: Disk>(
     archive: &Archive,
     place: u64,
 ) -> Result<String, StoreFault>
-    requires stands { (log : List Entry) × Stands archive.now log None (D.may_leave disk.old) }
-    ensures line { IfOk result (λ line. (log : List Entry) → Stands archive.now log None (D.may_leave disk.old) → IsSome (D.view disk.old).contents
+    requires stands { (log : List Entry) × Stands archive.now log None (D.seen.may_leave disk.old) }
+    ensures line { IfOk result (λ line. (log : List Entry) → Stands archive.now log None (D.seen.may_leave disk.old) → IsSome (D.seen.view disk.old).contents
         → string_bytes line ≡ line_in place (slice_get log place)) }
-    ensures stands { (log : List Entry) → Stands archive.now log None (D.may_leave disk.old) → Stands archive.now log None (D.may_leave disk.new) }
-    ensures why { IfErr result (λ why. WhyUnput (D.view disk.old) (D.view disk.new) why) }
-    ensures told { is_some (D.view disk.new).contents ≡ is_some (D.view disk.old).contents }
-    ensures any_moment { Throughout D.view D.left_at disk.old disk.new (λ t c. D.may_leave disk.old c) }
-    ensures disk_alone { DiskAlone (D.view disk.old) (D.view disk.new) }
+    ensures stands { (log : List Entry) → Stands archive.now log None (D.seen.may_leave disk.old) → Stands archive.now log None (D.seen.may_leave disk.new) }
+    ensures why { IfErr result (λ why. WhyUnput (D.seen.view disk.old) (D.seen.view disk.new) why) }
+    ensures told { is_some (D.seen.view disk.new).contents ≡ is_some (D.seen.view disk.old).contents }
+    ensures any_moment { Throughout D.seen disk.old disk.new (λ t c. D.seen.may_leave disk.old c) }
+    ensures disk_alone { DiskAlone (D.seen.view disk.old) (D.seen.view disk.new) }
 {
     kept_is_added();
     let address = match address_at(alloc, archive, place) {
@@ -121,12 +121,12 @@ fn bytes_of(text: String) -> Bytes
 
 // The lines of all places.
 fn lines<D: Disk>(alloc: Global, disk: &mut D, archive: &Archive) -> Result<Bytes, StoreFault>
-    requires stands { (log : List Entry) × Stands archive.now log None (D.may_leave disk.old) }
-    ensures lines { IfOk result (λ text. (log : List Entry) → Stands archive.now log None (D.may_leave disk.old) → IsSome (D.view disk.old).contents
+    requires stands { (log : List Entry) × Stands archive.now log None (D.seen.may_leave disk.old) }
+    ensures lines { IfOk result (λ text. (log : List Entry) → Stands archive.now log None (D.seen.may_leave disk.old) → IsSome (D.seen.view disk.old).contents
         → text ≡ lines_of log) }
-    ensures why { IfErr result (λ why. WhyUnput (D.view disk.old) (D.view disk.new) why) }
-    ensures any_moment { Throughout D.view D.left_at disk.old disk.new (λ t c. D.may_leave disk.old c) }
-    ensures disk_alone { DiskAlone (D.view disk.old) (D.view disk.new) }
+    ensures why { IfErr result (λ why. WhyUnput (D.seen.view disk.old) (D.seen.view disk.new) why) }
+    ensures any_moment { Throughout D.seen disk.old disk.new (λ t c. D.seen.may_leave disk.old c) }
+    ensures disk_alone { DiskAlone (D.seen.view disk.old) (D.seen.view disk.new) }
 {
     let mut text = String::new(alloc);
     for place in 0..archive.len() {
@@ -141,14 +141,14 @@ fn lines<D: Disk>(alloc: Global, disk: &mut D, archive: &Archive) -> Result<Byte
 
 // The list of a store whose folder was chosen.
 fn list_disk<D: Disk>(alloc: Global, disk: &mut D) -> Result<Bytes, StoreFault>
-    ensures listed { IfOk result (λ text. IfSome (D.view disk.old).contents (λ c. (log : List Entry) × IsStore log c × (text ≡ lines_of log))) }
-    ensures why { IfErr result (λ why. UnlistedBy (D.view disk.old) (D.view disk.new) why) }
-    ensures any_moment { (log : List Entry) → HasOneStore log (D.may_leave disk.old)
-        → Throughout D.view D.left_at disk.old disk.new (λ t c. IsStore log c) }
-    ensures untouched { (at : ℕ) → IsErrOf result (fault.NotAStore at) → ((D.view disk.new).contents ≡ (D.view disk.old).contents)
-        × NoMore (D.may_leave disk.old) (D.may_leave disk.new) × Throughout D.view D.left_at disk.old disk.new (λ t c. D.may_leave disk.old c) }
-    ensures spared { Spared D.view D.may_leave D.left_at disk.old disk.new }
-    ensures disk_alone { DiskAlone (D.view disk.old) (D.view disk.new) }
+    ensures listed { IfOk result (λ text. IfSome (D.seen.view disk.old).contents (λ c. (log : List Entry) × IsStore log c × (text ≡ lines_of log))) }
+    ensures why { IfErr result (λ why. UnlistedBy (D.seen.view disk.old) (D.seen.view disk.new) why) }
+    ensures any_moment { (log : List Entry) → HasOneStore log (D.seen.may_leave disk.old)
+        → Throughout D.seen disk.old disk.new (λ t c. IsStore log c) }
+    ensures untouched { (at : ℕ) → IsErrOf result (fault.NotAStore at) → ((D.seen.view disk.new).contents ≡ (D.seen.view disk.old).contents)
+        × NoMore (D.seen.may_leave disk.old) (D.seen.may_leave disk.new) × Throughout D.seen disk.old disk.new (λ t c. D.seen.may_leave disk.old c) }
+    ensures spared { Spared D.seen disk.old disk.new }
+    ensures disk_alone { DiskAlone (D.seen.view disk.old) (D.seen.view disk.new) }
 {
     match open_archive(alloc, disk) {
         Ok(archive) => lines(alloc, disk, &archive),
@@ -161,20 +161,20 @@ fn list_disk<D: Disk>(alloc: Global, disk: &mut D) -> Result<Bytes, StoreFault>
 /// made, and nothing else is written.
 pub fn list_store<S: Site>(alloc: Global, site: &mut S, store: String) -> Result<Bytes, StoreFault>
     // No other folder is chosen, none is made, and no port is chosen.
-    ensures chosen { IsChosen result (record { store = string_bytes store; make = false; port = 0; bind = None; journal = None }) (S.Disk.view site.new) }
-    ensures listed { IfOk result (λ text. IfSome (S.Disk.view site.old).contents (λ c. (log : List Entry) × IsStore log c × (text ≡ lines_of log))) }
-    ensures why { IfErr result (λ why. WhyUnlisted S.Disk.view S.Disk.may_leave S.Disk.left_at site.old site.new why) }
-    ensures no_fewer { NoFewer (S.Disk.view site.old) (S.Disk.view site.new) }
+    ensures chosen { IsChosen result (record { store = string_bytes store; make = false; port = 0; bind = None; journal = None }) (S.Disk.seen.view site.new) }
+    ensures listed { IfOk result (λ text. IfSome (S.Disk.seen.view site.old).contents (λ c. (log : List Entry) × IsStore log c × (text ≡ lines_of log))) }
+    ensures why { IfErr result (λ why. WhyUnlisted S.Disk.seen site.old site.new why) }
+    ensures no_fewer { NoFewer (S.Disk.seen.view site.old) (S.Disk.seen.view site.new) }
     // Where each image that a crash might have left was one store, a crash leaves that store at each moment.
-    ensures any_moment { (log : List Entry) → HasOneStore log (S.Disk.may_leave site.old)
-        → AtEachMoment S.Disk.view S.Disk.left_at site.old site.new (IsStore log) }
+    ensures any_moment { (log : List Entry) → HasOneStore log (S.Disk.seen.may_leave site.old)
+        → AtEachMoment S.Disk.seen site.old site.new (IsStore log) }
     // So the store that was there outlasts the call.
-    ensures lasts { Lasts S.Disk.view S.Disk.may_leave S.Disk.left_at site.old site.new }
+    ensures lasts { Lasts S.Disk.seen site.old site.new }
     // Files that are no store aren't written, whatever the answer.
-    ensures spared { Spared S.Disk.view S.Disk.may_leave S.Disk.left_at site.old site.new }
+    ensures spared { Spared S.Disk.seen site.old site.new }
     // Nothing is taken from the link, and nothing is sent.
-    ensures transcript { (S.Disk.view site.new).transcript ≡ (S.Disk.view site.old).transcript }
-    ensures send_faults { (S.Disk.view site.new).send_faults ≡ (S.Disk.view site.old).send_faults }
+    ensures transcript { (S.Disk.seen.view site.new).transcript ≡ (S.Disk.seen.view site.old).transcript }
+    ensures send_faults { (S.Disk.seen.view site.new).send_faults ≡ (S.Disk.seen.view site.old).send_faults }
 {
     let folder = Selection {
         store,

@@ -5,6 +5,7 @@ ghost use Rattle.sm_serve.specs.Standing.{History, StandsForSome};
 ghost use Rattle.sm_command.specs.Choosing.{IsChosen};
 ghost use Rattle.sm_command.specs.Lasting.{Lasts, NoFewer, Spared};
 ghost use Rattle.sm_command.specs.Serving.{HasRun, RunLasts, RunsFrom, StopsFrom, WhyUnready};
+ghost use Rattle.sm_ends.specs.Ended.{end_of};
 
 use crate::StoreFault;
 use crate::start::{open_state, prepare};
@@ -25,20 +26,17 @@ fn serve_state<I: Source, S: Site>(
     ladder: bool,
     turns: u64,
 ) -> Result<Served, StoreFault>
-    requires begins { Begins S.Disk.view S.Disk.may_leave S.Disk.left_at state.old site.old }
-    requires stands { StandsForSome S.Disk.view S.Disk.may_leave state.old.origin site.old }
-    ensures run { IfOk result (λ end. RunsFrom S.Disk.view S.Disk.may_leave S.Disk.left_at ladder (I.left input.old)
-        (I.left input.new) turns state.old site.old site.new end) }
-    ensures why { IfErr result (λ why. StopsFrom S.Disk.view S.Disk.may_leave S.Disk.left_at ladder
-        (record { told = I.left input.old; faults = I.faults input.old })
-        (record { told = I.left input.new; faults = I.faults input.new }) state.old site.old site.new why) }
-    ensures silent { OnErr result ((S.Disk.view site.new).transcript ≡ (S.Disk.view site.old).transcript) }
-    ensures no_fewer { OnErr result (NoFewer (S.Disk.view site.old) (S.Disk.view site.new)) }
+    requires begins { Begins S.Disk.seen state.old site.old }
+    requires stands { StandsForSome S.Disk.seen state.old.origin site.old }
+    ensures run { IfOk result (λ end. RunsFrom S.Disk.seen ladder (I.left input.old) (I.left input.new) turns state.old site.old site.new end) }
+    ensures why { IfErr result (λ why. StopsFrom S.Disk.seen ladder (end_of I.left I.faults input.old)
+        (end_of I.left I.faults input.new) state.old site.old site.new why) }
+    ensures silent { OnErr result ((S.Disk.seen.view site.new).transcript ≡ (S.Disk.seen.view site.old).transcript) }
+    ensures no_fewer { OnErr result (NoFewer (S.Disk.seen.view site.old) (S.Disk.seen.view site.new)) }
     ensures counted { I.faults input.old ≤ I.faults input.new }
     ensures counts { IfOk result CountsNone }
-    ensures chosen { (S.Disk.view site.new).chosen ≡ (S.Disk.view site.old).chosen }
-    ensures lasts { (h : History) → Serves S.Disk.view S.Disk.may_leave S.Disk.left_at h state.old site.old
-        → RunLasts S.Disk.view S.Disk.left_at h site.new }
+    ensures chosen { (S.Disk.seen.view site.new).chosen ≡ (S.Disk.seen.view site.old).chosen }
+    ensures lasts { (h : History) → Serves S.Disk.seen h state.old site.old → RunLasts S.Disk.seen h site.new }
 {
     crashes_hold_what_was_shown();
     match prepare(alloc, input, site, state, ladder) {
@@ -60,17 +58,16 @@ pub fn serve_store<I: Source, S: Site>(
     turns: u64,
 ) -> Result<Served, StoreFault>
     // No other folder and no other port is chosen.
-    ensures chosen { IsChosen result selection (S.Disk.view site.new) }
-    ensures run { IfOk result (λ end. HasRun S.Disk.view S.Disk.may_leave S.Disk.left_at ladder (I.left input.old) (I.left input.new) turns site.old site.new end) }
-    ensures why { IfErr result (λ why. WhyUnready S.Disk.view S.Disk.may_leave S.Disk.left_at ladder
-        (record { told = I.left input.old; faults = I.faults input.old })
-        (record { told = I.left input.new; faults = I.faults input.new }) site.old site.new why) }
+    ensures chosen { IsChosen result selection (S.Disk.seen.view site.new) }
+    ensures run { IfOk result (λ end. HasRun S.Disk.seen ladder (I.left input.old) (I.left input.new) turns site.old site.new end) }
+    ensures why { IfErr result (λ why. WhyUnready S.Disk.seen ladder (end_of I.left I.faults input.old)
+        (end_of I.left I.faults input.new) site.old site.new why) }
     ensures counts { IfOk result CountsNone }
     // However it ends, on a disk that tells its contents: where each image that a crash might have left was one store, what a crash may leave
     // at any moment since the call began is a store whose log begins with that one, and holds what the call had shown by then.
-    ensures any_moment { Lasts S.Disk.view S.Disk.may_leave S.Disk.left_at site.old site.new }
+    ensures any_moment { Lasts S.Disk.seen site.old site.new }
     // Files that are no store aren't written, whatever the answer.
-    ensures spared { Spared S.Disk.view S.Disk.may_leave S.Disk.left_at site.old site.new }
+    ensures spared { Spared S.Disk.seen site.old site.new }
     ensures counted { I.faults input.old ≤ I.faults input.new }
 {
     bodies_have_one_log();

@@ -11,6 +11,7 @@ ghost use Rattle.sm_command.specs.declared.fault.StoreFault.TheVariants as fault
 ghost use Rattle.sm_command.specs.Choosing.{IsChosen};
 ghost use Rattle.sm_command.specs.Lasting.{AtEachMoment, Spared, Untouched};
 ghost use Rattle.sm_command.specs.Serving.{Found, IsLadderInput, DeclaresTo, GoesUnseen, LadderMeans, PrepareMeans, WhyUnopened, WhyUnread, outcome_of};
+ghost use Rattle.sm_ends.specs.Ended.{end_of};
 
 use crate::StoreFault;
 use crate::choosing::choose;
@@ -27,19 +28,19 @@ const LADDER: u64 = 1_048_576;
 
 // Opens the store of a site that was selected.
 fn start<S: Site>(alloc: Global, site: &mut S) -> Result<State, StoreFault>
-    ensures found { IfOk result (λ state. Found S.Disk.view S.Disk.may_leave state site.old site.new) }
-    ensures begins { IfOk result (λ state. Begins S.Disk.view S.Disk.may_leave S.Disk.left_at state site.new) }
-    ensures any_moment { (log : List Entry) → HasOneStore log (S.Disk.may_leave site.old)
-        → Throughout S.Disk.view S.Disk.left_at site.old site.new (λ t c. IsStore log c) }
-    ensures untouched { (at : ℕ) → IsErrOf result (fault.NotAStore at) → ((S.Disk.view site.new).contents ≡ (S.Disk.view site.old).contents)
-        × NoMore (S.Disk.may_leave site.old) (S.Disk.may_leave site.new)
-        × Throughout S.Disk.view S.Disk.left_at site.old site.new (λ t c. S.Disk.may_leave site.old c) }
-    ensures spared { Spared S.Disk.view S.Disk.may_leave S.Disk.left_at site.old site.new }
-    ensures transcript { (S.Disk.view site.new).transcript ≡ (S.Disk.view site.old).transcript }
-    ensures why { IfErr result (λ why. WhyUnopened (S.Disk.view site.old) (S.Disk.view site.new) why) }
-    ensures disk_faults { (S.Disk.view site.old).disk_faults ≤ (S.Disk.view site.new).disk_faults }
-    ensures link_faults { (S.Disk.view site.old).link_faults ≤ (S.Disk.view site.new).link_faults }
-    ensures chosen { (S.Disk.view site.new).chosen ≡ (S.Disk.view site.old).chosen }
+    ensures found { IfOk result (λ state. Found S.Disk.seen state site.old site.new) }
+    ensures begins { IfOk result (λ state. Begins S.Disk.seen state site.new) }
+    ensures any_moment { (log : List Entry) → HasOneStore log (S.Disk.seen.may_leave site.old)
+        → Throughout S.Disk.seen site.old site.new (λ t c. IsStore log c) }
+    ensures untouched { (at : ℕ) → IsErrOf result (fault.NotAStore at) → ((S.Disk.seen.view site.new).contents ≡ (S.Disk.seen.view site.old).contents)
+        × NoMore (S.Disk.seen.may_leave site.old) (S.Disk.seen.may_leave site.new)
+        × Throughout S.Disk.seen site.old site.new (λ t c. S.Disk.seen.may_leave site.old c) }
+    ensures spared { Spared S.Disk.seen site.old site.new }
+    ensures transcript { (S.Disk.seen.view site.new).transcript ≡ (S.Disk.seen.view site.old).transcript }
+    ensures why { IfErr result (λ why. WhyUnopened (S.Disk.seen.view site.old) (S.Disk.seen.view site.new) why) }
+    ensures disk_faults { (S.Disk.seen.view site.old).disk_faults ≤ (S.Disk.seen.view site.new).disk_faults }
+    ensures link_faults { (S.Disk.seen.view site.old).link_faults ≤ (S.Disk.seen.view site.new).link_faults }
+    ensures chosen { (S.Disk.seen.view site.new).chosen ≡ (S.Disk.seen.view site.old).chosen }
 {
     match State::start(alloc, site, Limits::standard()) {
         Ok(state) => Ok(state),
@@ -55,19 +56,18 @@ pub fn open_state<S: Site>(
     site: &mut S,
     selection: Selection,
 ) -> Result<State, StoreFault>
-    ensures chosen { IsChosen result selection (S.Disk.view site.new) }
-    ensures found { IfOk result (λ state. Found S.Disk.view S.Disk.may_leave state site.old site.new) }
-    ensures begins { IfOk result (λ state. Begins S.Disk.view S.Disk.may_leave S.Disk.left_at state site.new) }
+    ensures chosen { IsChosen result selection (S.Disk.seen.view site.new) }
+    ensures found { IfOk result (λ state. Found S.Disk.seen state site.old site.new) }
+    ensures begins { IfOk result (λ state. Begins S.Disk.seen state site.new) }
     // Where every image was one store, it stays that at each moment.
-    ensures any_moment { (log : List Entry) → HasOneStore log (S.Disk.may_leave site.old)
-        → AtEachMoment S.Disk.view S.Disk.left_at site.old site.new (IsStore log) }
-    ensures untouched { (at : ℕ) → IsErrOf result (fault.NotAStore at)
-        → Untouched S.Disk.view S.Disk.may_leave S.Disk.left_at site.old site.new }
-    ensures spared { Spared S.Disk.view S.Disk.may_leave S.Disk.left_at site.old site.new }
-    ensures transcript { (S.Disk.view site.new).transcript ≡ (S.Disk.view site.old).transcript }
-    ensures why { IfErr result (λ why. WhyUnopened (S.Disk.view site.old) (S.Disk.view site.new) why) }
-    ensures disk_faults { (S.Disk.view site.old).disk_faults ≤ (S.Disk.view site.new).disk_faults }
-    ensures link_faults { (S.Disk.view site.old).link_faults ≤ (S.Disk.view site.new).link_faults }
+    ensures any_moment { (log : List Entry) → HasOneStore log (S.Disk.seen.may_leave site.old)
+        → AtEachMoment S.Disk.seen site.old site.new (IsStore log) }
+    ensures untouched { (at : ℕ) → IsErrOf result (fault.NotAStore at) → Untouched S.Disk.seen site.old site.new }
+    ensures spared { Spared S.Disk.seen site.old site.new }
+    ensures transcript { (S.Disk.seen.view site.new).transcript ≡ (S.Disk.seen.view site.old).transcript }
+    ensures why { IfErr result (λ why. WhyUnopened (S.Disk.seen.view site.old) (S.Disk.seen.view site.new) why) }
+    ensures disk_faults { (S.Disk.seen.view site.old).disk_faults ≤ (S.Disk.seen.view site.new).disk_faults }
+    ensures link_faults { (S.Disk.seen.view site.old).link_faults ≤ (S.Disk.seen.view site.new).link_faults }
 {
     match choose(site, selection) {
         Ok(()) => start(alloc, site),
@@ -79,8 +79,7 @@ pub fn open_state<S: Site>(
 pub(crate) fn ladder_of<I: Source>(alloc: Global, input: &mut I) -> Result<Channel, StoreFault>
     ensures read { IfOk result (λ channel. IsLadderInput (I.left input.old) (I.left input.new) (Ok channel)) }
     ensures valid { IfOk result IsChannel }
-    ensures why { IfErr result (λ why. WhyUnread (record { told = I.left input.old; faults = I.faults input.old })
-        (record { told = I.left input.new; faults = I.faults input.new }) why) }
+    ensures why { IfErr result (λ why. WhyUnread (end_of I.left I.faults input.old) (end_of I.left I.faults input.new) why) }
     ensures counted { I.faults input.old ≤ I.faults input.new }
 {
     let text = match read_input(alloc, input, LADDER) {
@@ -112,16 +111,15 @@ pub(crate) fn outcome_of(answer: Declared) -> Result<(), StoreFault>
 // Declares the channel of a ladder.
 fn declare<S: Site>(site: &mut S, state: &mut State, channel: &Channel) -> Result<(), StoreFault>
     requires valid { IsChannel channel.now }
-    requires stands { StandsForSome S.Disk.view S.Disk.may_leave state.old.origin site.old }
+    requires stands { StandsForSome S.Disk.seen state.old.origin site.old }
     ensures declares { (told told' : Option (List ℕ)) → IsLadderInput told told' (Ok channel.now)
-        → DeclaresTo S.Disk.view S.Disk.may_leave S.Disk.left_at told told' state.old site.old state.new site.new result }
-    ensures unseen { (h : History) → Serves S.Disk.view S.Disk.may_leave S.Disk.left_at h state.old site.old
-        → GoesUnseen S.Disk.view S.Disk.may_leave S.Disk.left_at h state.new site.new }
-    ensures stands { StandsForSome S.Disk.view S.Disk.may_leave state.new.origin site.new }
-    ensures transcript { (S.Disk.view site.new).transcript ≡ (S.Disk.view site.old).transcript }
-    ensures disk_faults { (S.Disk.view site.old).disk_faults ≤ (S.Disk.view site.new).disk_faults }
-    ensures link_faults { (S.Disk.view site.new).link_faults ≡ (S.Disk.view site.old).link_faults }
-    ensures chosen { (S.Disk.view site.new).chosen ≡ (S.Disk.view site.old).chosen }
+        → DeclaresTo S.Disk.seen told told' state.old site.old state.new site.new result }
+    ensures unseen { (h : History) → Serves S.Disk.seen h state.old site.old → GoesUnseen S.Disk.seen h state.new site.new }
+    ensures stands { StandsForSome S.Disk.seen state.new.origin site.new }
+    ensures transcript { (S.Disk.seen.view site.new).transcript ≡ (S.Disk.seen.view site.old).transcript }
+    ensures disk_faults { (S.Disk.seen.view site.old).disk_faults ≤ (S.Disk.seen.view site.new).disk_faults }
+    ensures link_faults { (S.Disk.seen.view site.new).link_faults ≡ (S.Disk.seen.view site.old).link_faults }
+    ensures chosen { (S.Disk.seen.view site.new).chosen ≡ (S.Disk.seen.view site.old).chosen }
 {
     let answer = state.declare(site, channel);
     outcome_of(answer)
@@ -134,17 +132,16 @@ fn declare_ladder<I: Source, S: Site>(
     site: &mut S,
     state: &mut State,
 ) -> Result<(), StoreFault>
-    requires stands { StandsForSome S.Disk.view S.Disk.may_leave state.old.origin site.old }
-    ensures means { LadderMeans S.Disk.view S.Disk.may_leave S.Disk.left_at (record { told = I.left input.old; faults = I.faults input.old })
-        (record { told = I.left input.new; faults = I.faults input.new }) state.old site.old state.new site.new result }
-    ensures unseen { (h : History) → Serves S.Disk.view S.Disk.may_leave S.Disk.left_at h state.old site.old
-        → GoesUnseen S.Disk.view S.Disk.may_leave S.Disk.left_at h state.new site.new }
-    ensures stands { StandsForSome S.Disk.view S.Disk.may_leave state.new.origin site.new }
-    ensures transcript { (S.Disk.view site.new).transcript ≡ (S.Disk.view site.old).transcript }
-    ensures disk_faults { (S.Disk.view site.old).disk_faults ≤ (S.Disk.view site.new).disk_faults }
-    ensures link_faults { (S.Disk.view site.new).link_faults ≡ (S.Disk.view site.old).link_faults }
+    requires stands { StandsForSome S.Disk.seen state.old.origin site.old }
+    ensures means { LadderMeans S.Disk.seen (end_of I.left I.faults input.old)
+        (end_of I.left I.faults input.new) state.old site.old state.new site.new result }
+    ensures unseen { (h : History) → Serves S.Disk.seen h state.old site.old → GoesUnseen S.Disk.seen h state.new site.new }
+    ensures stands { StandsForSome S.Disk.seen state.new.origin site.new }
+    ensures transcript { (S.Disk.seen.view site.new).transcript ≡ (S.Disk.seen.view site.old).transcript }
+    ensures disk_faults { (S.Disk.seen.view site.old).disk_faults ≤ (S.Disk.seen.view site.new).disk_faults }
+    ensures link_faults { (S.Disk.seen.view site.new).link_faults ≡ (S.Disk.seen.view site.old).link_faults }
     ensures counted { I.faults input.old ≤ I.faults input.new }
-    ensures chosen { (S.Disk.view site.new).chosen ≡ (S.Disk.view site.old).chosen }
+    ensures chosen { (S.Disk.seen.view site.new).chosen ≡ (S.Disk.seen.view site.old).chosen }
 {
     match ladder_of(alloc, input) {
         Ok(channel) => declare(site, state, &channel),
@@ -160,17 +157,16 @@ pub fn prepare<I: Source, S: Site>(
     state: &mut State,
     ladder: bool,
 ) -> Result<(), StoreFault>
-    requires stands { StandsForSome S.Disk.view S.Disk.may_leave state.old.origin site.old }
-    ensures means { PrepareMeans S.Disk.view S.Disk.may_leave S.Disk.left_at ladder (record { told = I.left input.old; faults = I.faults input.old })
-        (record { told = I.left input.new; faults = I.faults input.new }) state.old site.old state.new site.new result }
-    ensures unseen { (h : History) → Serves S.Disk.view S.Disk.may_leave S.Disk.left_at h state.old site.old
-        → GoesUnseen S.Disk.view S.Disk.may_leave S.Disk.left_at h state.new site.new }
-    ensures stands { StandsForSome S.Disk.view S.Disk.may_leave state.new.origin site.new }
-    ensures transcript { (S.Disk.view site.new).transcript ≡ (S.Disk.view site.old).transcript }
-    ensures disk_faults { (S.Disk.view site.old).disk_faults ≤ (S.Disk.view site.new).disk_faults }
-    ensures link_faults { (S.Disk.view site.new).link_faults ≡ (S.Disk.view site.old).link_faults }
+    requires stands { StandsForSome S.Disk.seen state.old.origin site.old }
+    ensures means { PrepareMeans S.Disk.seen ladder (end_of I.left I.faults input.old)
+        (end_of I.left I.faults input.new) state.old site.old state.new site.new result }
+    ensures unseen { (h : History) → Serves S.Disk.seen h state.old site.old → GoesUnseen S.Disk.seen h state.new site.new }
+    ensures stands { StandsForSome S.Disk.seen state.new.origin site.new }
+    ensures transcript { (S.Disk.seen.view site.new).transcript ≡ (S.Disk.seen.view site.old).transcript }
+    ensures disk_faults { (S.Disk.seen.view site.old).disk_faults ≤ (S.Disk.seen.view site.new).disk_faults }
+    ensures link_faults { (S.Disk.seen.view site.new).link_faults ≡ (S.Disk.seen.view site.old).link_faults }
     ensures counted { I.faults input.old ≤ I.faults input.new }
-    ensures chosen { (S.Disk.view site.new).chosen ≡ (S.Disk.view site.old).chosen }
+    ensures chosen { (S.Disk.seen.view site.new).chosen ≡ (S.Disk.seen.view site.old).chosen }
 {
     if ladder {
         return declare_ladder(alloc, input, site, state);

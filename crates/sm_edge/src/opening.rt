@@ -14,6 +14,7 @@ ghost use Rattle.sm_command.specs.Opening.{BeginsWith};
 ghost use Rattle.sm_fetch.specs.Exchanges.{IsTurnedTo};
 ghost use Rattle.sm_fetch.specs.Origins.{Grows};
 ghost use Rattle.sm_edge.specs.Opening.{IsEdge, IsEdgeStore, WhyNoStore, WhyUnturned, WhyNoEdge};
+ghost use Rattle.sm_ends.specs.Ended.{end_of};
 
 use sm_archive::Archive;
 use sm_command::{StoreFault, choose, open_declared};
@@ -49,8 +50,8 @@ fn turn<C: Dial>(dial: &mut C, host: &str, port: u16) -> Result<(), StoreFault>
 
 // An equal channel to that of an archive which has one.
 fn channel_of<D: Disk>(alloc: Global, disk: &D, archive: &Archive) -> Result<Channel, NoMemory>
-    requires { (log : List Entry) × (channel : List Track) × Stands archive.now log None (D.may_leave disk.now) × (channel_of log ≡ Some channel) }
-    ensures { IfOk result (λ own. (log : List Entry) (channel : List Track) → Stands archive.now log None (D.may_leave disk.now)
+    requires { (log : List Entry) × (channel : List Track) × Stands archive.now log None (D.seen.may_leave disk.now) × (channel_of log ≡ Some channel) }
+    ensures { IfOk result (λ own. (log : List Entry) (channel : List Track) → Stands archive.now log None (D.seen.may_leave disk.now)
         → channel_of log ≡ Some channel → own ≡ channel) }
 {
     match archive.catalog() {
@@ -65,18 +66,16 @@ fn open_beside<I: Source, D: Disk>(
     input: &mut I,
     disk: &mut D,
 ) -> Result<Edge, StoreFault>
-    ensures opened { IfOk result (λ edge. IsEdgeStore D.view D.may_leave
-        (record { told = I.left input.old; faults = I.faults input.old }) (record { told = I.left input.new; faults = I.faults input.new })
+    ensures opened { IfOk result (λ edge. IsEdgeStore D.seen (end_of I.left I.faults input.old) (end_of I.left I.faults input.new)
         edge.archive edge.channel disk.old disk.new) }
-    ensures why { IfErr result (λ why. WhyNoStore D.view D.may_leave
-        (record { told = I.left input.old; faults = I.faults input.old }) (record { told = I.left input.new; faults = I.faults input.new })
+    ensures why { IfErr result (λ why. WhyNoStore D.seen (end_of I.left I.faults input.old) (end_of I.left I.faults input.new)
         disk.old disk.new why) }
-    ensures any_moment { IsSome (D.view disk.old).contents → (log : List Entry) → HasOneStore log (D.may_leave disk.old)
-        → Throughout D.view D.left_at disk.old disk.new (λ t c. BeginsWith log c) }
-    ensures untouched { (at : ℕ) → IsErrOf result (fault.NotAStore at) → ((D.view disk.new).contents ≡ (D.view disk.old).contents)
-        × NoMore (D.may_leave disk.old) (D.may_leave disk.new) × Throughout D.view D.left_at disk.old disk.new (λ t c. D.may_leave disk.old c) }
-    ensures spared { Spared D.view D.may_leave D.left_at disk.old disk.new }
-    ensures disk_alone { DiskAlone (D.view disk.old) (D.view disk.new) }
+    ensures any_moment { IsSome (D.seen.view disk.old).contents → (log : List Entry) → HasOneStore log (D.seen.may_leave disk.old)
+        → Throughout D.seen disk.old disk.new (λ t c. BeginsWith log c) }
+    ensures untouched { (at : ℕ) → IsErrOf result (fault.NotAStore at) → ((D.seen.view disk.new).contents ≡ (D.seen.view disk.old).contents)
+        × NoMore (D.seen.may_leave disk.old) (D.seen.may_leave disk.new) × Throughout D.seen disk.old disk.new (λ t c. D.seen.may_leave disk.old c) }
+    ensures spared { Spared D.seen disk.old disk.new }
+    ensures disk_alone { DiskAlone (D.seen.view disk.old) (D.seen.view disk.new) }
 {
     match open_declared(alloc, input, disk) {
         Ok(archive) => match channel_of(alloc, disk, &archive) {
@@ -99,28 +98,26 @@ pub fn open_edge<I: Source, S: Site, C: Dial>(
     host: &str,
     port: u16,
 ) -> Result<Edge, StoreFault>
-    ensures chosen { IsChosen result selection (S.Disk.view site.new) }
-    ensures opened { IfOk result (λ edge. IsEdge S.Disk.view S.Disk.may_leave
-        (record { told = I.left input.old; faults = I.faults input.old }) (record { told = I.left input.new; faults = I.faults input.new })
+    ensures chosen { IsChosen result selection (S.Disk.seen.view site.new) }
+    ensures opened { IfOk result (λ edge. IsEdge S.Disk.seen (end_of I.left I.faults input.old) (end_of I.left I.faults input.new)
         edge.archive edge.channel selection site.old site.new) }
     ensures turned { OnOk result (IsTurnedTo (C.chosen dial.new) host.now port) }
-    ensures why { IfErr result (WhyNoEdge S.Disk.view S.Disk.may_leave
-        (record { told = I.left input.old; faults = I.faults input.old }) (record { told = I.left input.new; faults = I.faults input.new })
+    ensures why { IfErr result (WhyNoEdge S.Disk.seen (end_of I.left I.faults input.old) (end_of I.left I.faults input.new)
         (C.dial_faults dial.old) (C.dial_faults dial.new) selection site.old site.new) }
     ensures log { C.log dial.new ≡ C.log dial.old }
     ensures later { C.dial_faults dial.old ≤ C.dial_faults dial.new }
     ensures goes_on { C.later dial.old dial.new }
     ensures store { Grows (C.store dial.old) (C.store dial.new) }
     // Where each image that a crash might have left was one store, a crash leaves at each moment a store whose log begins with that one.
-    ensures any_moment { IsSome (S.Disk.view site.old).contents → (log : List Entry) → HasOneStore log (S.Disk.may_leave site.old)
-        → AtEachMoment S.Disk.view S.Disk.left_at site.old site.new (BeginsWith log) }
+    ensures any_moment { IsSome (S.Disk.seen.view site.old).contents → (log : List Entry) → HasOneStore log (S.Disk.seen.may_leave site.old)
+        → AtEachMoment S.Disk.seen site.old site.new (BeginsWith log) }
     // What is no store isn't written.
-    ensures untouched { (at : ℕ) → IsErrOf result (fault.NotAStore at) → Untouched S.Disk.view S.Disk.may_leave S.Disk.left_at site.old site.new }
+    ensures untouched { (at : ℕ) → IsErrOf result (fault.NotAStore at) → Untouched S.Disk.seen site.old site.new }
     // Files that are no store aren't written, whatever the answer.
-    ensures spared { Spared S.Disk.view S.Disk.may_leave S.Disk.left_at site.old site.new }
-    ensures no_fewer { NoFewer (S.Disk.view site.old) (S.Disk.view site.new) }
-    ensures transcript { (S.Disk.view site.new).transcript ≡ (S.Disk.view site.old).transcript }
-    ensures send_faults { (S.Disk.view site.new).send_faults ≡ (S.Disk.view site.old).send_faults }
+    ensures spared { Spared S.Disk.seen site.old site.new }
+    ensures no_fewer { NoFewer (S.Disk.seen.view site.old) (S.Disk.seen.view site.new) }
+    ensures transcript { (S.Disk.seen.view site.new).transcript ≡ (S.Disk.seen.view site.old).transcript }
+    ensures send_faults { (S.Disk.seen.view site.new).send_faults ≡ (S.Disk.seen.view site.old).send_faults }
 {
     match choose(site, selection) {
         Ok(()) => match turn(dial, host, port) {

@@ -6,6 +6,7 @@ ghost use Rattle.sm_command.specs.Lasting.{Lasts, NoFewer, Spared, Untouched};
 ghost use Rattle.sm_fetch.specs.Origins.{Grows};
 ghost use Rattle.sm_edge.specs.Opening.{WhyNoEdge};
 ghost use Rattle.sm_edge.specs.Relaying.{HasRelayed};
+ghost use Rattle.sm_ends.specs.Ended.{end_of};
 
 use crate::opening::{Edge, open_edge};
 use sm_archive::{an_image_fits, bodies_have_one_log};
@@ -40,12 +41,11 @@ pub fn relay_store<I: Source, S: Site, C: Dial>(
     requires rounds { 0 < plan.now.rounds }
     requires tries { 0 < plan.now.tries }
     // No other folder is chosen, and no other port.
-    ensures chosen { IsChosen result selection (S.Disk.view site.new) }
-    ensures relayed { IfOk result (λ r. HasRelayed S.Disk.view S.Disk.left_at S.Disk.may_leave C.log C.store C.later C.dial_faults C.chosen
-        (record { told = I.left input.old; faults = I.faults input.old }) (record { told = I.left input.new; faults = I.faults input.new })
+    ensures chosen { IsChosen result selection (S.Disk.seen.view site.new) }
+    ensures relayed { IfOk result (λ r. HasRelayed S.Disk.seen C.log C.store C.later C.dial_faults C.chosen
+        (end_of I.left I.faults input.old) (end_of I.left I.faults input.new)
         selection host.now plan.now site.old site.new dial.old dial.new r.channel r.report) }
-    ensures why { IfErr result (WhyNoEdge S.Disk.view S.Disk.may_leave
-        (record { told = I.left input.old; faults = I.faults input.old }) (record { told = I.left input.new; faults = I.faults input.new })
+    ensures why { IfErr result (WhyNoEdge S.Disk.seen (end_of I.left I.faults input.old) (end_of I.left I.faults input.new)
         (C.dial_faults dial.old) (C.dial_faults dial.new) selection site.old site.new) }
     // Where no store was opened, nothing was asked for.
     ensures unasked { OnErr result (C.log dial.new ≡ C.log dial.old) }
@@ -53,14 +53,14 @@ pub fn relay_store<I: Source, S: Site, C: Dial>(
     ensures goes_on { C.later dial.old dial.new }
     ensures store { Grows (C.store dial.old) (C.store dial.new) }
     // The store that was there outlasts the call, and what is no store isn't written.
-    ensures lasts { Lasts S.Disk.view S.Disk.may_leave S.Disk.left_at site.old site.new }
-    ensures untouched { (at : ℕ) → IsErrOf result (fault.NotAStore at) → Untouched S.Disk.view S.Disk.may_leave S.Disk.left_at site.old site.new }
+    ensures lasts { Lasts S.Disk.seen site.old site.new }
+    ensures untouched { (at : ℕ) → IsErrOf result (fault.NotAStore at) → Untouched S.Disk.seen site.old site.new }
     // Files that are no store aren't written, whatever the answer.
-    ensures spared { Spared S.Disk.view S.Disk.may_leave S.Disk.left_at site.old site.new }
-    ensures no_fewer { NoFewer (S.Disk.view site.old) (S.Disk.view site.new) }
+    ensures spared { Spared S.Disk.seen site.old site.new }
+    ensures no_fewer { NoFewer (S.Disk.seen.view site.old) (S.Disk.seen.view site.new) }
     // Nothing is taken from the site's link, and nothing is sent.
-    ensures transcript { (S.Disk.view site.new).transcript ≡ (S.Disk.view site.old).transcript }
-    ensures send_faults { (S.Disk.view site.new).send_faults ≡ (S.Disk.view site.old).send_faults }
+    ensures transcript { (S.Disk.seen.view site.new).transcript ≡ (S.Disk.seen.view site.old).transcript }
+    ensures send_faults { (S.Disk.seen.view site.new).send_faults ≡ (S.Disk.seen.view site.old).send_faults }
 {
     an_image_fits::<S>();
     bodies_have_one_log();

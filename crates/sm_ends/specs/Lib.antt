@@ -1,3 +1,4 @@
+pub mod Ended
 pub mod Faults
 pub mod Moves
 pub mod Memory

@@ -14,8 +14,9 @@ use Rattle.sm_export.specs.declared.exported.Exported.TheVariants as exported
 use Rattle.sm_export.specs.declared.exported.StoreExport.{StoreExport}
 use Rattle.sm_export.specs.declared.exported.StoreExport.TheVariants as ends
 use Rattle.sm_export.specs.Exporting.{ExportedAs, IsBegun}
-use Rattle.sm_export.specs.Storing.{ComesTo, End, IsChosenFor, IsTaken, TakesTo}
+use Rattle.sm_export.specs.Storing.{ComesTo, IsChosenFor, IsTaken, TakesTo}
 use Rattle.sm_export.proofs.Reading.{rose_later}
+use Rattle.sm_ends.specs.Ended.{End}
 
 -- ---- under a stronger premise
 

@@ -1,10 +1,10 @@
 -- What readings of a store leave together, and why a file that is read from it ends too early, of what came of its parts.
-use Rattle.std.proofs.Common.{◌≡◌, ◌≤◌, ℕ, List, Option, Result, Ok, Err, IsSome, refl, ◌∙◌, arith, le_refl}
+use Rattle.std.proofs.Common.{◌≡◌, ◌≤◌, ℕ, List, Option, Result, Ok, Err, IsSome, ◌∙◌, arith, le_refl}
 use Rattle.std.specs.Prelude.{is_some}
 use Rattle.sm_site.specs.Clauses.{Rose}
 use Rattle.sm_site.specs.Image.{Image}
-use Rattle.sm_site.specs.Meanings.{View}
-use Rattle.sm_site.proofs.Moments.{no_call}
+use Rattle.sm_site.specs.Meanings.{View, Seen}
+use Rattle.sm_site.proofs.Moments.{alone_here, alone_then, no_call}
 use Rattle.sm_archive.specs.declared.archive.Archive.{Archive}
 use Rattle.sm_command.proofs.Lasting.{no_other}
 use Rattle.sm_ends.specs.Faults.{Rose as FaultsRose}
@@ -16,37 +16,23 @@ use Rattle.sm_export.proofs.Passing.{rose_before, rose_then, same_error}
 
 -- ---- readings
 
-module _ {D : Type 0} (view : D → View) (leave : D → Image → Type 0) (left_at : D → ℕ → Image → Type 0) where
+module _ {D : Type 0} (site : Seen D) where
   -- none
-  pub not_read : ((d : D) (t : ℕ) (c : Image) → left_at d t c → t ≤ (view d).moment) → (archive : Archive) (d : D) → IsOnlyRead view leave left_at archive d d
+  pub not_read : ((d : D) (t : ℕ) (c : Image) → site.left_at d t c → t ≤ (site.view d).moment) → (archive : Archive) (d : D) → IsOnlyRead site archive d d
   not_read no_later archive d = record {
     stands = λ log doubt s. s;
-    any_moment = no_call view left_at d (λ t c. leave d c) (no_later d);
-    disk_alone = record { link = record { transcript = refl; script = refl; link_faults = refl; send_faults = refl; chosen = refl }; no_fewer = le_refl (view d).disk_faults };
+    any_moment = no_call site d (λ t c. site.may_leave d c) (no_later d);
+    disk_alone = alone_here (site.view d);
   }
 
   -- one, and then another
-  pub read_then : ((d : D) (c : Image) → left_at d (view d).moment c → leave d c) → ((d : D) (c : Image) → leave d c → left_at d (view d).moment c) → (archive : Archive) (old mid new : D)
-      → IsOnlyRead view leave left_at archive old mid → IsOnlyRead view leave left_at archive mid new → IsOnlyRead view leave left_at archive old new
-  read_then at_now now_at archive old mid new first second =
-      let fewer = first.disk_alone.no_fewer in
-      let fewer_yet = second.disk_alone.no_fewer in
-      let same = first.disk_alone.link in
-      let same_yet = second.disk_alone.link in
-      record {
-        stands = λ log doubt s. second.stands log doubt (first.stands log doubt s);
-        any_moment = no_other view leave left_at at_now now_at old mid new first.any_moment second.any_moment;
-        disk_alone = record {
-          link = record {
-            transcript = same_yet.transcript ∙ same.transcript;
-            script = same_yet.script ∙ same.script;
-            link_faults = same_yet.link_faults ∙ same.link_faults;
-            send_faults = same_yet.send_faults ∙ same.send_faults;
-            chosen = same_yet.chosen ∙ same.chosen;
-          };
-          no_fewer = omega (arith, fewer, fewer_yet);
-        };
-      }
+  pub read_then : ((d : D) (c : Image) → site.left_at d (site.view d).moment c → site.may_leave d c) → ((d : D) (c : Image) → site.may_leave d c → site.left_at d (site.view d).moment c) → (archive : Archive) (old mid new : D)
+      → IsOnlyRead site archive old mid → IsOnlyRead site archive mid new → IsOnlyRead site archive old new
+  read_then at_now now_at archive old mid new first second = record {
+    stands = λ log doubt s. second.stands log doubt (first.stands log doubt s);
+    any_moment = no_other site at_now now_at old mid new first.any_moment second.any_moment;
+    disk_alone = alone_then (site.view old) (site.view mid) (site.view new) first.disk_alone second.disk_alone;
+  }
 
 -- ---- one cause
 

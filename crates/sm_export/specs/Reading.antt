@@ -3,19 +3,17 @@ use Rattle.std.specs.Prelude.{◌≤◌, ℕ, List, Option, Result, IsErrOf, IsS
 use Rattle.sm_ends.specs.Faults.{Rose as FaultsRose}
 use Rattle.sm_model.specs.declared.entry.Entry.{Entry}
 use Rattle.sm_site.specs.Clauses.{Rose, Throughout}
-use Rattle.sm_site.specs.Image.{Image}
-use Rattle.sm_site.specs.Meanings.{DiskAlone, View}
+use Rattle.sm_site.specs.Meanings.{DiskAlone, View, Seen}
 use Rattle.sm_archive.specs.Stands.{Stands}
 use Rattle.sm_archive.specs.declared.archive.Archive.{Archive}
 use Rattle.sm_export.specs.declared.gathering.Broken.{Broken}
 use Rattle.sm_export.specs.declared.gathering.Broken.TheVariants as broken
 
 -- The disk was only read: the archive stands for the log that it stood for, and at each moment a crash leaves what it could leave before.
-pub record IsOnlyRead {D : Type 0} (view : D → View) (leave : D → Image → Type 0) (left_at : D → ℕ → Image → Type 0)
-    (archive : Archive) (old new : D) : Type 0 where
-  pub stands : (log : List Entry) (doubt : Option Entry) → Stands archive log doubt (leave old) → Stands archive log doubt (leave new)
-  pub any_moment : Throughout view left_at old new (λ t c. leave old c)
-  pub disk_alone : DiskAlone (view old) (view new)
+pub record IsOnlyRead {D : Type 0} (site : Seen D) (archive : Archive) (old new : D) : Type 0 where
+  pub stands : (log : List Entry) (doubt : Option Entry) → Stands archive log doubt (site.may_leave old) → Stands archive log doubt (site.may_leave new)
+  pub any_moment : Throughout site old new (λ t c. site.may_leave old c)
+  pub disk_alone : DiskAlone (site.view old) (site.view new)
 
 -- Each error has its cause: what was read is damaged only on a disk that doesn't tell its contents, and a fault of the disk or of the sink
 -- was counted. The sink's count of faults doesn't fall, whatever the answer.

@@ -15,11 +15,7 @@ use Rattle.sm_export.specs.declared.exported.Exported.TheVariants as answers
 use Rattle.sm_export.specs.declared.exported.StoreExport.{StoreExport}
 use Rattle.sm_export.specs.declared.exported.StoreExport.TheVariants as ends
 use Rattle.sm_export.specs.Exporting.{ExportedAs}
-
--- an input or an output, before a call or after it: what it tells, and its count of faults
-pub record End : Type 0 where
-  pub told : Option (List ℕ)
-  pub faults : ℕ
+use Rattle.sm_ends.specs.Ended.{End}
 
 -- the most bytes that an input may have
 abbrev pub most : ℕ

@@ -35,18 +35,18 @@ fn write_file<D: Disk, O: Sink>(
     id: u32,
     out: &mut O,
 ) -> Result<u64, Broken>
-    requires stands { (log : List Entry) × (doubt : Option Entry) × Stands archive.now log doubt (D.may_leave disk.old) }
+    requires stands { (log : List Entry) × (doubt : Option Entry) × Stands archive.now log doubt (D.seen.may_leave disk.old) }
     requires few { length times.now < 2 ^ 32 }
     // A track_ID has 32 bits.
     ensures narrow { id < 2 ^ 32 }
-    ensures ok { IfOk result (λ written. (log : List Entry) (doubt : Option Entry) → Stands archive.now log doubt (D.may_leave disk.old)
-        → IsSome (D.view disk.old).contents
+    ensures ok { IfOk result (λ written. (log : List Entry) (doubt : Option Entry) → Stands archive.now log doubt (D.seen.may_leave disk.old)
+        → IsSome (D.seen.view disk.old).contents
         → Appends (O.held out.old) (O.held out.new) (header.now ++ texts_from 1 id (kept_among log name.now bitrate times.now))
         × (written ≡ length (kept_among log name.now bitrate times.now))) }
-    ensures err { OnErr result ((log : List Entry) (doubt : Option Entry) → Stands archive.now log doubt (D.may_leave disk.old) → IsSome (D.view disk.old).contents
+    ensures err { OnErr result ((log : List Entry) (doubt : Option Entry) → Stands archive.now log doubt (D.seen.may_leave disk.old) → IsSome (D.seen.view disk.old).contents
         → AppendsFront (O.held out.old) (O.held out.new) (header.now ++ texts_from 1 id (kept_among log name.now bitrate times.now))) }
-    ensures cause { WhyBroken (D.view disk.old) (D.view disk.new) (O.faults out.old) (O.faults out.new) result }
-    ensures read { IsOnlyRead D.view D.may_leave D.left_at archive.now disk.old disk.new }
+    ensures cause { WhyBroken (D.seen.view disk.old) (D.seen.view disk.new) (O.faults out.old) (O.faults out.new) result }
+    ensures read { IsOnlyRead D.seen archive.now disk.old disk.new }
 {
     match write_all(out, header) {
         Ok(()) => write_times(alloc, disk, archive, name, bitrate, times, id, out),
@@ -67,16 +67,16 @@ pub fn export<D: Disk, O: Sink>(
     bitrate: u32,
     out: &mut O,
 ) -> Exported
-    requires stands { (log : List Entry) × (doubt : Option Entry) × Stands archive.now log doubt (D.may_leave disk.old) }
-    ensures exported { (log : List Entry) (doubt : Option Entry) → Stands archive.now log doubt (D.may_leave disk.old)
-        → ExportedAs (IsSome (D.view disk.old).contents) log input.now name.now bitrate (O.held out.old) (O.held out.new) result }
-    ensures disk_fault { result ≡ exported.DiskFault → Rose (D.view disk.old).disk_faults (D.view disk.new).disk_faults }
+    requires stands { (log : List Entry) × (doubt : Option Entry) × Stands archive.now log doubt (D.seen.may_leave disk.old) }
+    ensures exported { (log : List Entry) (doubt : Option Entry) → Stands archive.now log doubt (D.seen.may_leave disk.old)
+        → ExportedAs (IsSome (D.seen.view disk.old).contents) log input.now name.now bitrate (O.held out.old) (O.held out.new) result }
+    ensures disk_fault { result ≡ exported.DiskFault → Rose (D.seen.view disk.old).disk_faults (D.seen.view disk.new).disk_faults }
     ensures fault { result ≡ exported.WriteFault → FaultsRose (O.faults out.old) (O.faults out.new) }
     ensures later { O.faults out.old ≤ O.faults out.new }
-    ensures stands { (log : List Entry) (doubt : Option Entry) → Stands archive.now log doubt (D.may_leave disk.old)
-        → Stands archive.now log doubt (D.may_leave disk.new) }
-    ensures any_moment { Throughout D.view D.left_at disk.old disk.new (λ t c. D.may_leave disk.old c) }
-    ensures disk_alone { DiskAlone (D.view disk.old) (D.view disk.new) }
+    ensures stands { (log : List Entry) (doubt : Option Entry) → Stands archive.now log doubt (D.seen.may_leave disk.old)
+        → Stands archive.now log doubt (D.seen.may_leave disk.new) }
+    ensures any_moment { Throughout D.seen disk.old disk.new (λ t c. D.seen.may_leave disk.old c) }
+    ensures disk_alone { DiskAlone (D.seen.view disk.old) (D.seen.view disk.new) }
 {
     let head = match read_head(alloc, input, name, bitrate) {
         Ok(head) => head,

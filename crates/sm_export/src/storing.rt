@@ -11,6 +11,7 @@ ghost use Rattle.sm_command.specs.Lasting.{AtEachMoment, Lasts, NoFewer, Spared,
 ghost use Rattle.sm_export.specs.declared.exported.StoreExport.TheVariants as ends;
 ghost use Rattle.sm_export.specs.Reading.{IsOnlyRead};
 ghost use Rattle.sm_export.specs.Storing.{ComesTo, IsChosenFor, TakesTo};
+ghost use Rattle.sm_ends.specs.Ended.{end_of};
 
 use crate::{StoreExport, export};
 use sm_archive::Archive;
@@ -33,14 +34,13 @@ fn export_input<I: Source, O: Sink, D: Disk>(
     name: &Name,
     bitrate: u32,
 ) -> StoreExport
-    requires stands { (log : List Entry) × Stands archive.now log None (D.may_leave disk.old) }
-    ensures means { (log : List Entry) → Stands archive.now log None (D.may_leave disk.old) → TakesTo (IsSome (D.view disk.old).contents) log name.now bitrate
-        (D.view disk.old) (D.view disk.new)
-        (record { told = I.left input.old; faults = I.faults input.old }) (record { told = I.left input.new; faults = I.faults input.new })
-        (record { told = O.held out.old; faults = O.faults out.old }) (record { told = O.held out.new; faults = O.faults out.new }) result }
+    requires stands { (log : List Entry) × Stands archive.now log None (D.seen.may_leave disk.old) }
+    ensures means { (log : List Entry) → Stands archive.now log None (D.seen.may_leave disk.old) → TakesTo (IsSome (D.seen.view disk.old).contents) log name.now bitrate
+        (D.seen.view disk.old) (D.seen.view disk.new) (end_of I.left I.faults input.old) (end_of I.left I.faults input.new)
+        (end_of O.held O.faults out.old) (end_of O.held O.faults out.new) result }
     ensures counted { I.faults input.old ≤ I.faults input.new }
     ensures later { O.faults out.old ≤ O.faults out.new }
-    ensures read { IsOnlyRead D.view D.may_leave D.left_at archive.now disk.old disk.new }
+    ensures read { IsOnlyRead D.seen archive.now disk.old disk.new }
 {
     match read_input(alloc, input, MOST) {
         Ok(text) => {
@@ -60,17 +60,17 @@ fn export_disk<I: Source, O: Sink, D: Disk>(
     name: &Name,
     bitrate: u32,
 ) -> StoreExport
-    ensures means { ComesTo name.now bitrate (D.view disk.old) (D.view disk.new)
-        (record { told = I.left input.old; faults = I.faults input.old }) (record { told = I.left input.new; faults = I.faults input.new })
-        (record { told = O.held out.old; faults = O.faults out.old }) (record { told = O.held out.new; faults = O.faults out.new }) result }
+    ensures means { ComesTo name.now bitrate (D.seen.view disk.old) (D.seen.view disk.new)
+        (end_of I.left I.faults input.old) (end_of I.left I.faults input.new)
+        (end_of O.held O.faults out.old) (end_of O.held O.faults out.new) result }
     ensures counted { I.faults input.old ≤ I.faults input.new }
     ensures later { O.faults out.old ≤ O.faults out.new }
-    ensures any_moment { (log : List Entry) → HasOneStore log (D.may_leave disk.old)
-        → Throughout D.view D.left_at disk.old disk.new (λ t c. IsStore log c) }
-    ensures untouched { (at : ℕ) → result ≡ ends.Unopened (fault.NotAStore at) → ((D.view disk.new).contents ≡ (D.view disk.old).contents)
-        × NoMore (D.may_leave disk.old) (D.may_leave disk.new) × Throughout D.view D.left_at disk.old disk.new (λ t c. D.may_leave disk.old c) }
-    ensures spared { Spared D.view D.may_leave D.left_at disk.old disk.new }
-    ensures disk_alone { DiskAlone (D.view disk.old) (D.view disk.new) }
+    ensures any_moment { (log : List Entry) → HasOneStore log (D.seen.may_leave disk.old)
+        → Throughout D.seen disk.old disk.new (λ t c. IsStore log c) }
+    ensures untouched { (at : ℕ) → result ≡ ends.Unopened (fault.NotAStore at) → ((D.seen.view disk.new).contents ≡ (D.seen.view disk.old).contents)
+        × NoMore (D.seen.may_leave disk.old) (D.seen.may_leave disk.new) × Throughout D.seen disk.old disk.new (λ t c. D.seen.may_leave disk.old c) }
+    ensures spared { Spared D.seen disk.old disk.new }
+    ensures disk_alone { DiskAlone (D.seen.view disk.old) (D.seen.view disk.new) }
 {
     match open_archive(alloc, disk) {
         Ok(archive) => export_input(alloc, input, out, disk, &archive, name, bitrate),
@@ -91,25 +91,25 @@ pub fn export_store<I: Source, O: Sink, S: Site>(
     bitrate: u32,
 ) -> StoreExport
     // No other folder is chosen, none is made, and no port is chosen.
-    ensures chosen { IsChosenFor result (record { store = string_bytes store; make = false; port = 0; bind = None; journal = None }) (S.Disk.view site.new) }
-    ensures means { ComesTo name.now bitrate (S.Disk.view site.old) (S.Disk.view site.new)
-        (record { told = I.left input.old; faults = I.faults input.old }) (record { told = I.left input.new; faults = I.faults input.new })
-        (record { told = O.held out.old; faults = O.faults out.old }) (record { told = O.held out.new; faults = O.faults out.new }) result }
+    ensures chosen { IsChosenFor result (record { store = string_bytes store; make = false; port = 0; bind = None; journal = None }) (S.Disk.seen.view site.new) }
+    ensures means { ComesTo name.now bitrate (S.Disk.seen.view site.old) (S.Disk.seen.view site.new)
+        (end_of I.left I.faults input.old) (end_of I.left I.faults input.new)
+        (end_of O.held O.faults out.old) (end_of O.held O.faults out.new) result }
     ensures counted { I.faults input.old ≤ I.faults input.new }
     ensures later { O.faults out.old ≤ O.faults out.new }
-    ensures no_fewer { NoFewer (S.Disk.view site.old) (S.Disk.view site.new) }
+    ensures no_fewer { NoFewer (S.Disk.seen.view site.old) (S.Disk.seen.view site.new) }
     // Where each image that a crash might have left was one store, a crash leaves that store at each moment.
-    ensures any_moment { (log : List Entry) → HasOneStore log (S.Disk.may_leave site.old)
-        → AtEachMoment S.Disk.view S.Disk.left_at site.old site.new (IsStore log) }
+    ensures any_moment { (log : List Entry) → HasOneStore log (S.Disk.seen.may_leave site.old)
+        → AtEachMoment S.Disk.seen site.old site.new (IsStore log) }
     // So the store that was there outlasts the call.
-    ensures lasts { Lasts S.Disk.view S.Disk.may_leave S.Disk.left_at site.old site.new }
+    ensures lasts { Lasts S.Disk.seen site.old site.new }
     // What is found to be no store isn't written.
-    ensures untouched { (at : ℕ) → result ≡ ends.Unopened (fault.NotAStore at) → Untouched S.Disk.view S.Disk.may_leave S.Disk.left_at site.old site.new }
+    ensures untouched { (at : ℕ) → result ≡ ends.Unopened (fault.NotAStore at) → Untouched S.Disk.seen site.old site.new }
     // Files that are no store aren't written, whatever the answer.
-    ensures spared { Spared S.Disk.view S.Disk.may_leave S.Disk.left_at site.old site.new }
+    ensures spared { Spared S.Disk.seen site.old site.new }
     // Nothing is taken from the link, and nothing is sent.
-    ensures transcript { (S.Disk.view site.new).transcript ≡ (S.Disk.view site.old).transcript }
-    ensures send_faults { (S.Disk.view site.new).send_faults ≡ (S.Disk.view site.old).send_faults }
+    ensures transcript { (S.Disk.seen.view site.new).transcript ≡ (S.Disk.seen.view site.old).transcript }
+    ensures send_faults { (S.Disk.seen.view site.new).send_faults ≡ (S.Disk.seen.view site.old).send_faults }
 {
     let folder = Selection {
         store,

@@ -99,17 +99,17 @@ fn write_at<D: Disk, O: Sink>(
     gathered: &mut Vec<u8>,
     out: &mut O,
 ) -> Result<u32, Broken>
-    requires stands { (log : List Entry) × (doubt : Option Entry) × Stands archive.now log doubt (D.may_leave disk.old) }
+    requires stands { (log : List Entry) × (doubt : Option Entry) × Stands archive.now log doubt (D.seen.may_leave disk.old) }
     ensures few { IfOk result (λ wrote. wrote ≤ 1) }
-    ensures ok { IfOk result (λ wrote. (log : List Entry) (doubt : Option Entry) → Stands archive.now log doubt (D.may_leave disk.old)
-        → IsSome (D.view disk.old).contents
+    ensures ok { IfOk result (λ wrote. (log : List Entry) (doubt : Option Entry) → Stands archive.now log doubt (D.seen.may_leave disk.old)
+        → IsSome (D.seen.view disk.old).contents
         → Leaves (O.held out.old) (O.held out.new) (gathered.old.items ++ texts_from seq id (kept_list log address.now)) gathered.new.items
         × (length (kept_list log address.now) ≡ wrote)) }
-    ensures err { OnErr result ((log : List Entry) (doubt : Option Entry) → Stands archive.now log doubt (D.may_leave disk.old) → IsSome (D.view disk.old).contents
+    ensures err { OnErr result ((log : List Entry) (doubt : Option Entry) → Stands archive.now log doubt (D.seen.may_leave disk.old) → IsSome (D.seen.view disk.old).contents
         → LeavesFront (O.held out.old) (O.held out.new) (gathered.old.items ++ texts_from seq id (kept_list log address.now)) gathered.new.items) }
-    ensures cause { WhyBroken (D.view disk.old) (D.view disk.new) (O.faults out.old) (O.faults out.new) result }
-    ensures read { IsOnlyRead D.view D.may_leave D.left_at archive.now disk.old disk.new }
-    ensures told { is_some (D.view disk.new).contents ≡ is_some (D.view disk.old).contents }
+    ensures cause { WhyBroken (D.seen.view disk.old) (D.seen.view disk.new) (O.faults out.old) (O.faults out.new) result }
+    ensures read { IsOnlyRead D.seen archive.now disk.old disk.new }
+    ensures told { is_some (D.seen.view disk.new).contents ≡ is_some (D.seen.view disk.old).contents }
 {
     kept_is_added();
     match archive.fetch(alloc, disk, address) {
@@ -138,16 +138,16 @@ fn gather_times<D: Disk, O: Sink>(
     gathered: &mut Vec<u8>,
     out: &mut O,
 ) -> Result<u64, Broken>
-    requires stands { (log : List Entry) × (doubt : Option Entry) × Stands archive.now log doubt (D.may_leave disk.old) }
+    requires stands { (log : List Entry) × (doubt : Option Entry) × Stands archive.now log doubt (D.seen.may_leave disk.old) }
     requires few { length times.now < 2 ^ 32 }
-    ensures ok { IfOk result (λ written. (log : List Entry) (doubt : Option Entry) → Stands archive.now log doubt (D.may_leave disk.old)
-        → IsSome (D.view disk.old).contents
+    ensures ok { IfOk result (λ written. (log : List Entry) (doubt : Option Entry) → Stands archive.now log doubt (D.seen.may_leave disk.old)
+        → IsSome (D.seen.view disk.old).contents
         → Leaves (O.held out.old) (O.held out.new) (gathered.old.items ++ texts_from 1 id (kept_among log name.now bitrate times.now)) gathered.new.items
         × (written ≡ length (kept_among log name.now bitrate times.now))) }
-    ensures err { OnErr result ((log : List Entry) (doubt : Option Entry) → Stands archive.now log doubt (D.may_leave disk.old) → IsSome (D.view disk.old).contents
+    ensures err { OnErr result ((log : List Entry) (doubt : Option Entry) → Stands archive.now log doubt (D.seen.may_leave disk.old) → IsSome (D.seen.view disk.old).contents
         → LeavesFront (O.held out.old) (O.held out.new) (gathered.old.items ++ texts_from 1 id (kept_among log name.now bitrate times.now)) gathered.new.items) }
-    ensures cause { WhyBroken (D.view disk.old) (D.view disk.new) (O.faults out.old) (O.faults out.new) result }
-    ensures read { IsOnlyRead D.view D.may_leave D.left_at archive.now disk.old disk.new }
+    ensures cause { WhyBroken (D.seen.view disk.old) (D.seen.view disk.new) (O.faults out.old) (O.faults out.new) result }
+    ensures read { IsOnlyRead D.seen archive.now disk.old disk.new }
 {
     let Ok(stream) = name.copy(alloc) else {
         return Err(Broken::NoMemory);
@@ -189,16 +189,16 @@ pub(crate) fn write_times<D: Disk, O: Sink>(
     id: u32,
     out: &mut O,
 ) -> Result<u64, Broken>
-    requires stands { (log : List Entry) × (doubt : Option Entry) × Stands archive.now log doubt (D.may_leave disk.old) }
+    requires stands { (log : List Entry) × (doubt : Option Entry) × Stands archive.now log doubt (D.seen.may_leave disk.old) }
     requires few { length times.now < 2 ^ 32 }
-    ensures ok { IfOk result (λ written. (log : List Entry) (doubt : Option Entry) → Stands archive.now log doubt (D.may_leave disk.old)
-        → IsSome (D.view disk.old).contents
+    ensures ok { IfOk result (λ written. (log : List Entry) (doubt : Option Entry) → Stands archive.now log doubt (D.seen.may_leave disk.old)
+        → IsSome (D.seen.view disk.old).contents
         → Appends (O.held out.old) (O.held out.new) (texts_from 1 id (kept_among log name.now bitrate times.now))
         × (written ≡ length (kept_among log name.now bitrate times.now))) }
-    ensures err { OnErr result ((log : List Entry) (doubt : Option Entry) → Stands archive.now log doubt (D.may_leave disk.old) → IsSome (D.view disk.old).contents
+    ensures err { OnErr result ((log : List Entry) (doubt : Option Entry) → Stands archive.now log doubt (D.seen.may_leave disk.old) → IsSome (D.seen.view disk.old).contents
         → AppendsFront (O.held out.old) (O.held out.new) (texts_from 1 id (kept_among log name.now bitrate times.now))) }
-    ensures cause { WhyBroken (D.view disk.old) (D.view disk.new) (O.faults out.old) (O.faults out.new) result }
-    ensures read { IsOnlyRead D.view D.may_leave D.left_at archive.now disk.old disk.new }
+    ensures cause { WhyBroken (D.seen.view disk.old) (D.seen.view disk.new) (O.faults out.old) (O.faults out.new) result }
+    ensures read { IsOnlyRead D.seen archive.now disk.old disk.new }
 {
     let Ok(mut gathered) = Vec::with_capacity(alloc, ROOM) else {
         return Err(Broken::NoMemory);

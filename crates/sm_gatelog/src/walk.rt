@@ -51,17 +51,17 @@ fn record_at<D: Disk>(
     size: u64,
     at: u64,
 ) -> Result<Found, Failed>
-    requires size { IfSome (D.view disk.old).contents (λ c. size ≡ length (bytes_of c file)) }
+    requires size { IfSome (D.seen.view disk.old).contents (λ c. size ≡ length (bytes_of c file)) }
     requires within { at ≤ size }
     requires five { 5 ≤ length window.old.bytes.items }
-    requires told { IfSome (D.view disk.old).contents (λ c. window.old.bytes.items ≡ read (bytes_of c file) window.old.start (length window.old.bytes.items)) }
-    ensures found { IfOk result (λ found. IfSome (D.view disk.old).contents (λ c. Begins found (drop at (bytes_of c file)))) }
+    requires told { IfSome (D.seen.view disk.old).contents (λ c. window.old.bytes.items ≡ read (bytes_of c file) window.old.start (length window.old.bytes.items)) }
+    ensures found { IfOk result (λ found. IfSome (D.seen.view disk.old).contents (λ c. Begins found (drop at (bytes_of c file)))) }
     ensures five { 5 ≤ length window.new.bytes.items }
-    ensures told { IfOk result (λ found. IfSome (D.view disk.old).contents
+    ensures told { IfOk result (λ found. IfSome (D.seen.view disk.old).contents
         (λ c. window.new.bytes.items ≡ read (bytes_of c file) window.new.start (length window.new.bytes.items))) }
     ensures fits { IfOk result (λ found. (n : ℕ) → found ≡ Found.Open n → at + 5 + n ≤ size) }
-    ensures looks { Looks D.view D.may_leave D.left_at disk.old disk.new }
-    ensures cause { HasCause (D.view disk.old).disk_faults (D.view disk.new).disk_faults result }
+    ensures looks { Looks D.seen disk.old disk.new }
+    ensures cause { HasCause (D.seen.view disk.old).disk_faults (D.seen.view disk.new).disk_faults result }
 {
     if at == size {
         return Ok(Found::Bad);
@@ -83,16 +83,16 @@ pub(crate) fn walk<D: Disk>(
     file: u32,
     size: u64,
 ) -> Result<Ended, LogFault>
-    requires size { IfSome (D.view disk.old).contents (λ c. size ≡ length (bytes_of c file)) }
+    requires size { IfSome (D.seen.view disk.old).contents (λ c. size ≡ length (bytes_of c file)) }
     requires small { size < 2 ^ 63 }
     requires long { 13 ≤ size }
-    requires headed { IfSome (D.view disk.old).contents (λ c. IsHeaded (bytes_of c file)) }
-    ensures reads { IfOk result (λ walk. IfSome (D.view disk.old).contents (λ c. Reads walk.slots.items walk.end (bytes_of c file))) }
+    requires headed { IfSome (D.seen.view disk.old).contents (λ c. IsHeaded (bytes_of c file)) }
+    ensures reads { IfOk result (λ walk. IfSome (D.seen.view disk.old).contents (λ c. Reads walk.slots.items walk.end (bytes_of c file))) }
     ensures sound { IfOk result (λ walk. GatesFit walk.slots.items walk.end) }
-    ensures not_a_log { (at : ℕ) → IsErrOf result (LogFault.NotAStore at) → IfSome (D.view disk.old).contents (λ c. NotALog at (bytes_of c file)) }
-    ensures looks { Looks D.view D.may_leave D.left_at disk.old disk.new }
-    ensures cause { IsErrOf result LogFault.DiskFault → Rose (D.view disk.old).disk_faults (D.view disk.new).disk_faults }
-    ensures faults { result ≢ Err LogFault.DiskFault → (D.view disk.new).disk_faults ≡ (D.view disk.old).disk_faults }
+    ensures not_a_log { (at : ℕ) → IsErrOf result (LogFault.NotAStore at) → IfSome (D.seen.view disk.old).contents (λ c. NotALog at (bytes_of c file)) }
+    ensures looks { Looks D.seen disk.old disk.new }
+    ensures cause { IsErrOf result LogFault.DiskFault → Rose (D.seen.view disk.old).disk_faults (D.seen.view disk.new).disk_faults }
+    ensures faults { result ≢ Err LogFault.DiskFault → (D.seen.view disk.new).disk_faults ≡ (D.seen.view disk.old).disk_faults }
 {
     let mut slots = Vec::new(alloc);
     let mut at = FIRST_GATE;
@@ -123,15 +123,15 @@ fn alike(xs: &[u8], ys: &[u8]) -> usize
 
 // The first byte that isn't as in every log.
 pub(crate) fn check_head<D: Disk>(disk: &mut D, file: u32, size: u64) -> Result<(), LogFault>
-    requires size { IfSome (D.view disk.old).contents (λ c. size ≡ length (bytes_of c file)) }
-    requires not_fresh { IfSome (D.view disk.old).contents (λ c. IsFresh (bytes_of c file) → ⊥) }
+    requires size { IfSome (D.seen.view disk.old).contents (λ c. size ≡ length (bytes_of c file)) }
+    requires not_fresh { IfSome (D.seen.view disk.old).contents (λ c. IsFresh (bytes_of c file) → ⊥) }
     ensures long { OnOk result (13 ≤ size) }
-    ensures headed { OnOk result (IfSome (D.view disk.old).contents (λ c. IsHeaded (bytes_of c file))) }
-    ensures not_a_log { (at : ℕ) → IsErrOf result (LogFault.NotAStore at) → IfSome (D.view disk.old).contents (λ c. NotALog at (bytes_of c file)) }
+    ensures headed { OnOk result (IfSome (D.seen.view disk.old).contents (λ c. IsHeaded (bytes_of c file))) }
+    ensures not_a_log { (at : ℕ) → IsErrOf result (LogFault.NotAStore at) → IfSome (D.seen.view disk.old).contents (λ c. NotALog at (bytes_of c file)) }
     ensures memory { result ≢ Err LogFault.NoMemory }
-    ensures looks { Looks D.view D.may_leave D.left_at disk.old disk.new }
-    ensures cause { IsErrOf result LogFault.DiskFault → Rose (D.view disk.old).disk_faults (D.view disk.new).disk_faults }
-    ensures faults { result ≢ Err LogFault.DiskFault → (D.view disk.new).disk_faults ≡ (D.view disk.old).disk_faults }
+    ensures looks { Looks D.seen disk.old disk.new }
+    ensures cause { IsErrOf result LogFault.DiskFault → Rose (D.seen.view disk.old).disk_faults (D.seen.view disk.new).disk_faults }
+    ensures faults { result ≢ Err LogFault.DiskFault → (D.seen.view disk.new).disk_faults ≡ (D.seen.view disk.old).disk_faults }
 {
     let mut front = [0; 13];
     disk.read_at(file, 0, &mut front)?;

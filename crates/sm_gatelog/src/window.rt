@@ -34,12 +34,12 @@ pub(crate) fn fill<D: Disk>(
     file: u32,
     at: u64,
 ) -> Result<(), Failed>
-    ensures told { OnOk result (IfSome (D.view disk.old).contents
+    ensures told { OnOk result (IfSome (D.seen.view disk.old).contents
         (λ c. window.new.bytes.items ≡ read (bytes_of c file) window.new.start (length window.new.bytes.items))) }
     ensures start { OnOk result (window.new.start ≡ at) }
     ensures length { length window.new.bytes.items ≡ length window.old.bytes.items }
-    ensures looks { Looks D.view D.may_leave D.left_at disk.old disk.new }
-    ensures cause { HasCause (D.view disk.old).disk_faults (D.view disk.new).disk_faults result }
+    ensures looks { Looks D.seen disk.old disk.new }
+    ensures cause { HasCause (D.seen.view disk.old).disk_faults (D.seen.view disk.new).disk_faults result }
 {
     disk.read_at(file, at, &mut window.bytes)?;
     window.start = at;
@@ -63,14 +63,14 @@ fn five_at(bytes: &[u8], from: usize) -> [u8; 5]
 /// Moves the window to this place where it doesn't cover five bytes from there on.
 fn reach<D: Disk>(window: &mut Window, disk: &mut D, file: u32, at: u64) -> Result<(), Failed>
     requires five { 5 ≤ length window.old.bytes.items }
-    requires told { IfSome (D.view disk.old).contents (λ c. window.old.bytes.items ≡ read (bytes_of c file) window.old.start (length window.old.bytes.items)) }
-    ensures told { OnOk result (IfSome (D.view disk.old).contents
+    requires told { IfSome (D.seen.view disk.old).contents (λ c. window.old.bytes.items ≡ read (bytes_of c file) window.old.start (length window.old.bytes.items)) }
+    ensures told { OnOk result (IfSome (D.seen.view disk.old).contents
         (λ c. window.new.bytes.items ≡ read (bytes_of c file) window.new.start (length window.new.bytes.items))) }
     ensures below { OnOk result (window.new.start ≤ at) }
     ensures covers { OnOk result (at - window.new.start + 5 ≤ length window.new.bytes.items) }
     ensures five { 5 ≤ length window.new.bytes.items }
-    ensures looks { Looks D.view D.may_leave D.left_at disk.old disk.new }
-    ensures cause { HasCause (D.view disk.old).disk_faults (D.view disk.new).disk_faults result }
+    ensures looks { Looks D.seen disk.old disk.new }
+    ensures cause { HasCause (D.seen.view disk.old).disk_faults (D.seen.view disk.new).disk_faults result }
 {
     let last = window.bytes.len() as u64 - 5;
     if window.start <= at && at - window.start <= last {
@@ -87,13 +87,13 @@ pub(crate) fn front_at<D: Disk>(
     at: u64,
 ) -> Result<[u8; 5], Failed>
     requires five { 5 ≤ length window.old.bytes.items }
-    requires told { IfSome (D.view disk.old).contents (λ c. window.old.bytes.items ≡ read (bytes_of c file) window.old.start (length window.old.bytes.items)) }
-    ensures front { IfOk result (λ front. IfSome (D.view disk.old).contents (λ c. front ≡ read (bytes_of c file) at 5)) }
-    ensures told { IfOk result (λ front. IfSome (D.view disk.old).contents
+    requires told { IfSome (D.seen.view disk.old).contents (λ c. window.old.bytes.items ≡ read (bytes_of c file) window.old.start (length window.old.bytes.items)) }
+    ensures front { IfOk result (λ front. IfSome (D.seen.view disk.old).contents (λ c. front ≡ read (bytes_of c file) at 5)) }
+    ensures told { IfOk result (λ front. IfSome (D.seen.view disk.old).contents
         (λ c. window.new.bytes.items ≡ read (bytes_of c file) window.new.start (length window.new.bytes.items))) }
     ensures five { 5 ≤ length window.new.bytes.items }
-    ensures looks { Looks D.view D.may_leave D.left_at disk.old disk.new }
-    ensures cause { HasCause (D.view disk.old).disk_faults (D.view disk.new).disk_faults result }
+    ensures looks { Looks D.seen disk.old disk.new }
+    ensures cause { HasCause (D.seen.view disk.old).disk_faults (D.seen.view disk.new).disk_faults result }
 {
     reach(window, disk, file, at)?;
     Ok(five_at(&window.bytes, (at - window.start) as usize))

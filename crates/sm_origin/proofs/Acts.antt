@@ -10,7 +10,7 @@ use Rattle.sm_model.specs.declared.entry.Entry.TheVariants.{Keep}
 use Rattle.sm_model.specs.declared.act.Act.{Act}
 use Rattle.sm_model.specs.declared.no_memory.NoMemory.{NoMemory}
 use Rattle.sm_site.specs.Image.{Image}
-use Rattle.sm_site.specs.Meanings.{View, DiskCall}
+use Rattle.sm_site.specs.Meanings.{View, DiskCall, Seen}
 use Rattle.sm_site.specs.Clauses.{Both, Rose, Recorded, Acted, NoMore, Throughout, last_moment}
 use Rattle.sm_log.specs.Adds.{place_of}
 use Rattle.sm_log.specs.Logs.{adds_of, kept_at}
@@ -136,21 +136,21 @@ inside_grown m e c (after, store, inr (mid, settles, more)) =
 
 -- ---- an act
 
-module _ {D : Type 0} (view : D → View) (may_leave : D → Image → Type 0) (left_at : D → ℕ → Image → Type 0) where
-  pub act_gives : (old new : D) (m after : Machine) (o : Origin) (act : Act) (reply : Reply) → IsSome (view old).contents
-      → is_some (view old).calls ≡ is_some (view old).contents → is_some (view new).calls ≡ is_some (view new).contents
-      → ((t : ℕ) (c : Image) → left_at new t c → t ≤ (view new).moment) → ((c : Image) → left_at new (view new).moment c → may_leave new c)
-      → ((c : Image) → may_leave new c → Fits after c) → Step (Rose (view old).disk_faults (view new).disk_faults) m act after reply
-      → StandsFor (IsSome (view new).contents) after o (may_leave new) → after.archive.limits ≡ m.archive.limits
-      → Throughout view left_at old new (λ t c. FitsInside m (entry_of act) c) → ((Acted (view old) (view new) → ⊥) → SameLog m after)
-      → ActGives view may_leave left_at old new m o act reply
+module _ {D : Type 0} (site : Seen D) where
+  pub act_gives : (old new : D) (m after : Machine) (o : Origin) (act : Act) (reply : Reply) → IsSome (site.view old).contents
+      → is_some (site.view old).calls ≡ is_some (site.view old).contents → is_some (site.view new).calls ≡ is_some (site.view new).contents
+      → ((t : ℕ) (c : Image) → site.left_at new t c → t ≤ (site.view new).moment) → ((c : Image) → site.left_at new (site.view new).moment c → site.may_leave new c)
+      → ((c : Image) → site.may_leave new c → Fits after c) → Step (Rose (site.view old).disk_faults (site.view new).disk_faults) m act after reply
+      → StandsFor (IsSome (site.view new).contents) after o (site.may_leave new) → after.archive.limits ≡ m.archive.limits
+      → Throughout site old new (λ t c. FitsInside m (entry_of act) c) → ((Acted (site.view old) (site.view new) → ⊥) → SameLog m after)
+      → ActGives site old new m o act reply
   act_gives old new m after o act reply told was is no_later at_now fits step stands limits through still =
-      let calls = calls_of (view old).calls (view new).calls (view old).moment (view new).moment (is_one (view old).calls (view old).contents was told) through.recorded in
+      let calls = calls_of (site.view old).calls (site.view new).calls (site.view old).moment (site.view new).moment (is_one (site.view old).calls (site.view old).contents was told) through.recorded in
       record {
         after = after;
         calls = calls.made;
         step = step;
-        has_told = still_told (view old) (view new) was is through.recorded told;
+        has_told = still_told (site.view old) (site.view new) was is through.recorded told;
         stands = stands;
         limits = limits;
         noted = calls.noted;
@@ -160,7 +160,7 @@ module _ {D : Type 0} (view : D → View) (may_leave : D → Image → Type 0) (
         keeps = through.keeps;
         inside = through.each;
         now = fits;
-        since = λ t c le left. fits c (at_now c (subst (λ (n : ℕ). left_at new n c) (omega (arith, le, no_later t c left)) left));
+        since = λ t c le left. fits c (at_now c (subst (λ (n : ℕ). site.left_at new n c) (omega (arith, le, no_later t c left)) left));
       }
 
 -- ---- replies
@@ -328,55 +328,55 @@ pub some_of : {A : Type 0} (o : Option A) (P : A → Type 0) → ((c : A) → P 
 some_of None P all = tt
 some_of (Some c) P all = all c
 
-module _ {D : Type 0} (view : D → View) (may_leave : D → Image → Type 0) (left_at : D → ℕ → Image → Type 0) where
+module _ {D : Type 0} (site : Seen D) where
   -- a call that does nothing
-  pub idle_writes : ((d : D) (t : ℕ) (c : Image) → left_at d t c → t ≤ (view d).moment) → (d : D) → WritesEmptyAlone view may_leave left_at d d
+  pub idle_writes : ((d : D) (t : ℕ) (c : Image) → site.left_at d t c → t ≤ (site.view d).moment) → (d : D) → WritesEmptyAlone site d d
   idle_writes no_later d =
-      some_of (view d).contents
-      (λ c. (IsStore [] c → ⊥) → ((view d).contents ≡ (view d).contents) × NoMore (may_leave d) (may_leave d) × Throughout view left_at d d (λ t x. may_leave d x))
-      (λ c filled. (refl, λ x left. left, no_call view left_at d (λ t x. may_leave d x) (no_later d)))
+      some_of (site.view d).contents
+      (λ c. (IsStore [] c → ⊥) → ((site.view d).contents ≡ (site.view d).contents) × NoMore (site.may_leave d) (site.may_leave d) × Throughout site d d (λ t x. site.may_leave d x))
+      (λ c filled. (refl, λ x left. left, no_call site d (λ t x. site.may_leave d x) (no_later d)))
 
   -- the law of images, for a machine
-  pub images : (Law : (a : Archive) (log : List Entry) (doubt : Option Entry) (d : D) (c : Image) → Stands a log doubt (may_leave d) → may_leave d c
+  pub images : (Law : (a : Archive) (log : List Entry) (doubt : Option Entry) (d : D) (c : Image) → Stands a log doubt (site.may_leave d) → site.may_leave d c
       → IsStore log c ⊎ ((x : Entry) × (doubt ≡ Some x) × IsStore (log ++ x ∷ []) c))
-      → (m : Machine) (a : Archive) (d : D) → Stands a m.log m.doubt (may_leave d) → (c : Image) → may_leave d c → Fits m c
+      → (m : Machine) (a : Archive) (d : D) → Stands a m.log m.doubt (site.may_leave d) → (c : Image) → site.may_leave d c → Fits m c
   images law m a d stands c left = fits_of m c (law a m.log m.doubt d c stands left)
 
   -- an act that adds an entry
-  pub write_gives : (old new : D) (m : Machine) (o : Origin) (act : Act) (e : Entry) (reply : Reply) → IsSome (view old).contents
-      → is_some (view old).calls ≡ is_some (view old).contents → is_some (view new).calls ≡ is_some (view new).contents
-      → ((t : ℕ) (c : Image) → left_at new t c → t ≤ (view new).moment) → ((c : Image) → left_at new (view new).moment c → may_leave new c)
-      → ((a : Archive) (log : List Entry) (doubt : Option Entry) (d : D) (c : Image) → Stands a log doubt (may_leave d) → may_leave d c
+  pub write_gives : (old new : D) (m : Machine) (o : Origin) (act : Act) (e : Entry) (reply : Reply) → IsSome (site.view old).contents
+      → is_some (site.view old).calls ≡ is_some (site.view old).contents → is_some (site.view new).calls ≡ is_some (site.view new).contents
+      → ((t : ℕ) (c : Image) → site.left_at new t c → t ≤ (site.view new).moment) → ((c : Image) → site.left_at new (site.view new).moment c → site.may_leave new c)
+      → ((a : Archive) (log : List Entry) (doubt : Option Entry) (d : D) (c : Image) → Stands a log doubt (site.may_leave d) → site.may_leave d c
       → IsStore log c ⊎ ((x : Entry) × (doubt ≡ Some x) × IsStore (log ++ x ∷ []) c))
       → entry_of act ≡ Some e
-      → (s : Stepped (Rose (view old).disk_faults (view new).disk_faults) (Acted (view old) (view new)) (may_leave new) m o.archive act reply)
+      → (s : Stepped (Rose (site.view old).disk_faults (site.view new).disk_faults) (Acted (site.view old) (site.view new)) (site.may_leave new) m o.archive act reply)
       → o.archive.limits ≡ m.archive.limits
-      → Throughout view left_at old new (λ t c. (after : List Entry) × IsStore after c × Grows m.log m.doubt e after)
-      → AreHeld (IsSome (view new).contents) s.after.log o.cache.entries
-      → ActGives view may_leave left_at old new m o act reply
+      → Throughout site old new (λ t c. (after : List Entry) × IsStore after c × Grows m.log m.doubt e after)
+      → AreHeld (IsSome (site.view new).contents) s.after.log o.cache.entries
+      → ActGives site old new m o act reply
   write_gives old new m o act e reply told was is no_later at_now law entry s limits through held =
-      act_gives view may_leave left_at old new m s.after o act reply told was is no_later at_now
+      act_gives site old new m s.after o act reply told was is no_later at_now
       (images law s.after o.archive new s.stands) s.step
       (record { archive = s.archive; stands = s.stands; cached = held })
       (ap (λ (a : Archive). a.limits) s.archive ∙ limits)
-      (weakened view left_at old new _ (λ t c. FitsInside m (entry_of act) c) through
+      (weakened site old new _ (λ t c. FitsInside m (entry_of act) c) through
       (λ t c has. subst (λ (x : Option Entry). FitsInside m x c) (sym entry) (inside_grown m e c has)))
       s.still
 
   -- an act that only reads
-  pub read_gives : (old new : D) (m : Machine) (was_o o : Origin) (act : Act) (reply : Reply) → IsSome (view old).contents
-      → is_some (view old).calls ≡ is_some (view old).contents → is_some (view new).calls ≡ is_some (view new).contents
-      → ((t : ℕ) (c : Image) → left_at new t c → t ≤ (view new).moment) → ((c : Image) → left_at new (view new).moment c → may_leave new c)
-      → ((a : Archive) (log : List Entry) (doubt : Option Entry) (d : D) (c : Image) → Stands a log doubt (may_leave d) → may_leave d c
+  pub read_gives : (old new : D) (m : Machine) (was_o o : Origin) (act : Act) (reply : Reply) → IsSome (site.view old).contents
+      → is_some (site.view old).calls ≡ is_some (site.view old).contents → is_some (site.view new).calls ≡ is_some (site.view new).contents
+      → ((t : ℕ) (c : Image) → site.left_at new t c → t ≤ (site.view new).moment) → ((c : Image) → site.left_at new (site.view new).moment c → site.may_leave new c)
+      → ((a : Archive) (log : List Entry) (doubt : Option Entry) (d : D) (c : Image) → Stands a log doubt (site.may_leave d) → site.may_leave d c
       → IsStore log c ⊎ ((x : Entry) × (doubt ≡ Some x) × IsStore (log ++ x ∷ []) c))
-      → StandsFor (IsSome (view old).contents) m was_o (may_leave old)
-      → Step (Rose (view old).disk_faults (view new).disk_faults) m act m reply
-      → Throughout view left_at old new (λ t c. may_leave old c)
-      → StandsFor (IsSome (view new).contents) m o (may_leave new)
-      → ActGives view may_leave left_at old new m o act reply
+      → StandsFor (IsSome (site.view old).contents) m was_o (site.may_leave old)
+      → Step (Rose (site.view old).disk_faults (site.view new).disk_faults) m act m reply
+      → Throughout site old new (λ t c. site.may_leave old c)
+      → StandsFor (IsSome (site.view new).contents) m o (site.may_leave new)
+      → ActGives site old new m o act reply
   read_gives old new m was_o o act reply told was is no_later at_now law stood step through stands =
-      act_gives view may_leave left_at old new m m o act reply told was is no_later at_now
+      act_gives site old new m m o act reply told was is no_later at_now
       (images law m o.archive new stands.stands) step stands refl
-      (weakened view left_at old new _ (λ t c. FitsInside m (entry_of act) c) through
+      (weakened site old new _ (λ t c. FitsInside m (entry_of act) c) through
       (λ t c left. inside_of m (entry_of act) c (images law m was_o.archive old stood.stands c left)))
       (λ no. record { log = refl; doubt = refl })

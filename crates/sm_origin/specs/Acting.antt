@@ -12,7 +12,7 @@ use Rattle.sm_log.specs.Adds.{place_of}
 use Rattle.sm_log.specs.Logs.{adds_of}
 use Rattle.sm_cache.specs.declared.cache.Kept.{Kept}
 use Rattle.sm_site.specs.Image.{Image}
-use Rattle.sm_site.specs.Meanings.{View, DiskCall}
+use Rattle.sm_site.specs.Meanings.{DiskCall, Seen}
 use Rattle.sm_site.specs.Clauses.{Both, Rose, last_moment}
 use Rattle.sm_archive.specs.Stands.{Stands}
 use Rattle.sm_origin.specs.declared.origin.Origin.{Origin}
@@ -50,21 +50,21 @@ IsValidAct (Refuse r) = Unit {0}
 
 -- One act was one step, on a disk that tells its contents. At each moment of it a crash leaves the log before it, perhaps with the doubt, perhaps
 -- with the entry that is being written; from its last disk call on, what stands behind the step.
-pub record ActGives {D : Type 0} (view : D → View) (may_leave : D → Image → Type 0) (left_at : D → ℕ → Image → Type 0)
+pub record ActGives {D : Type 0} (site : Seen D)
     (old new : D) (m : Machine) (origin : Origin) (act : Act) (reply : Reply) : Type 0 where
   pub after : Machine
   pub calls : List DiskCall
-  pub step : Step (Rose (view old).disk_faults (view new).disk_faults) m act after reply
-  pub has_told : IsSome (view new).contents
-  pub stands : StandsFor (IsSome (view new).contents) after origin (may_leave new)
+  pub step : Step (Rose (site.view old).disk_faults (site.view new).disk_faults) m act after reply
+  pub has_told : IsSome (site.view new).contents
+  pub stands : StandsFor (IsSome (site.view new).contents) after origin (site.may_leave new)
   pub limits : limits_of after.archive ≡ limits_of m.archive
-  pub noted : Both (view old).calls (view new).calls (λ before now. now ≡ before ++ calls)
+  pub noted : Both (site.view old).calls (site.view new).calls (λ before now. now ≡ before ++ calls)
   -- with no disk call nothing changes
   pub still : calls ≡ [] → SameLog m after
-  pub later : (view old).moment ≤ (view new).moment
+  pub later : (site.view old).moment ≤ (site.view new).moment
   -- the act ends with its last disk call
-  pub ended : (view new).moment ≡ last_moment (view old).moment calls
-  pub keeps : (t : ℕ) (image : Image) → t ≤ (view old).moment → left_at new t image ↔ left_at old t image
-  pub inside : (t : ℕ) (image : Image) → (view old).moment < t → left_at new t image → FitsInside m (entry_of act) image
-  pub now : (image : Image) → may_leave new image → Fits after image
-  pub since : (t : ℕ) (image : Image) → (view new).moment ≤ t → left_at new t image → Fits after image
+  pub ended : (site.view new).moment ≡ last_moment (site.view old).moment calls
+  pub keeps : (t : ℕ) (image : Image) → t ≤ (site.view old).moment → site.left_at new t image ↔ site.left_at old t image
+  pub inside : (t : ℕ) (image : Image) → (site.view old).moment < t → site.left_at new t image → FitsInside m (entry_of act) image
+  pub now : (image : Image) → site.may_leave new image → Fits after image
+  pub since : (t : ℕ) (image : Image) → (site.view new).moment ≤ t → site.left_at new t image → Fits after image

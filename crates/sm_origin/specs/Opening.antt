@@ -2,7 +2,7 @@
 use Rattle.std.specs.Prelude.{◌≡◌, ℕ, List, [], IfSome}
 use Rattle.sm_model.specs.declared.entry.Entry.{Entry}
 use Rattle.sm_site.specs.Image.{Image}
-use Rattle.sm_site.specs.Meanings.{View}
+use Rattle.sm_site.specs.Meanings.{Seen}
 use Rattle.sm_site.specs.Clauses.{NoMore, Throughout}
 use Rattle.sm_seglog.specs.Stores.{HasStore}
 use Rattle.sm_log.specs.Logs.{IsSound}
@@ -17,6 +17,6 @@ pub record HasOneStore (log : List Entry) (outcomes : Image → Type 0) : Type 0
 
 -- Only the store of an empty log is written: any other contents stayed, and at no moment of the call a crash leaves what it couldn't leave
 -- before.
-abbrev pub WritesEmptyAlone : {D : Type 0} (view : D → View) (leave : D → Image → Type 0) (left_at : D → ℕ → Image → Type 0) → D → D → Type 0
-WritesEmptyAlone view leave left_at old new = IfSome (view old).contents (λ c. (IsStore [] c → ⊥) → ((view new).contents ≡ (view old).contents)
-    × NoMore (leave old) (leave new) × Throughout view left_at old new (λ t image. leave old image))
+abbrev pub WritesEmptyAlone : {D : Type 0} (site : Seen D) → D → D → Type 0
+WritesEmptyAlone site old new = IfSome (site.view old).contents (λ c. (IsStore [] c → ⊥) → ((site.view new).contents ≡ (site.view old).contents)
+    × NoMore (site.may_leave old) (site.may_leave new) × Throughout site old new (λ t image. site.may_leave old image))

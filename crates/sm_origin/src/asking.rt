@@ -74,17 +74,17 @@ impl Origin {
     // Asks the archive for a fragment that the cache lacks.
     fn fetch<D: Disk>(&mut self, alloc: Global, disk: &mut D, address: &Address) -> Reply
         requires absent { held_at address.now self.old.cache ≡ None }
-        requires stands { (m : Machine) × StandsFor (IsSome (D.view disk.old).contents) m self.old (D.may_leave disk.old) }
+        requires stands { (m : Machine) × StandsFor (IsSome (D.seen.view disk.old).contents) m self.old (D.seen.may_leave disk.old) }
         // It stands for some machine again, whichever it stood for.
-        ensures stands { (m : Machine) × StandsFor (IsSome (D.view disk.new).contents) m self.new (D.may_leave disk.new) }
-        ensures step { IsSome (D.view disk.old).contents → (m : Machine) → StandsFor (IsSome (D.view disk.old).contents) m self.old (D.may_leave disk.old)
-            → ActGives D.view D.may_leave D.left_at disk.old disk.new m self.new (Ask address.now) result }
-        ensures replied { (m : Machine) → StandsFor (IsSome (D.view disk.old).contents) m self.old (D.may_leave disk.old)
-            → Replies (Rose (D.view disk.old).disk_faults (D.view disk.new).disk_faults) (IsSome (D.view disk.new).contents)
-            (D.may_leave disk.new) m self.new (Ask address.now) result }
+        ensures stands { (m : Machine) × StandsFor (IsSome (D.seen.view disk.new).contents) m self.new (D.seen.may_leave disk.new) }
+        ensures step { IsSome (D.seen.view disk.old).contents → (m : Machine) → StandsFor (IsSome (D.seen.view disk.old).contents) m self.old (D.seen.may_leave disk.old)
+            → ActGives D.seen disk.old disk.new m self.new (Ask address.now) result }
+        ensures replied { (m : Machine) → StandsFor (IsSome (D.seen.view disk.old).contents) m self.old (D.seen.may_leave disk.old)
+            → Replies (Rose (D.seen.view disk.old).disk_faults (D.seen.view disk.new).disk_faults) (IsSome (D.seen.view disk.new).contents)
+            (D.seen.may_leave disk.new) m self.new (Ask address.now) result }
         ensures remembers { Remembers (Ask address.now) result self.old.cache self.new.cache }
-        ensures told { is_some (D.view disk.new).contents ≡ is_some (D.view disk.old).contents }
-        ensures disk_alone { DiskAlone (D.view disk.old) (D.view disk.new) }
+        ensures told { is_some (D.seen.view disk.new).contents ≡ is_some (D.seen.view disk.old).contents }
+        ensures disk_alone { DiskAlone (D.seen.view disk.old) (D.seen.view disk.new) }
     {
         an_image_fits::<D>();
         kept_is_added();
@@ -106,18 +106,18 @@ impl Origin {
         disk: &mut D,
         address: &Address,
     ) -> Reply
-        requires stands { (m : Machine) × StandsFor (IsSome (D.view disk.old).contents) m self.old (D.may_leave disk.old) }
+        requires stands { (m : Machine) × StandsFor (IsSome (D.seen.view disk.old).contents) m self.old (D.seen.may_leave disk.old) }
         // It stands for some machine again, whichever it stood for.
-        ensures stands { (m : Machine) × StandsFor (IsSome (D.view disk.new).contents) m self.new (D.may_leave disk.new) }
-        ensures step { IsSome (D.view disk.old).contents → (m : Machine) → StandsFor (IsSome (D.view disk.old).contents) m self.old (D.may_leave disk.old)
-            → ActGives D.view D.may_leave D.left_at disk.old disk.new m self.new (Ask address.now) result }
-        ensures replied { (m : Machine) → StandsFor (IsSome (D.view disk.old).contents) m self.old (D.may_leave disk.old)
-            → Replies (Rose (D.view disk.old).disk_faults (D.view disk.new).disk_faults) (IsSome (D.view disk.new).contents)
-            (D.may_leave disk.new) m self.new (Ask address.now) result }
-        ensures unread { (kept : Kept) → held_at address.now self.old.cache ≡ Some kept → (D.view disk.new).reads ≡ (D.view disk.old).reads }
+        ensures stands { (m : Machine) × StandsFor (IsSome (D.seen.view disk.new).contents) m self.new (D.seen.may_leave disk.new) }
+        ensures step { IsSome (D.seen.view disk.old).contents → (m : Machine) → StandsFor (IsSome (D.seen.view disk.old).contents) m self.old (D.seen.may_leave disk.old)
+            → ActGives D.seen disk.old disk.new m self.new (Ask address.now) result }
+        ensures replied { (m : Machine) → StandsFor (IsSome (D.seen.view disk.old).contents) m self.old (D.seen.may_leave disk.old)
+            → Replies (Rose (D.seen.view disk.old).disk_faults (D.seen.view disk.new).disk_faults) (IsSome (D.seen.view disk.new).contents)
+            (D.seen.may_leave disk.new) m self.new (Ask address.now) result }
+        ensures unread { (kept : Kept) → held_at address.now self.old.cache ≡ Some kept → (D.seen.view disk.new).reads ≡ (D.seen.view disk.old).reads }
         ensures remembers { Remembers (Ask address.now) result self.old.cache self.new.cache }
-        ensures told { is_some (D.view disk.new).contents ≡ is_some (D.view disk.old).contents }
-        ensures disk_alone { DiskAlone (D.view disk.old) (D.view disk.new) }
+        ensures told { is_some (D.seen.view disk.new).contents ≡ is_some (D.seen.view disk.old).contents }
+        ensures disk_alone { DiskAlone (D.seen.view disk.old) (D.seen.view disk.new) }
     {
         an_image_fits::<D>();
         kept_is_added();

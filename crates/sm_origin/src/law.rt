@@ -12,17 +12,17 @@ use sm_site::Site;
 
 /// An origin stands for a machine as well where a crash may leave fewer images, as behind any call of the link.
 pub fn fewer_images_stand<S: Site>()
-    ensures { (m : Machine) (o : Origin) (old new : S) → StandsFor (IsSome (S.Disk.view old).contents) m o (S.Disk.may_leave old)
-        → (S.Disk.view new).contents ≡ (S.Disk.view old).contents → NoMore (S.Disk.may_leave old) (S.Disk.may_leave new)
-        → StandsFor (IsSome (S.Disk.view new).contents) m o (S.Disk.may_leave new) }
+    ensures { (m : Machine) (o : Origin) (old new : S) → StandsFor (IsSome (S.Disk.seen.view old).contents) m o (S.Disk.seen.may_leave old)
+        → (S.Disk.seen.view new).contents ≡ (S.Disk.seen.view old).contents → NoMore (S.Disk.seen.may_leave old) (S.Disk.seen.may_leave new)
+        → StandsFor (IsSome (S.Disk.seen.view new).contents) m o (S.Disk.seen.may_leave new) }
 {
     archive_stands::<S>();
 }
 
 /// Each image that a crash may leave of an origin's disk is the machine's log, or the log and its doubt.
 pub fn an_image_fits<S: Site>()
-    ensures { (m : Machine) (o : Origin) (site : S) (image : Image) → StandsFor (IsSome (S.Disk.view site).contents) m o (S.Disk.may_leave site)
-        → S.Disk.may_leave site image → Fits m image }
+    ensures { (m : Machine) (o : Origin) (site : S) (image : Image) → StandsFor (IsSome (S.Disk.seen.view site).contents) m o (S.Disk.seen.may_leave site)
+        → S.Disk.seen.may_leave site image → Fits m image }
 {
     image_of_archive::<S>();
 }

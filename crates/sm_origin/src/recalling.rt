@@ -38,23 +38,23 @@ impl Origin {
     /// Reads back the fragment of an address for one who is no connection: what asks for it, without a reply. It comes from the cache, whose order
     /// stays, or else from the disk, and isn't put into the cache.
     pub fn recall<D: Disk>(&self, alloc: Global, disk: &mut D, address: &Address) -> Fetched
-        requires stands { (m : Machine) × StandsFor (IsSome (D.view disk.old).contents) m self.now (D.may_leave disk.old) }
+        requires stands { (m : Machine) × StandsFor (IsSome (D.seen.view disk.old).contents) m self.now (D.seen.may_leave disk.old) }
         // It stands for some machine again, whichever it stood for.
-        ensures stands { (m : Machine) × StandsFor (IsSome (D.view disk.new).contents) m self.now (D.may_leave disk.new) }
+        ensures stands { (m : Machine) × StandsFor (IsSome (D.seen.view disk.new).contents) m self.now (D.seen.may_leave disk.new) }
         // It is one step, whose reply is what a connection would be told.
-        ensures step { IsSome (D.view disk.old).contents → (m : Machine) → StandsFor (IsSome (D.view disk.old).contents) m self.now (D.may_leave disk.old)
-            → ActGives D.view D.may_leave D.left_at disk.old disk.new m self.now (Ask address.now) (reply_to_fetched m.log address.now result) }
+        ensures step { IsSome (D.seen.view disk.old).contents → (m : Machine) → StandsFor (IsSome (D.seen.view disk.old).contents) m self.now (D.seen.may_leave disk.old)
+            → ActGives D.seen disk.old disk.new m self.now (Ask address.now) (reply_to_fetched m.log address.now result) }
         // What is found is what the log has at its place; where the disk tells its contents it is the log's own.
         ensures found { (place : ℕ) (f : Fragment) → result ≡ Found place f → (m : Machine)
-            → StandsFor (IsSome (D.view disk.old).contents) m self.now (D.may_leave disk.old)
-            → IsHeld (IsSome (D.view disk.old).contents) m.log (address.now, record { place = place; fragment = f }) }
+            → StandsFor (IsSome (D.seen.view disk.old).contents) m self.now (D.seen.may_leave disk.old)
+            → IsHeld (IsSome (D.seen.view disk.old).contents) m.log (address.now, record { place = place; fragment = f }) }
         ensures valid { (place : ℕ) (f : Fragment) → result ≡ Found place f → IsValid f × (address_of f ≡ address.now) }
-        ensures absent { (m : Machine) → StandsFor (IsSome (D.view disk.old).contents) m self.now (D.may_leave disk.old)
+        ensures absent { (m : Machine) → StandsFor (IsSome (D.seen.view disk.old).contents) m self.now (D.seen.may_leave disk.old)
             → (result ≡ Absent) ↔ (place_of address.now (adds_of m.log) ≡ None) }
-        ensures damaged { result ≡ Damaged → IsSome (D.view disk.old).contents → ⊥ }
-        ensures fault { result ≡ DiskFault → Rose (D.view disk.old).disk_faults (D.view disk.new).disk_faults }
-        ensures told { is_some (D.view disk.new).contents ≡ is_some (D.view disk.old).contents }
-        ensures disk_alone { DiskAlone (D.view disk.old) (D.view disk.new) }
+        ensures damaged { result ≡ Damaged → IsSome (D.seen.view disk.old).contents → ⊥ }
+        ensures fault { result ≡ DiskFault → Rose (D.seen.view disk.old).disk_faults (D.seen.view disk.new).disk_faults }
+        ensures told { is_some (D.seen.view disk.new).contents ≡ is_some (D.seen.view disk.old).contents }
+        ensures disk_alone { DiskAlone (D.seen.view disk.old) (D.seen.view disk.new) }
     {
         an_image_fits::<D>();
         kept_is_added();

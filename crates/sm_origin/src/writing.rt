@@ -46,17 +46,17 @@ impl Origin {
         fragment: &Fragment,
     ) -> Reply
         requires valid { IsValid fragment.now }
-        requires stands { (m : Machine) × StandsFor (IsSome (D.view disk.old).contents) m self.old (D.may_leave disk.old) }
+        requires stands { (m : Machine) × StandsFor (IsSome (D.seen.view disk.old).contents) m self.old (D.seen.may_leave disk.old) }
         // It stands for some machine again, whichever it stood for.
-        ensures stands { (m : Machine) × StandsFor (IsSome (D.view disk.new).contents) m self.new (D.may_leave disk.new) }
-        ensures step { IsSome (D.view disk.old).contents → (m : Machine) → StandsFor (IsSome (D.view disk.old).contents) m self.old (D.may_leave disk.old)
-            → ActGives D.view D.may_leave D.left_at disk.old disk.new m self.new (Frag fragment.now) result }
-        ensures replied { (m : Machine) → StandsFor (IsSome (D.view disk.old).contents) m self.old (D.may_leave disk.old)
-            → Replies (Rose (D.view disk.old).disk_faults (D.view disk.new).disk_faults) (IsSome (D.view disk.new).contents) (D.may_leave disk.new)
+        ensures stands { (m : Machine) × StandsFor (IsSome (D.seen.view disk.new).contents) m self.new (D.seen.may_leave disk.new) }
+        ensures step { IsSome (D.seen.view disk.old).contents → (m : Machine) → StandsFor (IsSome (D.seen.view disk.old).contents) m self.old (D.seen.may_leave disk.old)
+            → ActGives D.seen disk.old disk.new m self.new (Frag fragment.now) result }
+        ensures replied { (m : Machine) → StandsFor (IsSome (D.seen.view disk.old).contents) m self.old (D.seen.may_leave disk.old)
+            → Replies (Rose (D.seen.view disk.old).disk_faults (D.seen.view disk.new).disk_faults) (IsSome (D.seen.view disk.new).contents) (D.seen.may_leave disk.new)
             m self.new (Frag fragment.now) result }
         ensures remembers { Remembers (Frag fragment.now) result self.old.cache self.new.cache }
-        ensures told { is_some (D.view disk.new).contents ≡ is_some (D.view disk.old).contents }
-        ensures disk_alone { DiskAlone (D.view disk.old) (D.view disk.new) }
+        ensures told { is_some (D.seen.view disk.new).contents ≡ is_some (D.seen.view disk.old).contents }
+        ensures disk_alone { DiskAlone (D.seen.view disk.old) (D.seen.view disk.new) }
     {
         an_image_fits::<D>();
         kept_is_added();
@@ -74,17 +74,17 @@ impl Origin {
     /// entry in doubt is settled first.
     pub fn declare<S: Site>(&mut self, alloc: Global, site: &mut S, channel: &Channel) -> Declared
         requires valid { IsChannel channel.now }
-        requires stands { (m : Machine) × StandsFor (IsSome (S.Disk.view site.old).contents) m self.old (S.Disk.may_leave site.old) }
+        requires stands { (m : Machine) × StandsFor (IsSome (S.Disk.seen.view site.old).contents) m self.old (S.Disk.seen.may_leave site.old) }
         // It is one step, whose reply is the answer's.
         // It stands for some machine again, whichever it stood for.
-        ensures stands { (m : Machine) × StandsFor (IsSome (S.Disk.view site.new).contents) m self.new (S.Disk.may_leave site.new) }
-        ensures step { IsSome (S.Disk.view site.old).contents → (m : Machine)
-            → StandsFor (IsSome (S.Disk.view site.old).contents) m self.old (S.Disk.may_leave site.old)
-            → ActGives S.Disk.view S.Disk.may_leave S.Disk.left_at site.old site.new m self.new (Header channel.now) (reply_to_header result) }
+        ensures stands { (m : Machine) × StandsFor (IsSome (S.Disk.seen.view site.new).contents) m self.new (S.Disk.seen.may_leave site.new) }
+        ensures step { IsSome (S.Disk.seen.view site.old).contents → (m : Machine)
+            → StandsFor (IsSome (S.Disk.seen.view site.old).contents) m self.old (S.Disk.seen.may_leave site.old)
+            → ActGives S.Disk.seen site.old site.new m self.new (Header channel.now) (reply_to_header result) }
         ensures cache { cache_of self.new ≡ cache_of self.old }
-        ensures fault { result ≡ answer.DiskFault → Rose (S.Disk.view site.old).disk_faults (S.Disk.view site.new).disk_faults }
-        ensures told { is_some (S.Disk.view site.new).contents ≡ is_some (S.Disk.view site.old).contents }
-        ensures disk_alone { DiskAlone (S.Disk.view site.old) (S.Disk.view site.new) }
+        ensures fault { result ≡ answer.DiskFault → Rose (S.Disk.seen.view site.old).disk_faults (S.Disk.seen.view site.new).disk_faults }
+        ensures told { is_some (S.Disk.seen.view site.new).contents ≡ is_some (S.Disk.seen.view site.old).contents }
+        ensures disk_alone { DiskAlone (S.Disk.seen.view site.old) (S.Disk.seen.view site.new) }
     {
         an_image_fits::<S>();
         kept_is_added();
@@ -100,17 +100,17 @@ impl Origin {
         channel: &Channel,
     ) -> Reply
         requires valid { IsChannel channel.now }
-        requires stands { (m : Machine) × StandsFor (IsSome (D.view disk.old).contents) m self.old (D.may_leave disk.old) }
+        requires stands { (m : Machine) × StandsFor (IsSome (D.seen.view disk.old).contents) m self.old (D.seen.may_leave disk.old) }
         // It stands for some machine again, whichever it stood for.
-        ensures stands { (m : Machine) × StandsFor (IsSome (D.view disk.new).contents) m self.new (D.may_leave disk.new) }
-        ensures step { IsSome (D.view disk.old).contents → (m : Machine) → StandsFor (IsSome (D.view disk.old).contents) m self.old (D.may_leave disk.old)
-            → ActGives D.view D.may_leave D.left_at disk.old disk.new m self.new (Header channel.now) result }
-        ensures replied { (m : Machine) → StandsFor (IsSome (D.view disk.old).contents) m self.old (D.may_leave disk.old)
-            → Replies (Rose (D.view disk.old).disk_faults (D.view disk.new).disk_faults) (IsSome (D.view disk.new).contents) (D.may_leave disk.new)
+        ensures stands { (m : Machine) × StandsFor (IsSome (D.seen.view disk.new).contents) m self.new (D.seen.may_leave disk.new) }
+        ensures step { IsSome (D.seen.view disk.old).contents → (m : Machine) → StandsFor (IsSome (D.seen.view disk.old).contents) m self.old (D.seen.may_leave disk.old)
+            → ActGives D.seen disk.old disk.new m self.new (Header channel.now) result }
+        ensures replied { (m : Machine) → StandsFor (IsSome (D.seen.view disk.old).contents) m self.old (D.seen.may_leave disk.old)
+            → Replies (Rose (D.seen.view disk.old).disk_faults (D.seen.view disk.new).disk_faults) (IsSome (D.seen.view disk.new).contents) (D.seen.may_leave disk.new)
             m self.new (Header channel.now) result }
         ensures remembers { Remembers (Header channel.now) result self.old.cache self.new.cache }
-        ensures told { is_some (D.view disk.new).contents ≡ is_some (D.view disk.old).contents }
-        ensures disk_alone { DiskAlone (D.view disk.old) (D.view disk.new) }
+        ensures told { is_some (D.seen.view disk.new).contents ≡ is_some (D.seen.view disk.old).contents }
+        ensures disk_alone { DiskAlone (D.seen.view disk.old) (D.seen.view disk.new) }
     {
         an_image_fits::<D>();
         kept_is_added();

@@ -54,14 +54,14 @@ fn send_reply<W: Wire>(
     number: u64,
     reply: Result<Final, NoMemory>,
 ) -> bool
-    requires live { IfSome (W.view wire.old).transcript (IsLive number) }
+    requires live { IfSome (W.seen.view wire.old).transcript (IsLive number) }
     // Whatever the reply answers, the items that it answers are handled.
-    ensures handles { (told : List Deal) × Goes (W.view wire.old).transcript (W.view wire.new).transcript told
+    ensures handles { (told : List Deal) × Goes (W.seen.view wire.old).transcript (W.seen.view wire.new).transcript told
         × ((seen seen' : Digest) (items : List PartItem) (asked : List Asking) → IsAnswer seen items seen' asked reply
         → Handles number (standing seen counts.old.answered) items told asked result (standing seen' counts.new.answered)) }
-    ensures open { IsTrue result → IfSome (W.view wire.new).transcript (IsLive number) }
-    ensures others { StaysBeside number (W.view wire.old).transcript (W.view wire.new).transcript }
-    ensures link_faults { (W.view wire.new).link_faults ≡ (W.view wire.old).link_faults }
+    ensures open { IsTrue result → IfSome (W.seen.view wire.new).transcript (IsLive number) }
+    ensures others { StaysBeside number (W.seen.view wire.old).transcript (W.seen.view wire.new).transcript }
+    ensures link_faults { (W.seen.view wire.new).link_faults ≡ (W.seen.view wire.old).link_faults }
 {
     match reply {
         Ok(reply) => {
@@ -88,13 +88,13 @@ fn take_part<W: Wire, F: Forward, G: Gate>(
     number: u64,
     part: Part,
 ) -> bool
-    requires live { IfSome (W.view wire.old).transcript (IsLive number) }
-    ensures handles { (told : List Deal) × (asked : List Asking) × Goes (W.view wire.old).transcript (W.view wire.new).transcript told
+    requires live { IfSome (W.seen.view wire.old).transcript (IsLive number) }
+    ensures handles { (told : List Deal) × (asked : List Asking) × Goes (W.seen.view wire.old).transcript (W.seen.view wire.new).transcript told
         × (F.asked forward.new ≡ behind (F.asked forward.old) asked)
         × Handles number (standing reader.old.seen counts.old.answered) (items_of part) told asked result (standing reader.new.seen counts.new.answered) }
-    ensures open { IsTrue result → IfSome (W.view wire.new).transcript (IsLive number) }
-    ensures others { StaysBeside number (W.view wire.old).transcript (W.view wire.new).transcript }
-    ensures link_faults { (W.view wire.new).link_faults ≡ (W.view wire.old).link_faults }
+    ensures open { IsTrue result → IfSome (W.seen.view wire.new).transcript (IsLive number) }
+    ensures others { StaysBeside number (W.seen.view wire.old).transcript (W.seen.view wire.new).transcript }
+    ensures link_faults { (W.seen.view wire.new).link_faults ≡ (W.seen.view wire.old).link_faults }
     ensures later { F.forward_faults forward.old ≤ F.forward_faults forward.new }
 {
     if let Part::Continue = part {
@@ -119,13 +119,13 @@ fn take_parts<W: Wire, F: Forward, G: Gate>(
     number: u64,
     parts: Vec<Part>,
 ) -> bool
-    requires live { IfSome (W.view wire.old).transcript (IsLive number) }
-    ensures takes { (told : List Deal) × (asked : List Asking) × Goes (W.view wire.old).transcript (W.view wire.new).transcript told
+    requires live { IfSome (W.seen.view wire.old).transcript (IsLive number) }
+    ensures takes { (told : List Deal) × (asked : List Asking) × Goes (W.seen.view wire.old).transcript (W.seen.view wire.new).transcript told
         × (F.asked forward.new ≡ behind (F.asked forward.old) asked)
         × Takes number (standing reader.old.seen counts.old.answered) (joined parts.items) told asked result (standing reader.new.seen counts.new.answered) }
-    ensures open { IsTrue result → IfSome (W.view wire.new).transcript (IsLive number) }
-    ensures others { StaysBeside number (W.view wire.old).transcript (W.view wire.new).transcript }
-    ensures link_faults { (W.view wire.new).link_faults ≡ (W.view wire.old).link_faults }
+    ensures open { IsTrue result → IfSome (W.seen.view wire.new).transcript (IsLive number) }
+    ensures others { StaysBeside number (W.seen.view wire.old).transcript (W.seen.view wire.new).transcript }
+    ensures link_faults { (W.seen.view wire.new).link_faults ≡ (W.seen.view wire.old).link_faults }
     ensures later { F.forward_faults forward.old ≤ F.forward_faults forward.new }
 {
     for part in parts {
@@ -147,16 +147,16 @@ pub(crate) fn take_piece<W: Wire, F: Forward, G: Gate>(
     live: &mut Live,
     piece: &[u8],
 ) -> bool
-    requires live { IfSome (W.view wire.old).transcript (IsLive live.old.number) }
-    ensures gives { (told : List Deal) × (asked : List Asking) × Goes (W.view wire.old).transcript (W.view wire.new).transcript told
+    requires live { IfSome (W.seen.view wire.old).transcript (IsLive live.old.number) }
+    ensures gives { (told : List Deal) × (asked : List Asking) × Goes (W.seen.view wire.old).transcript (W.seen.view wire.new).transcript told
         × (F.asked forward.new ≡ behind (F.asked forward.old) asked)
         × ((bytes : List ℕ) (given : List PartItem) → StandsFor live.old.conn bytes given
         → PieceGives live.old.number (standing reader.old.seen counts.old.answered) bytes given piece.now told asked result live.new
         (standing reader.new.seen counts.new.answered)) }
     ensures same { live.new.number ≡ live.old.number }
-    ensures open { IsTrue result → IfSome (W.view wire.new).transcript (IsLive live.old.number) }
-    ensures others { StaysBeside live.old.number (W.view wire.old).transcript (W.view wire.new).transcript }
-    ensures link_faults { (W.view wire.new).link_faults ≡ (W.view wire.old).link_faults }
+    ensures open { IsTrue result → IfSome (W.seen.view wire.new).transcript (IsLive live.old.number) }
+    ensures others { StaysBeside live.old.number (W.seen.view wire.old).transcript (W.seen.view wire.new).transcript }
+    ensures link_faults { (W.seen.view wire.new).link_faults ≡ (W.seen.view wire.old).link_faults }
     ensures later { F.forward_faults forward.old ≤ F.forward_faults forward.new }
 {
     match live.conn.feed(piece) {

@@ -31,11 +31,11 @@ const MOST: usize = 16;
 
 // Refuses a connection too many.
 fn crowd<W: Wire>(alloc: Global, wire: &mut W, number: u64)
-    requires live { IfSome (W.view wire.old).transcript (IsLive number) }
-    ensures goes { (told : List Deal) × Goes (W.view wire.old).transcript (W.view wire.new).transcript told
+    requires live { IfSome (W.seen.view wire.old).transcript (IsLive number) }
+    ensures goes { (told : List Deal) × Goes (W.seen.view wire.old).transcript (W.seen.view wire.new).transcript told
         × ((text : List ℕ) × (result : Sent) × IsCrowded text × Tells number text true told result) }
-    ensures others { StaysBeside number (W.view wire.old).transcript (W.view wire.new).transcript }
-    ensures link_faults { (W.view wire.new).link_faults ≡ (W.view wire.old).link_faults }
+    ensures others { StaysBeside number (W.seen.view wire.old).transcript (W.seen.view wire.new).transcript }
+    ensures link_faults { (W.seen.view wire.new).link_faults ≡ (W.seen.view wire.old).link_faults }
 {
     match refuse(alloc, Cause::TooManyConnections) {
         Ok(reply) => {
@@ -50,11 +50,11 @@ fn crowd<W: Wire>(alloc: Global, wire: &mut W, number: u64)
 
 // Takes a connection in, or refuses it where 16 are live.
 fn begin<W: Wire>(alloc: Global, wire: &mut W, lives: &mut Vec<Live>, number: u64)
-    requires may { IfSome (W.view wire.old).transcript (λ items. IsLive number items × IsApart number lives.old.items × AreOpen items lives.old.items) }
+    requires may { IfSome (W.seen.view wire.old).transcript (λ items. IsLive number items × IsApart number lives.old.items × AreOpen items lives.old.items) }
     ensures turns { (ks : List Known) (p : Standing) (was : Option (List Asking)) → AreKnown ks lives.old.items
-        → TurnGives (Began number) (W.view wire.old).transcript (W.view wire.new).transcript was was ks p lives.new.items p }
-    ensures open { IfSome (W.view wire.new).transcript (λ items. AreOpen items lives.new.items) }
-    ensures link_faults { (W.view wire.new).link_faults ≡ (W.view wire.old).link_faults }
+        → TurnGives (Began number) (W.seen.view wire.old).transcript (W.seen.view wire.new).transcript was was ks p lives.new.items p }
+    ensures open { IfSome (W.seen.view wire.new).transcript (λ items. AreOpen items lives.new.items) }
+    ensures link_faults { (W.seen.view wire.new).link_faults ≡ (W.seen.view wire.old).link_faults }
 {
     if lives.len() >= MOST {
         crowd(alloc, wire, number);
@@ -80,12 +80,12 @@ fn take<W: Wire, F: Forward, G: Gate>(
     number: u64,
     piece: &[u8],
 )
-    requires live { IfSome (W.view wire.old).transcript (λ items. AreOpen items lives.old.items) }
+    requires live { IfSome (W.seen.view wire.old).transcript (λ items. AreOpen items lives.old.items) }
     ensures turns { (ks : List Known) → AreKnown ks lives.old.items
-        → TurnGives (Came number piece.now) (W.view wire.old).transcript (W.view wire.new).transcript (F.asked forward.old) (F.asked forward.new) ks
+        → TurnGives (Came number piece.now) (W.seen.view wire.old).transcript (W.seen.view wire.new).transcript (F.asked forward.old) (F.asked forward.new) ks
         (standing reader.old.seen counts.old.answered) lives.new.items (standing reader.new.seen counts.new.answered) }
-    ensures open { IfSome (W.view wire.new).transcript (λ items. AreOpen items lives.new.items) }
-    ensures link_faults { (W.view wire.new).link_faults ≡ (W.view wire.old).link_faults }
+    ensures open { IfSome (W.seen.view wire.new).transcript (λ items. AreOpen items lives.new.items) }
+    ensures link_faults { (W.seen.view wire.new).link_faults ≡ (W.seen.view wire.old).link_faults }
     ensures later { F.forward_faults forward.old ≤ F.forward_faults forward.new }
 {
     match find(lives, number) {
@@ -119,13 +119,13 @@ fn handle<W: Wire, F: Forward, G: Gate>(
     lives: &mut Vec<Live>,
     event: Event,
 ) -> bool
-    requires may { IfSome (W.view wire.old).transcript (MayHandle event lives.old.items) }
+    requires may { IfSome (W.seen.view wire.old).transcript (MayHandle event lives.old.items) }
     ensures turns { (ks : List Known) → AreKnown ks lives.old.items
-        → TurnGives (deal_of event) (W.view wire.old).transcript (W.view wire.new).transcript (F.asked forward.old) (F.asked forward.new) ks
+        → TurnGives (deal_of event) (W.seen.view wire.old).transcript (W.seen.view wire.new).transcript (F.asked forward.old) (F.asked forward.new) ks
         (standing reader.old.seen counts.old.answered) lives.new.items (standing reader.new.seen counts.new.answered) }
     ensures over { result ≡ not (is_over (deal_of event)) }
-    ensures open { IfSome (W.view wire.new).transcript (λ items. AreOpen items lives.new.items) }
-    ensures link_faults { (W.view wire.new).link_faults ≡ (W.view wire.old).link_faults }
+    ensures open { IfSome (W.seen.view wire.new).transcript (λ items. AreOpen items lives.new.items) }
+    ensures link_faults { (W.seen.view wire.new).link_faults ≡ (W.seen.view wire.old).link_faults }
     ensures later { F.forward_faults forward.old ≤ F.forward_faults forward.new }
 {
     match event {
@@ -166,12 +166,12 @@ pub fn player<W: Wire, F: Forward, G: Gate>(
     turns: u64,
 ) -> Played
     // From no live connection on, event for event: what it told on its wire, what it asked the loop, and what its reader saw.
-    ensures plays { HasPlayed reader.old.seen reader.new.seen (W.view wire.old).transcript (W.view wire.new).transcript (F.asked forward.old)
+    ensures plays { HasPlayed reader.old.seen reader.new.seen (W.seen.view wire.old).transcript (W.seen.view wire.new).transcript (F.asked forward.old)
         (F.asked forward.new) turns result }
     // What it has seen goes on from what its reader had seen before.
     ensures seen { Extends reader.new.seen reader.old.seen }
-    ensures link_fault { result ≡ Played.LinkFault → Rose (W.view wire.old).link_faults (W.view wire.new).link_faults }
-    ensures link_faults { (W.view wire.old).link_faults ≤ (W.view wire.new).link_faults }
+    ensures link_fault { result ≡ Played.LinkFault → Rose (W.seen.view wire.old).link_faults (W.seen.view wire.new).link_faults }
+    ensures link_faults { (W.seen.view wire.old).link_faults ≤ (W.seen.view wire.new).link_faults }
     ensures forward_faults { F.forward_faults forward.old ≤ F.forward_faults forward.new }
 {
     let mut lives = Vec::new(alloc);

@@ -35,12 +35,12 @@ pub(crate) fn tell<W: Wire>(
     tail: &[u8],
     close: bool,
 ) -> Outcome
-    requires live { IfSome (W.view wire.old).transcript (IsLive number) }
-    ensures goes { (deals : List Deal) × Goes (W.view wire.old).transcript (W.view wire.new).transcript deals
+    requires live { IfSome (W.seen.view wire.old).transcript (IsLive number) }
+    ensures goes { (deals : List Deal) × Goes (W.seen.view wire.old).transcript (W.seen.view wire.new).transcript deals
         × Tells number (head.now ++ tail.now) close deals result }
-    ensures open { result ≡ Outcome.Open → IfSome (W.view wire.new).transcript (IsLive number) }
-    ensures others { StaysBeside number (W.view wire.old).transcript (W.view wire.new).transcript }
-    ensures link_faults { (W.view wire.new).link_faults ≡ (W.view wire.old).link_faults }
+    ensures open { result ≡ Outcome.Open → IfSome (W.seen.view wire.new).transcript (IsLive number) }
+    ensures others { StaysBeside number (W.seen.view wire.old).transcript (W.seen.view wire.new).transcript }
+    ensures link_faults { (W.seen.view wire.new).link_faults ≡ (W.seen.view wire.old).link_faults }
 {
     match wire.send_both(number, head, tail) {
         Ok(()) => {
@@ -59,11 +59,11 @@ pub(crate) fn tell<W: Wire>(
 
 /// Sends 500 in place of what comes next, and closes.
 pub(crate) fn starve<W: Wire>(wire: &mut W, number: u64) -> Outcome
-    requires live { IfSome (W.view wire.old).transcript (IsLive number) }
-    ensures goes { (deals : List Deal) × Goes (W.view wire.old).transcript (W.view wire.new).transcript deals
+    requires live { IfSome (W.seen.view wire.old).transcript (IsLive number) }
+    ensures goes { (deals : List Deal) × Goes (W.seen.view wire.old).transcript (W.seen.view wire.new).transcript deals
         × Tells number NO_MEMORY.now true deals result }
-    ensures others { StaysBeside number (W.view wire.old).transcript (W.view wire.new).transcript }
-    ensures link_faults { (W.view wire.new).link_faults ≡ (W.view wire.old).link_faults }
+    ensures others { StaysBeside number (W.seen.view wire.old).transcript (W.seen.view wire.new).transcript }
+    ensures link_faults { (W.seen.view wire.new).link_faults ≡ (W.seen.view wire.old).link_faults }
 {
     tell(wire, number, NO_MEMORY, &[], true)
 }

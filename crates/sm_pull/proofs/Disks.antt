@@ -5,9 +5,9 @@ use Rattle.sm_model.specs.declared.entry.Entry.{Entry}
 use Rattle.sm_model.specs.declared.entry.Entry.TheVariants.{Keep}
 use Rattle.sm_model.specs.declared.fragment.Fragment.{Fragment}
 use Rattle.sm_site.specs.Image.{Image}
-use Rattle.sm_site.specs.Meanings.{View, SameLink}
+use Rattle.sm_site.specs.Meanings.{DiskAlone, View, Seen}
 use Rattle.sm_site.specs.Clauses.{Both, Recorded, Throughout, Rose}
-use Rattle.sm_site.proofs.Moments.{no_call, weakened, and_then}
+use Rattle.sm_site.proofs.Moments.{alone_here, alone_then, no_call, weakened, and_then}
 use Rattle.sm_archive.specs.declared.archive.Archive.{Archive}
 use Rattle.sm_archive.specs.Store.{IsStore}
 use Rattle.sm_archive.specs.Stands.{Keeps, Stands}
@@ -56,70 +56,60 @@ one_front log f after (inr is) = record { front = f ∷ []; back = []; whole = r
 
 -- ---- calls
 
-module _ {D : Type 0} {view : D → View} {left_at : D → ℕ → Image → Type 0} {leave : D → Image → Type 0} where
+module _ {D : Type 0} {site : Seen D} where
   -- the disk wasn't called
-  pub adds_none : ((d : D) (t : ℕ) (c : Image) → left_at d t c → t ≤ (view d).moment) → (d : D) (a : Archive) (log : List Entry) → Stands a log None (leave d)
-      → Adds view left_at leave d d a a log [] []
+  pub adds_none : ((d : D) (t : ℕ) (c : Image) → site.left_at d t c → t ≤ (site.view d).moment) → (d : D) (a : Archive) (log : List Entry) → Stands a log None (site.may_leave d)
+      → Adds site d d a a log [] []
   adds_none no_later d a log stands = record {
-    stands = subst (λ (l : List Entry). Stands a l None (leave d)) (sym (append-nil log)) stands;
-    moments = λ some. no_call view left_at d (LeavesFront log []) (no_later d);
+    stands = subst (λ (l : List Entry). Stands a l None (site.may_leave d)) (sym (append-nil log)) stands;
+    moments = λ some. no_call site d (LeavesFront log []) (no_later d);
     contents = refl;
-    no_fewer = omega arith;
-    link = record { transcript = refl; script = refl; link_faults = refl; send_faults = refl; chosen = refl };
+    disk_alone = alone_here (site.view d);
     limits = refl;
   }
 
   -- one call, and then another
-  pub adds_then : {d e f : D} {a b c : Archive} {log : List Entry} {xs ys tried : List Fragment} → Adds view left_at leave d e a b log xs [] → Adds view left_at leave e f b c (log ++ keeps_of xs) ys tried
-      → Adds view left_at leave d f a c log (xs ++ ys) tried
+  pub adds_then : {d e f : D} {a b c : Archive} {log : List Entry} {xs ys tried : List Fragment} → Adds site d e a b log xs [] → Adds site e f b c (log ++ keeps_of xs) ys tried
+      → Adds site d f a c log (xs ++ ys) tried
   adds_then {d = d} {e = e} {f = f} {a = a} {b = b} {c = c} {log = log} {xs = xs} {ys = ys} {tried = tried} first second =
       let all : (xs ++ []) ++ (ys ++ tried) ≡ (xs ++ ys) ++ tried = ap (λ (zs : List Fragment). zs ++ (ys ++ tried)) (append-nil xs) ∙ sym (append_assoc xs ys tried) in
       record {
-        stands = subst (λ (l : List Entry). StandsWith c l tried (leave f)) (log_both log xs ys) second.stands;
+        stands = subst (λ (l : List Entry). StandsWith c l tried (site.may_leave f)) (log_both log xs ys) second.stands;
         moments = λ some.
-            let one : Throughout view left_at d e (LeavesFront log ((xs ++ ys) ++ tried)) =
-            weakened view left_at d e (LeavesFront log (xs ++ [])) (LeavesFront log ((xs ++ ys) ++ tried)) (first.moments some)
+            let one : Throughout site d e (LeavesFront log ((xs ++ ys) ++ tried)) =
+            weakened site d e (LeavesFront log (xs ++ [])) (LeavesFront log ((xs ++ ys) ++ tried)) (first.moments some)
             (λ t c left. (left.0, left.1, subst (λ (zs : List Fragment). IsFrontOf log zs left.0) all (front_first log (xs ++ []) (ys ++ tried) left.0 left.2))) in
-            let two : Throughout view left_at e f (LeavesFront log ((xs ++ ys) ++ tried)) =
-            weakened view left_at e f (LeavesFront (log ++ keeps_of xs) (ys ++ tried)) (LeavesFront log ((xs ++ ys) ++ tried)) (second.moments (some_same _ _ first.contents some))
+            let two : Throughout site e f (LeavesFront log ((xs ++ ys) ++ tried)) =
+            weakened site e f (LeavesFront (log ++ keeps_of xs) (ys ++ tried)) (LeavesFront log ((xs ++ ys) ++ tried)) (second.moments (some_same _ _ first.contents some))
             (λ t c left. (left.0, left.1, subst (λ (zs : List Fragment). IsFrontOf log zs left.0) (sym (append_assoc xs ys tried)) (front_second log xs (ys ++ tried) left.0 left.2))) in
-            and_then view left_at d e f (LeavesFront log ((xs ++ ys) ++ tried)) one two;
+            and_then site d e f (LeavesFront log ((xs ++ ys) ++ tried)) one two;
         contents = second.contents ∙ first.contents;
-        no_fewer = let one = first.no_fewer in let two = second.no_fewer in omega (arith, one, two);
-        link = record {
-          transcript = second.link.transcript ∙ first.link.transcript;
-          script = second.link.script ∙ first.link.script;
-          link_faults = second.link.link_faults ∙ first.link.link_faults;
-          send_faults = second.link.send_faults ∙ first.link.send_faults;
-          chosen = second.link.chosen ∙ first.link.chosen;
-        };
+        disk_alone = alone_then (site.view d) (site.view e) (site.view f) first.disk_alone second.disk_alone;
         limits = second.limits ∙ first.limits;
       }
 
   -- what a call of the archive leaves that was to keep this
-  pub adds_kept : {d e : D} {a b : Archive} {log : List Entry} {f : Fragment} → Stands b (log ++ Keep f ∷ []) None (leave e)
-      → (IsSome (view d).contents → Throughout view left_at d e (λ t c. (after : List Entry) × IsStore after c × ((after ≡ log) ⊎ (after ≡ log ++ Keep f ∷ []))))
-      → is_some (view e).contents ≡ is_some (view d).contents → (view d).disk_faults ≤ (view e).disk_faults → SameLink (view d) (view e) → b.limits ≡ a.limits
-      → Adds view left_at leave d e a b log (f ∷ []) []
-  adds_kept {d = d} {e = e} {log = log} {f = f} stands moments contents fewer link limits = record {
+  pub adds_kept : {d e : D} {a b : Archive} {log : List Entry} {f : Fragment} → Stands b (log ++ Keep f ∷ []) None (site.may_leave e)
+      → (IsSome (site.view d).contents → Throughout site d e (λ t c. (after : List Entry) × IsStore after c × ((after ≡ log) ⊎ (after ≡ log ++ Keep f ∷ []))))
+      → is_some (site.view e).contents ≡ is_some (site.view d).contents → DiskAlone (site.view d) (site.view e) → b.limits ≡ a.limits
+      → Adds site d e a b log (f ∷ []) []
+  adds_kept {d = d} {e = e} {log = log} {f = f} stands moments contents alone limits = record {
     stands = stands;
-    moments = λ some. weakened view left_at d e _ (LeavesFront log (f ∷ [])) (moments some) (λ t c left. (left.0, left.1, one_front log f left.0 left.2));
+    moments = λ some. weakened site d e _ (LeavesFront log (f ∷ [])) (moments some) (λ t c left. (left.0, left.1, one_front log f left.0 left.2));
     contents = contents;
-    no_fewer = fewer;
-    link = link;
+    disk_alone = alone;
     limits = limits;
   }
 
-  pub adds_tried : {d e : D} {a b : Archive} {log : List Entry} {f : Fragment} → Stands b log None (leave e) ⊎ Stands b log (Some (Keep f)) (leave e)
-      → (IsSome (view d).contents → Throughout view left_at d e (λ t c. (after : List Entry) × IsStore after c × ((after ≡ log) ⊎ (after ≡ log ++ Keep f ∷ []))))
-      → is_some (view e).contents ≡ is_some (view d).contents → (view d).disk_faults ≤ (view e).disk_faults → SameLink (view d) (view e) → b.limits ≡ a.limits
-      → Adds view left_at leave d e a b log [] (f ∷ [])
-  adds_tried {d = d} {e = e} {b = b} {log = log} {f = f} stands moments contents fewer link limits = record {
-    stands = subst (λ (l : List Entry). StandsWith b l (f ∷ []) (leave e)) (sym (append-nil log)) stands;
-    moments = λ some. weakened view left_at d e _ (LeavesFront log (f ∷ [])) (moments some) (λ t c left. (left.0, left.1, one_front log f left.0 left.2));
+  pub adds_tried : {d e : D} {a b : Archive} {log : List Entry} {f : Fragment} → Stands b log None (site.may_leave e) ⊎ Stands b log (Some (Keep f)) (site.may_leave e)
+      → (IsSome (site.view d).contents → Throughout site d e (λ t c. (after : List Entry) × IsStore after c × ((after ≡ log) ⊎ (after ≡ log ++ Keep f ∷ []))))
+      → is_some (site.view e).contents ≡ is_some (site.view d).contents → DiskAlone (site.view d) (site.view e) → b.limits ≡ a.limits
+      → Adds site d e a b log [] (f ∷ [])
+  adds_tried {d = d} {e = e} {b = b} {log = log} {f = f} stands moments contents alone limits = record {
+    stands = subst (λ (l : List Entry). StandsWith b l (f ∷ []) (site.may_leave e)) (sym (append-nil log)) stands;
+    moments = λ some. weakened site d e _ (LeavesFront log (f ∷ [])) (moments some) (λ t c left. (left.0, left.1, one_front log f left.0 left.2));
     contents = contents;
-    no_fewer = fewer;
-    link = link;
+    disk_alone = alone;
     limits = limits;
   }
 

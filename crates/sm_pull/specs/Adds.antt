@@ -1,5 +1,5 @@
 -- What is kept behind a log, one fragment after another.
-use Rattle.std.specs.Prelude.{◌≡◌, ◌⊎◌, ◌≤◌, ℕ, List, [], ◌∷◌, ◌++◌, map, None, Some, IsSome, Result, Ok, Err, is_some}
+use Rattle.std.specs.Prelude.{◌≡◌, ◌⊎◌, ℕ, List, [], ◌∷◌, ◌++◌, map, None, Some, IsSome, Result, Ok, Err, is_some}
 use Rattle.sm_model.specs.declared.address.Address.{Address}
 use Rattle.sm_model.specs.declared.entry.Entry.{Entry}
 use Rattle.sm_model.specs.declared.entry.Entry.TheVariants.{Keep}
@@ -7,7 +7,7 @@ use Rattle.sm_model.specs.declared.fragment.Fragment.{Fragment}
 use Rattle.sm_log.specs.declared.verdict.Judged.TheVariants.{New}
 use Rattle.sm_log.specs.Logs.{verdict_on}
 use Rattle.sm_site.specs.Image.{Image}
-use Rattle.sm_site.specs.Meanings.{View, SameLink}
+use Rattle.sm_site.specs.Meanings.{DiskAlone, Seen}
 use Rattle.sm_site.specs.Clauses.{Throughout}
 use Rattle.sm_archive.specs.declared.archive.Archive.{Archive}
 use Rattle.sm_archive.specs.declared.answers.Keeping.{Keeping}
@@ -40,13 +40,12 @@ StandsWith a log (f ∷ fs) outcomes = Stands a log None outcomes ⊎ Stands a l
 
 -- These were kept behind the log, in order. `tried` is the one that was to be kept where that came to nothing. A crash leaves at each
 -- moment a front of all of them.
-pub record Adds {D : Type 0} (view : D → View) (left_at : D → ℕ → Image → Type 0) (leave : D → Image → Type 0) (disk disk' : D) (old new : Archive)
-    (log : List Entry) (added tried : List Fragment) : Type 0 where
-  pub stands : StandsWith new (log ++ keeps_of added) tried (leave disk')
-  pub moments : IsSome (view disk).contents → Throughout view left_at disk disk' (LeavesFront log (added ++ tried))
-  pub contents : is_some (view disk').contents ≡ is_some (view disk).contents
-  pub no_fewer : (view disk).disk_faults ≤ (view disk').disk_faults
-  pub link : SameLink (view disk) (view disk')
+pub record Adds {D : Type 0} (site : Seen D) (disk disk' : D) (old new : Archive) (log : List Entry) (added tried : List Fragment)
+    : Type 0 where
+  pub stands : StandsWith new (log ++ keeps_of added) tried (site.may_leave disk')
+  pub moments : IsSome (site.view disk).contents → Throughout site disk disk' (LeavesFront log (added ++ tried))
+  pub contents : is_some (site.view disk').contents ≡ is_some (site.view disk).contents
+  pub disk_alone : DiskAlone (site.view disk) (site.view disk')
   pub limits : limits_of new ≡ limits_of old
 
 -- ---- one that is kept, or not

@@ -45,13 +45,13 @@ pub fn keep<D: Disk>(
 ) -> Result<(), Stop>
     requires valid { IsValid fragment.now }
     requires address { address ≡ address_of fragment.now }
-    requires stands { (log : List Entry) × Stands archive.old log None (D.may_leave disk.old) }
-    requires absent { (log : List Entry) → Stands archive.old log None (D.may_leave disk.old) → kept_at log (address_of fragment.now) ≡ None }
-    ensures ok { OnOk result ((log : List Entry) → Stands archive.old log None (D.may_leave disk.old) → (verdict_on log fragment.now ≡ New)
-        × Adds D.view D.left_at D.may_leave disk.old disk.new archive.old archive.new log (fragment.now ∷ []) []) }
-    ensures err { IfErr result (λ why. (log : List Entry) → Stands archive.old log None (D.may_leave disk.old) → NotKept archive.new log fragment.now address why
-        × Adds D.view D.left_at D.may_leave disk.old disk.new archive.old archive.new log [] (fragment.now ∷ [])) }
-    ensures fault { IsErrOf result stop.DiskFault → Rose (D.view disk.old).disk_faults (D.view disk.new).disk_faults }
+    requires stands { (log : List Entry) × Stands archive.old log None (D.seen.may_leave disk.old) }
+    requires absent { (log : List Entry) → Stands archive.old log None (D.seen.may_leave disk.old) → kept_at log (address_of fragment.now) ≡ None }
+    ensures ok { OnOk result ((log : List Entry) → Stands archive.old log None (D.seen.may_leave disk.old) → (verdict_on log fragment.now ≡ New)
+        × Adds D.seen disk.old disk.new archive.old archive.new log (fragment.now ∷ []) []) }
+    ensures err { IfErr result (λ why. (log : List Entry) → Stands archive.old log None (D.seen.may_leave disk.old) → NotKept archive.new log fragment.now address why
+        × Adds D.seen disk.old disk.new archive.old archive.new log [] (fragment.now ∷ [])) }
+    ensures fault { IsErrOf result stop.DiskFault → Rose (D.seen.view disk.old).disk_faults (D.seen.view disk.new).disk_faults }
 {
     kept_is_added();
     stop_of(archive.keep(alloc, disk, fragment), address)

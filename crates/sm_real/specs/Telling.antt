@@ -1,6 +1,6 @@
 -- What an end on a machine tells: its counts and what it is selected with, and nothing of what the system holds.
 use Rattle.std.specs.Prelude.{ℕ, Option, None}
-use Rattle.sm_site.specs.Meanings.{Chosen, View}
+use Rattle.sm_site.specs.Meanings.{Chosen, Seen, View}
 
 abbrev pub counts_alone : ℕ → ℕ → ℕ → ℕ → Option Chosen → View
 counts_alone reads disk_faults link_faults send_faults chosen = record {
@@ -15,3 +15,7 @@ counts_alone reads disk_faults link_faults send_faults chosen = record {
   send_faults = send_faults;
   chosen = chosen;
 }
+
+-- what contracts see of such an end: no image that a crash may leave
+abbrev pub seen_as : {D : Type 0} → (D → View) → Seen D
+seen_as view = record { view = view; may_leave = λ d c. ⊥; left_at = λ d t c. ⊥ }

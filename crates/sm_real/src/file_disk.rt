@@ -1,7 +1,7 @@
 // The disk in a folder.
 ghost use Rattle.std.specs.Prelude.{◌≡◌, ◌≤◌, false, refl, IsErrOf, None, Some, is_ok, is_some};
 ghost use Rattle.sm_site.specs.Clauses.{Rose};
-ghost use Rattle.sm_real.specs.Telling.{counts_alone};
+ghost use Rattle.sm_real.specs.Telling.{counts_alone, seen_as};
 
 use crate::folder::Folder;
 use crate::{Doing, OpenFault, Trouble};
@@ -120,11 +120,7 @@ fn nowhere() -> IoError {
 }
 
 impl<R: Files<File = File> + Drop> Disk for FileDisk<R> {
-    ghost view = { λ d. counts_alone d.reads d.faults 0 0 None };
-
-    ghost may_leave = { λ d c. ⊥ };
-
-    ghost left_at = { λ d t c. ⊥ };
+    ghost seen = { seen_as (λ d. counts_alone d.reads d.faults 0 0 None) };
 
     ghost contents_pass = { λ d. tt };
 

@@ -1,5 +1,5 @@
 // A file that is read, and bytes of it that weren't asked for yet.
-ghost use Rattle.std.specs.Prelude.{◌≡◌, ◌-◌, IsTrue, length, take, drop};
+ghost use Rattle.std.specs.Prelude.{◌≡◌, ◌-◌, ◌≤◌, IsTrue, length, take, drop};
 
 use std::alloc::{AllocError, Global};
 use std::fs::File;
@@ -60,7 +60,7 @@ impl Reading {
 
     // Gives bytes from this place on, if all were read before.
     fn give(&self, at: u64, into: &mut [u8]) -> bool
-        ensures { IsTrue result → into.new ≡ take (length into.old) (drop (at - self.now.at) (take self.now.there self.now.room.items)) }
+        ensures { IsTrue result → (self.now.at ≤ at) × (into.new ≡ take (length into.old) (drop (at - self.now.at) (take self.now.there self.now.room.items))) }
     {
         if let Some(from) = at.checked_sub(self.at)
             && let Some(there) = self.room.as_slice().get(..self.there)

@@ -1,7 +1,7 @@
 // The site of a machine: the disk in a folder and the link over sockets.
 ghost use Rattle.std.specs.Prelude.{◌≡◌, ◌≤◌, refl, IsErrOf, None};
 ghost use Rattle.sm_site.specs.Clauses.{Rose};
-ghost use Rattle.sm_real.specs.Telling.{counts_alone};
+ghost use Rattle.sm_real.specs.Telling.{counts_alone, seen_as};
 
 use crate::journal::{Journal, Opened};
 use crate::{Doing, FileDisk, OpenFault, TcpLink, Trouble, Viewers};
@@ -211,11 +211,7 @@ impl<R: Files<File = File> + Net + Clock + Drop> RealSite<R> {
 }
 
 impl<R: Files<File = File> + Net + Clock + Drop> Disk for RealSite<R> {
-    ghost view = { λ s. counts_alone s.disk.reads s.disk.faults s.link.faults s.link.send_faults s.selection };
-
-    ghost may_leave = { λ s c. ⊥ };
-
-    ghost left_at = { λ s t c. ⊥ };
+    ghost seen = { seen_as (λ s. counts_alone s.disk.reads s.disk.faults s.link.faults s.link.send_faults s.selection) };
 
     ghost contents_pass = { λ s. tt };
 
@@ -268,11 +264,7 @@ impl<R: Files<File = File> + Net + Clock + Drop> Disk for RealSite<R> {
 }
 
 impl<R: Files<File = File> + Net + Clock + Drop> Link for RealSite<R> {
-    ghost view = { λ s. counts_alone s.disk.reads s.disk.faults s.link.faults s.link.send_faults s.selection };
-
-    ghost may_leave = { λ s c. ⊥ };
-
-    ghost left_at = { λ s t c. ⊥ };
+    ghost seen = { seen_as (λ s. counts_alone s.disk.reads s.disk.faults s.link.faults s.link.send_faults s.selection) };
 
     ghost numbers = { λ s. s.link.next_number };
 
@@ -297,11 +289,11 @@ impl<R: Files<File = File> + Net + Clock + Drop> Link for RealSite<R> {
 }
 
 impl<R: Files<File = File> + Net + Clock + Drop> Site for RealSite<R> {
-    ghost one_view = { λ s. refl };
-
-    ghost one_disk = { λ s c. (λ left. left, λ left. left) };
-
-    ghost one_past = { λ s t c. (λ left. left, λ left. left) };
+    ghost one = { record {
+      view = λ s. refl;
+      may_leave = λ s c. (λ left. left, λ left. left);
+      left_at = λ s t c. (λ left. left, λ left. left);
+    } };
 
     fn select(&mut self, selection: Selection) -> Result<(), SiteError> {
         match self.open(&selection) {

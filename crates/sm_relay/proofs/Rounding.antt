@@ -5,7 +5,7 @@ use Rattle.sm_model.specs.declared.entry.Entry.{Entry}
 use Rattle.sm_model.specs.declared.fragment.Fragment.{Fragment}
 use Rattle.sm_model.specs.declared.track.Track.{Track}
 use Rattle.sm_site.specs.Image.{Image}
-use Rattle.sm_site.specs.Meanings.{View}
+use Rattle.sm_site.specs.Meanings.{Seen}
 use Rattle.sm_manin.specs.declared.listing.Listing.{Listing}
 use Rattle.sm_archive.specs.declared.archive.Archive.{Archive}
 use Rattle.sm_archive.specs.Stands.{Stands}
@@ -48,21 +48,21 @@ broken_stops plan channel new log made added tried stop.Full b = b
 broken_stops plan channel new log made added tried stop.DiskFault b = b
 broken_stops plan channel new log made added tried stop.NoMemory b = inr b
 
-module _ {D C : Type 0} {view : D → View} {left_at : D → ℕ → Image → Type 0} {leave : D → Image → Type 0} {told : C → Option (List Exchange)} {store : C → List Entry → Type 0}
+module _ {D C : Type 0} {site : Seen D} {told : C → Option (List Exchange)} {store : C → List Entry → Type 0}
     {later : C → C → Type 0} {faults : C → ℕ} {chosen : C → Option Peer} {plan : PullPlan} {channel : List Track} where
   -- behind a pause
   pub runs_behind : {d e : D} {x y z : C} {a b : Archive} {log : List Entry} → ((x y z : C) → later x y → later y z → later x z) → Asks told store later faults chosen x y []
-      → RunsRound view left_at leave told store later faults chosen plan channel d e y z a b log → RunsRound view left_at leave told store later faults chosen plan channel d e x z a b log
+      → RunsRound site told store later faults chosen plan channel d e y z a b log → RunsRound site told store later faults chosen plan channel d e x z a b log
   runs_behind then pause r = record { round = r.round; is = r.is; asks = asks_then then pause r.asks; adds = r.adds }
 
   pub breaks_behind : {d e : D} {x y z : C} {a b : Archive} {log : List Entry} (why : Stop) → ((x y z : C) → later x y → later y z → later x z) → Asks told store later faults chosen x y []
-      → BreaksRound view left_at leave told store later faults chosen plan channel d e y z a b log why → BreaksRound view left_at leave told store later faults chosen plan channel d e x z a b log why
+      → BreaksRound site told store later faults chosen plan channel d e y z a b log why → BreaksRound site told store later faults chosen plan channel d e x z a b log why
   breaks_behind why then pause r = record { made = r.made; added = r.added; tried = r.tried; asks = asks_then then pause r.asks; adds = r.adds; stops = r.stops }
 
   -- a round, by what was read and pulled
   pub round_ran : {d e : D} {x y z : C} {a b : Archive} {log : List Entry} {asked : List Exchange} (listing : Listing) → ((x y z : C) → later x y → later y z → later x z)
       → Asks told store later faults chosen x y asked → Gives (AsksManifest plan.place) miss_of plan.tries asked (got.Manifest listing) → HasTracks listing channel
-      → Pulls view left_at leave told store later faults chosen plan d e y z a b log (wants_of channel listing) → RunsRound view left_at leave told store later faults chosen plan channel d e x z a b log
+      → Pulls site told store later faults chosen plan d e y z a b log (wants_of channel listing) → RunsRound site told store later faults chosen plan channel d e x z a b log
   round_ran {asked = asked} listing then asks read tracks p = record {
     round = record { listing = listing; asked = asked; pulled = p.made; kept = p.added };
     is = record { read = read; tracks = tracks; walks = p.walks };
@@ -72,7 +72,7 @@ module _ {D C : Type 0} {view : D → View} {left_at : D → ℕ → Image → T
 
   pub round_broke : {d e : D} {x y z : C} {a b : Archive} {log : List Entry} {asked : List Exchange} (listing : Listing) (why : Stop) → ((x y z : C) → later x y → later y z → later x z)
       → Asks told store later faults chosen x y asked → Gives (AsksManifest plan.place) miss_of plan.tries asked (got.Manifest listing) → HasTracks listing channel
-      → PullStops view left_at leave told store later faults chosen plan d e y z a b log (wants_of channel listing) why → BreaksRound view left_at leave told store later faults chosen plan channel d e x z a b log why
+      → PullStops site told store later faults chosen plan d e y z a b log (wants_of channel listing) why → BreaksRound site told store later faults chosen plan channel d e x z a b log why
   round_broke {b = b} {log = log} {asked = asked} listing why then asks read tracks p = record {
     made = asked ++ p.made;
     added = p.added;
@@ -83,33 +83,33 @@ module _ {D C : Type 0} {view : D → View} {left_at : D → ℕ → Image → T
         (record { listing = listing; asked = asked; read = read; tracks = tracks; pulled = p.made; breaks = p.breaks; made_is = refl });
   }
 
-  pub round_stopped : {x y : C} (d : D) (a : Archive) (log : List Entry) (made : List Exchange) (why : Stop) → ((d : D) (t : ℕ) (c : Image) → left_at d t c → t ≤ (view d).moment)
-      → Asks told store later faults chosen x y made → RoundStops plan channel a log made [] [] why → Stands a log None (leave d)
-      → BreaksRound view left_at leave told store later faults chosen plan channel d d x y a a log why
+  pub round_stopped : {x y : C} (d : D) (a : Archive) (log : List Entry) (made : List Exchange) (why : Stop) → ((d : D) (t : ℕ) (c : Image) → site.left_at d t c → t ≤ (site.view d).moment)
+      → Asks told store later faults chosen x y made → RoundStops plan channel a log made [] [] why → Stands a log None (site.may_leave d)
+      → BreaksRound site told store later faults chosen plan channel d d x y a a log why
   round_stopped d a log made why no_later asks stops stands = record { made = made; added = []; tried = []; asks = asks; adds = adds_none no_later d a log stands; stops = stops }
 
   -- none yet
-  pub ran_none : ((d : D) (t : ℕ) (c : Image) → left_at d t c → t ≤ (view d).moment) → ((x : C) → later x x) → (d : D) (x : C) (a : Archive) (log : List Entry) → Stands a log None (leave d)
-      → Ran view left_at leave told store later faults chosen plan channel d d x x a a log 0
+  pub ran_none : ((d : D) (t : ℕ) (c : Image) → site.left_at d t c → t ≤ (site.view d).moment) → ((x : C) → later x x) → (d : D) (x : C) (a : Archive) (log : List Entry) → Stands a log None (site.may_leave d)
+      → Ran site told store later faults chosen plan channel d d x x a a log 0
   ran_none no_later same d x a log stands = record { rounds = []; are = tt; count_is = refl; asks = asks_same same x; adds = adds_none no_later d a log stands }
 
   -- one more
   pub ran_more : {d e f : D} {x y z : C} {a b c : Archive} {log : List Entry} {n : ℕ} (k : ℕ) → ((x y z : C) → later x y → later y z → later x z)
-      → (p : Ran view left_at leave told store later faults chosen plan channel d e x y a b log n) → RunsRound view left_at leave told store later faults chosen plan channel e f y z b c (log ++ keeps_of (kept_in p.rounds))
-      → k ≡ n + 1 → Ran view left_at leave told store later faults chosen plan channel d f x z a c log k
+      → (p : Ran site told store later faults chosen plan channel d e x y a b log n) → RunsRound site told store later faults chosen plan channel e f y z b c (log ++ keeps_of (kept_in p.rounds))
+      → k ≡ n + 1 → Ran site told store later faults chosen plan channel d f x z a c log k
   ran_more {d = d} {f = f} {x = x} {z = z} {a = a} {c = c} {log = log} k then p q is = record {
     rounds = p.rounds ++ q.round ∷ [];
     are = rounds_more plan channel log p.rounds q.round p.are q.is;
     count_is = let all = length-append p.rounds (q.round ∷ []) in let so_far = p.count_is in omega (arith, all, so_far, is);
     asks = subst (Asks told store later faults chosen x z) (sym (made_more p.rounds q.round)) (asks_then then p.asks q.asks);
-    adds = subst (λ (fs : List Fragment). Adds view left_at leave d f a c log fs []) (sym (kept_more p.rounds q.round)) (adds_then p.adds q.adds);
+    adds = subst (λ (fs : List Fragment). Adds site d f a c log fs []) (sym (kept_more p.rounds q.round)) (adds_then p.adds q.adds);
   }
 
   -- and one that broke off
   pub ran_out : {d e f : D} {x y z : C} {a b c : Archive} {log : List Entry} {n : ℕ} (why : Stop) → ((x y z : C) → later x y → later y z → later x z)
-      → (p : Ran view left_at leave told store later faults chosen plan channel d e x y a b log n) → n < plan.rounds
-      → BreaksRound view left_at leave told store later faults chosen plan channel e f y z b c (log ++ keeps_of (kept_in p.rounds)) why
-      → RanOut view left_at leave told store later faults chosen plan channel d f x z a c log why
+      → (p : Ran site told store later faults chosen plan channel d e x y a b log n) → n < plan.rounds
+      → BreaksRound site told store later faults chosen plan channel e f y z b c (log ++ keeps_of (kept_in p.rounds)) why
+      → RanOut site told store later faults chosen plan channel d f x z a c log why
   ran_out why then p few q = record {
     rounds = p.rounds;
     are = p.are;

@@ -5,7 +5,7 @@ use Rattle.std.specs.List.{AllByRecursion}
 use Rattle.sm_model.specs.declared.entry.Entry.{Entry}
 use Rattle.sm_model.specs.declared.fragment.Fragment.{Fragment}
 use Rattle.sm_site.specs.Image.{Image}
-use Rattle.sm_site.specs.Meanings.{View}
+use Rattle.sm_site.specs.Meanings.{Seen}
 use Rattle.sm_archive.specs.declared.archive.Archive.{Archive}
 use Rattle.sm_archive.specs.Stands.{Stands}
 use Rattle.sm_fetch.specs.declared.dial.Exchange.{Exchange}
@@ -93,11 +93,11 @@ breaks_one plan new log w made tried why stops = record {
 
 -- ---- calls
 
-module _ {D C : Type 0} {view : D → View} {left_at : D → ℕ → Image → Type 0} {leave : D → Image → Type 0} {told : C → Option (List Exchange)} {store : C → List Entry → Type 0}
+module _ {D C : Type 0} {site : Seen D} {told : C → Option (List Exchange)} {store : C → List Entry → Type 0}
     {later : C → C → Type 0} {faults : C → ℕ} {chosen : C → Option Peer} {plan : PullPlan} where
   -- nothing was wanted
-  pub pulls_none : ((d : D) (t : ℕ) (c : Image) → left_at d t c → t ≤ (view d).moment) → ((x : C) → later x x) → (d : D) (x : C) (a : Archive) (log : List Entry) (wants : List Want) → wants ≡ []
-      → Stands a log None (leave d) → Pulls view left_at leave told store later faults chosen plan d d x x a a log wants
+  pub pulls_none : ((d : D) (t : ℕ) (c : Image) → site.left_at d t c → t ≤ (site.view d).moment) → ((x : C) → later x x) → (d : D) (x : C) (a : Archive) (log : List Entry) (wants : List Want) → wants ≡ []
+      → Stands a log None (site.may_leave d) → Pulls site told store later faults chosen plan d d x x a a log wants
   pulls_none no_later same d x a log wants none stands = record {
     made = [];
     added = [];
@@ -108,8 +108,8 @@ module _ {D C : Type 0} {view : D → View} {left_at : D → ℕ → Image → T
 
   -- one part, and then another
   pub pulls_then : {d e f : D} {x y z : C} {a b c : Archive} {log : List Entry} (wants ws vs : List Want) → wants ≡ ws ++ vs → ((x y z : C) → later x y → later y z → later x z)
-      → (p : Pulls view left_at leave told store later faults chosen plan d e x y a b log ws) → Pulls view left_at leave told store later faults chosen plan e f y z b c (log ++ keeps_of p.added) vs
-      → Pulls view left_at leave told store later faults chosen plan d f x z a c log wants
+      → (p : Pulls site told store later faults chosen plan d e x y a b log ws) → Pulls site told store later faults chosen plan e f y z b c (log ++ keeps_of p.added) vs
+      → Pulls site told store later faults chosen plan d f x z a c log wants
   pulls_then {log = log} wants ws vs is then p q = record {
     made = p.made ++ q.made;
     added = p.added ++ q.added;
@@ -120,8 +120,8 @@ module _ {D C : Type 0} {view : D → View} {left_at : D → ℕ → Image → T
 
   -- one part, and then one that ends it, whatever stands behind
   pub stops_then : {d e f : D} {x y z : C} {a b c : Archive} {log : List Entry} (why : Stop) (wants ws vs us : List Want) → wants ≡ (ws ++ vs) ++ us → ((x y z : C) → later x y → later y z → later x z)
-      → (p : Pulls view left_at leave told store later faults chosen plan d e x y a b log ws) → PullStops view left_at leave told store later faults chosen plan e f y z b c (log ++ keeps_of p.added) vs why
-      → PullStops view left_at leave told store later faults chosen plan d f x z a c log wants why
+      → (p : Pulls site told store later faults chosen plan d e x y a b log ws) → PullStops site told store later faults chosen plan e f y z b c (log ++ keeps_of p.added) vs why
+      → PullStops site told store later faults chosen plan d f x z a c log wants why
   stops_then {c = c} {log = log} why wants ws vs us is then p q = record {
     made = p.made ++ q.made;
     added = p.added ++ q.added;
@@ -133,8 +133,8 @@ module _ {D C : Type 0} {view : D → View} {left_at : D → ℕ → Image → T
   }
 
   -- the same wants
-  pub pulls_as : {d e : D} {x y : C} {a b : Archive} {log : List Entry} (ws vs : List Want) → ws ≡ vs → Pulls view left_at leave told store later faults chosen plan d e x y a b log ws
-      → Pulls view left_at leave told store later faults chosen plan d e x y a b log vs
+  pub pulls_as : {d e : D} {x y : C} {a b : Archive} {log : List Entry} (ws vs : List Want) → ws ≡ vs → Pulls site told store later faults chosen plan d e x y a b log ws
+      → Pulls site told store later faults chosen plan d e x y a b log vs
   pulls_as {log = log} ws vs is p = record {
     made = p.made;
     added = p.added;
@@ -143,8 +143,8 @@ module _ {D C : Type 0} {view : D → View} {left_at : D → ℕ → Image → T
     walks = subst (λ (us : List Want). Walks plan log us p.made p.added) is p.walks;
   }
 
-  pub stops_as : {d e : D} {x y : C} {a b : Archive} {log : List Entry} (why : Stop) (ws vs : List Want) → ws ≡ vs → PullStops view left_at leave told store later faults chosen plan d e x y a b log ws why
-      → PullStops view left_at leave told store later faults chosen plan d e x y a b log vs why
+  pub stops_as : {d e : D} {x y : C} {a b : Archive} {log : List Entry} (why : Stop) (ws vs : List Want) → ws ≡ vs → PullStops site told store later faults chosen plan d e x y a b log ws why
+      → PullStops site told store later faults chosen plan d e x y a b log vs why
   stops_as {b = b} {log = log} why ws vs is p = record {
     made = p.made;
     added = p.added;
@@ -156,11 +156,11 @@ module _ {D C : Type 0} {view : D → View} {left_at : D → ℕ → Image → T
 
   -- one address
   pub pulls_one : {d e : D} {x y : C} {a b : Archive} {log : List Entry} (w : Want) (made : List Exchange) (added : List Fragment) → Asks told store later faults chosen x y made
-      → Adds view left_at leave d e a b log added [] → IsStep plan log w made added → Pulls view left_at leave told store later faults chosen plan d e x y a b log (w ∷ [])
+      → Adds site d e a b log added [] → IsStep plan log w made added → Pulls site told store later faults chosen plan d e x y a b log (w ∷ [])
   pulls_one {log = log} w made added asks adds step = record { made = made; added = added; asks = asks; adds = adds; walks = walks_one plan log w made added step }
 
   pub stops_one : {d e : D} {x y : C} {a b : Archive} {log : List Entry} (why : Stop) (w : Want) (made : List Exchange) (tried : List Fragment) → Asks told store later faults chosen x y made
-      → Adds view left_at leave d e a b log [] tried → StopsAt plan b log w made tried why → PullStops view left_at leave told store later faults chosen plan d e x y a b log (w ∷ []) why
+      → Adds site d e a b log [] tried → StopsAt plan b log w made tried why → PullStops site told store later faults chosen plan d e x y a b log (w ∷ []) why
   stops_one {b = b} {log = log} why w made tried asks adds stops = record { made = made; added = []; tried = tried; asks = asks; adds = adds; breaks = breaks_one plan b log w made tried why stops }
 
 -- ---- one address

@@ -14,7 +14,7 @@ use Rattle.sm_model.specs.Same.{is_same}
 use Rattle.sm_log.specs.Logs.{channel_of, is_kept_at, kept_from, kept_at}
 use Rattle.sm_log.proofs.AllLogs.{kept_stays}
 use Rattle.sm_site.specs.Image.{Image}
-use Rattle.sm_site.specs.Meanings.{View}
+use Rattle.sm_site.specs.Meanings.{Seen}
 use Rattle.sm_site.specs.Clauses.{Throughout}
 use Rattle.sm_site.proofs.Moments.{weakened}
 use Rattle.sm_archive.specs.declared.archive.Archive.{Archive}
@@ -141,10 +141,10 @@ still_stands a log [] outcomes s = (log, None, s)
 still_stands a log (f ∷ fs) outcomes (inl s) = (log, None, s)
 still_stands a log (f ∷ fs) outcomes (inr s) = (log, Some (Keep f), s)
 
-module _ {D C : Type 0} {view : D → View} {left_at : D → ℕ → Image → Type 0} {leave : D → Image → Type 0} {told : C → Option (List Exchange)} {store : C → List Entry → Type 0}
+module _ {D C : Type 0} {site : Seen D} {told : C → Option (List Exchange)} {store : C → List Entry → Type 0}
     {later : C → C → Type 0} {faults : C → ℕ} {chosen : C → Option Peer} {plan : PullPlan} where
   pub relayed_done : {d e : D} {x y : C} {a b : Archive} {log : List Entry} (own channel : List Track) → own ≡ channel
-      → Ran view left_at leave told store later faults chosen plan own d e x y a b log plan.rounds → Relayed view left_at leave told store later faults chosen plan channel d e x y a b log ends.Done
+      → Ran site told store later faults chosen plan own d e x y a b log plan.rounds → Relayed site told store later faults chosen plan channel d e x y a b log ends.Done
   relayed_done {d = d} {e = e} {x = x} {y = y} {a = a} {b = b} {log = log} own channel same p = record {
     rounds = p.rounds;
     are = subst (λ (c : List Track). AreRounds plan c log p.rounds) same p.are;
@@ -152,12 +152,12 @@ module _ {D C : Type 0} {view : D → View} {left_at : D → ℕ → Image → T
     added = [];
     tried = [];
     asks = subst (Asks told store later faults chosen x y) (sym (append-nil (made_in p.rounds))) p.asks;
-    adds = subst (λ (fs : List Fragment). Adds view left_at leave d e a b log fs []) (sym (append-nil (kept_in p.rounds))) p.adds;
+    adds = subst (λ (fs : List Fragment). Adds site d e a b log fs []) (sym (append-nil (kept_in p.rounds))) p.adds;
     ends = record { all = p.count_is; made_is = refl; added_is = refl; tried_is = refl };
   }
 
   pub relayed_out : {d e : D} {x y : C} {a b : Archive} {log : List Entry} (own channel : List Track) (why : Stop) (end : RelayEnd) → own ≡ channel → end ≡ end_of why
-      → RanOut view left_at leave told store later faults chosen plan own d e x y a b log why → Relayed view left_at leave told store later faults chosen plan channel d e x y a b log end
+      → RanOut site told store later faults chosen plan own d e x y a b log why → Relayed site told store later faults chosen plan channel d e x y a b log end
   relayed_out {b = b} {log = log} own channel why end same is p = record {
     rounds = p.rounds;
     are = subst (λ (c : List Track). AreRounds plan c log p.rounds) same p.are;
@@ -171,8 +171,8 @@ module _ {D C : Type 0} {view : D → View} {left_at : D → ℕ → Image → T
         (subst (λ (c : List Track). RoundStops plan c b (log ++ keeps_of (kept_in p.rounds)) p.made p.added p.tried why) same p.stops));
   }
 
-  pub relayed_none : (channel : List Track) → ((d : D) (t : ℕ) (c : Image) → left_at d t c → t ≤ (view d).moment) → ((x : C) → later x x) → (d : D) (x : C) (a : Archive) (log : List Entry) → 0 < plan.rounds
-      → Stands a log None (leave d) → Relayed view left_at leave told store later faults chosen plan channel d d x x a a log ends.NoMemory
+  pub relayed_none : (channel : List Track) → ((d : D) (t : ℕ) (c : Image) → site.left_at d t c → t ≤ (site.view d).moment) → ((x : C) → later x x) → (d : D) (x : C) (a : Archive) (log : List Entry) → 0 < plan.rounds
+      → Stands a log None (site.may_leave d) → Relayed site told store later faults chosen plan channel d d x x a a log ends.NoMemory
   relayed_none channel no_later same d x a log some stands = record {
     rounds = [];
     are = tt;
@@ -184,7 +184,7 @@ module _ {D C : Type 0} {view : D → View} {left_at : D → ℕ → Image → T
     ends = record { few = some; why = stop.NoMemory; end_is = refl; stops = inl (record { tries = record { each = tt; few = omega arith }; added_is = refl; tried_is = refl }) };
   }
 
-  module _ {d e : D} {x y : C} {a b : Archive} {log : List Entry} {channel : List Track} {end : RelayEnd} (p : Relayed view left_at leave told store later faults chosen plan channel d e x y a b log end)
+  module _ {d e : D} {x y : C} {a b : Archive} {log : List Entry} {channel : List Track} {end : RelayEnd} (p : Relayed site told store later faults chosen plan channel d e x y a b log end)
       (up : List Track) (first last : List Entry) (all : List Exchange) (serves : Serves plan.place up first last all) (same : all ≡ made_in p.rounds ++ p.made) where
     answered : AnsweredBy up first (made_in p.rounds ++ p.made) last
     answered = subst (λ (xs : List Exchange). AnsweredBy up first xs last) same serves.answered
@@ -203,11 +203,11 @@ module _ {D C : Type 0} {view : D → View} {left_at : D → ℕ → Image → T
         stops_kept plan up channel first last s.0 last (log ++ keeps_of (kept_in p.rounds)) b all p.made p.added p.tried out.why serves out.stops s.2)
         (ends_either plan channel b (log ++ keeps_of (kept_in p.rounds)) (length p.rounds) p.made p.added p.tried end p.ends)))
 
-    pub relayed_below : Below log first → IsSome (view d).contents → Throughout view left_at d e (LeavesBelow last)
+    pub relayed_below : Below log first → IsSome (site.view d).contents → Throughout site d e (LeavesBelow last)
     relayed_below below some =
         let g = answered_grows up first last (made_in p.rounds ++ p.made) answered in
         let here : Below log last = subst (Below log) (sym g.1) (below_grows log first g.0 below) in
-        weakened view left_at d e (LeavesFront log ((kept_in p.rounds ++ p.added) ++ p.tried)) (LeavesBelow last) (p.adds.moments some)
+        weakened site d e (LeavesFront log ((kept_in p.rounds ++ p.added) ++ p.tried)) (LeavesBelow last) (p.adds.moments some)
         (λ t c left. (left.0, left.1, below_front log last left.0 ((kept_in p.rounds ++ p.added) ++ p.tried) all_kept here left.2))
 
     pub relayed_well : 0 < plan.tries → channel_of log ≡ Some channel → Below log first → IsPatient all → AllByRecursion (IsOffered up) channel → EndsWell end

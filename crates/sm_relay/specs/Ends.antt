@@ -5,8 +5,7 @@ use Rattle.sm_model.specs.declared.entry.Entry.{Entry}
 use Rattle.sm_model.specs.declared.fragment.Fragment.{Fragment}
 use Rattle.sm_model.specs.declared.track.Track.{Track}
 use Rattle.sm_log.specs.Logs.{kept_at}
-use Rattle.sm_site.specs.Image.{Image}
-use Rattle.sm_site.specs.Meanings.{View}
+use Rattle.sm_site.specs.Meanings.{Seen}
 use Rattle.sm_archive.specs.declared.archive.Archive.{Archive}
 use Rattle.sm_fetch.specs.declared.dial.Exchange.{Exchange}
 use Rattle.sm_fetch.specs.Exchanges.{Peer}
@@ -32,21 +31,19 @@ end_of stop.NoMemory = ends.NoMemory
 -- ---- rounds
 
 -- so many rounds ended
-pub record Ran {D C : Type 0} (view : D → View) (left_at : D → ℕ → Image → Type 0) (leave : D → Image → Type 0) (told : C → Option (List Exchange))
-    (store : C → List Entry → Type 0) (later : C → C → Type 0) (faults : C → ℕ) (chosen : C → Option Peer) (plan : PullPlan) (channel : List Track)
-    (disk disk' : D) (dial dial' : C)
+pub record Ran {D C : Type 0} (site : Seen D) (told : C → Option (List Exchange)) (store : C → List Entry → Type 0) (later : C → C → Type 0)
+    (faults : C → ℕ) (chosen : C → Option Peer) (plan : PullPlan) (channel : List Track) (disk disk' : D) (dial dial' : C)
     (old new : Archive) (log : List Entry) (count : ℕ) : Type 0 where
   pub rounds : List Round
   pub are : AreRounds plan channel log rounds
   pub count_is : length rounds ≡ count
   pub asks : Asks told store later faults chosen dial dial' (made_in rounds)
-  pub adds : Adds view left_at leave disk disk' old new log (kept_in rounds) []
+  pub adds : Adds site disk disk' old new log (kept_in rounds) []
 
 -- fewer than were wanted ended, and the one behind them broke off
-pub record RanOut {D C : Type 0} (view : D → View) (left_at : D → ℕ → Image → Type 0) (leave : D → Image → Type 0) (told : C → Option (List Exchange))
-    (store : C → List Entry → Type 0) (later : C → C → Type 0) (faults : C → ℕ) (chosen : C → Option Peer) (plan : PullPlan) (channel : List Track)
-    (disk disk' : D) (dial dial' : C)
-    (old new : Archive) (log : List Entry) (why : Stop) : Type 0 where
+pub record RanOut {D C : Type 0} (site : Seen D) (told : C → Option (List Exchange)) (store : C → List Entry → Type 0)
+    (later : C → C → Type 0) (faults : C → ℕ) (chosen : C → Option Peer) (plan : PullPlan) (channel : List Track) (disk disk' : D)
+    (dial dial' : C) (old new : Archive) (log : List Entry) (why : Stop) : Type 0 where
   pub rounds : List Round
   pub are : AreRounds plan channel log rounds
   pub few : length rounds < plan.rounds
@@ -54,7 +51,7 @@ pub record RanOut {D C : Type 0} (view : D → View) (left_at : D → ℕ → Im
   pub added : List Fragment
   pub tried : List Fragment
   pub asks : Asks told store later faults chosen dial dial' (made_in rounds ++ made)
-  pub adds : Adds view left_at leave disk disk' old new log (kept_in rounds ++ added) tried
+  pub adds : Adds site disk disk' old new log (kept_in rounds ++ added) tried
   pub stops : RoundStops plan channel new (log ++ keeps_of (kept_in rounds)) made added tried why
 
 -- ---- a whole call
@@ -87,17 +84,16 @@ EndsWith plan channel new log count made added tried ends.NoMemory = IsStopped p
 
 -- Rounds ended, and perhaps one more broke off: what it made and kept stands behind what they did. `tried` is what was read last where
 -- that wasn't kept.
-pub record Relayed {D C : Type 0} (view : D → View) (left_at : D → ℕ → Image → Type 0) (leave : D → Image → Type 0) (told : C → Option (List Exchange))
-    (store : C → List Entry → Type 0) (later : C → C → Type 0) (faults : C → ℕ) (chosen : C → Option Peer) (plan : PullPlan) (channel : List Track)
-    (disk disk' : D) (dial dial' : C)
-    (old new : Archive) (log : List Entry) (end : RelayEnd) : Type 0 where
+pub record Relayed {D C : Type 0} (site : Seen D) (told : C → Option (List Exchange)) (store : C → List Entry → Type 0)
+    (later : C → C → Type 0) (faults : C → ℕ) (chosen : C → Option Peer) (plan : PullPlan) (channel : List Track) (disk disk' : D)
+    (dial dial' : C) (old new : Archive) (log : List Entry) (end : RelayEnd) : Type 0 where
   pub rounds : List Round
   pub are : AreRounds plan channel log rounds
   pub made : List Exchange
   pub added : List Fragment
   pub tried : List Fragment
   pub asks : Asks told store later faults chosen dial dial' (made_in rounds ++ made)
-  pub adds : Adds view left_at leave disk disk' old new log (kept_in rounds ++ added) tried
+  pub adds : Adds site disk disk' old new log (kept_in rounds ++ added) tried
   pub ends : EndsWith plan channel new (log ++ keeps_of (kept_in rounds)) (length rounds) made added tried end
 
 -- all that a manifest lists of the channel's tracks is kept

@@ -6,8 +6,7 @@ use Rattle.sm_model.specs.declared.fragment.Fragment.{Fragment}
 use Rattle.sm_model.specs.declared.run.RawFragment.{RawFragment}
 use Rattle.sm_log.specs.declared.verdict.Judged.TheVariants.{New}
 use Rattle.sm_log.specs.Logs.{kept_at, verdict_on}
-use Rattle.sm_site.specs.Image.{Image}
-use Rattle.sm_site.specs.Meanings.{View}
+use Rattle.sm_site.specs.Meanings.{Seen}
 use Rattle.sm_archive.specs.declared.archive.Archive.{Archive}
 use Rattle.sm_fetch.specs.declared.dial.Exchange.{Exchange}
 use Rattle.sm_fetch.specs.declared.got.Got.TheVariants as got
@@ -102,24 +101,22 @@ pub record Breaks (plan : PullPlan) (new : Archive) (log : List Entry) (wants : 
 -- ---- calls
 
 -- all of these were gone through
-pub record Pulls {D C : Type 0} (view : D → View) (left_at : D → ℕ → Image → Type 0) (leave : D → Image → Type 0) (told : C → Option (List Exchange))
-    (store : C → List Entry → Type 0) (later : C → C → Type 0) (faults : C → ℕ) (chosen : C → Option Peer) (plan : PullPlan) (disk disk' : D)
-    (dial dial' : C) (old new : Archive)
-    (log : List Entry) (wants : List Want) : Type 0 where
+pub record Pulls {D C : Type 0} (site : Seen D) (told : C → Option (List Exchange)) (store : C → List Entry → Type 0)
+    (later : C → C → Type 0) (faults : C → ℕ) (chosen : C → Option Peer) (plan : PullPlan) (disk disk' : D) (dial dial' : C)
+    (old new : Archive) (log : List Entry) (wants : List Want) : Type 0 where
   pub made : List Exchange
   pub added : List Fragment
   pub asks : Asks told store later faults chosen dial dial' made
-  pub adds : Adds view left_at leave disk disk' old new log added []
+  pub adds : Adds site disk disk' old new log added []
   pub walks : Walks plan log wants made added
 
 -- and at one of them it ended
-pub record PullStops {D C : Type 0} (view : D → View) (left_at : D → ℕ → Image → Type 0) (leave : D → Image → Type 0) (told : C → Option (List Exchange))
-    (store : C → List Entry → Type 0) (later : C → C → Type 0) (faults : C → ℕ) (chosen : C → Option Peer) (plan : PullPlan) (disk disk' : D)
-    (dial dial' : C) (old new : Archive)
-    (log : List Entry) (wants : List Want) (why : Stop) : Type 0 where
+pub record PullStops {D C : Type 0} (site : Seen D) (told : C → Option (List Exchange)) (store : C → List Entry → Type 0)
+    (later : C → C → Type 0) (faults : C → ℕ) (chosen : C → Option Peer) (plan : PullPlan) (disk disk' : D) (dial dial' : C)
+    (old new : Archive) (log : List Entry) (wants : List Want) (why : Stop) : Type 0 where
   pub made : List Exchange
   pub added : List Fragment
   pub tried : List Fragment
   pub asks : Asks told store later faults chosen dial dial' made
-  pub adds : Adds view left_at leave disk disk' old new log added tried
+  pub adds : Adds site disk disk' old new log added tried
   pub breaks : Breaks plan new log wants made added tried why

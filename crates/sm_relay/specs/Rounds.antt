@@ -5,8 +5,7 @@ use Rattle.sm_model.specs.declared.entry.Entry.{Entry}
 use Rattle.sm_model.specs.declared.fragment.Fragment.{Fragment}
 use Rattle.sm_model.specs.declared.track.Track.{Track}
 use Rattle.sm_manin.specs.declared.listing.Listing.{Listing}
-use Rattle.sm_site.specs.Image.{Image}
-use Rattle.sm_site.specs.Meanings.{View}
+use Rattle.sm_site.specs.Meanings.{Seen}
 use Rattle.sm_archive.specs.declared.archive.Archive.{Archive}
 use Rattle.sm_fetch.specs.declared.dial.Exchange.{Exchange}
 use Rattle.sm_fetch.specs.declared.got.Got.TheVariants as got
@@ -93,24 +92,21 @@ RoundStops plan channel new log made added tried stop.NoMemory =
 -- ---- calls
 
 -- a round ended
-pub record RunsRound {D C : Type 0} (view : D → View) (left_at : D → ℕ → Image → Type 0) (leave : D → Image → Type 0) (told : C → Option (List Exchange))
-    (store : C → List Entry → Type 0) (later : C → C → Type 0) (faults : C → ℕ) (chosen : C → Option Peer) (plan : PullPlan) (channel : List Track)
-    (disk disk' : D) (dial dial' : C)
-    (old new : Archive) (log : List Entry) : Type 0 where
+pub record RunsRound {D C : Type 0} (site : Seen D) (told : C → Option (List Exchange)) (store : C → List Entry → Type 0)
+    (later : C → C → Type 0) (faults : C → ℕ) (chosen : C → Option Peer) (plan : PullPlan) (channel : List Track) (disk disk' : D)
+    (dial dial' : C) (old new : Archive) (log : List Entry) : Type 0 where
   pub round : Round
   pub is : IsRound plan channel log round
   pub asks : Asks told store later faults chosen dial dial' (round.asked ++ round.pulled)
-  pub adds : Adds view left_at leave disk disk' old new log round.kept []
+  pub adds : Adds site disk disk' old new log round.kept []
 
 -- it broke off
-pub record BreaksRound {D C : Type 0} (view : D → View) (left_at : D → ℕ → Image → Type 0) (leave : D → Image → Type 0)
-    (told : C → Option (List Exchange))
-    (store : C → List Entry → Type 0) (later : C → C → Type 0) (faults : C → ℕ) (chosen : C → Option Peer) (plan : PullPlan) (channel : List Track)
-    (disk disk' : D) (dial dial' : C)
-    (old new : Archive) (log : List Entry) (why : Stop) : Type 0 where
+pub record BreaksRound {D C : Type 0} (site : Seen D) (told : C → Option (List Exchange)) (store : C → List Entry → Type 0)
+    (later : C → C → Type 0) (faults : C → ℕ) (chosen : C → Option Peer) (plan : PullPlan) (channel : List Track) (disk disk' : D)
+    (dial dial' : C) (old new : Archive) (log : List Entry) (why : Stop) : Type 0 where
   pub made : List Exchange
   pub added : List Fragment
   pub tried : List Fragment
   pub asks : Asks told store later faults chosen dial dial' made
-  pub adds : Adds view left_at leave disk disk' old new log added tried
+  pub adds : Adds site disk disk' old new log added tried
   pub stops : RoundStops plan channel new log made added tried why

@@ -32,9 +32,9 @@ use std::alloc::Global;
 
 // The channel of an archive that has one.
 fn channel_of<D: Disk>(alloc: Global, disk: &D, archive: &Archive) -> Result<Channel, NoMemory>
-    requires { (log : List Entry) × (channel : List Track) × Stands archive.now log None (D.may_leave disk.now) × (channel_of log ≡ Some channel) }
+    requires { (log : List Entry) × (channel : List Track) × Stands archive.now log None (D.seen.may_leave disk.now) × (channel_of log ≡ Some channel) }
     ensures valid { IfOk result IsChannel }
-    ensures same { IfOk result (λ own. (log : List Entry) (channel : List Track) → Stands archive.now log None (D.may_leave disk.now)
+    ensures same { IfOk result (λ own. (log : List Entry) (channel : List Track) → Stands archive.now log None (D.seen.may_leave disk.now)
         → channel_of log ≡ Some channel → own ≡ channel) }
 {
     match archive.catalog() {
@@ -51,12 +51,12 @@ fn relay_all<C: Dial, D: Disk>(
     archive: &mut Archive,
     plan: &PullPlan,
 ) -> RelayEnd
-    requires stands { (log : List Entry) × (channel : List Track) × Stands archive.old log None (D.may_leave disk.old) × (channel_of log ≡ Some channel) }
+    requires stands { (log : List Entry) × (channel : List Track) × Stands archive.old log None (D.seen.may_leave disk.old) × (channel_of log ≡ Some channel) }
     requires rounds { 0 < plan.now.rounds }
-    ensures relayed { (log : List Entry) (channel : List Track) → Stands archive.old log None (D.may_leave disk.old) → channel_of log ≡ Some channel
-        → Relayed D.view D.left_at D.may_leave C.log C.store C.later C.dial_faults C.chosen plan.now channel disk.old disk.new dial.old dial.new archive.old archive.new
+    ensures relayed { (log : List Entry) (channel : List Track) → Stands archive.old log None (D.seen.may_leave disk.old) → channel_of log ≡ Some channel
+        → Relayed D.seen C.log C.store C.later C.dial_faults C.chosen plan.now channel disk.old disk.new dial.old dial.new archive.old archive.new
         log result }
-    ensures fault { result ≡ ends.DiskFault → Rose (D.view disk.old).disk_faults (D.view disk.new).disk_faults }
+    ensures fault { result ≡ ends.DiskFault → Rose (D.seen.view disk.old).disk_faults (D.seen.view disk.new).disk_faults }
 {
     match channel_of(alloc, disk, archive) {
         Ok(channel) => {
@@ -79,33 +79,30 @@ pub fn relay<C: Dial, D: Disk>(
     archive: &mut Archive,
     plan: &PullPlan,
 ) -> RelayReport
-    requires stands { (log : List Entry) × (channel : List Track) × Stands archive.old log None (D.may_leave disk.old) × (channel_of log ≡ Some channel) }
+    requires stands { (log : List Entry) × (channel : List Track) × Stands archive.old log None (D.seen.may_leave disk.old) × (channel_of log ≡ Some channel) }
     requires rounds { 0 < plan.now.rounds }
     requires tries { 0 < plan.now.tries }
     // Each fragment was read of an answer to a request for its address, by the Url that the manifest of its round lists.
-    ensures relayed { (log : List Entry) (channel : List Track) → Stands archive.old log None (D.may_leave disk.old) → channel_of log ≡ Some channel
-        → (p : Relayed D.view D.left_at D.may_leave C.log C.store C.later C.dial_faults C.chosen plan.now channel disk.old disk.new dial.old dial.new archive.old
-        archive.new log result.end)
-        × (result.kept ≡ length (kept_in p.rounds ++ p.added))
+    ensures relayed { (log : List Entry) (channel : List Track) → Stands archive.old log None (D.seen.may_leave disk.old) → channel_of log ≡ Some channel
+        → (p : Relayed D.seen C.log C.store C.later C.dial_faults C.chosen plan.now channel disk.old disk.new dial.old dial.new archive.old
+        archive.new log result.end) × (result.kept ≡ length (kept_in p.rounds ++ p.added))
         × AllByRecursion (KeepsListed channel (log ++ keeps_of (kept_in p.rounds ++ p.added))) p.rounds }
     // Over an origin that keeps a log, a crash at any moment leaves a store whose Keeps that log keeps, where it kept those from before.
     ensures below { (log : List Entry) (channel up : List Track) (first last : List Entry) (before made : List Exchange)
-        → Stands archive.old log None (D.may_leave disk.old)
+        → Stands archive.old log None (D.seen.may_leave disk.old)
         → channel_of log ≡ Some channel → C.log dial.old ≡ Some before → C.log dial.new ≡ Some (before ++ made) → Serves plan.now.place up first last made
-        → Below log first
-        → IsSome (D.view disk.old).contents → Throughout D.view D.left_at disk.old disk.new (LeavesBelow last) }
+        → Below log first → IsSome (D.seen.view disk.old).contents → Throughout D.seen disk.old disk.new (LeavesBelow last) }
     // And where it answers each request, and its channel has the tracks, no answer of it ends the call.
     ensures well { (log : List Entry) (channel up : List Track) (first last : List Entry) (before made : List Exchange)
-        → Stands archive.old log None (D.may_leave disk.old)
+        → Stands archive.old log None (D.seen.may_leave disk.old)
         → channel_of log ≡ Some channel → C.log dial.old ≡ Some before → C.log dial.new ≡ Some (before ++ made) → Serves plan.now.place up first last made
-        → Below log first
-        → IsPatient made → AllByRecursion (IsOffered up) channel → EndsWell result.end }
-    ensures fault { result.end ≡ ends.DiskFault → Rose (D.view disk.old).disk_faults (D.view disk.new).disk_faults }
+        → Below log first → IsPatient made → AllByRecursion (IsOffered up) channel → EndsWell result.end }
+    ensures fault { result.end ≡ ends.DiskFault → Rose (D.seen.view disk.old).disk_faults (D.seen.view disk.new).disk_faults }
     ensures lost { Contains (carried result.end) miss.Lost → exchanges.Rose (C.dial_faults dial.old) (C.dial_faults dial.new) }
     // It stands for some log again, whichever it stood for.
-    ensures stands { (log : List Entry) × (doubt : Option Entry) × Stands archive.new log doubt (D.may_leave disk.new) }
+    ensures stands { (log : List Entry) × (doubt : Option Entry) × Stands archive.new log doubt (D.seen.may_leave disk.new) }
     ensures asks { (made : List Exchange) × Asks C.log C.store C.later C.dial_faults C.chosen dial.old dial.new made }
-    ensures disk_alone { DiskAlone (D.view disk.old) (D.view disk.new) }
+    ensures disk_alone { DiskAlone (D.seen.view disk.old) (D.seen.view disk.new) }
 {
     let before = archive.len();
     let end = relay_all(alloc, dial, disk, archive, plan);

@@ -26,14 +26,14 @@ pub fn pull_one<C: Dial, D: Disk>(
     track: &Track,
     time: u64,
 ) -> Result<(), Stop>
-    requires stands { (log : List Entry) × Stands archive.old log None (D.may_leave disk.old) }
-    ensures ok { OnOk result ((log : List Entry) → Stands archive.old log None (D.may_leave disk.old)
-        → Pulls D.view D.left_at D.may_leave C.log C.store C.later C.dial_faults C.chosen plan.now disk.old disk.new dial.old dial.new archive.old archive.new log
+    requires stands { (log : List Entry) × Stands archive.old log None (D.seen.may_leave disk.old) }
+    ensures ok { OnOk result ((log : List Entry) → Stands archive.old log None (D.seen.may_leave disk.old)
+        → Pulls D.seen C.log C.store C.later C.dial_faults C.chosen plan.now disk.old disk.new dial.old dial.new archive.old archive.new log
         ((record { url = url.now; address = address_at track.now time }) ∷ [])) }
-    ensures err { IfErr result (λ why. (log : List Entry) → Stands archive.old log None (D.may_leave disk.old)
-        → PullStops D.view D.left_at D.may_leave C.log C.store C.later C.dial_faults C.chosen plan.now disk.old disk.new dial.old dial.new archive.old archive.new log
+    ensures err { IfErr result (λ why. (log : List Entry) → Stands archive.old log None (D.seen.may_leave disk.old)
+        → PullStops D.seen C.log C.store C.later C.dial_faults C.chosen plan.now disk.old disk.new dial.old dial.new archive.old archive.new log
         ((record { url = url.now; address = address_at track.now time }) ∷ []) why) }
-    ensures fault { IsErrOf result stop.DiskFault → Rose (D.view disk.old).disk_faults (D.view disk.new).disk_faults }
+    ensures fault { IsErrOf result stop.DiskFault → Rose (D.seen.view disk.old).disk_faults (D.seen.view disk.new).disk_faults }
 {
     let Ok(address) = address_at(alloc, track, time) else {
         return Err(Stop::NoMemory);

@@ -31,14 +31,14 @@ fn pull_name<C: Dial, D: Disk>(
     track: &Track,
     listing: &Listing,
 ) -> Result<(), Stop>
-    requires stands { (log : List Entry) × Stands archive.old log None (D.may_leave disk.old) }
-    ensures ok { OnOk result ((log : List Entry) → Stands archive.old log None (D.may_leave disk.old)
-        → Pulls D.view D.left_at D.may_leave C.log C.store C.later C.dial_faults C.chosen plan.now disk.old disk.new dial.old dial.new archive.old archive.new log
+    requires stands { (log : List Entry) × Stands archive.old log None (D.seen.may_leave disk.old) }
+    ensures ok { OnOk result ((log : List Entry) → Stands archive.old log None (D.seen.may_leave disk.old)
+        → Pulls D.seen C.log C.store C.later C.dial_faults C.chosen plan.now disk.old disk.new dial.old dial.new archive.old archive.new log
         (first_wants channel.now listing.now before.now track.now)) }
-    ensures err { IfErr result (λ why. (log : List Entry) → Stands archive.old log None (D.may_leave disk.old)
-        → PullStops D.view D.left_at D.may_leave C.log C.store C.later C.dial_faults C.chosen plan.now disk.old disk.new dial.old dial.new archive.old archive.new log
+    ensures err { IfErr result (λ why. (log : List Entry) → Stands archive.old log None (D.seen.may_leave disk.old)
+        → PullStops D.seen C.log C.store C.later C.dial_faults C.chosen plan.now disk.old disk.new dial.old dial.new archive.old archive.new log
         (first_wants channel.now listing.now before.now track.now) why) }
-    ensures fault { IsErrOf result stop.DiskFault → Rose (D.view disk.old).disk_faults (D.view disk.new).disk_faults }
+    ensures fault { IsErrOf result stop.DiskFault → Rose (D.seen.view disk.old).disk_faults (D.seen.view disk.new).disk_faults }
 {
     if has_name(before, &track.name) {
         return Ok(());
@@ -59,14 +59,14 @@ fn pull_listing<C: Dial, D: Disk>(
     channel: &[Track],
     listing: &Listing,
 ) -> Result<(), Stop>
-    requires stands { (log : List Entry) × Stands archive.old log None (D.may_leave disk.old) }
-    ensures ok { OnOk result ((log : List Entry) → Stands archive.old log None (D.may_leave disk.old)
-        → Pulls D.view D.left_at D.may_leave C.log C.store C.later C.dial_faults C.chosen plan.now disk.old disk.new dial.old dial.new archive.old archive.new log
+    requires stands { (log : List Entry) × Stands archive.old log None (D.seen.may_leave disk.old) }
+    ensures ok { OnOk result ((log : List Entry) → Stands archive.old log None (D.seen.may_leave disk.old)
+        → Pulls D.seen C.log C.store C.later C.dial_faults C.chosen plan.now disk.old disk.new dial.old dial.new archive.old archive.new log
         (wants_of channel.now listing.now)) }
-    ensures err { IfErr result (λ why. (log : List Entry) → Stands archive.old log None (D.may_leave disk.old)
-        → PullStops D.view D.left_at D.may_leave C.log C.store C.later C.dial_faults C.chosen plan.now disk.old disk.new dial.old dial.new archive.old archive.new log
+    ensures err { IfErr result (λ why. (log : List Entry) → Stands archive.old log None (D.seen.may_leave disk.old)
+        → PullStops D.seen C.log C.store C.later C.dial_faults C.chosen plan.now disk.old disk.new dial.old dial.new archive.old archive.new log
         (wants_of channel.now listing.now) why) }
-    ensures fault { IsErrOf result stop.DiskFault → Rose (D.view disk.old).disk_faults (D.view disk.new).disk_faults }
+    ensures fault { IsErrOf result stop.DiskFault → Rose (D.seen.view disk.old).disk_faults (D.seen.view disk.new).disk_faults }
 {
     for (at, track) in channel.iter().enumerate() {
         let (before, _) = channel.split_at(at);
@@ -90,14 +90,14 @@ pub fn pull_round<C: Dial, D: Disk>(
     channel: &[Track],
 ) -> Result<(), Stop>
     requires few { length channel.now ≤ 64 }
-    requires stands { (log : List Entry) × Stands archive.old log None (D.may_leave disk.old) }
-    ensures ok { OnOk result ((log : List Entry) → Stands archive.old log None (D.may_leave disk.old)
-        → RunsRound D.view D.left_at D.may_leave C.log C.store C.later C.dial_faults C.chosen plan.now channel.now disk.old disk.new dial.old dial.new archive.old
+    requires stands { (log : List Entry) × Stands archive.old log None (D.seen.may_leave disk.old) }
+    ensures ok { OnOk result ((log : List Entry) → Stands archive.old log None (D.seen.may_leave disk.old)
+        → RunsRound D.seen C.log C.store C.later C.dial_faults C.chosen plan.now channel.now disk.old disk.new dial.old dial.new archive.old
         archive.new log) }
-    ensures err { IfErr result (λ why. (log : List Entry) → Stands archive.old log None (D.may_leave disk.old)
-        → BreaksRound D.view D.left_at D.may_leave C.log C.store C.later C.dial_faults C.chosen plan.now channel.now disk.old disk.new dial.old dial.new archive.old
+    ensures err { IfErr result (λ why. (log : List Entry) → Stands archive.old log None (D.seen.may_leave disk.old)
+        → BreaksRound D.seen C.log C.store C.later C.dial_faults C.chosen plan.now channel.now disk.old disk.new dial.old dial.new archive.old
         archive.new log why) }
-    ensures fault { IsErrOf result stop.DiskFault → Rose (D.view disk.old).disk_faults (D.view disk.new).disk_faults }
+    ensures fault { IsErrOf result stop.DiskFault → Rose (D.seen.view disk.old).disk_faults (D.seen.view disk.new).disk_faults }
 {
     match read_listing(alloc, dial, &plan.place, plan.tries) {
         Manifest::Read(listing) => match first_missing(channel, &listing) {

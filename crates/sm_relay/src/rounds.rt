@@ -36,14 +36,14 @@ fn pull_turn<C: Dial, D: Disk>(
     round: u64,
 ) -> Result<(), Stop>
     requires few { length channel.now ≤ 64 }
-    requires stands { (log : List Entry) × Stands archive.old log None (D.may_leave disk.old) }
-    ensures ok { OnOk result ((log : List Entry) → Stands archive.old log None (D.may_leave disk.old)
-        → RunsRound D.view D.left_at D.may_leave C.log C.store C.later C.dial_faults C.chosen plan.now channel.now disk.old disk.new dial.old dial.new archive.old
+    requires stands { (log : List Entry) × Stands archive.old log None (D.seen.may_leave disk.old) }
+    ensures ok { OnOk result ((log : List Entry) → Stands archive.old log None (D.seen.may_leave disk.old)
+        → RunsRound D.seen C.log C.store C.later C.dial_faults C.chosen plan.now channel.now disk.old disk.new dial.old dial.new archive.old
         archive.new log) }
-    ensures err { IfErr result (λ why. (log : List Entry) → Stands archive.old log None (D.may_leave disk.old)
-        → BreaksRound D.view D.left_at D.may_leave C.log C.store C.later C.dial_faults C.chosen plan.now channel.now disk.old disk.new dial.old dial.new archive.old
+    ensures err { IfErr result (λ why. (log : List Entry) → Stands archive.old log None (D.seen.may_leave disk.old)
+        → BreaksRound D.seen C.log C.store C.later C.dial_faults C.chosen plan.now channel.now disk.old disk.new dial.old dial.new archive.old
         archive.new log why) }
-    ensures fault { IsErrOf result stop.DiskFault → Rose (D.view disk.old).disk_faults (D.view disk.new).disk_faults }
+    ensures fault { IsErrOf result stop.DiskFault → Rose (D.seen.view disk.old).disk_faults (D.seen.view disk.new).disk_faults }
 {
     pause_before(dial, round);
     pull_round(alloc, dial, disk, archive, plan, channel)
@@ -59,14 +59,14 @@ pub fn pull_rounds<C: Dial, D: Disk>(
     channel: &[Track],
 ) -> Result<(), Stop>
     requires few { length channel.now ≤ 64 }
-    requires stands { (log : List Entry) × Stands archive.old log None (D.may_leave disk.old) }
-    ensures ok { OnOk result ((log : List Entry) → Stands archive.old log None (D.may_leave disk.old)
-        → Ran D.view D.left_at D.may_leave C.log C.store C.later C.dial_faults C.chosen plan.now channel.now disk.old disk.new dial.old dial.new archive.old archive.new
+    requires stands { (log : List Entry) × Stands archive.old log None (D.seen.may_leave disk.old) }
+    ensures ok { OnOk result ((log : List Entry) → Stands archive.old log None (D.seen.may_leave disk.old)
+        → Ran D.seen C.log C.store C.later C.dial_faults C.chosen plan.now channel.now disk.old disk.new dial.old dial.new archive.old archive.new
         log plan.now.rounds) }
-    ensures err { IfErr result (λ why. (log : List Entry) → Stands archive.old log None (D.may_leave disk.old)
-        → RanOut D.view D.left_at D.may_leave C.log C.store C.later C.dial_faults C.chosen plan.now channel.now disk.old disk.new dial.old dial.new archive.old
+    ensures err { IfErr result (λ why. (log : List Entry) → Stands archive.old log None (D.seen.may_leave disk.old)
+        → RanOut D.seen C.log C.store C.later C.dial_faults C.chosen plan.now channel.now disk.old disk.new dial.old dial.new archive.old
         archive.new log why) }
-    ensures fault { IsErrOf result stop.DiskFault → Rose (D.view disk.old).disk_faults (D.view disk.new).disk_faults }
+    ensures fault { IsErrOf result stop.DiskFault → Rose (D.seen.view disk.old).disk_faults (D.seen.view disk.new).disk_faults }
 {
     for round in 0..plan.rounds {
         match pull_turn(alloc, dial, disk, archive, plan, channel, round) {

@@ -28,14 +28,14 @@ fn pull_track<C: Dial, D: Disk>(
     stream: &StreamListing,
     time: u64,
 ) -> Result<(), Stop>
-    requires stands { (log : List Entry) × Stands archive.old log None (D.may_leave disk.old) }
-    ensures ok { OnOk result ((log : List Entry) → Stands archive.old log None (D.may_leave disk.old)
-        → Pulls D.view D.left_at D.may_leave C.log C.store C.later C.dial_faults C.chosen plan.now disk.old disk.new dial.old dial.new archive.old archive.new log
+    requires stands { (log : List Entry) × Stands archive.old log None (D.seen.may_leave disk.old) }
+    ensures ok { OnOk result ((log : List Entry) → Stands archive.old log None (D.seen.may_leave disk.old)
+        → Pulls D.seen C.log C.store C.later C.dial_faults C.chosen plan.now disk.old disk.new dial.old dial.new archive.old archive.new log
         (wants_at stream.now.pattern time (tracks_of stream.now.name (track.now ∷ [])))) }
-    ensures err { IfErr result (λ why. (log : List Entry) → Stands archive.old log None (D.may_leave disk.old)
-        → PullStops D.view D.left_at D.may_leave C.log C.store C.later C.dial_faults C.chosen plan.now disk.old disk.new dial.old dial.new archive.old archive.new log
+    ensures err { IfErr result (λ why. (log : List Entry) → Stands archive.old log None (D.seen.may_leave disk.old)
+        → PullStops D.seen C.log C.store C.later C.dial_faults C.chosen plan.now disk.old disk.new dial.old dial.new archive.old archive.new log
         (wants_at stream.now.pattern time (tracks_of stream.now.name (track.now ∷ []))) why) }
-    ensures fault { IsErrOf result stop.DiskFault → Rose (D.view disk.old).disk_faults (D.view disk.new).disk_faults }
+    ensures fault { IsErrOf result stop.DiskFault → Rose (D.seen.view disk.old).disk_faults (D.seen.view disk.new).disk_faults }
 {
     if track.name != stream.name {
         return Ok(());
@@ -63,14 +63,14 @@ fn pull_time<C: Dial, D: Disk>(
     stream: &StreamListing,
     time: u64,
 ) -> Result<(), Stop>
-    requires stands { (log : List Entry) × Stands archive.old log None (D.may_leave disk.old) }
-    ensures ok { OnOk result ((log : List Entry) → Stands archive.old log None (D.may_leave disk.old)
-        → Pulls D.view D.left_at D.may_leave C.log C.store C.later C.dial_faults C.chosen plan.now disk.old disk.new dial.old dial.new archive.old archive.new log
+    requires stands { (log : List Entry) × Stands archive.old log None (D.seen.may_leave disk.old) }
+    ensures ok { OnOk result ((log : List Entry) → Stands archive.old log None (D.seen.may_leave disk.old)
+        → Pulls D.seen C.log C.store C.later C.dial_faults C.chosen plan.now disk.old disk.new dial.old dial.new archive.old archive.new log
         (wants_at stream.now.pattern time (tracks_of stream.now.name channel.now))) }
-    ensures err { IfErr result (λ why. (log : List Entry) → Stands archive.old log None (D.may_leave disk.old)
-        → PullStops D.view D.left_at D.may_leave C.log C.store C.later C.dial_faults C.chosen plan.now disk.old disk.new dial.old dial.new archive.old archive.new log
+    ensures err { IfErr result (λ why. (log : List Entry) → Stands archive.old log None (D.seen.may_leave disk.old)
+        → PullStops D.seen C.log C.store C.later C.dial_faults C.chosen plan.now disk.old disk.new dial.old dial.new archive.old archive.new log
         (wants_at stream.now.pattern time (tracks_of stream.now.name channel.now)) why) }
-    ensures fault { IsErrOf result stop.DiskFault → Rose (D.view disk.old).disk_faults (D.view disk.new).disk_faults }
+    ensures fault { IsErrOf result stop.DiskFault → Rose (D.seen.view disk.old).disk_faults (D.seen.view disk.new).disk_faults }
 {
     for track in channel {
         match pull_track(alloc, dial, disk, archive, plan, track, stream, time) {
@@ -91,14 +91,14 @@ pub fn pull_stream<C: Dial, D: Disk>(
     channel: &[Track],
     stream: &StreamListing,
 ) -> Result<(), Stop>
-    requires stands { (log : List Entry) × Stands archive.old log None (D.may_leave disk.old) }
-    ensures ok { OnOk result ((log : List Entry) → Stands archive.old log None (D.may_leave disk.old)
-        → Pulls D.view D.left_at D.may_leave C.log C.store C.later C.dial_faults C.chosen plan.now disk.old disk.new dial.old dial.new archive.old archive.new log
+    requires stands { (log : List Entry) × Stands archive.old log None (D.seen.may_leave disk.old) }
+    ensures ok { OnOk result ((log : List Entry) → Stands archive.old log None (D.seen.may_leave disk.old)
+        → Pulls D.seen C.log C.store C.later C.dial_faults C.chosen plan.now disk.old disk.new dial.old dial.new archive.old archive.new log
         (wants_over stream.now.pattern (tracks_of stream.now.name channel.now) stream.now.times)) }
-    ensures err { IfErr result (λ why. (log : List Entry) → Stands archive.old log None (D.may_leave disk.old)
-        → PullStops D.view D.left_at D.may_leave C.log C.store C.later C.dial_faults C.chosen plan.now disk.old disk.new dial.old dial.new archive.old archive.new log
+    ensures err { IfErr result (λ why. (log : List Entry) → Stands archive.old log None (D.seen.may_leave disk.old)
+        → PullStops D.seen C.log C.store C.later C.dial_faults C.chosen plan.now disk.old disk.new dial.old dial.new archive.old archive.new log
         (wants_over stream.now.pattern (tracks_of stream.now.name channel.now) stream.now.times) why) }
-    ensures fault { IsErrOf result stop.DiskFault → Rose (D.view disk.old).disk_faults (D.view disk.new).disk_faults }
+    ensures fault { IsErrOf result stop.DiskFault → Rose (D.seen.view disk.old).disk_faults (D.seen.view disk.new).disk_faults }
 {
     for time in stream.times.as_slice() {
         match pull_time(alloc, dial, disk, archive, plan, channel, stream, time.0) {

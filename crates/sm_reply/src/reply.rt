@@ -1,5 +1,5 @@
 //! What an act answers.
-ghost use Rattle.std.specs.Prelude.{◌≡◌, [], IfOk};
+ghost use Rattle.std.specs.Prelude.{◌≡◌, ◌==◌, [], IfOk};
 ghost use Rattle.sm_reply.specs.Replies.{ok, silent, no_memory};
 
 use sm_head::{Content, put_response};
@@ -29,6 +29,22 @@ pub struct Reply {
     pub close: bool,
     /// How the end of a push counts it.
     pub counted: Counted,
+}
+
+impl Reply {
+    /// Whether nothing is said, and the connection goes on.
+    pub fn is_silent(&self) -> bool
+        ensures { result ≡ (self.now.status == 0) }
+    {
+        self.status == 0
+    }
+
+    /// Whether it tells a want of memory, for which a text stands ready.
+    pub fn is_starved(&self) -> bool
+        ensures { result ≡ (self.now.status == 500) }
+    {
+        self.status == 500
+    }
 }
 
 fn nothing(alloc: Global) -> Text

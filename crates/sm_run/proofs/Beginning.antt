@@ -5,7 +5,7 @@ use Rattle.sm_model.specs.declared.entry.Entry.{Entry}
 use Rattle.sm_model.specs.declared.track.Track.{Track}
 use Rattle.sm_site.specs.Clauses.{Rose}
 use Rattle.sm_site.specs.Image.{Image}
-use Rattle.sm_site.specs.Meanings.{Chosen, View, Item}
+use Rattle.sm_site.specs.Meanings.{Chosen, View, Item, Seen}
 use Rattle.sm_seglog.specs.Stores.{HasStore}
 use Rattle.sm_archive.specs.Store.{IsStore, Spell}
 use Rattle.sm_origin.specs.Machine.{Machine}
@@ -18,7 +18,7 @@ use Rattle.sm_serve.specs.Connections.{deals_in, events_in}
 use Rattle.sm_serve.specs.Serving.{Begins, EndsAs, Known, Serves, Served}
 use Rattle.sm_command.specs.declared.fault.StoreFault.{StoreFault}
 use Rattle.sm_command.specs.Lasting.{AtEachMoment, NoFewer}
-use Rattle.sm_command.specs.Serving.{Input, Found, GoesUnseen, IsBegun}
+use Rattle.sm_command.specs.Serving.{Found, GoesUnseen, IsBegun}
 use Rattle.sm_command.proofs.Starting.{IsPrepared, early, serves_early, why_stopped}
 use Rattle.sm_shelf.specs.Laying.{nothing}
 use Rattle.sm_shelf.specs.Shelf.{Belongs, Desk}
@@ -31,6 +31,7 @@ use Rattle.sm_run.specs.declared.fault.ShowFault.TheVariants as fault
 use Rattle.sm_run.specs.declared.showing.Ended.{Ended}
 use Rattle.sm_run.specs.Showing.{IsReady, IsSelectedWith, RunsShown, ShownFrom, StopsShort, WhyUnshown}
 use Rattle.sm_run.specs.Staff.{IsUnstaffed, Staff}
+use Rattle.sm_ends.specs.Ended.{End}
 
 -- a shelf with nothing belongs to each log
 pub nothing_belongs : (log : List Entry) → Belongs log (record { published = nothing; pending = [] })
@@ -61,41 +62,41 @@ begun_since old mid found first m channel base was h few is is_first is_base b =
 }
 
 -- from a state that is prepared the loop ran, and this was shown
-pub shown_from : {D : Type 0} (view : D → View) (leave : D → Image → Type 0) (left_at : D → ℕ → Image → Type 0) (ladder : Bool) (told told' : Option (List ℕ)) (turns : ℕ) (state : State) (d : D)
-    (state' : State) (d' : D) (after : State) (e : D) (end : Outcome) → IsPrepared view leave left_at ladder told told' state d state' d' → (view d').link_faults ≡ (view d).link_faults
-    → (end ≡ served.LinkFault → Rose (view d').link_faults (view e).link_faults)
-    → ((h : History) → Serves view leave left_at h state' d' → Served view leave left_at h end turns after e)
-    → ((h : History) → Serves view leave left_at h state' d' → IsSome (view d').contents → (desk : Desk) × (run : Served view leave left_at h end turns after e) × HasShown h end run.later desk)
-    → ShownFrom view leave left_at ladder told told' turns state d e end
-shown_from view leave left_at ladder told told' turns state d state' d' after e end p same blamed runs shows = record {
+pub shown_from : {D : Type 0} (site : Seen D) (ladder : Bool) (told told' : Option (List ℕ)) (turns : ℕ) (state : State) (d : D)
+    (state' : State) (d' : D) (after : State) (e : D) (end : Outcome) → IsPrepared site ladder told told' state d state' d' → (site.view d').link_faults ≡ (site.view d).link_faults
+    → (end ≡ served.LinkFault → Rose (site.view d').link_faults (site.view e).link_faults)
+    → ((h : History) → Serves site h state' d' → Served site h end turns after e)
+    → ((h : History) → Serves site h state' d' → IsSome (site.view d').contents → (desk : Desk) × (run : Served site h end turns after e) × HasShown h end run.later desk)
+    → ShownFrom site ladder told told' turns state d e end
+shown_from site ladder told told' turns state d state' d' after e end p same blamed runs shows = record {
   from = record {
     channel = p.channel;
     input = p.input;
-    blamed = λ is. link_before (view d).link_faults (view d').link_faults (view e).link_faults same (blamed is);
+    blamed = λ is. link_before (site.view d).link_faults (site.view d').link_faults (site.view e).link_faults same (blamed is);
     run = λ b serves none no_step. (let h = p.begun b serves none no_step in (h.0, h.1, h.2, (after, runs h.0 h.3)));
   };
   shown = λ some b serves none no_step.
       let h = p.begun b serves none no_step in
       let s = runs h.0 h.3 in
-      let here : is_told (view e) ≡ is_told (view d') = s.still_told ∙ ap (λ (v : View). is_told v) s.since.found ∙ sym h.3.keeps.still_told in
-      let x = shows h.0 h.3 (some_told (view e).contents (view d').contents here some) in
+      let here : is_told (site.view e) ≡ is_told (site.view d') = s.still_told ∙ ap (λ (v : View). is_told v) s.since.found ∙ sym h.3.keeps.still_told in
+      let x = shows h.0 h.3 (some_told (site.view e).contents (site.view d').contents here some) in
       (h.0, h.1, h.2, (after, x.0, x.1, x.2));
 }
 
 -- ---- the whole
 
-pub runs_shown : {D : Type 0} (view : D → View) (leave : D → Image → Type 0) (left_at : D → ℕ → Image → Type 0) (pass : (d : D) → IfSome (view d).contents (leave d))
-    (at_now : (d : D) (c : Image) → left_at d (view d).moment c → leave d c) (now_at : (d : D) (c : Image) → leave d c → left_at d (view d).moment c)
+pub runs_shown : {D : Type 0} (site : Seen D) (pass : (d : D) → IfSome (site.view d).contents (site.may_leave d))
+    (at_now : (d : D) (c : Image) → site.left_at d (site.view d).moment c → site.may_leave d c) (now_at : (d : D) (c : Image) → site.may_leave d c → site.left_at d (site.view d).moment c)
     (one_list : (xs ys : List (List ℕ)) (image : Image) → HasStore xs image → HasStore ys image → xs ≡ ys)
     (one_log : (bodies : List (List ℕ)) (a b : List Entry) → Spell bodies a → Spell bodies b → a ≡ b)
-    (ladder : Bool) (told told' : Option (List ℕ)) (turns : ℕ) (state : State) (old mid new : D) (r : Result Ended ShowFault) → Found view leave state old mid
-    → Begins view leave left_at state mid → ((log : List Entry) → HasOneStore log (leave old) → AtEachMoment view left_at old mid (IsStore log))
-    → (view mid).transcript ≡ (view old).transcript → NoFewer (view old) (view mid)
-    → IfOk r (λ e. ShownFrom view leave left_at ladder told told' turns state mid new e.served) → IfOk r (λ e. RunsShown view leave left_at ladder told told' turns old new e.served)
-runs_shown view leave left_at pass at_now now_at one_list one_log ladder told told' turns state old mid new (Err why) f begin all same le s = tt
-runs_shown view leave left_at pass at_now now_at one_list one_log ladder told told' turns state old mid new (Ok e) f begin all same le s =
-    let early_is = λ (some : IsSome (view old).contents) (log : List Entry) (one : HasOneStore log (leave old)) (base : List Item) (is : (view old).transcript ≡ Some base).
-    serves_early view leave left_at pass at_now now_at one_list one_log state old mid f same begin some log one (all log one) base is in
+    (ladder : Bool) (told told' : Option (List ℕ)) (turns : ℕ) (state : State) (old mid new : D) (r : Result Ended ShowFault) → Found site state old mid
+    → Begins site state mid → ((log : List Entry) → HasOneStore log (site.may_leave old) → AtEachMoment site old mid (IsStore log))
+    → (site.view mid).transcript ≡ (site.view old).transcript → NoFewer (site.view old) (site.view mid)
+    → IfOk r (λ e. ShownFrom site ladder told told' turns state mid new e.served) → IfOk r (λ e. RunsShown site ladder told told' turns old new e.served)
+runs_shown site pass at_now now_at one_list one_log ladder told told' turns state old mid new (Err why) f begin all same le s = tt
+runs_shown site pass at_now now_at one_list one_log ladder told told' turns state old mid new (Ok e) f begin all same le s =
+    let early_is = λ (some : IsSome (site.view old).contents) (log : List Entry) (one : HasOneStore log (site.may_leave old)) (base : List Item) (is : (site.view old).transcript ≡ Some base).
+    serves_early site pass at_now now_at one_list one_log state old mid f same begin some log one (all log one) base is in
     record {
       run = record {
         start = state;
@@ -105,22 +106,22 @@ runs_shown view leave left_at pass at_now now_at one_list one_log ladder told to
         silent = same;
         channel = s.from.channel;
         input = s.from.input;
-        blamed = λ is. later_rose (view old).link_faults (view mid).link_faults (view new).link_faults le.link (s.from.blamed is);
+        blamed = λ is. later_rose (site.view old).link_faults (site.view mid).link_faults (site.view new).link_faults le.link (s.from.blamed is);
         run = λ base is.
             let b = begin f.machine base f.stands (same ∙ is) in
             let h = s.from.run b.0 b.6 b.4 b.5 in
-            (h.0, h.1 ∙ b.2, begun_since (view old) (view mid) b.0.found b.0.first f.machine s.from.channel base b.0.base h.0 le b.7 b.1 b.3 h.2, h.3);
+            (h.0, h.1 ∙ b.2, begun_since (site.view old) (site.view mid) b.0.found b.0.first f.machine s.from.channel base b.0.base h.0 le b.7 b.1 b.3 h.2, h.3);
         whole = λ some log one base is.
-            let h = s.from.run (early f.machine (view old).moment base (view mid)) (early_is some log one base is) refl refl in
-            (h.0, h.1, begun_since (view old) (view mid) (view mid) f.machine f.machine s.from.channel base base h.0 le refl refl refl h.2, h.3);
+            let h = s.from.run (early f.machine (site.view old).moment base (site.view mid)) (early_is some log one base is) refl refl in
+            (h.0, h.1, begun_since (site.view old) (site.view mid) (site.view mid) f.machine f.machine s.from.channel base base h.0 le refl refl refl h.2, h.3);
       };
       shown = λ some base is.
           let b = begin f.machine base f.stands (same ∙ is) in
           let h = s.shown some b.0 b.6 b.4 b.5 in
-          (h.0, h.1 ∙ b.2, begun_since (view old) (view mid) b.0.found b.0.first f.machine s.from.channel base b.0.base h.0 le b.7 b.1 b.3 h.2, h.3);
+          (h.0, h.1 ∙ b.2, begun_since (site.view old) (site.view mid) b.0.found b.0.first f.machine s.from.channel base b.0.base h.0 le b.7 b.1 b.3 h.2, h.3);
       whole = λ some some_new log one base is.
-          let h = s.shown some_new (early f.machine (view old).moment base (view mid)) (early_is some log one base is) refl refl in
-          (h.0, h.1, begun_since (view old) (view mid) (view mid) f.machine f.machine s.from.channel base base h.0 le refl refl refl h.2, h.3);
+          let h = s.shown some_new (early f.machine (site.view old).moment base (site.view mid)) (early_is some log one base is) refl refl in
+          (h.0, h.1, begun_since (site.view old) (site.view mid) (site.view mid) f.machine f.machine s.from.channel base base h.0 le refl refl refl h.2, h.3);
     }
 
 -- ---- what is read back before the players start
@@ -129,22 +130,22 @@ pub on_err : {T E : Type 0} (r : Result T E) (P : Type 0) → P → OnErr r P
 on_err (Ok x) P p = tt
 on_err (Err e) P p = p
 
-module _ {D : Type 0} (view : D → View) (leave : D → Image → Type 0) (left_at : D → ℕ → Image → Type 0) where
-  pub known_before : (state : State) (old mid : D) → Recalls view leave left_at state old mid → Known view leave left_at state old → Known view leave left_at state mid
+module _ {D : Type 0} (site : Seen D) where
+  pub known_before : (state : State) (old mid : D) → Recalls site state old mid → Known site state old → Known site state mid
   known_before state old mid r known some =
-      let k = known (subst (λ (o : Option (List Item)). IsSome o) r.link.transcript some) in
+      let k = known (subst (λ (o : Option (List Item)). IsSome o) r.disk_alone.link.transcript some) in
       let u = r.rests k.0 k.1 in
       (u.later, u.serves)
 
   -- the loop that ran behind it ran from before
-  unfoldable pub served_before : (h : History) (state : State) (mid : D) (end : Outcome) (turns : ℕ) (after : State) (e : D) (u : Rests view leave left_at h state mid)
-      → Served view leave left_at u.later end turns after e → Served view leave left_at h end turns after e
+  unfoldable pub served_before : (h : History) (state : State) (mid : D) (end : Outcome) (turns : ℕ) (after : State) (e : D) (u : Rests site h state mid)
+      → Served site u.later end turns after e → Served site h end turns after e
   served_before h state mid end turns after e u s = record {
     later = s.later;
     since = since_then h u.later s.later u.since s.since;
     deals = s.deals;
     taken = s.taken ∙ ap (λ (is : List Item). deals_in is ++ s.deals) u.same;
-    ended = subst (λ (is : List Item). EndsAs turns end (view e).transcript (events_in is) (events_in s.later.items) s.deals) u.same s.ended;
+    ended = subst (λ (is : List Item). EndsAs turns end (site.view e).transcript (events_in is) (events_in s.later.items) s.deals) u.same s.ended;
     run = s.run;
     awaits = s.awaits;
     told = s.told;
@@ -157,7 +158,7 @@ module _ {D : Type 0} (view : D → View) (leave : D → Image → Type 0) (left
     survives = s.survives;
   }
 
-  pub shown_before : (h : History) (state : State) (mid : D) (end : Outcome) (later : History) (desk : Desk) (u : Rests view leave left_at h state mid) → IsSome (view mid).contents
+  pub shown_before : (h : History) (state : State) (mid : D) (end : Outcome) (later : History) (desk : Desk) (u : Rests site h state mid) → IsSome (site.view mid).contents
       → HasShown u.later end later desk → HasShown h end later desk
   shown_before h state mid (served.Done taken behind short) later desk u told s = (
     s.0,
@@ -178,7 +179,7 @@ module _ {D : Type 0} (view : D → View) (leave : D → Image → Type 0) (left
   shown_before h state mid served.NoMemory later desk u told s = s
 
   -- a run that went on unseen up to it goes on unseen behind it
-  pub unseen_behind : (h : History) (state : State) (mid new : D) → Recalls view leave left_at state mid new → GoesUnseen view leave left_at h state mid → GoesUnseen view leave left_at h state new
+  pub unseen_behind : (h : History) (state : State) (mid new : D) → Recalls site state mid new → GoesUnseen site h state mid → GoesUnseen site h state new
   unseen_behind h state mid new r u =
       let k = r.rests u.later u.serves in
       record { later = k.later; serves = k.serves; since = since_then h u.later k.later u.since k.since; same = k.same ∙ u.same }
@@ -192,14 +193,14 @@ more_counts a b c first second =
     record { disk = omega (arith, disk, disk_yet); link = omega (arith, link, link_yet) }
 
 -- behind the opening no event was waited for
-pub why_short : {D : Type 0} (view : D → View) (leave : D → Image → Type 0) (left_at : D → ℕ → Image → Type 0) (ladder : Bool) (wires : Wires) (input input' : Input) (staff staff' : Staff) (state : State) (old mid new : D)
-    (r : Result Ended ShowFault) → Found view leave state old mid → NoFewer (view old) (view mid) → (view mid).transcript ≡ (view old).transcript → Begins view leave left_at state mid
-    → IfErr r (λ why. StopsShort view leave left_at ladder wires input input' staff staff' state mid new why) → OnErr r ((view new).transcript ≡ (view mid).transcript) → OnErr r (NoFewer (view mid) (view new))
-    → input.faults ≤ input'.faults → IfErr r (λ why. WhyUnshown view leave left_at ladder wires input input' staff staff' old new why)
-why_short view leave left_at ladder wires input input' staff staff' state old mid new (Ok e) f few silent begin h still counts counted = tt
-why_short view leave left_at ladder wires input input' staff staff' state old mid new (Err (fault.Store why)) f few silent begin h still counts counted =
-    (why_stopped view leave left_at ladder input input' state old mid new (Err why) f few silent begin h.0 still counts counted, h.1)
-why_short view leave left_at ladder wires input input' staff staff' state old mid new (Err (fault.Spawn why)) f few silent begin h still counts counted = (
+pub why_short : {D : Type 0} (site : Seen D) (ladder : Bool) (wires : Wires) (input input' : End) (staff staff' : Staff) (state : State) (old mid new : D)
+    (r : Result Ended ShowFault) → Found site state old mid → NoFewer (site.view old) (site.view mid) → (site.view mid).transcript ≡ (site.view old).transcript → Begins site state mid
+    → IfErr r (λ why. StopsShort site ladder wires input input' staff staff' state mid new why) → OnErr r ((site.view new).transcript ≡ (site.view mid).transcript) → OnErr r (NoFewer (site.view mid) (site.view new))
+    → input.faults ≤ input'.faults → IfErr r (λ why. WhyUnshown site ladder wires input input' staff staff' old new why)
+why_short site ladder wires input input' staff staff' state old mid new (Ok e) f few silent begin h still counts counted = tt
+why_short site ladder wires input input' staff staff' state old mid new (Err (fault.Store why)) f few silent begin h still counts counted =
+    (why_stopped site ladder input input' state old mid new (Err why) f few silent begin h.0 still counts counted, h.1)
+why_short site ladder wires input input' staff staff' state old mid new (Err (fault.Spawn why)) f few silent begin h still counts counted = (
   record {
     state = state;
     opened = mid;
@@ -210,7 +211,7 @@ why_short view leave left_at ladder wires input input' staff staff' state old mi
     means = h.0.2;
     reads = h.0.3;
     silent = still ∙ silent;
-    no_fewer = more_counts (view old) (view mid) (view new) few counts;
+    no_fewer = more_counts (site.view old) (site.view mid) (site.view new) few counts;
   },
   h.1,
 )

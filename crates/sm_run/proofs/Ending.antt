@@ -3,8 +3,7 @@ use Rattle.std.proofs.Common.{◌≡◌, ◌⊎◌, ◌≤◌, inl, inr, ℕ, ze
 use Rattle.std.specs.Prelude.{IfOk, IfSome, OnErr}
 use Rattle.std.specs.Option.{option_map}
 use Rattle.sm_model.specs.declared.no_memory.NoMemory.{NoMemory}
-use Rattle.sm_site.specs.Image.{Image}
-use Rattle.sm_site.specs.Meanings.{Chosen, View}
+use Rattle.sm_site.specs.Meanings.{Chosen, View, Seen}
 use Rattle.sm_client.specs.Turns.{Meaning}
 use Rattle.sm_serve.specs.declared.outcome.Served.{Served as Outcome}
 use Rattle.sm_serve.specs.declared.outcome.Served.TheVariants as served
@@ -13,12 +12,11 @@ use Rattle.sm_players.specs.declared.spawner.SpawnError.TheVariants as spawn
 use Rattle.sm_players.specs.Wiring.{Wires}
 use Rattle.sm_command.specs.declared.fault.StoreFault.{StoreFault}
 use Rattle.sm_command.specs.Lasting.{Lasts, Spared, Untouched}
-use Rattle.sm_command.specs.Serving.{Input}
 use Rattle.sm_tool.specs.declared.answer.Answer.{Answer}
 use Rattle.sm_tool.specs.declared.answer.Answer.TheVariants.{Found, LinkFault, NotAStore, Starved}
 use Rattle.sm_tool.specs.Edges.{Dialing}
 use Rattle.sm_tool.specs.Ran.{Around, Prints}
-use Rattle.sm_tool.specs.Stores.{End, IsSelected, Tells, chosen_of, input_of, or_starved}
+use Rattle.sm_tool.specs.Stores.{IsSelected, Tells, chosen_of, or_starved}
 use Rattle.sm_tool.proofs.Storing.{placed, selected, told_selected}
 use Rattle.sm_words.specs.Words.{Serving, ServeShown, Wanted, Pick, Serve, Push, Play, Relay, Standby, Listing, Rehearse, Export, Help, Version, asked}
 use Rattle.sm_words.specs.Orders.{IsShowable, serving_of}
@@ -31,6 +29,7 @@ use Rattle.sm_run.specs.Runs.{IsShown, RunsBy, ShowAnswers, shown_by}
 use Rattle.sm_run.specs.Showing.{IsSelectedWith, WhyUnshown}
 use Rattle.sm_run.specs.Staff.{Staff, wires_of}
 use Rattle.sm_run.specs.Telling.{TellsShown, TellsUnshown, answer_of, shown_line}
+use Rattle.sm_ends.specs.Ended.{End}
 
 -- ---- telling
 
@@ -70,13 +69,13 @@ pub shown_is_store : (end : Outcome) (f : Finished) (answer : Answer) (line : Li
 shown_is_store end f answer line (inl tells) is = no_store end f line (sym tells ∙ is)
 shown_is_store end f answer line (inr starved) is = let no = sym starved.0 ∙ is in cc
 
-pub unwritten_unshown : {D : Type 0} (view : D → View) (leave : D → Image → Type 0) (left_at : D → ℕ → Image → Type 0) (ladder : Bool) (wires : Wires) (input input' : Input) (staff staff' : Staff)
-    (d d' : D) (why : ShowFault) (answer : Answer) (line : List ℕ) → WhyUnshown view leave left_at ladder wires input input' staff staff' d d' why → TellsUnshown why answer → answer ≡ NotAStore line
-    → Untouched view leave left_at d d'
-unwritten_unshown view leave left_at ladder wires input input' staff staff' d d' (fault.Store why) answer line h (inl tells) is = let p = placed why answer line tells is in h.0.untouched p.0 p.1
-unwritten_unshown view leave left_at ladder wires input input' staff staff' d d' (fault.Store why) answer line h (inr starved) is = absurd (let no = sym starved ∙ is in cc)
-unwritten_unshown view leave left_at ladder wires input input' staff staff' d d' (fault.Spawn spawn.Failed) answer line h tells is = absurd (let no = sym tells ∙ is in cc)
-unwritten_unshown view leave left_at ladder wires input input' staff staff' d d' (fault.Spawn spawn.NoMemory) answer line h tells is = absurd (let no = sym tells ∙ is in cc)
+pub unwritten_unshown : {D : Type 0} (site : Seen D) (ladder : Bool) (wires : Wires) (input input' : End) (staff staff' : Staff)
+    (d d' : D) (why : ShowFault) (answer : Answer) (line : List ℕ) → WhyUnshown site ladder wires input input' staff staff' d d' why → TellsUnshown why answer → answer ≡ NotAStore line
+    → Untouched site d d'
+unwritten_unshown site ladder wires input input' staff staff' d d' (fault.Store why) answer line h (inl tells) is = let p = placed why answer line tells is in h.0.untouched p.0 p.1
+unwritten_unshown site ladder wires input input' staff staff' d d' (fault.Store why) answer line h (inr starved) is = absurd (let no = sym starved ∙ is in cc)
+unwritten_unshown site ladder wires input input' staff staff' d d' (fault.Spawn spawn.Failed) answer line h tells is = absurd (let no = sym tells ∙ is in cc)
+unwritten_unshown site ladder wires input input' staff staff' d d' (fault.Spawn spawn.NoMemory) answer line h tells is = absurd (let no = sym tells ∙ is in cc)
 
 -- ---- what the site is selected with
 
@@ -90,13 +89,13 @@ unshown_selected (fault.Store why) answer chosen view (inr starved) h = unselect
 unshown_selected (fault.Spawn why) answer chosen view tells h = selected answer chosen view h
 
 -- why no event was waited for is an answer
-pub unshown_means : {D : Type 0} (view : D → View) (leave : D → Image → Type 0) (left_at : D → ℕ → Image → Type 0) (s : Serving) (players : ℕ) (wires : Wires) (input input' : End) (d d' : D) (staff staff' : Staff)
-    (why : ShowFault) (answer : Answer) → wires ≡ wires_of s players → WhyUnshown view leave left_at s.ladder wires (input_of input) (input_of input') staff staff' d d' why → TellsUnshown why answer
-    → IsSelectedWith (let r : Result Ended ShowFault = Err why in r) (chosen_of s) (view d') → ShowAnswers view leave left_at s players input input' d d' staff staff' answer
-unshown_means view leave left_at s players wires input input' d d' staff staff' why answer same h tells chosen =
+pub unshown_means : {D : Type 0} (site : Seen D) (s : Serving) (players : ℕ) (wires : Wires) (input input' : End) (d d' : D) (staff staff' : Staff)
+    (why : ShowFault) (answer : Answer) → wires ≡ wires_of s players → WhyUnshown site s.ladder wires input input' staff staff' d d' why → TellsUnshown why answer
+    → IsSelectedWith (let r : Result Ended ShowFault = Err why in r) (chosen_of s) (site.view d') → ShowAnswers site s players input input' d d' staff staff' answer
+unshown_means site s players wires input input' d d' staff staff' why answer same h tells chosen =
     inl (
-      inr (why, subst (λ (w : Wires). WhyUnshown view leave left_at s.ladder w (input_of input) (input_of input') staff staff' d d' why) same h, tells),
-      unshown_selected why answer (chosen_of s) (view d') tells chosen,
+      inr (why, subst (λ (w : Wires). WhyUnshown site s.ladder w input input' staff staff' d d' why) same h, tells),
+      unshown_selected why answer (chosen_of s) (site.view d') tells chosen,
     )
 
 -- ---- what the words ask for
@@ -125,10 +124,10 @@ fits_by (Some x) words e = showable (serving_of x.0) x.1 words (shown_back (aske
 
 -- ---- without memory for the words
 
-pub starved_runs : {D C P : Type 0} (view : D → View) (leave : D → Image → Type 0) (left_at : D → ℕ → Image → Type 0) (t : Dialing C) (m : Meaning P) (policies : List P) (words : List (List ℕ))
-    (o : Option (Serving × ℕ)) (around : Around) (output output' : End) (d : D) (c : C) (staff : Staff) (status : ℕ) → Prints Starved output output' status → Lasts view leave left_at d d
-    → Spared view leave left_at d d → RunsBy view leave left_at t m policies words o around around output output' d d c c staff staff status
-starved_runs view leave left_at t m policies words None around output output' d c staff status prints lasts spared = (
+pub starved_runs : {D C P : Type 0} (site : Seen D) (t : Dialing C) (m : Meaning P) (policies : List P) (words : List (List ℕ))
+    (o : Option (Serving × ℕ)) (around : Around) (output output' : End) (d : D) (c : C) (staff : Staff) (status : ℕ) → Prints Starved output output' status → Lasts site d d
+    → Spared site d d → RunsBy site t m policies words o around around output output' d d c c staff staff status
+starved_runs site t m policies words None around output output' d c staff status prints lasts spared = (
   record {
     answer = Starved;
     written = output;
@@ -140,7 +139,7 @@ starved_runs view leave left_at t m policies words None around output output' d 
   },
   refl,
 )
-starved_runs view leave left_at t m policies words (Some x) around output output' d c staff status prints lasts spared = record {
+starved_runs site t m policies words (Some x) around output output' d c staff status prints lasts spared = record {
   answer = Starved;
   means = inr (refl, refl, refl, refl);
   prints = prints;
@@ -159,9 +158,9 @@ starved_runs view leave left_at t m policies words (Some x) around output output
 pub shown_of : (o : Option (ServeOrder × ℕ)) (x : ServeOrder × ℕ) (w : Option (Serving × ℕ)) → o ≡ Some x → option_map (λ y. (serving_of y.0, y.1)) o ≡ w → Some (serving_of x.0, x.1) ≡ w
 shown_of o x w is e = sym (ap (λ (z : Option (ServeOrder × ℕ)). option_map (λ y. (serving_of y.0, y.1)) z) is) ∙ e
 
-pub shown_runs : {D C P : Type 0} (view : D → View) (leave : D → Image → Type 0) (left_at : D → ℕ → Image → Type 0) (t : Dialing C) (m : Meaning P) (policies : List P) (words : List (List ℕ))
+pub shown_runs : {D C P : Type 0} (site : Seen D) (t : Dialing C) (m : Meaning P) (policies : List P) (words : List (List ℕ))
     (o : Option (Serving × ℕ)) (s : Serving) (players : ℕ) (old new : Around) (output output' : End) (d d' : D) (c c' : C) (staff staff' : Staff) (status : ℕ) → Some (s, players) ≡ o
-    → IsShown view leave left_at s players old new output output' d d' c c' staff staff' status
-    → RunsBy view leave left_at t m policies words o old new output output' d d' c c' staff staff' status
-shown_runs view leave left_at t m policies words o s players old new output output' d d' c c' staff staff' status is shown =
-    subst (λ (x : Option (Serving × ℕ)). RunsBy view leave left_at t m policies words x old new output output' d d' c c' staff staff' status) is shown
+    → IsShown site s players old new output output' d d' c c' staff staff' status
+    → RunsBy site t m policies words o old new output output' d d' c c' staff staff' status
+shown_runs site t m policies words o s players old new output output' d d' c c' staff staff' status is shown =
+    subst (λ (x : Option (Serving × ℕ)). RunsBy site t m policies words x old new output output' d d' c c' staff staff' status) is shown

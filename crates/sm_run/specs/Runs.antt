@@ -1,7 +1,6 @@
 -- What a run of the program did.
 use Rattle.std.specs.Prelude.{◌≡◌, ◌≤◌, ◌⊎◌, ℕ, List, Option, Some, None}
-use Rattle.sm_site.specs.Image.{Image}
-use Rattle.sm_site.specs.Meanings.{View}
+use Rattle.sm_site.specs.Meanings.{Seen}
 use Rattle.sm_client.specs.Turns.{Meaning}
 use Rattle.sm_serve.specs.declared.outcome.Served.{Served as Outcome}
 use Rattle.sm_players.specs.declared.spawner.Finished.{Finished}
@@ -10,12 +9,13 @@ use Rattle.sm_tool.specs.declared.answer.Answer.{Answer}
 use Rattle.sm_tool.specs.declared.answer.Answer.TheVariants.{NotAStore, Starved}
 use Rattle.sm_tool.specs.Edges.{Dialing}
 use Rattle.sm_tool.specs.Ran.{Around, IsIdle, IsRun, Prints}
-use Rattle.sm_tool.specs.Stores.{End, IsSelected, chosen_of, input_of}
+use Rattle.sm_tool.specs.Stores.{IsSelected, chosen_of}
 use Rattle.sm_words.specs.Words.{Serving, ServeShown, Wanted, asked}
 use Rattle.sm_run.specs.declared.fault.ShowFault.{ShowFault}
 use Rattle.sm_run.specs.Showing.{RunsShown, WhyUnshown}
 use Rattle.sm_run.specs.Staff.{IsStaffed, Staff, wires_of}
 use Rattle.sm_run.specs.Telling.{TellsShown, TellsUnshown}
+use Rattle.sm_ends.specs.Ended.{End}
 
 -- what is served, and by how many players beside the loop, where words ask for some
 abbrev pub shown_by : Option Wanted → Option (Serving × ℕ)
@@ -23,26 +23,26 @@ shown_by (Some (ServeShown s players)) = Some (s, players)
 shown_by wanted = None
 
 -- The loop ran beside the players that were asked for, and how it and they ended is told; or no event was waited for, and why is told.
-abbrev pub ShowMeans : {D : Type 0} (view : D → View) (leave : D → Image → Type 0) (left_at : D → ℕ → Image → Type 0) → Serving → ℕ → End → End
+abbrev pub ShowMeans : {D : Type 0} (site : Seen D) → Serving → ℕ → End → End
     → D → D → Staff → Staff → Answer → Type 0
-ShowMeans view leave left_at s players input input' d d' staff staff' answer =
-    ((end : Outcome) × (finished : Finished) × RunsShown view leave left_at s.ladder input.told input'.told s.turns d d' end
+ShowMeans site s players input input' d d' staff staff' answer =
+    ((end : Outcome) × (finished : Finished) × RunsShown site s.ladder input.told input'.told s.turns d d' end
     × IsStaffed (wires_of s players) staff staff' finished × TellsShown end finished answer)
-    ⊎ ((why : ShowFault) × WhyUnshown view leave left_at s.ladder (wires_of s players) (input_of input) (input_of input') staff staff' d d' why
+    ⊎ ((why : ShowFault) × WhyUnshown site s.ladder (wires_of s players) input input' staff staff' d d' why
     × TellsUnshown why answer)
 
 -- That, on a site that is selected with what the words say; or there was no memory for the words, and nothing was done.
-abbrev pub ShowAnswers : {D : Type 0} (view : D → View) (leave : D → Image → Type 0) (left_at : D → ℕ → Image → Type 0) → Serving → ℕ → End → End
+abbrev pub ShowAnswers : {D : Type 0} (site : Seen D) → Serving → ℕ → End → End
     → D → D → Staff → Staff → Answer → Type 0
-ShowAnswers view leave left_at s players input input' d d' staff staff' answer =
-    (ShowMeans view leave left_at s players input input' d d' staff staff' answer × IsSelected answer (chosen_of s) (view d'))
+ShowAnswers site s players input input' d d' staff staff' answer =
+    (ShowMeans site s players input input' d d' staff staff' answer × IsSelected answer (chosen_of s) (site.view d'))
     ⊎ ((answer ≡ Starved) × (input' ≡ input) × (d' ≡ d) × (staff' ≡ staff))
 
 -- Players were asked for. The answer that this has was printed, and the status tells it; dial and tracks were left alone.
-pub record IsShown {D C : Type 0} (view : D → View) (leave : D → Image → Type 0) (left_at : D → ℕ → Image → Type 0) (s : Serving) (players : ℕ)
+pub record IsShown {D C : Type 0} (site : Seen D) (s : Serving) (players : ℕ)
     (old new : Around) (output output' : End) (d d' : D) (c c' : C) (staff staff' : Staff) (status : ℕ) : Type 0 where
   pub answer : Answer
-  pub means : ShowAnswers view leave left_at s players old.input new.input d d' staff staff' answer
+  pub means : ShowAnswers site s players old.input new.input d d' staff staff' answer
   pub prints : Prints answer output output' status
   pub counted : old.input.faults ≤ new.input.faults
   pub dial : new.dial ≡ old.dial
@@ -50,30 +50,30 @@ pub record IsShown {D C : Type 0} (view : D → View) (leave : D → Image → T
   pub dial_is : c' ≡ c
   -- However it ended, what a crash may leave at each moment of the call is a store whose log begins with the one that was there, and holds
   -- what the call had shown by then.
-  pub lasts : Lasts view leave left_at d d'
+  pub lasts : Lasts site d d'
   -- files that are said to be no store weren't written
-  pub untouched : (line : List ℕ) → answer ≡ NotAStore line → Untouched view leave left_at d d'
+  pub untouched : (line : List ℕ) → answer ≡ NotAStore line → Untouched site d d'
   -- and none that are no store were, however it ended
-  pub spared : Spared view leave left_at d d'
+  pub spared : Spared site d d'
 
 -- Where players are asked for they are shown to; else the run is the tool's, and nothing is asked of the spawner.
-abbrev pub RunsBy : {D C P : Type 0} (view : D → View) (leave : D → Image → Type 0) (left_at : D → ℕ → Image → Type 0) (t : Dialing C)
+abbrev pub RunsBy : {D C P : Type 0} (site : Seen D) (t : Dialing C)
     → Meaning P → List P → List (List ℕ) → Option (Serving × ℕ) → Around → Around → End → End → D → D → C → C → Staff → Staff
     → ℕ → Type 0
-RunsBy view leave left_at t m policies words (Some x) old new output output' d d' c c' staff staff' status =
-    IsShown view leave left_at x.0 x.1 old new output output' d d' c c' staff staff' status
-RunsBy view leave left_at t m policies words None old new output output' d d' c c' staff staff' status =
-    IsRun view leave left_at t m policies words old new output output' d d' c c' status × (staff' ≡ staff)
+RunsBy site t m policies words (Some x) old new output output' d d' c c' staff staff' status =
+    IsShown site x.0 x.1 old new output output' d d' c c' staff staff' status
+RunsBy site t m policies words None old new output output' d d' c c' staff staff' status =
+    IsRun site t m policies words old new output output' d d' c c' status × (staff' ≡ staff)
 
-abbrev pub Runs : {D C P : Type 0} (view : D → View) (leave : D → Image → Type 0) (left_at : D → ℕ → Image → Type 0) (t : Dialing C)
+abbrev pub Runs : {D C P : Type 0} (site : Seen D) (t : Dialing C)
     → Meaning P → List P → List (List ℕ) → Around → Around → End → End → D → D → C → C → Staff → Staff → ℕ → Type 0
-Runs view leave left_at t m policies words old new output output' d d' c c' staff staff' status =
-    RunsBy view leave left_at t m policies words (shown_by (asked words)) old new output output' d d' c c' staff staff' status
+Runs site t m policies words old new output output' d d' c c' staff staff' status =
+    RunsBy site t m policies words (shown_by (asked words)) old new output output' d d' c c' staff staff' status
 
 -- A program ended with the status of a run; where there was no memory for its words, that alone was told.
-abbrev pub EndsAs : {D C P : Type 0} (view : D → View) (leave : D → Image → Type 0) (left_at : D → ℕ → Image → Type 0) (t : Dialing C)
+abbrev pub EndsAs : {D C P : Type 0} (site : Seen D) (t : Dialing C)
     → Meaning P → List P → Option (List (List ℕ)) → Around → Around → End → End → D → D → C → C → Staff → Staff → ℕ → Type 0
-EndsAs view leave left_at t m policies None old new output output' d d' c c' staff staff' status =
+EndsAs site t m policies None old new output output' d d' c c' staff staff' status =
     Prints Starved output output' status × IsIdle old new d d' c c' × (staff' ≡ staff)
-EndsAs view leave left_at t m policies (Some words) old new output output' d d' c c' staff staff' status =
-    Runs view leave left_at t m policies words old new output output' d d' c c' staff staff' status
+EndsAs site t m policies (Some words) old new output output' d d' c c' staff staff' status =
+    Runs site t m policies words old new output output' d d' c c' staff staff' status

@@ -16,6 +16,15 @@ pub record Staff : Type 0 where
   pub chosen : Option Wires
   pub counted : Finished
 
+abbrev pub staff_of : {P : Type 0} → (P → ℕ) → (P → ℕ) → (P → ℕ) → (P → Option Wires) → (P → Finished) → P → Staff
+staff_of faults started running chosen counted p = record {
+  faults = faults p;
+  started = started p;
+  running = running p;
+  chosen = chosen p;
+  counted = counted p;
+}
+
 -- so many players beside the loop of the words, at its address
 abbrev pub wires_of : Serving → ℕ → Wires
 wires_of s players = record { port = s.port; players = players; bind = s.bind }

@@ -7,6 +7,13 @@ ghost use Rattle.sm_tool.specs.declared.answer.Answer.TheVariants as answers;
 ghost use Rattle.sm_words.specs.Orders.{IsShowable, serving_of, wanted_of};
 ghost use Rattle.sm_words.specs.Words.{asked};
 ghost use Rattle.sm_run.specs.Runs.{Runs, ShowAnswers, shown_by};
+ghost use Rattle.sm_ends.specs.Ended.{end_of};
+ghost use Rattle.sm_client.specs.Pushing.{line_of};
+ghost use Rattle.sm_client.specs.Turns.{meant};
+ghost use Rattle.sm_tool.specs.Edges.{dialing};
+ghost use Rattle.sm_tool.specs.Ran.{around};
+ghost use Rattle.sm_tool.specs.Plays.{tape_of};
+ghost use Rattle.sm_run.specs.Staff.{staff_of};
 
 use crate::stores::show_store;
 use crate::telling::{ended, unshown};
@@ -73,26 +80,14 @@ fn show<R: Wait, I: Source, S: Site, P: Spawner>(
     players: u32,
 ) -> Answer
     requires fits { IsShowable (serving_of order) players }
-    ensures means { ShowAnswers S.Disk.view S.Disk.may_leave S.Disk.left_at (serving_of order) players
-        (record { told = I.left input.old; faults = I.faults input.old }) (record { told = I.left input.new; faults = I.faults input.new }) site.old site.new
-        (record {
-          faults = P.spawn_faults spawner.old;
-          started = P.started spawner.old;
-          running = P.running spawner.old;
-          chosen = P.chosen spawner.old;
-          counted = P.counted spawner.old;
-        })
-        (record {
-          faults = P.spawn_faults spawner.new;
-          started = P.started spawner.new;
-          running = P.running spawner.new;
-          chosen = P.chosen spawner.new;
-          counted = P.counted spawner.new;
-        }) result }
+    ensures means { ShowAnswers S.Disk.seen (serving_of order) players
+        (end_of I.left I.faults input.old) (end_of I.left I.faults input.new) site.old site.new
+        (staff_of P.spawn_faults P.started P.running P.chosen P.counted spawner.old)
+        (staff_of P.spawn_faults P.started P.running P.chosen P.counted spawner.new) result }
     ensures counted { I.faults input.old ≤ I.faults input.new }
-    ensures lasts { Lasts S.Disk.view S.Disk.may_leave S.Disk.left_at site.old site.new }
-    ensures untouched { (line : List ℕ) → result ≡ answers.NotAStore line → Untouched S.Disk.view S.Disk.may_leave S.Disk.left_at site.old site.new }
-    ensures spared { Spared S.Disk.view S.Disk.may_leave S.Disk.left_at site.old site.new }
+    ensures lasts { Lasts S.Disk.seen site.old site.new }
+    ensures untouched { (line : List ℕ) → result ≡ answers.NotAStore line → Untouched S.Disk.seen site.old site.new }
+    ensures spared { Spared S.Disk.seen site.old site.new }
 {
     let Ok(bind) = copied(alloc, &order.bind) else {
         return Answer::Starved;
@@ -147,35 +142,13 @@ pub fn run<R: Wait, I: Source, O: Sink, S: Site, C: Dial, T: Tracks, P: Spawner>
     policies: Vec<Box<dyn Policy>>,
 ) -> u8
     requires policies { length policies.items ≡ 3 }
-    ensures run { Runs S.Disk.view S.Disk.may_leave S.Disk.left_at
-        (record { log = C.log; store = C.store; later = C.later; faults = C.dial_faults; chosen = C.chosen })
-        (record { pick = pick_after; retired = retired_after }) policies.items (map string_bytes words.now)
-        (record {
-          input = record { told = I.left input.old; faults = I.faults input.old };
-          dial = record { log = C.log dial.old; faults = C.dial_faults dial.old; chosen = C.chosen dial.old };
-          tracks = record { held = T.held tracks.old; faults = T.faults tracks.old };
-        })
-        (record {
-          input = record { told = I.left input.new; faults = I.faults input.new };
-          dial = record { log = C.log dial.new; faults = C.dial_faults dial.new; chosen = C.chosen dial.new };
-          tracks = record { held = T.held tracks.new; faults = T.faults tracks.new };
-        })
-        (record { told = O.held output.old; faults = O.faults output.old })
-        (record { told = O.held output.new; faults = O.faults output.new }) site.old site.new dial.old dial.new
-        (record {
-          faults = P.spawn_faults spawner.old;
-          started = P.started spawner.old;
-          running = P.running spawner.old;
-          chosen = P.chosen spawner.old;
-          counted = P.counted spawner.old;
-        })
-        (record {
-          faults = P.spawn_faults spawner.new;
-          started = P.started spawner.new;
-          running = P.running spawner.new;
-          chosen = P.chosen spawner.new;
-          counted = P.counted spawner.new;
-        }) result }
+    ensures run { Runs S.Disk.seen (dialing C.log C.store C.later C.dial_faults C.chosen)
+        (meant pick_after retired_after) policies.items (map string_bytes words.now)
+        (around (end_of I.left I.faults input.old) (line_of C.log C.dial_faults C.chosen dial.old) (tape_of T.held T.faults tracks.old))
+        (around (end_of I.left I.faults input.new) (line_of C.log C.dial_faults C.chosen dial.new) (tape_of T.held T.faults tracks.new))
+        (end_of O.held O.faults output.old) (end_of O.held O.faults output.new) site.old site.new dial.old dial.new
+        (staff_of P.spawn_faults P.started P.running P.chosen P.counted spawner.old)
+        (staff_of P.spawn_faults P.started P.running P.chosen P.counted spawner.new) result }
     // What the dial promises of whatever is done with it holds of the call.
     ensures goes_on { C.later dial.old dial.new }
 {

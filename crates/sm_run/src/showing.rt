@@ -9,7 +9,7 @@ ghost use Rattle.sm_shelf.specs.Shelf.{Belongs, Desk};
 ghost use Rattle.sm_show.specs.Marks.{HasShown};
 ghost use Rattle.sm_show.specs.Recalling.{Recalls};
 ghost use Rattle.sm_players.specs.declared.spawner.SpawnError.TheVariants.{Failed};
-ghost use Rattle.sm_run.specs.Staff.{IsStaffed, IsUnstaffed};
+ghost use Rattle.sm_run.specs.Staff.{IsStaffed, IsUnstaffed, staff_of};
 
 use crate::staffing::start_all;
 use sm_model::NoMemory;
@@ -39,19 +39,18 @@ fn serve_beside<R: Wait, S: Site, P: Spawner>(
     wiring: Wiring,
     turns: u64,
 ) -> Result<Served, SpawnError>
-    requires stands { (m : Machine) × StandsOn S.Disk.view S.Disk.may_leave m state.old.origin site.old }
-    requires known { Known S.Disk.view S.Disk.may_leave S.Disk.left_at state.old site.old }
+    requires stands { (m : Machine) × StandsOn S.Disk.seen m state.old.origin site.old }
+    requires known { Known S.Disk.seen state.old site.old }
     requires port { wiring.port ≤ 65534 }
     requires some { 0 < length readers }
-    ensures runs { IfOk result (λ end. (h : History) → Serves S.Disk.view S.Disk.may_leave S.Disk.left_at h state.old site.old
-        → HasServed S.Disk.view S.Disk.may_leave S.Disk.left_at h end turns state.new site.new) }
-    ensures shown { IfOk result (λ end. (h : History) → Serves S.Disk.view S.Disk.may_leave S.Disk.left_at h state.old site.old
-        → IsSome (S.Disk.view site.old).contents
-        → Belongs h.point.machine.log writer.old
-        → (run : HasServed S.Disk.view S.Disk.may_leave S.Disk.left_at h end turns state.new site.new) × HasShown h end run.later writer.new) }
-    ensures link_faults { (S.Disk.view site.old).link_faults ≤ (S.Disk.view site.new).link_faults }
-    ensures link_fault { IfOk result (λ end. end ≡ served.LinkFault → Rose (S.Disk.view site.old).link_faults (S.Disk.view site.new).link_faults) }
-    ensures site_chosen { (S.Disk.view site.new).chosen ≡ (S.Disk.view site.old).chosen }
+    ensures runs { IfOk result (λ end. (h : History) → Serves S.Disk.seen h state.old site.old
+        → HasServed S.Disk.seen h end turns state.new site.new) }
+    ensures shown { IfOk result (λ end. (h : History) → Serves S.Disk.seen h state.old site.old
+        → IsSome (S.Disk.seen.view site.old).contents → Belongs h.point.machine.log writer.old
+        → (run : HasServed S.Disk.seen h end turns state.new site.new) × HasShown h end run.later writer.new) }
+    ensures link_faults { (S.Disk.seen.view site.old).link_faults ≤ (S.Disk.seen.view site.new).link_faults }
+    ensures link_fault { IfOk result (λ end. end ≡ served.LinkFault → Rose (S.Disk.seen.view site.old).link_faults (S.Disk.seen.view site.new).link_faults) }
+    ensures site_chosen { (S.Disk.seen.view site.new).chosen ≡ (S.Disk.seen.view site.old).chosen }
     ensures started { OnOk result (P.started spawner.new ≡ P.started spawner.old + length readers) }
     ensures wires { OnOk result (P.chosen spawner.new ≡ Some wiring) }
     ensures few { OnErr result (P.started spawner.new < P.started spawner.old + length readers) }
@@ -59,7 +58,7 @@ fn serve_beside<R: Wait, S: Site, P: Spawner>(
     ensures running { P.running spawner.new + P.started spawner.old ≡ P.running spawner.old + P.started spawner.new }
     ensures failed { IsErrOf result Failed → Rose (P.spawn_faults spawner.old) (P.spawn_faults spawner.new) }
     ensures later { P.spawn_faults spawner.old ≤ P.spawn_faults spawner.new }
-    ensures idle { OnErr result (Recalls S.Disk.view S.Disk.may_leave S.Disk.left_at state.old site.old site.new) }
+    ensures idle { OnErr result (Recalls S.Disk.seen state.old site.old site.new) }
 {
     spawner.select(wiring)?;
     let _ = catch_up(rt, site, state, writer);
@@ -78,48 +77,22 @@ pub fn show<R: Wait, S: Site, P: Spawner>(
     wiring: Wiring,
     turns: u64,
 ) -> Result<Ended, SpawnError>
-    requires stands { (m : Machine) × StandsOn S.Disk.view S.Disk.may_leave m state.old.origin site.old }
-    requires known { Known S.Disk.view S.Disk.may_leave S.Disk.left_at state.old site.old }
+    requires stands { (m : Machine) × StandsOn S.Disk.seen m state.old.origin site.old }
+    requires known { Known S.Disk.seen state.old site.old }
     requires port { wiring.port ≤ 65534 }
     requires players { (0 < wiring.players) × (wiring.players ≤ 16) }
-    ensures runs { IfOk result (λ e. (h : History) → Serves S.Disk.view S.Disk.may_leave S.Disk.left_at h state.old site.old
-        → HasServed S.Disk.view S.Disk.may_leave S.Disk.left_at h e.served turns state.new site.new) }
-    ensures shown { IfOk result (λ e. (h : History) → Serves S.Disk.view S.Disk.may_leave S.Disk.left_at h state.old site.old
-        → IsSome (S.Disk.view site.old).contents
-        → (desk : Desk) × (run : HasServed S.Disk.view S.Disk.may_leave S.Disk.left_at h e.served turns state.new site.new) × HasShown h e.served run.later desk) }
-    ensures link_fault { IfOk result (λ e. e.served ≡ served.LinkFault → Rose (S.Disk.view site.old).link_faults (S.Disk.view site.new).link_faults) }
-    ensures staffed { IfOk result (λ e. IsStaffed wiring
-        (record {
-          faults = P.spawn_faults spawner.old;
-          started = P.started spawner.old;
-          running = P.running spawner.old;
-          chosen = P.chosen spawner.old;
-          counted = P.counted spawner.old;
-        })
-        (record {
-          faults = P.spawn_faults spawner.new;
-          started = P.started spawner.new;
-          running = P.running spawner.new;
-          chosen = P.chosen spawner.new;
-          counted = P.counted spawner.new;
-        }) e.finished) }
-    ensures why { IfErr result (λ why. IsUnstaffed wiring
-        (record {
-          faults = P.spawn_faults spawner.old;
-          started = P.started spawner.old;
-          running = P.running spawner.old;
-          chosen = P.chosen spawner.old;
-          counted = P.counted spawner.old;
-        })
-        (record {
-          faults = P.spawn_faults spawner.new;
-          started = P.started spawner.new;
-          running = P.running spawner.new;
-          chosen = P.chosen spawner.new;
-          counted = P.counted spawner.new;
-        }) why) }
-    ensures idle { OnErr result (Recalls S.Disk.view S.Disk.may_leave S.Disk.left_at state.old site.old site.new) }
-    ensures site_chosen { (S.Disk.view site.new).chosen ≡ (S.Disk.view site.old).chosen }
+    ensures runs { IfOk result (λ e. (h : History) → Serves S.Disk.seen h state.old site.old
+        → HasServed S.Disk.seen h e.served turns state.new site.new) }
+    ensures shown { IfOk result (λ e. (h : History) → Serves S.Disk.seen h state.old site.old
+        → IsSome (S.Disk.seen.view site.old).contents
+        → (desk : Desk) × (run : HasServed S.Disk.seen h e.served turns state.new site.new) × HasShown h e.served run.later desk) }
+    ensures link_fault { IfOk result (λ e. e.served ≡ served.LinkFault → Rose (S.Disk.seen.view site.old).link_faults (S.Disk.seen.view site.new).link_faults) }
+    ensures staffed { IfOk result (λ e. IsStaffed wiring (staff_of P.spawn_faults P.started P.running P.chosen P.counted spawner.old)
+        (staff_of P.spawn_faults P.started P.running P.chosen P.counted spawner.new) e.finished) }
+    ensures why { IfErr result (λ why. IsUnstaffed wiring (staff_of P.spawn_faults P.started P.running P.chosen P.counted spawner.old)
+        (staff_of P.spawn_faults P.started P.running P.chosen P.counted spawner.new) why) }
+    ensures idle { OnErr result (Recalls S.Disk.seen state.old site.old site.new) }
+    ensures site_chosen { (S.Disk.seen.view site.new).chosen ≡ (S.Disk.seen.view site.old).chosen }
 {
     let Ok((writer, readers)) = make(rt, alloc, wiring.players) else {
         return Err(SpawnError::NoMemory);

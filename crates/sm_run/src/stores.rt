@@ -5,8 +5,9 @@ ghost use Rattle.sm_serve.specs.Standing.{History, StandsOn};
 ghost use Rattle.sm_serve.specs.Serving.{Begins, Serves};
 ghost use Rattle.sm_command.specs.Lasting.{Lasts, NoFewer, Spared};
 ghost use Rattle.sm_command.specs.Serving.{RunLasts};
-ghost use Rattle.sm_run.specs.Staff.{IsStaffed};
+ghost use Rattle.sm_run.specs.Staff.{IsStaffed, staff_of};
 ghost use Rattle.sm_run.specs.Showing.{IsSelectedWith, RunsShown, ShownFrom, StopsShort, WhyUnshown};
+ghost use Rattle.sm_ends.specs.Ended.{end_of};
 
 use crate::fault::ShowFault;
 use crate::showing::{Ended, show};
@@ -33,49 +34,22 @@ fn show_state<R: Wait, I: Source, S: Site, P: Spawner>(
     wiring: Wiring,
     turns: u64,
 ) -> Result<Ended, ShowFault>
-    requires begins { Begins S.Disk.view S.Disk.may_leave S.Disk.left_at state.old site.old }
-    requires stands { (m : Machine) × StandsOn S.Disk.view S.Disk.may_leave m state.old.origin site.old }
+    requires begins { Begins S.Disk.seen state.old site.old }
+    requires stands { (m : Machine) × StandsOn S.Disk.seen m state.old.origin site.old }
     requires port { wiring.port ≤ 65534 }
     requires players { (0 < wiring.players) × (wiring.players ≤ 16) }
-    ensures run { IfOk result (λ e. ShownFrom S.Disk.view S.Disk.may_leave S.Disk.left_at ladder (I.left input.old)
+    ensures run { IfOk result (λ e. ShownFrom S.Disk.seen ladder (I.left input.old)
         (I.left input.new) turns state.old site.old site.new e.served) }
-    ensures staffed { IfOk result (λ e. IsStaffed wiring
-        (record {
-          faults = P.spawn_faults spawner.old;
-          started = P.started spawner.old;
-          running = P.running spawner.old;
-          chosen = P.chosen spawner.old;
-          counted = P.counted spawner.old;
-        })
-        (record {
-          faults = P.spawn_faults spawner.new;
-          started = P.started spawner.new;
-          running = P.running spawner.new;
-          chosen = P.chosen spawner.new;
-          counted = P.counted spawner.new;
-        }) e.finished) }
-    ensures why { IfErr result (λ why. StopsShort S.Disk.view S.Disk.may_leave S.Disk.left_at ladder wiring
-        (record { told = I.left input.old; faults = I.faults input.old }) (record { told = I.left input.new; faults = I.faults input.new })
-        (record {
-          faults = P.spawn_faults spawner.old;
-          started = P.started spawner.old;
-          running = P.running spawner.old;
-          chosen = P.chosen spawner.old;
-          counted = P.counted spawner.old;
-        })
-        (record {
-          faults = P.spawn_faults spawner.new;
-          started = P.started spawner.new;
-          running = P.running spawner.new;
-          chosen = P.chosen spawner.new;
-          counted = P.counted spawner.new;
-        }) state.old site.old site.new why) }
-    ensures silent { OnErr result ((S.Disk.view site.new).transcript ≡ (S.Disk.view site.old).transcript) }
-    ensures no_fewer { OnErr result (NoFewer (S.Disk.view site.old) (S.Disk.view site.new)) }
+    ensures staffed { IfOk result (λ e. IsStaffed wiring (staff_of P.spawn_faults P.started P.running P.chosen P.counted spawner.old)
+        (staff_of P.spawn_faults P.started P.running P.chosen P.counted spawner.new) e.finished) }
+    ensures why { IfErr result (λ why. StopsShort S.Disk.seen ladder wiring (end_of I.left I.faults input.old) (end_of I.left I.faults input.new)
+        (staff_of P.spawn_faults P.started P.running P.chosen P.counted spawner.old)
+        (staff_of P.spawn_faults P.started P.running P.chosen P.counted spawner.new) state.old site.old site.new why) }
+    ensures silent { OnErr result ((S.Disk.seen.view site.new).transcript ≡ (S.Disk.seen.view site.old).transcript) }
+    ensures no_fewer { OnErr result (NoFewer (S.Disk.seen.view site.old) (S.Disk.seen.view site.new)) }
     ensures counted { I.faults input.old ≤ I.faults input.new }
-    ensures chosen { (S.Disk.view site.new).chosen ≡ (S.Disk.view site.old).chosen }
-    ensures lasts { (h : History) → Serves S.Disk.view S.Disk.may_leave S.Disk.left_at h state.old site.old
-        → RunLasts S.Disk.view S.Disk.left_at h site.new }
+    ensures chosen { (S.Disk.seen.view site.new).chosen ≡ (S.Disk.seen.view site.old).chosen }
+    ensures lasts { (h : History) → Serves S.Disk.seen h state.old site.old → RunLasts S.Disk.seen h site.new }
 {
     crashes_hold_what_was_shown();
     match prepare(alloc, input, site, state, ladder) {
@@ -104,46 +78,19 @@ pub fn show_store<R: Wait, I: Source, S: Site, P: Spawner>(
 ) -> Result<Ended, ShowFault>
     requires port { wiring.port ≤ 65534 }
     requires players { (0 < wiring.players) × (wiring.players ≤ 16) }
-    ensures chosen { IsSelectedWith result selection (S.Disk.view site.new) }
-    ensures run { IfOk result (λ e. RunsShown S.Disk.view S.Disk.may_leave S.Disk.left_at ladder (I.left input.old) (I.left input.new)
-        turns site.old site.new e.served) }
-    ensures staffed { IfOk result (λ e. IsStaffed wiring
-        (record {
-          faults = P.spawn_faults spawner.old;
-          started = P.started spawner.old;
-          running = P.running spawner.old;
-          chosen = P.chosen spawner.old;
-          counted = P.counted spawner.old;
-        })
-        (record {
-          faults = P.spawn_faults spawner.new;
-          started = P.started spawner.new;
-          running = P.running spawner.new;
-          chosen = P.chosen spawner.new;
-          counted = P.counted spawner.new;
-        }) e.finished) }
-    ensures why { IfErr result (λ why. WhyUnshown S.Disk.view S.Disk.may_leave S.Disk.left_at ladder wiring
-        (record { told = I.left input.old; faults = I.faults input.old }) (record { told = I.left input.new; faults = I.faults input.new })
-        (record {
-          faults = P.spawn_faults spawner.old;
-          started = P.started spawner.old;
-          running = P.running spawner.old;
-          chosen = P.chosen spawner.old;
-          counted = P.counted spawner.old;
-        })
-        (record {
-          faults = P.spawn_faults spawner.new;
-          started = P.started spawner.new;
-          running = P.running spawner.new;
-          chosen = P.chosen spawner.new;
-          counted = P.counted spawner.new;
-        }) site.old site.new why) }
+    ensures chosen { IsSelectedWith result selection (S.Disk.seen.view site.new) }
+    ensures run { IfOk result (λ e. RunsShown S.Disk.seen ladder (I.left input.old) (I.left input.new) turns site.old site.new e.served) }
+    ensures staffed { IfOk result (λ e. IsStaffed wiring (staff_of P.spawn_faults P.started P.running P.chosen P.counted spawner.old)
+        (staff_of P.spawn_faults P.started P.running P.chosen P.counted spawner.new) e.finished) }
+    ensures why { IfErr result (λ why. WhyUnshown S.Disk.seen ladder wiring (end_of I.left I.faults input.old) (end_of I.left I.faults input.new)
+        (staff_of P.spawn_faults P.started P.running P.chosen P.counted spawner.old)
+        (staff_of P.spawn_faults P.started P.running P.chosen P.counted spawner.new) site.old site.new why) }
     ensures counted { I.faults input.old ≤ I.faults input.new }
     // However it ends, what a crash may leave at any moment since the call began is the store that was there, gone on, and holds what the
     // call had shown by then.
-    ensures any_moment { Lasts S.Disk.view S.Disk.may_leave S.Disk.left_at site.old site.new }
+    ensures any_moment { Lasts S.Disk.seen site.old site.new }
     // Files that are no store aren't written, whatever the answer.
-    ensures spared { Spared S.Disk.view S.Disk.may_leave S.Disk.left_at site.old site.new }
+    ensures spared { Spared S.Disk.seen site.old site.new }
 {
     bodies_have_one_log();
     stores_have_one_reading();

@@ -1,8 +1,9 @@
 -- Calls that take no event.
 use Rattle.std.proofs.Common.{◌≡◌, is_some, refl, ◌∙◌}
-use Rattle.sm_site.specs.Meanings.{View, SameDisk}
+use Rattle.sm_site.specs.Meanings.{View, SameDisk, Seen}
 use Rattle.sm_serve.specs.Between.{TakesNone}
 use Rattle.sm_serve.proofs.Transcripts.{told_here, faults_here, script_here, chosen_here}
+use Rattle.sm_site.specs.Clauses.{AreOne}
 
 -- no call
 pub none_taken : (v : View) → TakesNone v v
@@ -18,11 +19,11 @@ none_then u v w one two = record {
 }
 
 -- a call of the link, whose view is the site's
-pub none_of_link : {D : Type 0} (view W : D → View) (one_view : (s : D) → view s ≡ W s) (d e : D) → is_some (W e).transcript ≡ is_some (W d).transcript
-    → (W e).link_faults ≡ (W d).link_faults → (W e).script ≡ (W d).script → SameDisk (W d) (W e) → TakesNone (view d) (view e)
-none_of_link view W one_view d e told faults script disk = record {
-  told = told_here view W one_view d e told;
-  link_faults = faults_here view W one_view d e faults;
-  script = script_here view W one_view d e script;
-  chosen = chosen_here view W one_view d e disk.chosen;
+pub none_of_link : {D : Type 0} (site link : Seen D) (one : AreOne site link) (d e : D) → is_some (link.view e).transcript ≡ is_some (link.view d).transcript
+    → (link.view e).link_faults ≡ (link.view d).link_faults → (link.view e).script ≡ (link.view d).script → SameDisk (link.view d) (link.view e) → TakesNone (site.view d) (site.view e)
+none_of_link site link one d e told faults script disk = record {
+  told = told_here site link one d e told;
+  link_faults = faults_here site link one d e faults;
+  script = script_here site link one d e script;
+  chosen = chosen_here site link one d e disk.chosen;
 }

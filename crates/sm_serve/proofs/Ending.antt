@@ -1,10 +1,9 @@
 -- Whether the events are over.
 use Rattle.std.proofs.Common.{◌≡◌, ◌↔◌, ℕ, List, [], ◌∷◌, ◌++◌, Option, Some, refl, sym, ◌∙◌, ap, subst, append_assoc}
 use Rattle.std.proofs.lemmas.List.{append_cancel_left}
-use Rattle.sm_site.specs.Image.{Image}
-use Rattle.sm_site.specs.Meanings.{View, Deal, Item}
+use Rattle.sm_site.specs.Meanings.{View, Deal, Item, Seen}
 use Rattle.sm_site.specs.Meanings.Deal.{Over}
-use Rattle.sm_site.specs.Clauses.{Adds}
+use Rattle.sm_site.specs.Clauses.{Adds, AreOne}
 use Rattle.sm_site.specs.Event.{deal_of}
 use Rattle.sm_site.specs.declared.event.Event.{Event}
 use Rattle.sm_site.specs.declared.event.Event.TheVariants.{Opened, Piece, Closed, Ended}
@@ -45,14 +44,14 @@ none_went deals (deal, is, other) = subst (λ (ds : List Deal). NoneIsOver ds) (
 pub none_of : (deals : List Deal) → deals ≡ [] → NoneIsOver deals
 none_of deals is = subst (λ (ds : List Deal). NoneIsOver ds) (sym is) tt
 
-module _ {D : Type 0} (view W : D → View) (leave : D → Image → Type 0) (left_at : D → ℕ → Image → Type 0) (one_view : (s : D) → view s ≡ W s) where
+module _ {D : Type 0} (site link : Seen D) (one : AreOne site link) where
   -- where the one entry that was added says that nothing more comes, the turn took that event
-  pub over_is_told : (r : Turned) (h : History) (n : ℕ) (was : Option (List Deal)) (old new : State) (d e : D) → Serves view leave left_at h old d → (t : TurnsBy view leave left_at h n was new e) → HasTaken r t.deals
-      → Adds Over (W d) (W e) → r ≡ turned.Ended
+  pub over_is_told : (r : Turned) (h : History) (n : ℕ) (was : Option (List Deal)) (old new : State) (d e : D) → Serves site h old d → (t : TurnsBy site h n was new e) → HasTaken r t.deals
+      → Adds Over (link.view d) (link.view e) → r ≡ turned.Ended
   over_is_told r h n was old new d e serves t took adds =
       let k = t.turns.later in
-      let here : Adds Over (view d) (view e) = subst (λ (v : View). Adds Over v (view e)) (sym (one_view d)) (subst (λ (v : View). Adds Over (W d) v) (sym (one_view e)) adds) in
-      let told = told_adds (view d) (view e) (h.base ++ h.items) Over serves.keeps.told here in
+      let here : Adds Over (site.view d) (site.view e) = subst (λ (v : View). Adds Over v (site.view e)) (sym (one.view d)) (subst (λ (v : View). Adds Over (link.view d) v) (sym (one.view e)) adds) in
+      let told = told_adds (site.view d) (site.view e) (h.base ++ h.items) Over serves.keeps.told here in
       let entry = at told.0 Over in
       let both : Some ((h.base ++ h.items) ++ entry) ≡ Some (k.base ++ k.items) = sym told.3 ∙ t.turns.serves.keeps.told in
       let all : (h.base ++ h.items) ++ entry ≡ k.base ++ k.items = cc in

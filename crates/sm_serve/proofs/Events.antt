@@ -1,14 +1,14 @@
 -- What the next event brings to a run.
-use Rattle.std.proofs.Common.{◌≡◌, inl, inr, ⊎_elim, ◌↔◌, ℕ, ◌+◌, ◌-◌, ◌<◌, ◌≤◌, ◌^◌, Bool, true, false, ◌==◌, if◌then◌else◌, List, [], ◌∷◌, ◌++◌, Option, Some, None, is_some, IsSome, IfSome, IsTrue, length, refl, sym, ◌∙◌, ap, subst, arith, append_assoc, length-append}
+use Rattle.std.proofs.Common.{◌≡◌, inl, inr, ⊎_elim, ℕ, ◌+◌, ◌-◌, ◌<◌, ◌≤◌, ◌^◌, Bool, true, false, ◌==◌, if◌then◌else◌, List, [], ◌∷◌, ◌++◌, Option, Some, None, is_some, IsSome, IfSome, IsTrue, length, refl, sym, ◌∙◌, ap, subst, arith, append_assoc, length-append}
 use Rattle.std.specs.Prelude.{All}
 use Rattle.std.specs.List.{AllByRecursion}
 use Rattle.std.proofs.lemmas.List.Elements.{recursion_from_All}
 use Rattle.std.proofs.lemmas.Bool.{eq-eqb, cases_lt, cases_Bool}
 use Rattle.std.proofs.lemmas.Bool.Decides.{eqb_tells}
 use Rattle.sm_site.specs.Image.{Image}
-use Rattle.sm_site.specs.Meanings.{View, Deal, Item, DiskCall, IsLive, open_after, open_from}
+use Rattle.sm_site.specs.Meanings.{View, Deal, Item, DiskCall, IsLive, open_after, open_from, Seen}
 use Rattle.sm_site.specs.Meanings.Deal.{Began, Came, Left, Over, Sent, Shut}
-use Rattle.sm_site.specs.Clauses.{Both, NoMore, Adds}
+use Rattle.sm_site.specs.Clauses.{AreOne, Both, NoMore, Adds, LinkAlone}
 use Rattle.sm_site.specs.Scripts.{Takes}
 use Rattle.sm_model.specs.declared.act.Act.{Act}
 use Rattle.sm_model.specs.declared.act.Act.TheVariants.{Header, Fragment as Ask}
@@ -45,7 +45,7 @@ use Rattle.sm_serve.specs.Serving.{numbers_of, AreResting, Serves, Known, Turns,
 use Rattle.sm_site.proofs.Transcripts.{open_push, stays_live}
 use Rattle.sm_serve.proofs.Transcripts.{told_adds, events_are}
 use Rattle.sm_serve.proofs.Going.{Acted, stepped, run_as, link_move}
-use Rattle.sm_serve.proofs.Sending.{LinkCall, calls_here, contents_here, disk_faults_here, told_here}
+use Rattle.sm_serve.proofs.Sending.{calls_here, contents_here, disk_faults_here, told_here}
 use Rattle.sm_serve.proofs.Lives.{among_push, among_less, among_itself, rest_all}
 
 -- ---- a connection is live where it is open in the transcript
@@ -126,63 +126,63 @@ told_by : (o : Option (List Item)) → IsSome o → (items : List Item) × (o �
 told_by None some = absurd (cc)
 told_by (Some items) some = (items, refl)
 
-module _ {D : Type 0} (view W : D → View) (leave leave' : D → Image → Type 0) (left_at left' : D → ℕ → Image → Type 0)
-    (one_view : (s : D) → view s ≡ W s) (one_disk : (s : D) (c : Image) → leave s c ↔ leave' s c) (one_past : (s : D) (t : ℕ) (c : Image) → left_at s t c ↔ left' s t c)
-    (told : (s : D) (t : ℕ) (image : Image) → left_at s t image → IsSome (view s).contents) where
+module _ {D : Type 0} (site link : Seen D)
+    (one : AreOne site link)
+    (told : (s : D) (t : ℕ) (image : Image) → site.left_at s t image → IsSome (site.view s).contents) where
   -- the run goes on from an event
-  pub pend : (h : History) (d e : D) (deal : Deal) → Keeps view leave left_at h d → LinkCall view W leave leave' left_at left' one_view one_disk one_past told d e → Adds deal (W d) (W e) → (W e).send_faults ≡ (W d).send_faults
-      → (m : ℕ) × Pending view leave left_at h m deal e
+  pub pend : (h : History) (d e : D) (deal : Deal) → Keeps site h d → LinkAlone link d e → Adds deal (link.view d) (link.view e) → (link.view e).send_faults ≡ (link.view d).send_faults
+      → (m : ℕ) × Pending site h m deal e
   pend h d e deal keeps call adds faults =
-      let here = seen_here view W leave leave' left_at left' one_view one_disk one_past (Adds deal) d e adds in
-      let t = told_adds (view d) (view e) (h.base ++ h.items) deal keeps.told here in
-      let time = elapses_here view W leave leave' left_at left' one_view one_disk one_past d e call.time in
-      let same = same_here view W leave leave' left_at left' one_view one_disk one_past d e call.same in
-      let sends : (view e).send_faults ≡ (view d).send_faults = ap (λ (v : View). v.send_faults) (one_view e) ∙ faults ∙ ap (λ (v : View). v.send_faults) (sym (one_view d)) in
-      let above : (view d).moment < t.0 = t.1 in
-      let within : t.0 ≤ (view e).moment = t.2 in
-      let before : IsTrue (is_told (view e)) → h.point.ended ≤ (view d).moment =
-      λ has. keeps.clock (told_here view W leave leave' left_at left' one_view one_disk one_past told d e call has) in (
+      let here = seen_here site link one (Adds deal) d e adds in
+      let t = told_adds (site.view d) (site.view e) (h.base ++ h.items) deal keeps.told here in
+      let time = elapses_here site link one d e call.time in
+      let same = same_here site link one d e call.crash in
+      let sends : (site.view e).send_faults ≡ (site.view d).send_faults = ap (λ (v : View). v.send_faults) (one.view e) ∙ faults ∙ ap (λ (v : View). v.send_faults) (sym (one.view d)) in
+      let above : (site.view d).moment < t.0 = t.1 in
+      let within : t.0 ≤ (site.view e).moment = t.2 in
+      let before : IsTrue (is_told (site.view e)) → h.point.ended ≤ (site.view d).moment =
+      λ has. keeps.clock (told_here site link one told d e call has) in (
         t.0,
         λ q move machine ended failed disk_faults.
-            link_move view leave left_at told h d e (at t.0 deal) q keeps move machine (λ has. (let b = before has in omega (arith, ended, b, above))) t.3 time same
-            (calls_here view W leave leave' left_at left' one_view one_disk one_past told d e call) (contents_here view W leave leave' left_at left' one_view one_disk one_past told d e call)
+            link_move site told h d e (at t.0 deal) q keeps move machine (λ has. (let b = before has in omega (arith, ended, b, above))) t.3 time same
+            (calls_here site link one told d e call) (contents_here site link one told d e call)
             (λ has. omega (arith, ended, within))
-            (λ below. subst (λ (k : ℕ). h.found.send_faults + k ≤ (view e).send_faults) (sym failed)
+            (λ below. subst (λ (k : ℕ). h.found.send_faults + k ≤ (site.view e).send_faults) (sym failed)
             (subst (λ (k : ℕ). h.found.send_faults + h.point.failed ≤ k) (sym sends) (keeps.blamed (subst (λ (k : ℕ). k < 2 ^ 64 - 1) sends below))))
-            disk_faults (disk_faults_here view W leave leave' left_at left' one_view one_disk one_past told d e call),
+            disk_faults (disk_faults_here site link one told d e call),
       )
 
   -- a call that takes no event
-  pub still_serves : (fewer : (m : Machine) (o : Origin) (old new : D) → StandsOn view leave m o old → (view new).contents ≡ (view old).contents → NoMore (leave old) (leave new) → StandsOn view leave m o new)
-      → (h : History) (state : State) (d e : D) → Serves view leave left_at h state d → LinkCall view W leave leave' left_at left' one_view one_disk one_past told d e
-      → (W e).transcript ≡ (W d).transcript → (W e).send_faults ≡ (W d).send_faults → Turns view leave left_at h [] state e
+  pub still_serves : (fewer : (m : Machine) (o : Origin) (old new : D) → StandsOn site m o old → (site.view new).contents ≡ (site.view old).contents → NoMore (site.may_leave old) (site.may_leave new) → StandsOn site m o new)
+      → (h : History) (state : State) (d e : D) → Serves site h state d → LinkAlone link d e
+      → (link.view e).transcript ≡ (link.view d).transcript → (link.view e).send_faults ≡ (link.view d).send_faults → Turns site h [] state e
   still_serves fewer h state d e serves call still faults =
       let keeps = serves.keeps in
-      let time = elapses_here view W leave leave' left_at left' one_view one_disk one_past d e call.time in
-      let same = same_here view W leave leave' left_at left' one_view one_disk one_past d e call.same in
-      let contents = contents_here view W leave leave' left_at left' one_view one_disk one_past told d e call in
-      let sends : (view e).send_faults ≡ (view d).send_faults = ap (λ (v : View). v.send_faults) (one_view e) ∙ faults ∙ ap (λ (v : View). v.send_faults) (sym (one_view d)) in
-      let before : IsTrue (is_told (view e)) → IsTrue (is_told (view d)) = told_here view W leave leave' left_at left' one_view one_disk one_past told d e call in
+      let time = elapses_here site link one d e call.time in
+      let same = same_here site link one d e call.crash in
+      let contents = contents_here site link one told d e call in
+      let sends : (site.view e).send_faults ≡ (site.view d).send_faults = ap (λ (v : View). v.send_faults) (one.view e) ∙ faults ∙ ap (λ (v : View). v.send_faults) (sym (one.view d)) in
+      let before : IsTrue (is_told (site.view e)) → IsTrue (is_told (site.view d)) = told_here site link one told d e call in
       record {
         later = h;
         serves = record {
           keeps = record {
-            run = run_as (is_told (view d)) (is_told (view e)) h.first h.begin h.found.disk_faults h.items h.steps h.point (ap (λ (o : Option Image). is_some o) contents) keeps.run;
-            told = ap (λ (v : View). v.transcript) (one_view e) ∙ still ∙ ap (λ (v : View). v.transcript) (sym (one_view d)) ∙ keeps.told;
+            run = run_as (is_told (site.view d)) (is_told (site.view e)) h.first h.begin h.found.disk_faults h.items h.steps h.point (ap (λ (o : Option Image). is_some o) contents) keeps.run;
+            told = ap (λ (v : View). v.transcript) (one.view e) ∙ still ∙ ap (λ (v : View). v.transcript) (sym (one.view d)) ∙ keeps.told;
             clock = λ has. (let c = keeps.clock (before has) in let l = time.later in omega (arith, c, l));
             current = λ has. keeps.current (before has);
             now = λ image left. keeps.now image ((same image).0 left);
-            images = λ t image from left. elim (cases_lt (view d).moment t) [
+            images = λ t image from left. elim (cases_lt (site.view d).moment t) [
               | inl after ↦
-                  let has : IsTrue (is_told (view d)) = before (told e t image left) in
-                  let was : leave d image = ⊎_elim (λ o. o) (λ n. (same image).0 n) (time.within t image after left) in
+                  let has : IsTrue (is_told (site.view d)) = before (told e t image left) in
+                  let was : site.may_leave d image = ⊎_elim (λ o. o) (λ n. (same image).0 n) (time.within t image after left) in
                   inl (subst (λ (m : Machine). Fits m image) (sym (keeps.current has t (let c = keeps.clock has in omega (arith, c, after)))) (keeps.now image was))
               | inr before ↦ keeps.images t image from ((time.keeps t image before).0 left)
             ];
             recorded = subst (λ (o : Option (List DiskCall)). Both h.found.calls o (λ before now. now ≡ before ++ calls_of h.steps))
-                (sym (calls_here view W leave leave' left_at left' one_view one_disk one_past told d e call)) keeps.recorded;
+                (sym (calls_here site link one told d e call)) keeps.recorded;
             blamed = λ below. subst (λ (k : ℕ). h.found.send_faults + h.point.failed ≤ k) (sym sends) (keeps.blamed (subst (λ (k : ℕ). k < 2 ^ 64 - 1) sends below));
-            counted = keeps.counted ∙ sym (disk_faults_here view W leave leave' left_at left' one_view one_disk one_past told d e call);
+            counted = keeps.counted ∙ sym (disk_faults_here site link one told d e call);
             still_told = ap (λ (o : Option Image). is_some o) contents ∙ keeps.still_told;
           };
           rest = record {
@@ -196,13 +196,13 @@ module _ {D : Type 0} (view W : D → View) (leave leave' : D → Image → Type
         taken = sym (append-nil (deals_in h.items));
       }
 
-  pub may_handle : (event : Event) (state : State) (d e : D) → Known view leave left_at state d → Adds (deal_of event) (W d) (W e) → is_some (view e).transcript ≡ is_some (view d).transcript
-      → MayHandle event state.lives.items (view e).transcript
-  may_handle (Opened n) state d e known adds told = subst (λ (v : View). IfSome v.transcript (IsLive n)) (sym (one_view e)) (began_live (W d) (W e) n adds)
-  may_handle (Piece n piece) state d e known adds told = λ among. go among (view d).transcript refl
+  pub may_handle : (event : Event) (state : State) (d e : D) → Known site state d → Adds (deal_of event) (link.view d) (link.view e) → is_some (site.view e).transcript ≡ is_some (site.view d).transcript
+      → MayHandle event state.lives.items (site.view e).transcript
+  may_handle (Opened n) state d e known adds told = subst (λ (v : View). IfSome v.transcript (IsLive n)) (sym (one.view e)) (began_live (link.view d) (link.view e) n adds)
+  may_handle (Piece n piece) state d e known adds told = λ among. go among (site.view d).transcript refl
     where
-      go : is_among n (numbers_of state.lives.items) ≡ true → (o : Option (List Item)) → (view d).transcript ≡ o → IfSome (view e).transcript (IsLive n)
-      go among None is = none (view e).transcript (told ∙ ap is_some is)
+      go : is_among n (numbers_of state.lives.items) ≡ true → (o : Option (List Item)) → (site.view d).transcript ≡ o → IfSome (site.view e).transcript (IsLive n)
+      go among None is = none (site.view e).transcript (told ∙ ap is_some is)
         where
           none : (o : Option (List Item)) → is_some o ≡ false → IfSome o (IsLive n)
           none None e = tt
@@ -210,14 +210,14 @@ module _ {D : Type 0} (view W : D → View) (leave leave' : D → Image → Type
       go among (Some items) is =
           let k = known (ap is_some is) in
           let live_now : IsLive n (k.0.base ++ k.0.items) = live_is_open n k.0.base k.0.items (subst (λ (ns : List ℕ). is_among n ns ≡ true) k.1.rest.numbers among) in
-          let was : IfSome (view d).transcript (IsLive n) = subst (λ (o : Option (List Item)). IfSome o (IsLive n)) (sym k.1.keeps.told) live_now in
-          let there : IfSome (W d).transcript (IsLive n) = subst (λ (v : View). IfSome v.transcript (IsLive n)) (one_view d) was in
-          subst (λ (v : View). IfSome v.transcript (IsLive n)) (sym (one_view e)) (stays_live (W d) (W e) n (Came n piece) (λ b t. t) there adds)
+          let was : IfSome (site.view d).transcript (IsLive n) = subst (λ (o : Option (List Item)). IfSome o (IsLive n)) (sym k.1.keeps.told) live_now in
+          let there : IfSome (link.view d).transcript (IsLive n) = subst (λ (v : View). IfSome v.transcript (IsLive n)) (one.view d) was in
+          subst (λ (v : View). IfSome v.transcript (IsLive n)) (sym (one.view e)) (stays_live (link.view d) (link.view e) n (Came n piece) (λ b t. t) there adds)
   may_handle (Closed n) state d e known adds told = tt
   may_handle Ended state d e known adds told = tt
 
-  pub is_new : (event : Event) (h : History) (d : D) → (view d).transcript ≡ Some (h.base ++ h.items) → IfSome (W d).transcript (IsNext event) → IsNew event h
-  is_new (Opened n) h d told next = fresh n h.base h.items (if_told (W d).transcript (IsNext (Opened n)) (h.base ++ h.items) (ap (λ (v : View). v.transcript) (sym (one_view d)) ∙ told) next)
+  pub is_new : (event : Event) (h : History) (d : D) → (site.view d).transcript ≡ Some (h.base ++ h.items) → IfSome (link.view d).transcript (IsNext event) → IsNew event h
+  is_new (Opened n) h d told next = fresh n h.base h.items (if_told (link.view d).transcript (IsNext (Opened n)) (h.base ++ h.items) (ap (λ (v : View). v.transcript) (sym (one.view d)) ∙ told) next)
   is_new (Piece n piece) h d told next = tt
   is_new (Closed n) h d told next = tt
   is_new Ended h d told next = tt
@@ -251,31 +251,31 @@ script_took deal (Some a) (Some b) (Some c) took same = (b, took, cc)
 pub same_script : (a b : Option (List Deal)) → b ≡ a → Both a b (AreTaken [])
 same_script a b same = subst (λ (o : Option (List Deal)). Both a o (AreTaken [])) (sym same) (script_stays a)
 
-module _ {D : Type 0} (view W : D → View) (leave : D → Image → Type 0) (left_at : D → ℕ → Image → Type 0) (one_view : (s : D) → view s ≡ W s) where
-  pub script_in : (d : D) → (view d).script ≡ (W d).script
-  script_in d = ap (λ (v : View). v.script) (one_view d)
+module _ {D : Type 0} (site link : Seen D) (one : AreOne site link) where
+  pub script_in : (d : D) → (site.view d).script ≡ (link.view d).script
+  script_in d = ap (λ (v : View). v.script) (one.view d)
 
-  unfoldable pub turn_taken : (h : History) (n : ℕ) (deal : Deal) (state : State) (d mid e : D) → 1 ≡ n → Both (W d).script (W mid).script (Takes deal) → (view e).script ≡ (view mid).script
-      → Turns view leave left_at h (deal ∷ []) state e → TurnsBy view leave left_at h n (view d).script state e
+  unfoldable pub turn_taken : (h : History) (n : ℕ) (deal : Deal) (state : State) (d mid e : D) → 1 ≡ n → Both (link.view d).script (link.view mid).script (Takes deal) → (site.view e).script ≡ (site.view mid).script
+      → Turns site h (deal ∷ []) state e → TurnsBy site h n (site.view d).script state e
   turn_taken h n deal state d mid e one took same turns = record {
     deals = deal ∷ [];
     many = one;
     turns = turns;
-    script_is = subst (λ (s : Option (List Deal)). Both s (view e).script (AreTaken (deal ∷ []))) (sym (script_in d))
-        (script_took deal (W d).script (W mid).script (view e).script took (same ∙ script_in mid));
+    script_is = subst (λ (s : Option (List Deal)). Both s (site.view e).script (AreTaken (deal ∷ []))) (sym (script_in d))
+        (script_took deal (link.view d).script (link.view mid).script (site.view e).script took (same ∙ script_in mid));
   }
 
-  unfoldable pub turn_not_taken : (h : History) (state : State) (d e : D) → (W e).script ≡ (W d).script → Turns view leave left_at h [] state e → TurnsBy view leave left_at h 0 (view d).script state e
+  unfoldable pub turn_not_taken : (h : History) (state : State) (d e : D) → (link.view e).script ≡ (link.view d).script → Turns site h [] state e → TurnsBy site h 0 (site.view d).script state e
   turn_not_taken h state d e same turns = record {
     deals = [];
     many = refl;
     turns = turns;
-    script_is = same_script (view d).script (view e).script (script_in e ∙ same ∙ sym (script_in d));
+    script_is = same_script (site.view d).script (site.view e).script (script_in e ∙ same ∙ sym (script_in d));
   }
 
-module _ {D : Type 0} (view : D → View) (leave : D → Image → Type 0) (left_at : D → ℕ → Image → Type 0) where
-  unfoldable pub turns_then : (h : History) (i j k : ℕ) (was : Option (List Deal)) (state : State) (d : D) (mid : State) (c : D) → j + i ≡ k → (one : TurnsBy view leave left_at h i was mid c)
-      → TurnsBy view leave left_at one.turns.later j (view c).script state d → TurnsBy view leave left_at h k was state d
+module _ {D : Type 0} (site : Seen D) where
+  unfoldable pub turns_then : (h : History) (i j k : ℕ) (was : Option (List Deal)) (state : State) (d : D) (mid : State) (c : D) → j + i ≡ k → (one : TurnsBy site h i was mid c)
+      → TurnsBy site one.turns.later j (site.view c).script state d → TurnsBy site h k was state d
   turns_then h i j k was state d mid c sum one two = record {
     deals = one.deals ++ two.deals;
     many = omega (arith, length-append one.deals two.deals, one.many, two.many, sum);
@@ -291,10 +291,10 @@ module _ {D : Type 0} (view : D → View) (leave : D → Image → Type 0) (left
       };
       taken = two.turns.taken ∙ ap (λ (ds : List Deal). ds ++ two.deals) one.turns.taken ∙ append_assoc (deals_in h.items) one.deals two.deals;
     };
-    script_is = scripts_then was (view c).script (view d).script one.deals two.deals one.script_is two.script_is;
+    script_is = scripts_then was (site.view c).script (site.view d).script one.deals two.deals one.script_is two.script_is;
   }
 
-  unfoldable pub turns_here : (h : History) (state : State) (d : D) → Serves view leave left_at h state d → TurnsBy view leave left_at h 0 (view d).script state d
+  unfoldable pub turns_here : (h : History) (state : State) (d : D) → Serves site h state d → TurnsBy site h 0 (site.view d).script state d
   turns_here h state d serves = record {
     deals = [];
     many = refl;
@@ -304,28 +304,28 @@ module _ {D : Type 0} (view : D → View) (leave : D → Image → Type 0) (left
       since = record { first = refl; begin = refl; base = refl; found = refl; on = on_itself h };
       taken = sym (append-nil (deals_in h.items));
     };
-    script_is = script_stays (view d).script;
+    script_is = script_stays (site.view d).script;
   }
 
   -- as many events as were counted
-  pub counted : (h : History) (n : ℕ) (was : Option (List Deal)) (state : State) (d : D) → (all : TurnsBy view leave left_at h n was state d) → events_in all.turns.later.items ≡ n + events_in h.items
+  pub counted : (h : History) (n : ℕ) (was : Option (List Deal)) (state : State) (d : D) → (all : TurnsBy site h n was state d) → events_in all.turns.later.items ≡ n + events_in h.items
   counted h n was state d all =
       let now = events_are all.turns.later.items in
       let before = events_are h.items in
       omega (arith, now, before, ap length all.turns.taken, length-append (deals_in h.items) all.deals, all.many)
 
-  module _ (left_told : (s : D) (t : ℕ) (image : Image) → left_at s t image → IsSome (view s).contents)
+  module _ (left_told : (s : D) (t : ℕ) (image : Image) → site.left_at s t image → IsSome (site.view s).contents)
       (crashes : (first : Machine) (begin faults : ℕ) (items : List Item) (steps : List Stepped) (point : Point) → Run true first begin faults items steps point → (t : ℕ) (image : Image)
       → FitsAt first steps t image
       → (log : List Entry) × IsStore log image × ((more : List Entry) × (log ≡ first.log ++ more)) × ((claim : Claim) → Shown items t claim → Holds log claim)) where
-    survives : (h : History) (d : D) → Keeps view leave left_at h d → (t : ℕ) (image : Image) → h.begin ≤ t → left_at d t image → Survives h.first h.items t image
+    survives : (h : History) (d : D) → Keeps site h d → (t : ℕ) (image : Image) → h.begin ≤ t → site.left_at d t image → Survives h.first h.items t image
     survives h d keeps t image from left =
-        let run = run_as (is_told (view d)) true h.first h.begin h.found.disk_faults h.items h.steps h.point (sym (left_told d t image left)) keeps.run in
+        let run = run_as (is_told (site.view d)) true h.first h.begin h.found.disk_faults h.items h.steps h.point (sym (left_told d t image left)) keeps.run in
         let s = crashes h.first h.begin h.found.disk_faults h.items h.steps h.point run t image (keeps.images t image from left) in
         record { log = s.0; store = s.1; more = s.2.0; extends = s.2.1; holds = s.3 }
 
-    pub has_served : (h : History) (deals : List Deal) (turns : ℕ) (result : Outcome) (state : State) (d : D) → (all : Turns view leave left_at h deals state d)
-        → EndsAs turns result (view d).transcript (events_in h.items) (events_in all.later.items) deals → Served view leave left_at h result turns state d
+    pub has_served : (h : History) (deals : List Deal) (turns : ℕ) (result : Outcome) (state : State) (d : D) → (all : Turns site h deals state d)
+        → EndsAs turns result (site.view d).transcript (events_in h.items) (events_in all.later.items) deals → Served site h result turns state d
     has_served h deals turns result state d all ends =
         let k = all.serves.keeps in
         record {
@@ -354,13 +354,13 @@ nothing_live : (ls : List Live) → ls ≡ [] → numbers_of ls ≡ live []
 unfolding live
 nothing_live ls none = ap numbers_of none
 
-module _ {D : Type 0} (view : D → View) (leave : D → Image → Type 0) (left_at : D → ℕ → Image → Type 0)
-    (no_later : (d : D) (t : ℕ) (c : Image) → left_at d t c → t ≤ (view d).moment) (at_now : (d : D) (c : Image) → left_at d (view d).moment c → leave d c)
-    (fits : (m : Machine) (o : Origin) (d : D) (image : Image) → StandsOn view leave m o d → leave d image → Fits m image) where
-  pub begun : (state : State) (d : D) → state.lives.items ≡ [] → Begins view leave left_at state d
+module _ {D : Type 0} (site : Seen D)
+    (no_later : (d : D) (t : ℕ) (c : Image) → site.left_at d t c → t ≤ (site.view d).moment) (at_now : (d : D) (c : Image) → site.left_at d (site.view d).moment c → site.may_leave d c)
+    (fits : (m : Machine) (o : Origin) (d : D) (image : Image) → StandsOn site m o d → site.may_leave d image → Fits m image) where
+  pub begun : (state : State) (d : D) → state.lives.items ≡ [] → Begins site state d
   begun state d none m base stands told =
-      let begin = (view d).moment in
-      let h : History = record { first = m; begin = begin; base = base; found = view d; items = []; steps = []; point = start m begin (view d).disk_faults } in (
+      let begin = (site.view d).moment in
+      let h : History = record { first = m; begin = begin; base = base; found = site.view d; items = []; steps = []; point = start m begin (site.view d).disk_faults } in (
         h,
         refl,
         refl,
@@ -376,9 +376,9 @@ module _ {D : Type 0} (view : D → View) (leave : D → Image → Type 0) (left
             now = λ image left. fits m state.origin d image stands left;
             images = λ t image from left.
                 let early = no_later d t image left in
-                let now : t ≡ (view d).moment = omega (arith, early, from) in
-                inl (fits m state.origin d image stands (at_now d image (subst (λ (k : ℕ). left_at d k image) now left)));
-            recorded = recorded_first (view d).calls;
+                let now : t ≡ (site.view d).moment = omega (arith, early, from) in
+                inl (fits m state.origin d image stands (at_now d image (subst (λ (k : ℕ). site.left_at d k image) now left)));
+            recorded = recorded_first (site.view d).calls;
             blamed = λ below. omega arith;
             counted = refl;
             still_told = refl;
@@ -390,16 +390,16 @@ module _ {D : Type 0} (view : D → View) (leave : D → Image → Type 0) (left
 
 -- ---- one step without a connection
 
-module _ {D : Type 0} (view : D → View) (leave : D → Image → Type 0) (left_at : D → ℕ → Image → Type 0) (h : History) (act : Act) (reply : Reply) (old new : State) (d e : D)
-    (serves : Serves view leave left_at h old d) (lives : new.lives ≡ old.lives) (a : Acted view leave left_at h e None act reply new.origin) where
+module _ {D : Type 0} (site : Seen D) (h : History) (act : Act) (reply : Reply) (old new : State) (d e : D)
+    (serves : Serves site h old d) (lives : new.lives ≡ old.lives) (a : Acted site h e None act reply new.origin) where
   abbrev behind_one : Point
   behind_one = record { machine = a.x.after; counts = h.point.counts; phase = idle; ended = a.x.ends; failed = h.point.failed; faults = a.x.faults_after }
 
   abbrev with_one : History
-  with_one = stepped view leave left_at h a.x behind_one
+  with_one = stepped site h a.x behind_one
 
-  module _ (move : Moves (is_told (view e)) h.items h.point [] (a.x ∷ []) behind_one) where
-    serves_on : Serves view leave left_at with_one new e
+  module _ (move : Moves (is_told (site.view e)) h.items h.point [] (a.x ∷ []) behind_one) where
+    serves_on : Serves site with_one new e
     serves_on = record {
       keeps = a.keeps behind_one move refl refl refl refl;
       rest = record {
@@ -411,19 +411,19 @@ module _ {D : Type 0} (view : D → View) (leave : D → Image → Type 0) (left
     }
 
     since_on : Since h with_one
-    since_on = record { first = refl; begin = refl; base = refl; found = refl; on = on_stepped (is_told (view e)) h a.x behind_one move }
+    since_on = record { first = refl; begin = refl; base = refl; found = refl; on = on_stepped (is_told (site.view e)) h a.x behind_one move }
 
 -- a ladder
-pub declares : {D : Type 0} (view : D → View) (leave : D → Image → Type 0) (left_at : D → ℕ → Image → Type 0) (h : History) (channel : List Track) (result : Declared) (old new : State) (d e : D)
-    → Serves view leave left_at h old d → new.lives ≡ old.lives → Acted view leave left_at h e None (Header channel) (reply_to_header result) new.origin
-    → DeclaresIn view leave left_at h channel result new e
-declares view leave left_at h channel result old new d e serves lives a =
+pub declares : {D : Type 0} (site : Seen D) (h : History) (channel : List Track) (result : Declared) (old new : State) (d e : D)
+    → Serves site h old d → new.lives ≡ old.lives → Acted site h e None (Header channel) (reply_to_header result) new.origin
+    → DeclaresIn site h channel result new e
+declares site h channel result old new d e serves lives a =
     let q : Point = record { machine = a.x.after; counts = h.point.counts; phase = idle; ended = a.x.ends; failed = h.point.failed; faults = a.x.faults_after } in
-    let move : Moves (is_told (view e)) h.items h.point [] (a.x ∷ []) q = declared channel a.x serves.rest.phase_is a.conn_is a.is_step refl refl refl in
+    let move : Moves (is_told (site.view e)) h.items h.point [] (a.x ∷ []) q = declared channel a.x serves.rest.phase_is a.conn_is a.is_step refl refl refl in
     record {
-      later = stepped view leave left_at h a.x q;
-      serves = serves_on view leave left_at h (Header channel) (reply_to_header result) old new d e serves lives a move;
-      since = since_on view leave left_at h (Header channel) (reply_to_header result) old new d e serves lives a move;
+      later = stepped site h a.x q;
+      serves = serves_on site h (Header channel) (reply_to_header result) old new d e serves lives a move;
+      since = since_on site h (Header channel) (reply_to_header result) old new d e serves lives a move;
       same = refl;
       step = a.x;
       steps = refl;
@@ -433,17 +433,17 @@ declares view leave left_at h channel result old new d e serves lives a =
     }
 
 -- a read-back
-pub recalls : {D : Type 0} (view : D → View) (leave : D → Image → Type 0) (left_at : D → ℕ → Image → Type 0) (h : History) (address : Address) (result : Fetched) (state : State) (d e : D)
-    → Serves view leave left_at h state d → Acted view leave left_at h e None (Ask address) (reply_to_fetched h.point.machine.log address result) state.origin
-    → RecallsIn view leave left_at h address result state e
-recalls view leave left_at h address result state d e serves a =
+pub recalls : {D : Type 0} (site : Seen D) (h : History) (address : Address) (result : Fetched) (state : State) (d e : D)
+    → Serves site h state d → Acted site h e None (Ask address) (reply_to_fetched h.point.machine.log address result) state.origin
+    → RecallsIn site h address result state e
+recalls site h address result state d e serves a =
     let q : Point = record { machine = a.x.after; counts = h.point.counts; phase = idle; ended = a.x.ends; failed = h.point.failed; faults = a.x.faults_after } in
     let reply = reply_to_fetched h.point.machine.log address result in
-    let move : Moves (is_told (view e)) h.items h.point [] (a.x ∷ []) q = recalled address a.x serves.rest.phase_is a.conn_is a.is_step refl refl refl in
+    let move : Moves (is_told (site.view e)) h.items h.point [] (a.x ∷ []) q = recalled address a.x serves.rest.phase_is a.conn_is a.is_step refl refl refl in
     record {
-      later = stepped view leave left_at h a.x q;
-      serves = serves_on view leave left_at h (Ask address) reply state state d e serves refl a move;
-      since = since_on view leave left_at h (Ask address) reply state state d e serves refl a move;
+      later = stepped site h a.x q;
+      serves = serves_on site h (Ask address) reply state state d e serves refl a move;
+      since = since_on site h (Ask address) reply state state d e serves refl a move;
       same = refl;
       step = a.x;
       steps = refl;

@@ -1,8 +1,7 @@
 -- What parts give to a run.
 use Rattle.std.proofs.Common.{◌≡◌, ℕ, Bool, true, false, if◌then◌else◌, List, [], ◌∷◌, ◌++◌, Option, Some, None, Ok, Err, is_some, refl, sym, ◌∙◌, ap, subst, append_assoc}
 use Rattle.std.specs.Prelude.{map}
-use Rattle.sm_site.specs.Image.{Image}
-use Rattle.sm_site.specs.Meanings.{View}
+use Rattle.sm_site.specs.Meanings.{Seen}
 use Rattle.sm_model.specs.declared.cause.Refusal.{Refusal}
 use Rattle.sm_model.specs.declared.item.Item.{Item}
 use Rattle.sm_model.specs.Items.{Given, item_of}
@@ -24,7 +23,9 @@ use Rattle.sm_serve.specs.Items.{shown_item, ItemIsValid}
 use Rattle.sm_serve.specs.Run.{Counts, idle, acting}
 use Rattle.sm_serve.specs.Standing.{History, Keeps, Reaches}
 use Rattle.sm_serve.specs.Resting.{PlaceIs}
-use Rattle.sm_serve.specs.Standing.{StandsOn}
+use Rattle.sm_serve.specs.Standing.{StandsOn, stays_open}
+use Rattle.sm_serve.specs.declared.still.Still.{Still}
+use Rattle.sm_serve.specs.declared.still.Still.TheVariants.{Open, Closed}
 use Rattle.sm_serve.proofs.Reaching.{reaches_here, reach_then}
 use Rattle.sm_serve.specs.Giving.{FedPush, StaysOpen, PartGives}
 
@@ -57,32 +58,32 @@ shown_items (g ∷ gs) = ap (λ (ws : List WireItem). shown_item (item_of g) ∷
 pub shown_vec : (items : List Item) (gs : List Given) (rest : List WireItem) → items ≡ map item_of gs → map shown_item items ++ rest ≡ map shown gs ++ rest
 shown_vec items gs rest is = ap (λ (xs : List Item). map shown_item xs ++ rest) is ∙ ap (λ (ws : List WireItem). ws ++ rest) (shown_items gs)
 
-module _ {D : Type 0} (view : D → View) (leave : D → Image → Type 0) (left_at : D → ℕ → Image → Type 0) where
-  pub open_gives : (h : History) (n : ℕ) (r : Bool) (push : Option Standing) (counts : Counts) (before after : Option (List ℕ)) (parts more : List PartItem) (given left : List WireItem) (origin : Origin) (d : D)
-      → Reaches view leave left_at h n r (if r then acting n left else idle) counts origin d → PlaceIs push after → Left after more left
-      → ((qs : List PartItem) (ws : List WireItem) → Left after qs ws → Left before (parts ++ qs) (given ++ ws)) → PartGives view leave left_at h n r push counts before parts more origin d
-  open_gives h n true push counts before after parts more given left origin d reaches place left_is on =
+module _ {D : Type 0} (site : Seen D) where
+  pub open_gives : (h : History) (n : ℕ) (r : Still) (push : Option Standing) (counts : Counts) (before after : Option (List ℕ)) (parts more : List PartItem) (given left : List WireItem) (origin : Origin) (d : D)
+      → Reaches site h n (stays_open r) (if stays_open r then acting n left else idle) counts origin d → PlaceIs push after → Left after more left
+      → ((qs : List PartItem) (ws : List WireItem) → Left after qs ws → Left before (parts ++ qs) (given ++ ws)) → PartGives site h n (stays_open r) push counts before parts more origin d
+  open_gives h n Open push counts before after parts more given left origin d reaches place left_is on =
       record { after = after; after_is = place; given = given; on = on; left = left; left_is = left_is; reaches = reaches }
-  open_gives h n false push counts before after parts more given left origin d reaches place left_is on = reaches
+  open_gives h n Closed push counts before after parts more given left origin d reaches place left_is on = reaches
 
-  pub closed_gives : (h : History) (n : ℕ) (r : Bool) (push : Option Standing) (counts : Counts) (before : Option (List ℕ)) (parts more : List PartItem) (left : List WireItem) (origin : Origin) (d : D)
-      → r ≡ false → Reaches view leave left_at h n r (if r then acting n left else idle) counts origin d → PartGives view leave left_at h n r push counts before parts more origin d
-  closed_gives h n true push counts before parts more left origin d is reaches = absurd (cc)
-  closed_gives h n false push counts before parts more left origin d is reaches = reaches
+  pub closed_gives : (h : History) (n : ℕ) (r : Still) (push : Option Standing) (counts : Counts) (before : Option (List ℕ)) (parts more : List PartItem) (left : List WireItem) (origin : Origin) (d : D)
+      → r ≡ Closed → Reaches site h n (stays_open r) (if stays_open r then acting n left else idle) counts origin d → PartGives site h n (stays_open r) push counts before parts more origin d
+  closed_gives h n Open push counts before parts more left origin d is reaches = absurd (cc)
+  closed_gives h n Closed push counts before parts more left origin d is reaches = reaches
 
-  pub starved_gives : (h : History) (n : ℕ) (r : Bool) (push : Option Standing) (counts : Counts) (before : Option (List ℕ)) (parts more : List PartItem) (origin : Origin) (d : D)
-      → r ≡ false → Reaches view leave left_at h n false idle counts origin d → PartGives view leave left_at h n r push counts before parts more origin d
-  starved_gives h n true push counts before parts more origin d is reaches = absurd (cc)
-  starved_gives h n false push counts before parts more origin d is reaches = reaches
+  pub starved_gives : (h : History) (n : ℕ) (r : Still) (push : Option Standing) (counts : Counts) (before : Option (List ℕ)) (parts more : List PartItem) (origin : Origin) (d : D)
+      → r ≡ Closed → Reaches site h n false idle counts origin d → PartGives site h n (stays_open r) push counts before parts more origin d
+  starved_gives h n Open push counts before parts more origin d is reaches = absurd (cc)
+  starved_gives h n Closed push counts before parts more origin d is reaches = reaches
 
   -- an end of a push
-  pub end_gives : (h : History) (n : ℕ) (close r : Bool) (push : Option Standing) (counts : Counts) (b : List ℕ) (more : List PartItem) (origin : Origin) (d : D) → body_end false b ≡ None
-      → (close ≡ true → r ≡ false) → (r ≡ true → push ≡ None) → Reaches view leave left_at h n r (if r then acting n (if close then [] else wire None more) else idle) counts origin d
-      → PartGives view leave left_at h n r push counts (Some b) (ended close ∷ []) more origin d
+  pub end_gives : (h : History) (n : ℕ) (close : Bool) (r : Still) (push : Option Standing) (counts : Counts) (b : List ℕ) (more : List PartItem) (origin : Origin) (d : D) → body_end false b ≡ None
+      → (close ≡ true → r ≡ Closed) → (r ≡ Open → push ≡ None) → Reaches site h n (stays_open r) (if stays_open r then acting n (if close then [] else wire None more) else idle) counts origin d
+      → PartGives site h n (stays_open r) push counts (Some b) (ended close ∷ []) more origin d
   end_gives h n true r push counts b more origin d clear closes none reaches = closed_gives h n r push counts (Some b) (ended true ∷ []) more [] origin d (closes refl) reaches
-  end_gives h n false false push counts b more origin d clear closes none reaches = reaches
-  end_gives h n false true push counts b more origin d clear closes none reaches =
-      open_gives h n true push counts (Some b) None (ended false ∷ []) more (End false ∷ []) (wire None more) origin d reaches (subst (λ (p : Option Standing). PlaceIs p None) (sym (none refl)) tt) refl
+  end_gives h n false Closed push counts b more origin d clear closes none reaches = reaches
+  end_gives h n false Open push counts b more origin d clear closes none reaches =
+      open_gives h n Open push counts (Some b) None (ended false ∷ []) more (End false ∷ []) (wire None more) origin d reaches (subst (λ (p : Option Standing). PlaceIs p None) (sym (none refl)) tt) refl
       (λ qs ws left. ended_left b qs clear ∙ ap (λ (us : List WireItem). map shown (body false b).items ++ End false ∷ us) left)
 
   pub end_items : (b : List ℕ) (close : Bool) (more : List PartItem) (items : List WireItem) → body_end false b ≡ None → Left (Some b) (ended close ∷ more) items → items ≡ End close ∷ (if close then [] else wire None more)
@@ -90,21 +91,21 @@ module _ {D : Type 0} (view : D → View) (leave : D → Image → Type 0) (left
   end_items b false more items clear left = left_unique (Some b) (ended false ∷ more) items _ left (ended_left b more clear)
 
   -- a request for what is there
-  pub get_gives : (h : History) (n : ℕ) (t : Target) (close r : Bool) (push : Option Standing) (counts : Counts) (more : List PartItem) (origin : Origin) (d : D)
-      → (close ≡ true → r ≡ false) → PlaceIs push None → Reaches view leave left_at h n r (if r then acting n (if close then [] else wire None more) else idle) counts origin d
-      → PartGives view leave left_at h n r push counts None (got t close ∷ []) more origin d
+  pub get_gives : (h : History) (n : ℕ) (t : Target) (close : Bool) (r : Still) (push : Option Standing) (counts : Counts) (more : List PartItem) (origin : Origin) (d : D)
+      → (close ≡ true → r ≡ Closed) → PlaceIs push None → Reaches site h n (stays_open r) (if stays_open r then acting n (if close then [] else wire None more) else idle) counts origin d
+      → PartGives site h n (stays_open r) push counts None (got t close ∷ []) more origin d
   get_gives h n t true r push counts more origin d closes none reaches = closed_gives h n r push counts None (got t true ∷ []) more [] origin d (closes refl) reaches
-  get_gives h n t false false push counts more origin d closes none reaches = reaches
-  get_gives h n t false true push counts more origin d closes none reaches =
-      open_gives h n true push counts None None (got t false ∷ []) more (Get t false ∷ []) (wire None more) origin d reaches none refl
+  get_gives h n t false Closed push counts more origin d closes none reaches = reaches
+  get_gives h n t false Open push counts more origin d closes none reaches =
+      open_gives h n Open push counts None None (got t false ∷ []) more (Get t false ∷ []) (wire None more) origin d reaches none refl
       (λ qs ws left. got_left t qs ∙ ap (λ (us : List WireItem). Get t false ∷ us) left)
 
   pub get_items : (t : Target) (close : Bool) (more : List PartItem) (items : List WireItem) → Left None (got t close ∷ more) items → items ≡ Get t close ∷ (if close then [] else wire None more)
   get_items t true more items left = left_unique None (got t true ∷ more) items _ left (got_close t more)
   get_items t false more items left = left_unique None (got t false ∷ more) items _ left (got_left t more)
 
-  pub continue_gives : (h : History) (n : ℕ) (r : Bool) (push : Option Standing) (counts : Counts) (more : List PartItem) (origin : Origin) (d : D) → PlaceIs push None
-      → Reaches view leave left_at h n r (if r then acting n (wire None more) else idle) counts origin d → PartGives view leave left_at h n r push counts None (continued ∷ []) more origin d
+  pub continue_gives : (h : History) (n : ℕ) (r : Still) (push : Option Standing) (counts : Counts) (more : List PartItem) (origin : Origin) (d : D) → PlaceIs push None
+      → Reaches site h n (stays_open r) (if stays_open r then acting n (wire None more) else idle) counts origin d → PartGives site h n (stays_open r) push counts None (continued ∷ []) more origin d
   continue_gives h n r push counts more origin d none reaches =
       open_gives h n r push counts None None (continued ∷ []) more (Continue ∷ []) (wire None more) origin d reaches none refl
       (λ qs ws left. continue_left qs ∙ ap (λ (us : List WireItem). Continue ∷ us) left)
@@ -123,11 +124,11 @@ place_none None None none is = refl
 place_none None (Some b) none is = absurd is
 place_none (Some p) place none is = absurd (cc)
 
-module _ {D : Type 0} (view : D → View) (leave : D → Image → Type 0) (left_at : D → ℕ → Image → Type 0) where
+module _ {D : Type 0} (site : Seen D) where
   -- nothing was taken
   pub open_here : (h : History) (n : ℕ) (d : D) (push : Option Standing) (counts : Counts) (place : Option (List ℕ)) (more : List PartItem) (items : List WireItem) (origin : Origin)
-      → Keeps view leave left_at h d → StandsOn view leave h.point.machine origin d → PlaceIs push place → Left place more items → h.point.phase ≡ acting n items → h.point.counts n ≡ counts
-      → StaysOpen view leave left_at h n push counts place [] more origin d
+      → Keeps site h d → StandsOn site h.point.machine origin d → PlaceIs push place → Left place more items → h.point.phase ≡ acting n items → h.point.counts n ≡ counts
+      → StaysOpen site h n push counts place [] more origin d
   open_here h n d push counts place more items origin keeps stands is left phase same = record {
     after = place;
     after_is = is;
@@ -135,15 +136,15 @@ module _ {D : Type 0} (view : D → View) (leave : D → Image → Type 0) (left
     on = λ qs ws l. l;
     left = items;
     left_is = left;
-    reaches = reaches_here view leave left_at h n d (acting n items) counts origin keeps stands phase same;
+    reaches = reaches_here site h n d (acting n items) counts origin keeps stands phase same;
   }
 
   -- parts, and then further ones
   pub then_gives : (h : History) (n : ℕ) (r : Bool) (push push' : Option Standing) (counts counts' : Counts) (before : Option (List ℕ)) (ps qs more : List PartItem) (origin origin' : Origin) (d e : D)
-      → (one : StaysOpen view leave left_at h n push counts before ps (qs ++ more) origin d)
-      → ((k : History) → Keeps view leave left_at k d → StandsOn view leave k.point.machine origin d → k.point.phase ≡ acting n one.left → k.point.counts n ≡ counts
-      → PartGives view leave left_at k n r push' counts' one.after qs more origin' e)
-      → PartGives view leave left_at h n r push' counts' before (ps ++ qs) more origin' e
+      → (one : StaysOpen site h n push counts before ps (qs ++ more) origin d)
+      → ((k : History) → Keeps site k d → StandsOn site k.point.machine origin d → k.point.phase ≡ acting n one.left → k.point.counts n ≡ counts
+      → PartGives site k n r push' counts' one.after qs more origin' e)
+      → PartGives site h n r push' counts' before (ps ++ qs) more origin' e
   then_gives h n true push push' counts counts' before ps qs more origin origin' d e one so =
       let was = one.reaches in
       let two = so was.later was.keeps was.stands was.phase_is (was.counts_are refl) in
@@ -156,8 +157,8 @@ module _ {D : Type 0} (view : D → View) (leave : D → Image → Type 0) (left
             (subst (λ (us : List WireItem). Left before (ps ++ (qs ++ rs)) us) (sym (append_assoc one.given two.given ws)) (one.on (qs ++ rs) (two.given ++ ws) (two.on rs ws l)));
         left = two.left;
         left_is = two.left_is;
-        reaches = reach_then view leave left_at h was.later n true (acting n two.left) counts' counts' origin' e was.follows two.reaches (λ t. refl);
+        reaches = reach_then site h was.later n true (acting n two.left) counts' counts' origin' e was.follows two.reaches (λ t. refl);
       }
   then_gives h n false push push' counts counts' before ps qs more origin origin' d e one so =
       let was = one.reaches in
-      reach_then view leave left_at h was.later n false idle counts' counts' origin' e was.follows (so was.later was.keeps was.stands was.phase_is (was.counts_are refl)) (λ t. refl)
+      reach_then site h was.later n false idle counts' counts' origin' e was.follows (so was.later was.keeps was.stands was.phase_is (was.counts_are refl)) (λ t. refl)

@@ -4,8 +4,8 @@ use Rattle.std.proofs.lemmas.List.{append-nil}
 use Rattle.std.proofs.lemmas.Bool.{cases_lt, cases_Bool}
 use Rattle.std.proofs.lemmas.Bool.Decides.{nat_tests}
 use Rattle.sm_site.specs.Image.{Image}
-use Rattle.sm_site.specs.Meanings.{View, Item, DiskCall, SameLink}
-use Rattle.sm_site.specs.Clauses.{Both, Elapses, SameOutcomes}
+use Rattle.sm_site.specs.Meanings.{Item, DiskCall, SameLink, Seen}
+use Rattle.sm_site.specs.Clauses.{Both, Passes, SameOutcomes}
 use Rattle.sm_model.specs.declared.act.Act.{Act}
 use Rattle.sm_model.specs.declared.entry.Entry.{Entry}
 use Rattle.sm_reply.specs.declared.reply.Reply.{Reply}
@@ -105,24 +105,24 @@ none_recorded (Some before) None b steps all was one two = absurd was
 none_recorded found (Some cs) b steps all was one two = absurd (cc)
 none_recorded found None (Some ds) steps all was one two = absurd (cc)
 
-module _ {D : Type 0} (view : D → View) (leave : D → Image → Type 0) (left_at : D → ℕ → Image → Type 0) where
+module _ {D : Type 0} (site : Seen D) where
   -- ---- no call
 
   abbrev pub paused : History → Point → History
   paused h q = record h { point = q }
 
   -- the run goes on without a call
-  pub silent_move : (h : History) (d : D) (q : Point) → Keeps view leave left_at h d → Moves (is_told (view d)) h.items h.point [] [] q → q.machine ≡ h.point.machine → q.ended ≡ h.point.ended → q.failed ≡ h.point.failed
-      → q.faults ≡ h.point.faults → Keeps view leave left_at (paused h q) d
+  pub silent_move : (h : History) (d : D) (q : Point) → Keeps site h d → Moves (is_told (site.view d)) h.items h.point [] [] q → q.machine ≡ h.point.machine → q.ended ≡ h.point.ended → q.failed ≡ h.point.failed
+      → q.faults ≡ h.point.faults → Keeps site (paused h q) d
   silent_move h d q keeps move machine ended failed faults = record {
     run = goes_on h.items [] h.items h.steps [] h.steps h.point q keeps.run move (sym (append-nil h.items)) (sym (append-nil h.steps));
     told = keeps.told;
-    clock = λ has. subst (λ (e : ℕ). e ≤ (view d).moment) (sym ended) (keeps.clock has);
+    clock = λ has. subst (λ (e : ℕ). e ≤ (site.view d).moment) (sym ended) (keeps.clock has);
     current = λ has t le. keeps.current has t (subst (λ (e : ℕ). e ≤ t) ended le) ∙ sym machine;
     now = λ image left. subst (λ (m : Machine). Fits m image) (sym machine) (keeps.now image left);
     images = keeps.images;
     recorded = keeps.recorded;
-    blamed = λ below. subst (λ (n : ℕ). h.found.send_faults + n ≤ (view d).send_faults) (sym failed) (keeps.blamed below);
+    blamed = λ below. subst (λ (n : ℕ). h.found.send_faults + n ≤ (site.view d).send_faults) (sym failed) (keeps.blamed below);
     counted = faults ∙ keeps.counted;
     still_told = keeps.still_told;
   }
@@ -135,32 +135,32 @@ module _ {D : Type 0} (view : D → View) (leave : D → Image → Type 0) (left
     pub x : Stepped
     pub conn_is : x.conn ≡ conn
     pub reply_is : x.reply ≡ reply
-    pub is_step : IsStep (is_told (view e)) h.point act x
-    pub keeps : (q : Point) → Moves (is_told (view e)) h.items h.point [] (x ∷ []) q → q.machine ≡ x.after → q.ended ≡ x.ends → q.failed ≡ h.point.failed
-        → q.faults ≡ x.faults_after → Keeps view leave left_at (stepped h x q) e
-    pub stands : StandsOn view leave x.after origin e
+    pub is_step : IsStep (is_told (site.view e)) h.point act x
+    pub keeps : (q : Point) → Moves (is_told (site.view e)) h.items h.point [] (x ∷ []) q → q.machine ≡ x.after → q.ended ≡ x.ends → q.failed ≡ h.point.failed
+        → q.faults ≡ x.faults_after → Keeps site (stepped h x q) e
+    pub stands : StandsOn site x.after origin e
 
-  module _ (told : (s : D) (t : ℕ) (image : Image) → left_at s t image → IsSome (view s).contents) where
+  module _ (told : (s : D) (t : ℕ) (image : Image) → site.left_at s t image → IsSome (site.view s).contents) where
     -- ---- a call of the link
 
-    pub link_move : (h : History) (d e : D) (es : List Item) (q : Point) → Keeps view leave left_at h d → Moves (is_told (view e)) h.items h.point es [] q → q.machine ≡ h.point.machine
-        → (IsTrue (is_told (view e)) → h.point.ended ≤ q.ended) → (view e).transcript ≡ Some ((h.base ++ h.items) ++ es)
-        → Elapses (view d) (view e) (left_at d) (left_at e) (leave d) (leave e) → SameOutcomes (leave d) (leave e) → (view e).calls ≡ (view d).calls → (view e).contents ≡ (view d).contents
-        → (IsTrue (is_told (view e)) → q.ended ≤ (view e).moment) → ((view e).send_faults < 2 ^ 64 - 1 → h.found.send_faults + q.failed ≤ (view e).send_faults) → q.faults ≡ h.point.faults
-        → (view e).disk_faults ≡ (view d).disk_faults → Keeps view leave left_at (moved h es q) e
+    pub link_move : (h : History) (d e : D) (es : List Item) (q : Point) → Keeps site h d → Moves (is_told (site.view e)) h.items h.point es [] q → q.machine ≡ h.point.machine
+        → (IsTrue (is_told (site.view e)) → h.point.ended ≤ q.ended) → (site.view e).transcript ≡ Some ((h.base ++ h.items) ++ es)
+        → Passes site d e → SameOutcomes (site.may_leave d) (site.may_leave e) → (site.view e).calls ≡ (site.view d).calls → (site.view e).contents ≡ (site.view d).contents
+        → (IsTrue (is_told (site.view e)) → q.ended ≤ (site.view e).moment) → ((site.view e).send_faults < 2 ^ 64 - 1 → h.found.send_faults + q.failed ≤ (site.view e).send_faults) → q.faults ≡ h.point.faults
+        → (site.view e).disk_faults ≡ (site.view d).disk_faults → Keeps site (moved h es q) e
     link_move h d e es q keeps move machine later told_is time same calls contents clock blamed faults same_faults =
-        let as_told : is_told (view e) ≡ is_told (view d) = ap (λ (o : Option Image). is_some o) contents in
+        let as_told : is_told (site.view e) ≡ is_told (site.view d) = ap (λ (o : Option Image). is_some o) contents in
         record {
           run = goes_on h.items es (h.items ++ es) h.steps [] h.steps h.point q
-              (run_as (is_told (view d)) (is_told (view e)) h.first h.begin h.found.disk_faults h.items h.steps h.point as_told keeps.run) move refl (sym (append-nil h.steps));
+              (run_as (is_told (site.view d)) (is_told (site.view e)) h.first h.begin h.found.disk_faults h.items h.steps h.point as_told keeps.run) move refl (sym (append-nil h.steps));
           told = told_is ∙ ap (λ (items : List Item). Some items) (append_assoc h.base h.items es);
           clock = clock;
           current = λ has t le. keeps.current (sym as_told ∙ has) t (let l = later has in omega (arith, le, l)) ∙ sym machine;
           now = λ image left. subst (λ (m : Machine). Fits m image) (sym machine) (keeps.now image ((same image).0 left));
-          images = λ t image from left. elim (cases_lt (view d).moment t) [
+          images = λ t image from left. elim (cases_lt (site.view d).moment t) [
             | inl after ↦
-                let has : IsTrue (is_told (view d)) = sym as_told ∙ told e t image left in
-                let was : leave d image = ⊎_elim (λ o. o) (λ n. (same image).0 n) (time.within t image after left) in
+                let has : IsTrue (is_told (site.view d)) = sym as_told ∙ told e t image left in
+                let was : site.may_leave d image = ⊎_elim (λ o. o) (λ n. (same image).0 n) (time.within t image after left) in
                 inl (subst (λ (m : Machine). Fits m image) (sym (keeps.current has t (let c = keeps.clock has in omega arith))) (keeps.now image was))
             | inr before ↦ keeps.images t image from ((time.keeps t image before).0 left)
           ];
@@ -173,9 +173,9 @@ module _ {D : Type 0} (view : D → View) (leave : D → Image → Type 0) (left
     -- ---- a step
 
     -- of a disk that tells its contents
-    module _ (h : History) (d e : D) (origin : Origin) (act : Act) (reply : Reply) (conn : Option ℕ) (keeps : Keeps view leave left_at h d)
-        (has : IsTrue (is_told (view d))) (as_told : is_told (view e) ≡ is_told (view d))
-        (acts : ActGives view leave left_at d e h.point.machine origin act reply) (link : SameLink (view d) (view e)) (no_fewer : (view d).disk_faults ≤ (view e).disk_faults) where
+    module _ (h : History) (d e : D) (origin : Origin) (act : Act) (reply : Reply) (conn : Option ℕ) (keeps : Keeps site h d)
+        (has : IsTrue (is_told (site.view d))) (as_told : is_told (site.view e) ≡ is_told (site.view d))
+        (acts : ActGives site d e h.point.machine origin act reply) (link : SameLink (site.view d) (site.view e)) (no_fewer : (site.view d).disk_faults ≤ (site.view e).disk_faults) where
       abbrev the_step : Stepped
       the_step = record {
         conn = conn;
@@ -183,10 +183,10 @@ module _ {D : Type 0} (view : D → View) (leave : D → Image → Type 0) (left
         before = h.point.machine;
         after = acts.after;
         reply = reply;
-        began = (view d).moment;
+        began = (site.view d).moment;
         calls = acts.calls;
-        faults = (view d).disk_faults;
-        faults_after = (view e).disk_faults;
+        faults = (site.view d).disk_faults;
+        faults_after = (site.view e).disk_faults;
         ends = last_moment h.point.ended acts.calls;
       }
 
@@ -204,12 +204,12 @@ module _ {D : Type 0} (view : D → View) (leave : D → Image → Type 0) (left
         ends_is = refl;
       }
 
-      ends_when : ((acts.calls ≡ []) × (the_step.ends ≡ h.point.ended) × ((view e).moment ≡ (view d).moment)) ⊎ ((view e).moment ≡ the_step.ends)
+      ends_when : ((acts.calls ≡ []) × (the_step.ends ≡ h.point.ended) × ((site.view e).moment ≡ (site.view d).moment)) ⊎ ((site.view e).moment ≡ the_step.ends)
       ends_when = ⊎_elim
-          (λ none. inl (none, last_of_none h.point.ended acts.calls none, acts.ended ∙ last_of_none (view d).moment acts.calls none))
-          (λ some. inr (acts.ended ∙ last_of_call (view d).moment h.point.ended acts.calls some)) (no_call acts.calls)
+          (λ none. inl (none, last_of_none h.point.ended acts.calls none, acts.ended ∙ last_of_none (site.view d).moment acts.calls none))
+          (λ some. inr (acts.ended ∙ last_of_call (site.view d).moment h.point.ended acts.calls some)) (no_call acts.calls)
 
-      ends_within : the_step.ends ≤ (view e).moment
+      ends_within : the_step.ends ≤ (site.view e).moment
       ends_within = elim ends_when [
         | inl (none, was, same) ↦ let c = keeps.clock has in omega (arith, was, same, c)
         | inr now ↦ omega (arith, now)
@@ -239,23 +239,23 @@ module _ {D : Type 0} (view : D → View) (leave : D → Image → Type 0) (left
       ]
 
       -- from the end of the act on
-      since_fits : (t : ℕ) (image : Image) → (view e).moment ≤ t → left_at e t image → FitsAt h.first (h.steps ++ the_step ∷ []) t image
+      since_fits : (t : ℕ) (image : Image) → (site.view e).moment ≤ t → site.left_at e t image → FitsAt h.first (h.steps ++ the_step ∷ []) t image
       since_fits t image le left =
           let k = ends_within in
           inl (subst (λ (m : Machine). Fits m image) (sym (after_at t (omega (arith, k, le)))) (acts.since t image le left))
 
-      was_fits : (t : ℕ) (image : Image) → h.begin ≤ t → t ≤ (view d).moment → left_at e t image → SameLog (machine_at h.first h.steps t) (machine_at h.first (h.steps ++ the_step ∷ []) t)
+      was_fits : (t : ℕ) (image : Image) → h.begin ≤ t → t ≤ (site.view d).moment → site.left_at e t image → SameLog (machine_at h.first h.steps t) (machine_at h.first (h.steps ++ the_step ∷ []) t)
           → FitsAt h.first (h.steps ++ the_step ∷ []) t image
       was_fits t image from before left same = fits_more h.first h.steps the_step t image same (keeps.images t image from ((acts.keeps t image before).0 left))
 
-      image_fits : (t : ℕ) (image : Image) → h.begin ≤ t → left_at e t image → FitsAt h.first (h.steps ++ the_step ∷ []) t image
-      image_fits t image from left = elim (cases_lt t (view e).moment) [
+      image_fits : (t : ℕ) (image : Image) → h.begin ≤ t → site.left_at e t image → FitsAt h.first (h.steps ++ the_step ∷ []) t image
+      image_fits t image from left = elim (cases_lt t (site.view e).moment) [
         | inr le ↦ since_fits t image le left
         | inl lt ↦ elim ends_when [
           | inl (none, was, same) ↦ was_fits t image from (omega (arith, lt, same)) left (still_at none t)
           | inr now ↦
               let early : t < the_step.ends = omega (arith, now, lt) in
-              elim (cases_lt (view d).moment t) [
+              elim (cases_lt (site.view d).moment t) [
                 | inl after ↦
                     let here = before_at t early ∙ keeps.current has t (let c = keeps.clock has in omega (arith, c, after)) in
                     inr (the_step, (h.steps, [], refl), (after, early), subst (λ (m : Machine). FitsInside m (entry_of act) image) (sym here) (acts.inside t image after left))
@@ -272,16 +272,16 @@ module _ {D : Type 0} (view : D → View) (leave : D → Image → Type 0) (left
         is_step = record { act_is = refl; before_is = refl; faults_is = sym keeps.counted; no_fewer = no_fewer; machine = λ t. on_machine };
         keeps = λ q move machine ended failed faults. record {
           run = goes_on h.items [] h.items h.steps (the_step ∷ []) (h.steps ++ the_step ∷ []) h.point q
-              (run_as (is_told (view d)) (is_told (view e)) h.first h.begin h.found.disk_faults h.items h.steps h.point as_told keeps.run) move (sym (append-nil h.items)) refl;
+              (run_as (is_told (site.view d)) (is_told (site.view e)) h.first h.begin h.found.disk_faults h.items h.steps h.point as_told keeps.run) move (sym (append-nil h.items)) refl;
           told = link.transcript ∙ keeps.told;
-          clock = λ t. subst (λ (k : ℕ). k ≤ (view e).moment) (sym ended) ends_within;
+          clock = λ t. subst (λ (k : ℕ). k ≤ (site.view e).moment) (sym ended) ends_within;
           current = λ h' t le. after_at t (subst (λ (k : ℕ). k ≤ t) ended le) ∙ sym machine;
           now = λ image left. subst (λ (m : Machine). Fits m image) (sym machine) (acts.now image left);
           images = image_fits;
-          recorded = record_grows h.found.calls (view d).calls (view e).calls h.steps the_step keeps.recorded acts.noted;
+          recorded = record_grows h.found.calls (site.view d).calls (site.view e).calls h.steps the_step keeps.recorded acts.noted;
           blamed = λ below.
               let same = link.send_faults in
-              subst (λ (n : ℕ). h.found.send_faults + n ≤ (view e).send_faults) (sym failed)
+              subst (λ (n : ℕ). h.found.send_faults + n ≤ (site.view e).send_faults) (sym failed)
               (subst (λ (n : ℕ). h.found.send_faults + h.point.failed ≤ n) (sym same) (keeps.blamed (subst (λ (n : ℕ). n < 2 ^ 64 - 1) same below)));
           counted = faults;
           still_told = as_told ∙ keeps.still_told;
@@ -290,11 +290,11 @@ module _ {D : Type 0} (view : D → View) (leave : D → Image → Type 0) (left
       }
 
     -- of a disk that doesn't
-    module _ (h : History) (d e : D) (origin : Origin) (act : Act) (reply : Reply) (conn : Option ℕ) (keeps : Keeps view leave left_at h d)
-        (none : is_told (view d) ≡ false) (as_told : is_told (view e) ≡ is_told (view d))
-        (now_at : (s : D) (image : Image) → leave s image → left_at s (view s).moment image) (calls_told : (s : D) → is_some (view s).calls ≡ is_some (view s).contents)
-        (after : Machine) (stands : StandsOn view leave after origin e) (link : SameLink (view d) (view e)) (no_fewer : (view d).disk_faults ≤ (view e).disk_faults) where
-      not_told : IsTrue (is_told (view e)) → ⊥
+    module _ (h : History) (d e : D) (origin : Origin) (act : Act) (reply : Reply) (conn : Option ℕ) (keeps : Keeps site h d)
+        (none : is_told (site.view d) ≡ false) (as_told : is_told (site.view e) ≡ is_told (site.view d))
+        (now_at : (s : D) (image : Image) → site.may_leave s image → site.left_at s (site.view s).moment image) (calls_told : (s : D) → is_some (site.view s).calls ≡ is_some (site.view s).contents)
+        (after : Machine) (stands : StandsOn site after origin e) (link : SameLink (site.view d) (site.view e)) (no_fewer : (site.view d).disk_faults ≤ (site.view e).disk_faults) where
+      not_told : IsTrue (is_told (site.view e)) → ⊥
       not_told has = let both : true ≡ false = sym has ∙ as_told ∙ none in cc
 
       abbrev blind_step : Stepped
@@ -304,11 +304,11 @@ module _ {D : Type 0} (view : D → View) (leave : D → Image → Type 0) (left
         before = h.point.machine;
         after = after;
         reply = reply;
-        began = (view d).moment;
+        began = (site.view d).moment;
         calls = [];
-        faults = (view d).disk_faults;
-        faults_after = (view e).disk_faults;
-        ends = (view e).moment;
+        faults = (site.view d).disk_faults;
+        faults_after = (site.view e).disk_faults;
+        ends = (site.view e).moment;
       }
 
       acted_untold : Acted h e conn act reply origin
@@ -319,16 +319,16 @@ module _ {D : Type 0} (view : D → View) (leave : D → Image → Type 0) (left
         is_step = record { act_is = refl; before_is = refl; faults_is = sym keeps.counted; no_fewer = no_fewer; machine = λ has. absurd (not_told has) };
         keeps = λ q move machine ended failed faults. record {
           run = goes_on h.items [] h.items h.steps (blind_step ∷ []) (h.steps ++ blind_step ∷ []) h.point q
-              (run_as (is_told (view d)) (is_told (view e)) h.first h.begin h.found.disk_faults h.items h.steps h.point as_told keeps.run) move (sym (append-nil h.items)) refl;
+              (run_as (is_told (site.view d)) (is_told (site.view e)) h.first h.begin h.found.disk_faults h.items h.steps h.point as_told keeps.run) move (sym (append-nil h.items)) refl;
           told = link.transcript ∙ keeps.told;
           clock = λ has. absurd (not_told has);
           current = λ has t le. absurd (not_told has);
-          now = λ image left. absurd (not_told (told e (view e).moment image (now_at e image left)));
+          now = λ image left. absurd (not_told (told e (site.view e).moment image (now_at e image left)));
           images = λ t image from left. absurd (not_told (told e t image left));
-          recorded = none_recorded h.found.calls (view d).calls (view e).calls h.steps (h.steps ++ blind_step ∷ []) keeps.recorded (calls_told d ∙ none) (calls_told e ∙ as_told ∙ none);
+          recorded = none_recorded h.found.calls (site.view d).calls (site.view e).calls h.steps (h.steps ++ blind_step ∷ []) keeps.recorded (calls_told d ∙ none) (calls_told e ∙ as_told ∙ none);
           blamed = λ below.
               let same = link.send_faults in
-              subst (λ (n : ℕ). h.found.send_faults + n ≤ (view e).send_faults) (sym failed)
+              subst (λ (n : ℕ). h.found.send_faults + n ≤ (site.view e).send_faults) (sym failed)
               (subst (λ (n : ℕ). h.found.send_faults + h.point.failed ≤ n) (sym same) (keeps.blamed (subst (λ (n : ℕ). n < 2 ^ 64 - 1) same below)));
           counted = faults;
           still_told = as_told ∙ keeps.still_told;
@@ -337,11 +337,11 @@ module _ {D : Type 0} (view : D → View) (leave : D → Image → Type 0) (left
       }
 
     -- of any disk
-    pub acted : (h : History) (d e : D) (origin : Origin) (act : Act) (reply : Reply) (conn : Option ℕ) → Keeps view leave left_at h d → is_told (view e) ≡ is_told (view d)
-        → ((s : D) (image : Image) → leave s image → left_at s (view s).moment image) → ((s : D) → is_some (view s).calls ≡ is_some (view s).contents)
-        → (IsSome (view d).contents → ActGives view leave left_at d e h.point.machine origin act reply) → (m : Machine) × StandsOn view leave m origin e → SameLink (view d) (view e)
-        → (view d).disk_faults ≤ (view e).disk_faults → Acted h e conn act reply origin
-    acted h d e origin act reply conn keeps as_told now_at calls_told gives stands link no_fewer = elim (cases_Bool (is_told (view d))) [
+    pub acted : (h : History) (d e : D) (origin : Origin) (act : Act) (reply : Reply) (conn : Option ℕ) → Keeps site h d → is_told (site.view e) ≡ is_told (site.view d)
+        → ((s : D) (image : Image) → site.may_leave s image → site.left_at s (site.view s).moment image) → ((s : D) → is_some (site.view s).calls ≡ is_some (site.view s).contents)
+        → (IsSome (site.view d).contents → ActGives site d e h.point.machine origin act reply) → (m : Machine) × StandsOn site m origin e → SameLink (site.view d) (site.view e)
+        → (site.view d).disk_faults ≤ (site.view e).disk_faults → Acted h e conn act reply origin
+    acted h d e origin act reply conn keeps as_told now_at calls_told gives stands link no_fewer = elim (cases_Bool (is_told (site.view d))) [
       | inl has ↦ acted_told h d e origin act reply conn keeps has as_told (gives has) link no_fewer
       | inr none ↦ acted_untold h d e origin act reply conn keeps none as_told now_at calls_told stands.0 stands.1 link no_fewer
     ]

@@ -2,8 +2,7 @@
 use Rattle.std.proofs.Common.{◌≡◌, ℕ, Bool, true, false, List, [], ◌++◌, Option, Some, None, refl, sym, ◌∙◌, ap, append_assoc}
 use Rattle.std.proofs.lemmas.List.{append-nil}
 use Rattle.std.specs.Prelude.{map}
-use Rattle.sm_site.specs.Image.{Image}
-use Rattle.sm_site.specs.Meanings.{View}
+use Rattle.sm_site.specs.Meanings.{Seen}
 use Rattle.sm_site.specs.Meanings.Deal.{Came}
 use Rattle.sm_model.specs.declared.cause.Refusal.{Refusal}
 use Rattle.sm_push.specs.Body.{body}
@@ -37,18 +36,18 @@ none_left push (Some b) left is l =
     let none : map shown (body false b).items ++ [] ≡ map shown (body false b).items ++ left = sym (ap (λ (r : Option Refusal). pushed (body false b) r []) clear) ∙ l in
     sym (same_rest (map shown (body false b).items) [] left none)
 
-module _ {D : Type 0} (view : D → View) (leave : D → Image → Type 0) (left_at : D → ℕ → Image → Type 0) where
+module _ {D : Type 0} (site : Seen D) where
   -- the run awaits the next event
-  pub rests_now : (h : History) (n : ℕ) (left : List WireItem) (counts : Counts) (origin : Origin) (d : D) → left ≡ [] → Reaches view leave left_at h n true (acting n left) counts origin d
-      → Reaches view leave left_at h n true idle counts origin d
+  pub rests_now : (h : History) (n : ℕ) (left : List WireItem) (counts : Counts) (origin : Origin) (d : D) → left ≡ [] → Reaches site h n true (acting n left) counts origin d
+      → Reaches site h n true idle counts origin d
   rests_now h n left counts origin d none was =
       let k = was.later in
       let phase : k.point.phase ≡ acting n [] = was.phase_is ∙ ap (acting n) none in
       record {
-        later = paused view leave left_at k (in_phase k.point idle);
-        keeps = silent_move view leave left_at k d (in_phase k.point idle) was.keeps (done n phase refl refl refl) refl refl refl refl;
+        later = paused site k (in_phase k.point idle);
+        keeps = silent_move site k d (in_phase k.point idle) was.keeps (done n phase refl refl refl) refl refl refl refl;
         stands = was.stands;
-        follows = follows_then n true h k (paused view leave left_at k (in_phase k.point idle)) was.follows (follows_itself n k (paused view leave left_at k (in_phase k.point idle)) refl refl refl refl refl
+        follows = follows_then n true h k (paused site k (in_phase k.point idle)) was.follows (follows_itself n k (paused site k (in_phase k.point idle)) refl refl refl refl refl
             (on_paused false k (in_phase k.point idle) (done n phase refl refl refl)) (λ j other. refl));
         phase_is = refl;
         counts_are = was.counts_are;
@@ -62,21 +61,21 @@ module _ {D : Type 0} (view : D → View) (leave : D → Image → Type 0) (left
       let all : wire None (rests.parts ++ ps) ≡ wire None rests.parts ++ items = ap (λ (qs : List PartItem). wire None (rests.parts ++ qs)) (sym (append-nil ps)) ∙ rests.later (ps ++ []) items left in
       came m n piece (wire None rests.parts) items phase is_live refl refl (rests.parts, (_, rests.stands), refl) (rests.parts ++ ps, (_, gave), sym all) refl
 
-  pub read_move : (h : History) (m n : ℕ) (piece : List ℕ) (live : Live) (conn : Conn) (ps : List PartItem) (d : D) → Pending view leave left_at h m (Came n piece) d → h.point.phase ≡ idle → is_open n h.items ≡ true
+  pub read_move : (h : History) (m n : ℕ) (piece : List ℕ) (live : Live) (conn : Conn) (ps : List PartItem) (d : D) → Pending site h m (Came n piece) d → h.point.phase ≡ idle → is_open n h.items ≡ true
       → (rests : Rests live (received n h.items)) → Gave conn (received n h.items ++ piece) (rests.parts ++ ps) → (items : List WireItem) → Left rests.place (ps ++ []) items
-      → Keeps view leave left_at (moved h (at m (Came n piece)) (at_event h.point (acting n items) m)) d
+      → Keeps site (moved h (at m (Came n piece)) (at_event h.point (acting n items) m)) d
   read_move h m n piece live conn ps d pending phase is_live rests gave items left =
-      pending (at_event h.point (acting n items) m) (came_move (is_told (view d)) h m n piece live conn ps phase is_live rests gave items left) refl refl refl refl
+      pending (at_event h.point (acting n items) m) (came_move (is_told (site.view d)) h m n piece live conn ps phase is_live rests gave items left) refl refl refl refl
 
-  pub unread_move : (h : History) (m n : ℕ) (piece : List ℕ) (d : D) → Pending view leave left_at h m (Came n piece) d → h.point.phase ≡ idle → is_open n h.items ≡ true
-      → Keeps view leave left_at (moved h (at m (Came n piece)) (at_event h.point (sending n NO_MEMORY.now true []) m)) d
+  pub unread_move : (h : History) (m n : ℕ) (piece : List ℕ) (d : D) → Pending site h m (Came n piece) d → h.point.phase ≡ idle → is_open n h.items ≡ true
+      → Keeps site (moved h (at m (Came n piece)) (at_event h.point (sending n NO_MEMORY.now true []) m)) d
   unread_move h m n piece d pending phase is_live = pending (at_event h.point (sending n NO_MEMORY.now true []) m) (unread m n piece phase is_live refl refl refl) refl refl refl refl
 
   -- the connection rests behind the piece
   pub piece_gives : (h : History) (m n : ℕ) (piece : List ℕ) (old new : Live) (r : Bool) (ps : List PartItem) (items : List WireItem) (origin : Origin) (d : D) (rests : Rests old (received n h.items))
       → Gave new.conn (received n h.items ++ piece) (rests.parts ++ ps) → Moves false h.items h.point (at m (Came n piece)) [] (at_event h.point (acting n items) m)
-      → PartGives view leave left_at (moved h (at m (Came n piece)) (at_event h.point (acting n items) m)) n r new.push (counts_of new) rests.place ps [] origin d
-      → PieceGives view leave left_at h m piece n r new origin d
+      → PartGives site (moved h (at m (Came n piece)) (at_event h.point (acting n items) m)) n r new.push (counts_of new) rests.place ps [] origin d
+      → PieceGives site h m piece n r new origin d
   piece_gives h m n piece old new false ps items origin d rests gave move gives = record {
     from = at_event h.point (acting n items) m;
     from_counts = refl;

@@ -1,7 +1,6 @@
 -- What a run reaches.
 use Rattle.std.proofs.Common.{◌≡◌, ℕ, Bool, true, false, ◌||◌, if◌then◌else◌, List, [], ◌∷◌, Some, IsTrue, refl, sym, ◌∙◌, ap, subst}
-use Rattle.sm_site.specs.Image.{Image}
-use Rattle.sm_site.specs.Meanings.{View}
+use Rattle.sm_site.specs.Meanings.{Seen}
 use Rattle.sm_model.specs.declared.act.Act.{Act}
 use Rattle.sm_reply.specs.declared.reply.Reply.{Reply}
 use Rattle.sm_origin.specs.Machine.{Machine}
@@ -19,13 +18,13 @@ use Rattle.sm_head.specs.declared.reply.TheConstants.{NO_MEMORY, CONTINUE}
 use Rattle.sm_serve.proofs.Going.{Acted, stepped, silent_move, paused}
 
 -- what was reached behind calls of the link
-pub reached : {D : Type 0} (view : D → View) (leave : D → Image → Type 0) (left_at : D → ℕ → Image → Type 0) (h later : History) (n : ℕ) (is_open : Bool) (e : D) (q : Point) (origin : Origin)
-    → Keeps view leave left_at later e → Follows n is_open h later → later.point ≡ q → q.machine ≡ h.point.machine → q.counts ≡ h.point.counts
-    → StandsOn view leave h.point.machine origin e → Reaches view leave left_at h n is_open q.phase (h.point.counts n) origin e
-reached view leave left_at h later n is_open e q origin keeps follows is machine counts stands = record {
+pub reached : {D : Type 0} (site : Seen D) (h later : History) (n : ℕ) (is_open : Bool) (e : D) (q : Point) (origin : Origin)
+    → Keeps site later e → Follows n is_open h later → later.point ≡ q → q.machine ≡ h.point.machine → q.counts ≡ h.point.counts
+    → StandsOn site h.point.machine origin e → Reaches site h n is_open q.phase (h.point.counts n) origin e
+reached site h later n is_open e q origin keeps follows is machine counts stands = record {
   later = later;
   keeps = keeps;
-  stands = subst (λ (m : Machine). StandsOn view leave m origin e) (sym (ap (λ (p : Point). p.machine) is ∙ machine)) stands;
+  stands = subst (λ (m : Machine). StandsOn site m origin e) (sym (ap (λ (p : Point). p.machine) is ∙ machine)) stands;
   follows = follows;
   phase_is = ap (λ (p : Point). p.phase) is;
   counts_are = λ open_. ap (λ (p : Point). p.counts n) is ∙ ap (λ (f : ℕ → Counts). f n) counts;
@@ -46,10 +45,10 @@ follows_itself n h k first begin base found items on counts = record {
   counts = counts;
 }
 
-module _ {D : Type 0} (view : D → View) (leave : D → Image → Type 0) (left_at : D → ℕ → Image → Type 0) where
+module _ {D : Type 0} (site : Seen D) where
   -- a history that goes on, and then reaches
   pub reach_then : (h k : History) (n : ℕ) (is_open : Bool) (phase : Phase) (counts all : Counts) (origin : Origin) (e : D)
-      → Follows n true h k → Reaches view leave left_at k n is_open phase counts origin e → (IsTrue is_open → counts ≡ all) → Reaches view leave left_at h n is_open phase all origin e
+      → Follows n true h k → Reaches site k n is_open phase counts origin e → (IsTrue is_open → counts ≡ all) → Reaches site h n is_open phase all origin e
   reach_then h k n is_open phase counts all origin e follows reaches same = record {
     later = reaches.later;
     keeps = reaches.keeps;
@@ -67,19 +66,19 @@ module _ {D : Type 0} (view : D → View) (leave : D → Image → Type 0) (left
 
   -- one act, one step
   module _ (h : History) (e : D) (origin : Origin) (act : Act) (reply : Reply) (n : ℕ) (item : WireItem) (more : List WireItem)
-      (acted : Acted view leave left_at h e (Some n) act reply origin) (phase : h.point.phase ≡ acting n (item ∷ more)) (does : act_of (h.point.counts n) item ≡ Some act) where
+      (acted : Acted site h e (Some n) act reply origin) (phase : h.point.phase ≡ acting n (item ∷ more)) (does : act_of (h.point.counts n) item ≡ Some act) where
     abbrev pub point_of : Point
     point_of = behind_step h.point n item more acted.x
 
     abbrev pub behind : History
-    behind = stepped view leave left_at h acted.x point_of
+    behind = stepped site h acted.x point_of
 
-    pub behind_keeps : Keeps view leave left_at behind e
+    pub behind_keeps : Keeps site behind e
     behind_keeps = acted.keeps point_of (acts_on n item more act acted.x phase does acted.conn_is acted.is_step refl refl refl) refl refl refl refl
 
     pub behind_follows : Follows n true h behind
     behind_follows = follows_itself n h behind refl refl refl refl refl
-        (on_stepped (is_told (view e)) h acted.x point_of (acts_on n item more act acted.x phase does acted.conn_is acted.is_step refl refl refl)) (λ j other. other_counts n j _ h.point.counts other)
+        (on_stepped (is_told (site.view e)) h acted.x point_of (acts_on n item more act acted.x phase does acted.conn_is acted.is_step refl refl refl)) (λ j other. other_counts n j _ h.point.counts other)
 
     pub behind_counts : behind.point.counts n ≡ counts_after item reply.counted (h.point.counts n)
     behind_counts = these_counts n _ h.point.counts ∙ ap (λ (r : Reply). counts_after item r.counted (h.point.counts n)) acted.reply_is
@@ -88,7 +87,7 @@ module _ {D : Type 0} (view : D → View) (leave : D → Image → Type 0) (left
     behind_phase close is = ap (λ (r : Reply). phase_after n (sent_of r) (r.close || closes item) more) acted.reply_is ∙ ap (λ (b : Bool). phase_after n (sent_of reply) (reply.close || b) more) is
 
   -- the counts of a closed connection don't matter
-  pub closed_counts : (h : History) (n : ℕ) (phase : Phase) (counts all : Counts) (origin : Origin) (e : D) → Reaches view leave left_at h n false phase counts origin e → Reaches view leave left_at h n false phase all origin e
+  pub closed_counts : (h : History) (n : ℕ) (phase : Phase) (counts all : Counts) (origin : Origin) (e : D) → Reaches site h n false phase counts origin e → Reaches site h n false phase all origin e
   closed_counts h n phase counts all origin e reaches = record {
     later = reaches.later;
     keeps = reaches.keeps;
@@ -99,32 +98,32 @@ module _ {D : Type 0} (view : D → View) (leave : D → Image → Type 0) (left
   }
 
   -- want of memory in place of what comes next
-  pub starving : (h : History) (d : D) (n : ℕ) (more : List WireItem) → Keeps view leave left_at h d → h.point.phase ≡ acting n more
-      → Keeps view leave left_at (paused view leave left_at h (in_phase h.point (sending n NO_MEMORY.now true []))) d
-  starving h d n more keeps phase = silent_move view leave left_at h d (in_phase h.point (sending n NO_MEMORY.now true [])) keeps (wants n more phase refl refl refl) refl refl refl refl
+  pub starving : (h : History) (d : D) (n : ℕ) (more : List WireItem) → Keeps site h d → h.point.phase ≡ acting n more
+      → Keeps site (paused site h (in_phase h.point (sending n NO_MEMORY.now true []))) d
+  starving h d n more keeps phase = silent_move site h d (in_phase h.point (sending n NO_MEMORY.now true [])) keeps (wants n more phase refl refl refl) refl refl refl refl
 
-  pub paused_follows : (h : History) (n : ℕ) (phase : Phase) → Moves false h.items h.point [] [] (in_phase h.point phase) → Follows n true h (paused view leave left_at h (in_phase h.point phase))
-  paused_follows h n phase move = follows_itself n h (paused view leave left_at h (in_phase h.point phase)) refl refl refl refl refl (on_paused false h (in_phase h.point phase) move) (λ j other. refl)
+  pub paused_follows : (h : History) (n : ℕ) (phase : Phase) → Moves false h.items h.point [] [] (in_phase h.point phase) → Follows n true h (paused site h (in_phase h.point phase))
+  paused_follows h n phase move = follows_itself n h (paused site h (in_phase h.point phase)) refl refl refl refl refl (on_paused false h (in_phase h.point phase) move) (λ j other. refl)
 
   -- a run that reached a phase goes on from there
-  pub goes_then : (h : History) (n : ℕ) (from phase : Phase) (counts all : Counts) (origin after : Origin) (d e : D) (is_open : Bool) → Reaches view leave left_at h n true from counts origin d
-      → ((k : History) → Keeps view leave left_at k d → StandsOn view leave k.point.machine origin d → k.point.phase ≡ from → k.point.counts n ≡ counts → Reaches view leave left_at k n is_open phase all after e)
-      → Reaches view leave left_at h n is_open phase all after e
+  pub goes_then : (h : History) (n : ℕ) (from phase : Phase) (counts all : Counts) (origin after : Origin) (d e : D) (is_open : Bool) → Reaches site h n true from counts origin d
+      → ((k : History) → Keeps site k d → StandsOn site k.point.machine origin d → k.point.phase ≡ from → k.point.counts n ≡ counts → Reaches site k n is_open phase all after e)
+      → Reaches site h n is_open phase all after e
   goes_then h n from phase counts all origin after d e is_open was so =
       reach_then h was.later n is_open phase all all after e was.follows (so was.later was.keeps was.stands was.phase_is (was.counts_are refl)) (λ t. refl)
 
   -- what is said of a connection's number is said of an equal one
   pub go_from : (m n : ℕ) (d e : D) (origin after : Origin) (from to : ℕ → Phase) (counts all : Counts) (is_open : Bool) → m ≡ n
-      → ((k : History) → Keeps view leave left_at k d → StandsOn view leave k.point.machine origin d → k.point.phase ≡ from m → k.point.counts m ≡ counts → Reaches view leave left_at k m is_open (to m) all after e)
-      → (k : History) → Keeps view leave left_at k d → StandsOn view leave k.point.machine origin d → k.point.phase ≡ from n → k.point.counts n ≡ counts → Reaches view leave left_at k n is_open (to n) all after e
+      → ((k : History) → Keeps site k d → StandsOn site k.point.machine origin d → k.point.phase ≡ from m → k.point.counts m ≡ counts → Reaches site k m is_open (to m) all after e)
+      → (k : History) → Keeps site k d → StandsOn site k.point.machine origin d → k.point.phase ≡ from n → k.point.counts n ≡ counts → Reaches site k n is_open (to n) all after e
   go_from m n d e origin after from to counts all is_open same so =
-      subst (λ (i : ℕ). (k : History) → Keeps view leave left_at k d → StandsOn view leave k.point.machine origin d → k.point.phase ≡ from i → k.point.counts i ≡ counts
-      → Reaches view leave left_at k i is_open (to i) all after e) same so
+      subst (λ (i : ℕ). (k : History) → Keeps site k d → StandsOn site k.point.machine origin d → k.point.phase ≡ from i → k.point.counts i ≡ counts
+      → Reaches site k i is_open (to i) all after e) same so
 
   -- nothing was done
-  pub reaches_here : (h : History) (n : ℕ) (d : D) (phase : Phase) (counts : Counts) (origin : Origin) → Keeps view leave left_at h d → StandsOn view leave h.point.machine origin d → h.point.phase ≡ phase
+  pub reaches_here : (h : History) (n : ℕ) (d : D) (phase : Phase) (counts : Counts) (origin : Origin) → Keeps site h d → StandsOn site h.point.machine origin d → h.point.phase ≡ phase
       → h.point.counts n ≡ counts
-      → Reaches view leave left_at h n true phase counts origin d
+      → Reaches site h n true phase counts origin d
   reaches_here h n d phase counts origin keeps stands at is = record {
     later = h;
     keeps = keeps;
@@ -135,15 +134,15 @@ module _ {D : Type 0} (view : D → View) (leave : D → Image → Type 0) (left
   }
 
   -- the head 100 is due
-  pub continuing : (h : History) (d : D) (n : ℕ) (more : List WireItem) → Keeps view leave left_at h d → h.point.phase ≡ acting n (Continue ∷ more)
-      → Keeps view leave left_at (paused view leave left_at h (in_phase h.point (sending n CONTINUE.now false more))) d
-  continuing h d n more keeps phase = silent_move view leave left_at h d (in_phase h.point (sending n CONTINUE.now false more)) keeps (continues n more phase refl refl refl) refl refl refl refl
+  pub continuing : (h : History) (d : D) (n : ℕ) (more : List WireItem) → Keeps site h d → h.point.phase ≡ acting n (Continue ∷ more)
+      → Keeps site (paused site h (in_phase h.point (sending n CONTINUE.now false more))) d
+  continuing h d n more keeps phase = silent_move site h d (in_phase h.point (sending n CONTINUE.now false more)) keeps (continues n more phase refl refl refl) refl refl refl refl
 
 -- what a run has reached without a move
-pub reached_here : {D : Type 0} (view : D → View) (leave : D → Image → Type 0) (left_at : D → ℕ → Image → Type 0) (h : History) (n : ℕ) (phase : Phase) (counts : Counts)
-    (origin : Origin) (d : D) → Keeps view leave left_at h d → StandsOn view leave h.point.machine origin d → h.point.phase ≡ phase → h.point.counts n ≡ counts
-    → Reaches view leave left_at h n true phase counts origin d
-reached_here view leave left_at h n phase counts origin d keeps stands phase_is counts_are = record {
+pub reached_here : {D : Type 0} (site : Seen D) (h : History) (n : ℕ) (phase : Phase) (counts : Counts)
+    (origin : Origin) (d : D) → Keeps site h d → StandsOn site h.point.machine origin d → h.point.phase ≡ phase → h.point.counts n ≡ counts
+    → Reaches site h n true phase counts origin d
+reached_here site h n phase counts origin d keeps stands phase_is counts_are = record {
   later = h;
   keeps = keeps;
   stands = stands;

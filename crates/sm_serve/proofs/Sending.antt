@@ -1,10 +1,10 @@
 -- Sends and closes of a run.
-use Rattle.std.proofs.Common.{◌≡◌, ◌↔◌, ℕ, ◌+◌, ◌-◌, ◌<◌, ◌≤◌, ◌^◌, Bool, true, false, if◌then◌else◌, List, [], ◌++◌, take, Option, Some, is_some, IsSome, IsTrue, refl, sym, ◌∙◌, ap, subst, arith}
+use Rattle.std.proofs.Common.{◌≡◌, ℕ, ◌+◌, ◌-◌, ◌<◌, ◌≤◌, ◌^◌, Bool, true, false, if◌then◌else◌, List, [], ◌++◌, take, Option, Some, is_some, IsSome, IsTrue, refl, sym, ◌∙◌, ap, subst, arith}
 use Rattle.std.proofs.lemmas.List.{append-nil}
 use Rattle.sm_site.specs.Image.{Image}
-use Rattle.sm_site.specs.Meanings.{View, Item, Deal, SameDisk}
+use Rattle.sm_site.specs.Meanings.{View, Item, Deal, Seen}
 use Rattle.sm_site.specs.Meanings.Deal.{Sent, Shut}
-use Rattle.sm_site.specs.Clauses.{Elapses, SameOutcomes, Adds, Rose}
+use Rattle.sm_site.specs.Clauses.{AreOne, LinkAlone, Adds, Rose}
 use Rattle.sm_site.proofs.Views.{seen_here, same_here, elapses_here}
 use Rattle.sm_wire.specs.declared.item.WireItem.{WireItem}
 use Rattle.sm_serve.specs.Connections.{received, live, without, deals_in}
@@ -27,49 +27,43 @@ follows_then n is_open h k l one two = record {
   counts = λ j other. two.counts j other ∙ one.counts j other;
 }
 
-module _ {D : Type 0} (view W : D → View) (leave leave' : D → Image → Type 0) (left_at left' : D → ℕ → Image → Type 0)
-    (one_view : (s : D) → view s ≡ W s) (one_disk : (s : D) (c : Image) → leave s c ↔ leave' s c) (one_past : (s : D) (t : ℕ) (c : Image) → left_at s t c ↔ left' s t c)
-    (told : (s : D) (t : ℕ) (image : Image) → left_at s t image → IsSome (view s).contents) where
+module _ {D : Type 0} (site link : Seen D)
+    (one : AreOne site link)
+    (told : (s : D) (t : ℕ) (image : Image) → site.left_at s t image → IsSome (site.view s).contents) where
   -- a history behind calls of the link, at a point
   pub record After (h : History) (n : ℕ) (is_open : Bool) (e : D) (q : Point) : Type 0 where
     pub later : History
-    pub keeps : Keeps view leave left_at later e
+    pub keeps : Keeps site later e
     pub follows : Follows n is_open h later
     pub point_is : later.point ≡ q
 
-  -- the clauses of a call of the link
-  pub record LinkCall (d e : D) : Type 0 where
-    pub time : Elapses (W d) (W e) (left' d) (left' e) (leave' d) (leave' e)
-    pub same : SameOutcomes (leave' d) (leave' e)
-    pub disk : SameDisk (W d) (W e)
+  pub calls_here : (d e : D) → LinkAlone link d e → (site.view e).calls ≡ (site.view d).calls
+  calls_here d e call = ap (λ (v : View). v.calls) (one.view e) ∙ call.disk.calls ∙ ap (λ (v : View). v.calls) (sym (one.view d))
 
-  pub calls_here : (d e : D) → LinkCall d e → (view e).calls ≡ (view d).calls
-  calls_here d e call = ap (λ (v : View). v.calls) (one_view e) ∙ call.disk.calls ∙ ap (λ (v : View). v.calls) (sym (one_view d))
+  pub contents_here : (d e : D) → LinkAlone link d e → (site.view e).contents ≡ (site.view d).contents
+  contents_here d e call = ap (λ (v : View). v.contents) (one.view e) ∙ call.disk.contents ∙ ap (λ (v : View). v.contents) (sym (one.view d))
 
-  pub contents_here : (d e : D) → LinkCall d e → (view e).contents ≡ (view d).contents
-  contents_here d e call = ap (λ (v : View). v.contents) (one_view e) ∙ call.disk.contents ∙ ap (λ (v : View). v.contents) (sym (one_view d))
+  pub disk_faults_here : (d e : D) → LinkAlone link d e → (site.view e).disk_faults ≡ (site.view d).disk_faults
+  disk_faults_here d e call = ap (λ (v : View). v.disk_faults) (one.view e) ∙ call.disk.disk_faults ∙ ap (λ (v : View). v.disk_faults) (sym (one.view d))
 
-  pub disk_faults_here : (d e : D) → LinkCall d e → (view e).disk_faults ≡ (view d).disk_faults
-  disk_faults_here d e call = ap (λ (v : View). v.disk_faults) (one_view e) ∙ call.disk.disk_faults ∙ ap (λ (v : View). v.disk_faults) (sym (one_view d))
-
-  pub told_here : (d e : D) → LinkCall d e → IsTrue (is_told (view e)) → IsTrue (is_told (view d))
+  pub told_here : (d e : D) → LinkAlone link d e → IsTrue (is_told (site.view e)) → IsTrue (is_told (site.view d))
   told_here d e call has = sym (ap (λ (o : Option Image). is_some o) (contents_here d e call)) ∙ has
 
-  added : (h : History) (d e : D) (deal : Deal) (q : Point) → Keeps view leave left_at h d → LinkCall d e → Adds deal (W d) (W e)
-      → ((m : ℕ) → (IsTrue (is_told (view e)) → h.point.ended < m) → Moves (is_told (view e)) h.items h.point (at m deal) [] q)
-      → q.machine ≡ h.point.machine → q.ended ≡ h.point.ended → q.faults ≡ h.point.faults → ((view e).send_faults < 2 ^ 64 - 1 → h.found.send_faults + q.failed ≤ (view e).send_faults)
-      → (m : ℕ) × Keeps view leave left_at (moved h (at m deal) q) e × Moves (is_told (view e)) h.items h.point (at m deal) [] q
+  added : (h : History) (d e : D) (deal : Deal) (q : Point) → Keeps site h d → LinkAlone link d e → Adds deal (link.view d) (link.view e)
+      → ((m : ℕ) → (IsTrue (is_told (site.view e)) → h.point.ended < m) → Moves (is_told (site.view e)) h.items h.point (at m deal) [] q)
+      → q.machine ≡ h.point.machine → q.ended ≡ h.point.ended → q.faults ≡ h.point.faults → ((site.view e).send_faults < 2 ^ 64 - 1 → h.found.send_faults + q.failed ≤ (site.view e).send_faults)
+      → (m : ℕ) × Keeps site (moved h (at m deal) q) e × Moves (is_told (site.view e)) h.items h.point (at m deal) [] q
   added h d e deal q keeps call adds move machine ended faults blamed =
-      let here = seen_here view W leave leave' left_at left' one_view one_disk one_past (Adds deal) d e adds in
-      let t = told_adds (view d) (view e) (h.base ++ h.items) deal keeps.told here in
-      let time = elapses_here view W leave leave' left_at left' one_view one_disk one_past d e call.time in
-      let same = same_here view W leave leave' left_at left' one_view one_disk one_past d e call.same in
+      let here = seen_here site link one (Adds deal) d e adds in
+      let t = told_adds (site.view d) (site.view e) (h.base ++ h.items) deal keeps.told here in
+      let time = elapses_here site link one d e call.time in
+      let same = same_here site link one d e call.crash in
       let m = t.0 in
-      let above : (view d).moment < m = t.1 in
-      let within : m ≤ (view e).moment = t.2 in
-      let behind : IsTrue (is_told (view e)) → h.point.ended < m = λ has. (let c = keeps.clock (told_here d e call has) in omega (arith, c, above)) in (
+      let above : (site.view d).moment < m = t.1 in
+      let within : m ≤ (site.view e).moment = t.2 in
+      let behind : IsTrue (is_told (site.view e)) → h.point.ended < m = λ has. (let c = keeps.clock (told_here d e call has) in omega (arith, c, above)) in (
         m,
-        link_move view leave left_at told h d e (at m deal) q keeps (move m behind) machine (λ has. omega (arith, ended))
+        link_move site told h d e (at m deal) q keeps (move m behind) machine (λ has. omega (arith, ended))
             t.3 time same (calls_here d e call) (contents_here d e call) (λ has. (let b = behind has in omega (arith, ended, b, within))) blamed faults (disk_faults_here d e call),
         move m behind,
       )
@@ -88,39 +82,39 @@ module _ {D : Type 0} (view W : D → View) (leave leave' : D → Image → Type
     counts = λ j other. ap (λ (f : ℕ → Counts). f j) counts;
   }
 
-  pub sent_after : (h : History) (d e : D) (n : ℕ) (bytes : List ℕ) (close : Bool) (more : List WireItem) → Keeps view leave left_at h d → LinkCall d e → h.point.phase ≡ sending n bytes close more
-      → Adds (Sent n bytes false) (W d) (W e) → (W e).send_faults ≡ (W d).send_faults → After h n true e (in_phase h.point (if close then shutting n else acting n more))
+  pub sent_after : (h : History) (d e : D) (n : ℕ) (bytes : List ℕ) (close : Bool) (more : List WireItem) → Keeps site h d → LinkAlone link d e → h.point.phase ≡ sending n bytes close more
+      → Adds (Sent n bytes false) (link.view d) (link.view e) → (link.view e).send_faults ≡ (link.view d).send_faults → After h n true e (in_phase h.point (if close then shutting n else acting n more))
   sent_after h d e n bytes close more keeps call phase adds faults =
       let q = in_phase h.point (if close then shutting n else acting n more) in
-      let same : (view e).send_faults ≡ (view d).send_faults = ap (λ (v : View). v.send_faults) (one_view e) ∙ faults ∙ ap (λ (v : View). v.send_faults) (sym (one_view d)) in
+      let same : (site.view e).send_faults ≡ (site.view d).send_faults = ap (λ (v : View). v.send_faults) (one.view e) ∙ faults ∙ ap (λ (v : View). v.send_faults) (sym (one.view d)) in
       let a = added h d e (Sent n bytes false) q keeps call adds (λ m behind. sent m n bytes close more phase behind refl refl refl) refl refl refl
       (λ below. subst (λ (k : ℕ). h.found.send_faults + h.point.failed ≤ k) (sym same) (keeps.blamed (subst (λ (k : ℕ). k < 2 ^ 64 - 1) same below))) in
-      record { later = moved h (at a.0 (Sent n bytes false)) q; keeps = a.1; follows = follows_sent (is_told (view e)) h a.0 n bytes false q a.2 refl; point_is = refl }
+      record { later = moved h (at a.0 (Sent n bytes false)) q; keeps = a.1; follows = follows_sent (is_told (site.view e)) h a.0 n bytes false q a.2 refl; point_is = refl }
 
-  blame : (d e : D) (h : History) → Keeps view leave left_at h d → Rose (W d).send_faults (W e).send_faults → (view e).send_faults < 2 ^ 64 - 1 → h.found.send_faults + (h.point.failed + 1) ≤ (view e).send_faults
+  blame : (d e : D) (h : History) → Keeps site h d → Rose (link.view d).send_faults (link.view e).send_faults → (site.view e).send_faults < 2 ^ 64 - 1 → h.found.send_faults + (h.point.failed + 1) ≤ (site.view e).send_faults
   blame d e h keeps rose below =
-      let rises : (view d).send_faults < (view e).send_faults = seen_here view W leave leave' left_at left' one_view one_disk one_past (λ v w. v.send_faults < w.send_faults) d e
-      (rose.rose (λ last. absurd (let at : (view e).send_faults ≡ 2 ^ 64 - 1 = ap (λ (v : View). v.send_faults) (one_view e) ∙ last in omega (arith, at, below)))) in
+      let rises : (site.view d).send_faults < (site.view e).send_faults = seen_here site link one (λ v w. v.send_faults < w.send_faults) d e
+      (rose.rose (λ last. absurd (let at : (site.view e).send_faults ≡ 2 ^ 64 - 1 = ap (λ (v : View). v.send_faults) (one.view e) ∙ last in omega (arith, at, below)))) in
       let was = keeps.blamed (omega (arith, rises, below)) in
       omega (arith, was, rises)
 
-  pub failed_after : (h : History) (d e : D) (n k : ℕ) (bytes : List ℕ) (close : Bool) (more : List WireItem) → Keeps view leave left_at h d → LinkCall d e → h.point.phase ≡ sending n bytes close more
-      → Adds (Sent n (take k bytes) true) (W d) (W e) → Rose (W d).send_faults (W e).send_faults → After h n true e (behind_failure h.point (shutting n))
+  pub failed_after : (h : History) (d e : D) (n k : ℕ) (bytes : List ℕ) (close : Bool) (more : List WireItem) → Keeps site h d → LinkAlone link d e → h.point.phase ≡ sending n bytes close more
+      → Adds (Sent n (take k bytes) true) (link.view d) (link.view e) → Rose (link.view d).send_faults (link.view e).send_faults → After h n true e (behind_failure h.point (shutting n))
   failed_after h d e n k bytes close more keeps call phase adds rose =
       let q = behind_failure h.point (shutting n) in
       let a = added h d e (Sent n (take k bytes) true) q keeps call adds (λ m behind. failed m n k bytes close more phase behind refl refl refl) refl refl refl
       (λ below. blame d e h keeps rose below) in
-      record { later = moved h (at a.0 (Sent n (take k bytes) true)) q; keeps = a.1; follows = follows_sent (is_told (view e)) h a.0 n (take k bytes) true q a.2 refl; point_is = refl }
+      record { later = moved h (at a.0 (Sent n (take k bytes) true)) q; keeps = a.1; follows = follows_sent (is_told (site.view e)) h a.0 n (take k bytes) true q a.2 refl; point_is = refl }
 
-  pub unsent_after : (h : History) (d e : D) (n : ℕ) (bytes : List ℕ) (close : Bool) (more : List WireItem) → Keeps view leave left_at h d → LinkCall d e → h.point.phase ≡ sending n bytes close more
-      → (W e).transcript ≡ (W d).transcript → Rose (W d).send_faults (W e).send_faults → After h n true e (behind_failure h.point (shutting n))
+  pub unsent_after : (h : History) (d e : D) (n : ℕ) (bytes : List ℕ) (close : Bool) (more : List WireItem) → Keeps site h d → LinkAlone link d e → h.point.phase ≡ sending n bytes close more
+      → (link.view e).transcript ≡ (link.view d).transcript → Rose (link.view d).send_faults (link.view e).send_faults → After h n true e (behind_failure h.point (shutting n))
   unsent_after h d e n bytes close more keeps call phase still rose =
       let q = behind_failure h.point (shutting n) in
-      let time = elapses_here view W leave leave' left_at left' one_view one_disk one_past d e call.time in
-      let same = same_here view W leave leave' left_at left' one_view one_disk one_past d e call.same in
-      let told_is : (view e).transcript ≡ Some ((h.base ++ h.items) ++ []) = ap (λ (v : View). v.transcript) (one_view e) ∙ still ∙ ap (λ (v : View). v.transcript) (sym (one_view d)) ∙ keeps.told ∙ ap
+      let time = elapses_here site link one d e call.time in
+      let same = same_here site link one d e call.crash in
+      let told_is : (site.view e).transcript ≡ Some ((h.base ++ h.items) ++ []) = ap (λ (v : View). v.transcript) (one.view e) ∙ still ∙ ap (λ (v : View). v.transcript) (sym (one.view d)) ∙ keeps.told ∙ ap
       (λ (l : List Item). Some l) (sym (append-nil (h.base ++ h.items))) in
-      let on = link_move view leave left_at told h d e [] q keeps (unsent n bytes close more phase refl refl refl) refl (λ has. omega arith) told_is time same (calls_here d e call) (contents_here d e call)
+      let on = link_move site told h d e [] q keeps (unsent n bytes close more phase refl refl refl) refl (λ has. omega arith) told_is time same (calls_here d e call) (contents_here d e call)
       (λ has. (let c = keeps.clock (told_here d e call has) in let l = time.later in omega (arith, c, l))) (λ below. blame d e h keeps rose below) refl (disk_faults_here d e call) in
       record {
         later = moved h [] q;
@@ -130,7 +124,7 @@ module _ {D : Type 0} (view W : D → View) (leave leave' : D → Image → Type
           begin = refl;
           base = refl;
           found = refl;
-          on = on_moved (is_told (view e)) h [] q (unsent n bytes close more phase refl refl refl);
+          on = on_moved (is_told (site.view e)) h [] q (unsent n bytes close more phase refl refl refl);
           received = λ j. ap (received j) (append-nil h.items);
           deals = ap deals_in (append-nil h.items);
           live = ap live (append-nil h.items);
@@ -139,11 +133,11 @@ module _ {D : Type 0} (view W : D → View) (leave leave' : D → Image → Type
         point_is = refl;
       }
 
-  pub shut_after : (h : History) (d e : D) (n : ℕ) → Keeps view leave left_at h d → LinkCall d e → h.point.phase ≡ shutting n
-      → Adds (Shut n) (W d) (W e) → (W e).send_faults ≡ (W d).send_faults → After h n false e (in_phase h.point idle)
+  pub shut_after : (h : History) (d e : D) (n : ℕ) → Keeps site h d → LinkAlone link d e → h.point.phase ≡ shutting n
+      → Adds (Shut n) (link.view d) (link.view e) → (link.view e).send_faults ≡ (link.view d).send_faults → After h n false e (in_phase h.point idle)
   shut_after h d e n keeps call phase adds faults =
       let q = in_phase h.point idle in
-      let same : (view e).send_faults ≡ (view d).send_faults = ap (λ (v : View). v.send_faults) (one_view e) ∙ faults ∙ ap (λ (v : View). v.send_faults) (sym (one_view d)) in
+      let same : (site.view e).send_faults ≡ (site.view d).send_faults = ap (λ (v : View). v.send_faults) (one.view e) ∙ faults ∙ ap (λ (v : View). v.send_faults) (sym (one.view d)) in
       let a = added h d e (Shut n) q keeps call adds (λ m behind. shut m n phase refl refl refl) refl refl refl
       (λ below. subst (λ (k : ℕ). h.found.send_faults + h.point.failed ≤ k) (sym same) (keeps.blamed (subst (λ (k : ℕ). k < 2 ^ 64 - 1) same below))) in
       record {
@@ -154,7 +148,7 @@ module _ {D : Type 0} (view W : D → View) (leave leave' : D → Image → Type
           begin = refl;
           base = refl;
           found = refl;
-          on = on_moved (is_told (view e)) h (at a.0 (Shut n)) q a.2;
+          on = on_moved (is_told (site.view e)) h (at a.0 (Shut n)) q a.2;
           received = λ j. received_push j h.items (record { moment = a.0; deal = Shut n });
           deals = deals_push h.items (record { moment = a.0; deal = Shut n });
           live = live_push h.items (record { moment = a.0; deal = Shut n });
@@ -163,7 +157,7 @@ module _ {D : Type 0} (view W : D → View) (leave leave' : D → Image → Type
         point_is = refl;
       }
 
-  pub then_shut : (h : History) (d e : D) (n : ℕ) (q : Point) → (a : After h n true d q) → q.phase ≡ shutting n → LinkCall d e → Adds (Shut n) (W d) (W e) → (W e).send_faults ≡ (W d).send_faults
+  pub then_shut : (h : History) (d e : D) (n : ℕ) (q : Point) → (a : After h n true d q) → q.phase ≡ shutting n → LinkAlone link d e → Adds (Shut n) (link.view d) (link.view e) → (link.view e).send_faults ≡ (link.view d).send_faults
       → After h n false e (in_phase q idle)
   then_shut h d e n q a phase call adds faults =
       let s = shut_after a.later d e n a.keeps call (ap (λ (p : Point). p.phase) a.point_is ∙ phase) adds faults in

@@ -3,8 +3,7 @@ use Rattle.std.proofs.Common.{◌≡◌, ◌≢◌, ℕ, ◌<◌, Bool, true, fa
 use Rattle.std.specs.Prelude.{slice_set}
 use Rattle.std.specs.List.{remove}
 use Rattle.std.proofs.lemmas.Bool.{eq-eqb, ne_eqb}
-use Rattle.sm_site.specs.Image.{Image}
-use Rattle.sm_site.specs.Meanings.{View}
+use Rattle.sm_site.specs.Meanings.{Seen}
 use Rattle.sm_site.specs.Meanings.Deal.{Began, Came, Left, Over}
 use Rattle.sm_origin.specs.declared.origin.Origin.{Origin}
 use Rattle.sm_serve.specs.Standing.{StandsOn}
@@ -35,7 +34,7 @@ these_bytes n m piece h =
 pub distinct_numbers : (h : History) (ls : List Live) → numbers_of ls ≡ live h.items → AreDistinct (numbers_of ls)
 distinct_numbers h ls is = subst (λ (ns : List ℕ). AreDistinct ns) (sym is) (live_distinct h.items)
 
-module _ {D : Type 0} (view : D → View) (leave : D → Image → Type 0) (left_at : D → ℕ → Image → Type 0) where
+module _ {D : Type 0} (site : Seen D) where
   others_after : (h k : History) (m n : ℕ) (piece : List ℕ) (q : Point) (r : Bool) → q.counts ≡ h.point.counts → Follows n r (moved h (at m (Came n piece)) q) k
       → (l : Live) → l.number ≢ n → IsResting h l → IsResting k l
   others_after h k m n piece q r counts follows l other rest =
@@ -49,7 +48,7 @@ module _ {D : Type 0} (view : D → View) (leave : D → Image → Type 0) (left
   }
 
   pub taken_open : (h : History) (m n i : ℕ) (piece : List ℕ) (old : List Live) (new : Live) (state : State) (e : D) → AreResting h old → numbers_of old ≡ live h.items → i < length old → get_or (numbers_of old) i 0 ≡ n
-      → new.number ≡ n → state.lives.items ≡ slice_set old i new → PieceGives view leave left_at h m piece n true new state.origin e → (j : ℕ) → n ≡ j → Turns view leave left_at h (Came j piece ∷ []) state e
+      → new.number ≡ n → state.lives.items ≡ slice_set old i new → PieceGives site h m piece n true new state.origin e → (j : ℕ) → n ≡ j → Turns site h (Came j piece ∷ []) state e
   taken_open h m n i piece old new state e rest numbers within is number lives gives j same =
       let r = gives.reaches in
       let k = r.later in
@@ -72,7 +71,7 @@ module _ {D : Type 0} (view : D → View) (leave : D → Image → Type 0) (left
       }
 
   pub taken_shut : (h : History) (m n i : ℕ) (piece : List ℕ) (old : List Live) (new : Live) (state : State) (e : D) → AreResting h old → numbers_of old ≡ live h.items → i < length old → get_or (numbers_of old) i 0 ≡ n
-      → state.lives.items ≡ remove old i → PieceGives view leave left_at h m piece n false new state.origin e → (j : ℕ) → n ≡ j → Turns view leave left_at h (Came j piece ∷ []) state e
+      → state.lives.items ≡ remove old i → PieceGives site h m piece n false new state.origin e → (j : ℕ) → n ≡ j → Turns site h (Came j piece ∷ []) state e
   taken_shut h m n i piece old new state e rest numbers within is lives gives j same =
       let r = gives.reaches in
       let k = r.later in
@@ -94,8 +93,8 @@ module _ {D : Type 0} (view : D → View) (leave : D → Image → Type 0) (left
       }
 
   -- a piece of a connection that isn't live
-  pub piece_passed : (h : History) (m n : ℕ) (piece : List ℕ) (state : State) (d : D) → Pending view leave left_at h m (Came n piece) d → IsAtRest view leave h state d → is_among n (numbers_of state.lives.items) ≡ false
-      → Turns view leave left_at h (Came n piece ∷ []) state d
+  pub piece_passed : (h : History) (m n : ℕ) (piece : List ℕ) (state : State) (d : D) → Pending site h m (Came n piece) d → IsAtRest site h state d → is_among n (numbers_of state.lives.items) ≡ false
+      → Turns site h (Came n piece ∷ []) state d
   piece_passed h m n piece state d pending rest none =
       let q = at_event h.point idle m in
       let k = moved h (at m (Came n piece)) q in
@@ -130,11 +129,11 @@ without_last : (n : ℕ) (ns : List ℕ) → without n (ns ++ n ∷ []) ≡ with
 without_last n [] = ap (λ (b : Bool). if b then [] else n ∷ []) (eq-eqb n n refl)
 without_last n (j ∷ ns) = ap (λ (ks : List ℕ). if j == n then ks else j ∷ ks) (without_last n ns)
 
-module _ {D : Type 0} (view : D → View) (leave : D → Image → Type 0) (left_at : D → ℕ → Image → Type 0) where
+module _ {D : Type 0} (site : Seen D) where
   -- a connection that was opened and closed again
   pub opened_shut : (told : Bool) (h : History) (m n : ℕ) (q : Point) (counts : Counts) (state : State) (e : D) → numbers_of state.lives.items ≡ live h.items → AreResting h state.lives.items → is_among n (live h.items) ≡ false
       → Moves told h.items h.point (at m (Began n)) [] q
-      → ((j : ℕ) → j ≢ n → q.counts j ≡ h.point.counts j) → Reaches view leave left_at (moved h (at m (Began n)) q) n false idle counts state.origin e → Turns view leave left_at h (Began n ∷ []) state e
+      → ((j : ℕ) → j ≢ n → q.counts j ≡ h.point.counts j) → Reaches site (moved h (at m (Began n)) q) n false idle counts state.origin e → Turns site h (Began n ∷ []) state e
   opened_shut told h m n q counts state e numbers rest none move others r =
       let k = r.later in
       let same_live : live k.items ≡ live h.items = r.follows.live ∙ ap (without n) (began_live n m h none) ∙ without_last n (live h.items) ∙ without_none n (live h.items) none in
@@ -157,8 +156,8 @@ module _ {D : Type 0} (view : D → View) (leave : D → Image → Type 0) (left
   -- a connection that was taken in
   pub opened_open : (told : Bool) (h : History) (m n : ℕ) (q : Point) (old : List Live) (new : Live) (state : State) (e : D) → numbers_of old ≡ live h.items → AreResting h old → is_among n (live h.items) ≡ false
       → Moves told h.items h.point (at m (Began n)) [] q
-      → ((j : ℕ) → j ≢ n → q.counts j ≡ h.point.counts j) → IsNewborn n new → state.lives.items ≡ old ++ new ∷ [] → Reaches view leave left_at (moved h (at m (Began n)) q) n true idle no_counts state.origin e
-      → Turns view leave left_at h (Began n ∷ []) state e
+      → ((j : ℕ) → j ≢ n → q.counts j ≡ h.point.counts j) → IsNewborn n new → state.lives.items ≡ old ++ new ∷ [] → Reaches site (moved h (at m (Began n)) q) n true idle no_counts state.origin e
+      → Turns site h (Began n ∷ []) state e
   opened_open told h m n q old new state e numbers rest none move others born lives r =
       let k = r.later in
       let more_live : live k.items ≡ live h.items ++ n ∷ [] = r.follows.live ∙ began_live n m h none in
@@ -189,7 +188,7 @@ module _ {D : Type 0} (view : D → View) (leave : D → Image → Type 0) (left
   left_bytes : (j n m : ℕ) (h : History) → received j (h.items ++ at m (Left n)) ≡ received j h.items
   left_bytes j n m h = received_push j h.items (record { moment = m; deal = Left n })
 
-  pub was_left : (h : History) (m n : ℕ) (old new : State) (d : D) → Pending view leave left_at h m (Left n) d → IsAtRest view leave h old d → Forgets n old new → Turns view leave left_at h (Left n ∷ []) new d
+  pub was_left : (h : History) (m n : ℕ) (old new : State) (d : D) → Pending site h m (Left n) d → IsAtRest site h old d → Forgets n old new → Turns site h (Left n ∷ []) new d
   was_left h m n old new d pending rest forgets =
       let q = at_event h.point idle m in
       let k = moved h (at m (Left n)) q in
@@ -199,7 +198,7 @@ module _ {D : Type 0} (view : D → View) (leave : D → Image → Type 0) (left
         serves = record {
           keeps = pending q (left m n rest.phase_is refl refl refl) refl refl refl refl;
           rest = record {
-            stands = subst (λ (o : Origin). StandsOn view leave h.point.machine o d) (sym forgets.origin) rest.stands;
+            stands = subst (λ (o : Origin). StandsOn site h.point.machine o d) (sym forgets.origin) rest.stands;
             phase_is = refl;
             numbers = forgets.numbers distinct ∙ ap (without n) rest.numbers ∙ sym (live_push h.items (record { moment = m; deal = Left n }));
             resting = forgets.resting h k (λ l other was. same_rest h k l (left_bytes l.number n m h) refl was) distinct rest.resting;
@@ -209,7 +208,7 @@ module _ {D : Type 0} (view : D → View) (leave : D → Image → Type 0) (left
         taken = deals_push h.items _;
       }
 
-  pub was_over : (h : History) (m : ℕ) (state : State) (d : D) → Pending view leave left_at h m Over d → IsAtRest view leave h state d → Turns view leave left_at h (Over ∷ []) state d
+  pub was_over : (h : History) (m : ℕ) (state : State) (d : D) → Pending site h m Over d → IsAtRest site h state d → Turns site h (Over ∷ []) state d
   was_over h m state d pending rest =
       let q = at_event h.point idle m in
       let k = moved h (at m Over) q in

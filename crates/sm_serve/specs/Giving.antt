@@ -1,7 +1,6 @@
 -- What parts give to a run.
 use Rattle.std.specs.Prelude.{◌≡◌, ℕ, Bool, true, false, List, [], ◌++◌, Option, Some, None, Result, IsTrue}
-use Rattle.sm_site.specs.Image.{Image}
-use Rattle.sm_site.specs.Meanings.{View}
+use Rattle.sm_site.specs.Meanings.{Seen}
 use Rattle.sm_model.specs.Items.{Given}
 use Rattle.sm_push.specs.declared.fault.PushFault.{PushFault}
 use Rattle.sm_push.specs.Standing.{Standing, Answers, Ends}
@@ -24,7 +23,7 @@ abbrev pub EndedPush : List ℕ → Result (Unit {0}) PushFault → Type 0
 EndedPush b result = Ends false b result
 
 -- Behind these parts the connection is still open. Whatever parts follow, they give behind what was given what they give with the push that is open now.
-pub record StaysOpen {D : Type 0} (view : D → View) (leave : D → Image → Type 0) (left_at : D → ℕ → Image → Type 0) (h : History) (n : ℕ)
+pub record StaysOpen {D : Type 0} (site : Seen D) (h : History) (n : ℕ)
     (push : Option Standing)
     (counts : Counts)
     (before : Option (List ℕ)) (parts more : List PartItem) (origin : Origin) (d : D) : Type 0 where
@@ -34,21 +33,21 @@ pub record StaysOpen {D : Type 0} (view : D → View) (leave : D → Image → T
   pub on : (qs : List PartItem) (ws : List WireItem) → Left after qs ws → Left before (parts ++ qs) (given ++ ws)
   pub left : List WireItem
   pub left_is : Left after more left
-  pub reaches : Reaches view leave left_at h n true (acting n left) counts origin d
+  pub reaches : Reaches site h n true (acting n left) counts origin d
 
-abbrev pub PartGives : {D : Type 0} (view : D → View) (leave : D → Image → Type 0) (left_at : D → ℕ → Image → Type 0) → History → ℕ → Bool
+abbrev pub PartGives : {D : Type 0} (site : Seen D) → History → ℕ → Bool
     → Option Standing → Counts
     → Option (List ℕ) → List PartItem → List PartItem → Origin → D → Type 0
-PartGives view leave left_at h n true push counts before parts more origin d = StaysOpen view leave left_at h n push counts before parts more origin d
-PartGives view leave left_at h n false push counts before parts more origin d = Reaches view leave left_at h n false idle counts origin d
+PartGives site h n true push counts before parts more origin d = StaysOpen site h n push counts before parts more origin d
+PartGives site h n false push counts before parts more origin d = Reaches site h n false idle counts origin d
 
 -- A piece was taken: the run goes on from its event to the next one, and an open connection rests with the piece.
-pub record PieceGives {D : Type 0} (view : D → View) (leave : D → Image → Type 0) (left_at : D → ℕ → Image → Type 0) (h : History) (m : ℕ)
+pub record PieceGives {D : Type 0} (site : Seen D) (h : History) (m : ℕ)
     (piece : List ℕ) (n : ℕ)
     (is_open : Bool) (live : Live)
     (origin : Origin) (d : D) : Type 0 where
   pub from : Point
   pub from_counts : from.counts ≡ h.point.counts
   pub move : Moves false h.items h.point (at m (Came n piece)) [] from
-  pub reaches : Reaches view leave left_at (moved h (at m (Came n piece)) from) n is_open idle (counts_of live) origin d
+  pub reaches : Reaches site (moved h (at m (Came n piece)) from) n is_open idle (counts_of live) origin d
   pub rests : IsTrue is_open → Rests live (received n h.items ++ piece)

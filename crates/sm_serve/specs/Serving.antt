@@ -1,7 +1,7 @@
 -- The loop between two events.
 use Rattle.std.specs.Prelude.{◌≡◌, ◌≢◌, ◌⊎◌, ◌+◌, ◌<◌, ◌≤◌, ◌-◌, ◌^◌, ℕ, true, false, List, [], ◌∷◌, ◌++◌, length, map, Option, Some, None, IsSome, IfSome, IsTrue}
 use Rattle.sm_site.specs.Image.{Image}
-use Rattle.sm_site.specs.Meanings.{View, Deal, Item, IsLive}
+use Rattle.sm_site.specs.Meanings.{Deal, Item, IsLive, Seen}
 use Rattle.sm_site.specs.Meanings.Deal.{Over}
 use Rattle.sm_site.specs.Clauses.{Both}
 use Rattle.sm_site.specs.Scripts.{Takes}
@@ -40,16 +40,16 @@ AreResting h [] = Unit {0}
 AreResting h (l ∷ ls) = IsResting h l × AreResting h ls
 
 -- the state is where the run is
-pub record IsAtRest {D : Type 0} (view : D → View) (leave : D → Image → Type 0) (h : History) (state : State) (d : D) : Type 0 where
-  pub stands : StandsOn view leave h.point.machine state.origin d
+pub record IsAtRest {D : Type 0} (site : Seen D) (h : History) (state : State) (d : D) : Type 0 where
+  pub stands : StandsOn site h.point.machine state.origin d
   pub phase_is : h.point.phase ≡ idle
   pub numbers : numbers_of state.lives.items ≡ live h.items
   pub resting : AreResting h state.lives.items
 
-pub record Serves {D : Type 0} (view : D → View) (leave : D → Image → Type 0) (left_at : D → ℕ → Image → Type 0) (h : History) (state : State)
+pub record Serves {D : Type 0} (site : Seen D) (h : History) (state : State)
     (d : D) : Type 0 where
-  pub keeps : Keeps view leave left_at h d
-  pub rest : IsAtRest view leave h state d
+  pub keeps : Keeps site h d
+  pub rest : IsAtRest site h state d
 
 -- a later history from the same start
 pub record Since (h k : History) : Type 0 where
@@ -60,16 +60,16 @@ pub record Since (h k : History) : Type 0 where
   pub on : GoesOn h k
 
 -- the run goes on by these events
-pub record Turns {D : Type 0} (view : D → View) (leave : D → Image → Type 0) (left_at : D → ℕ → Image → Type 0) (h : History) (deals : List Deal)
+pub record Turns {D : Type 0} (site : Seen D) (h : History) (deals : List Deal)
     (state : State) (d : D) : Type 0 where
   pub later : History
-  pub serves : Serves view leave left_at later state d
+  pub serves : Serves site later state d
   pub since : Since h later
   pub taken : deals_in later.items ≡ deals_in h.items ++ deals
 
 -- where the transcript is told, the state is where a run is
-abbrev pub Known : {D : Type 0} (view : D → View) (leave : D → Image → Type 0) (left_at : D → ℕ → Image → Type 0) → State → D → Type 0
-Known view leave left_at state d = IsSome (view d).transcript → (h : History) × Serves view leave left_at h state d
+abbrev pub Known : {D : Type 0} (site : Seen D) → State → D → Type 0
+Known site state d = IsSome (site.view d).transcript → (h : History) × Serves site h state d
 
 -- a connection is out of the list
 pub record Forgets (n : ℕ) (old new : State) : Type 0 where
@@ -123,7 +123,7 @@ CountsNone served.NoMemory = Unit {0}
 -- The loop served: from wherever a run had come it goes on, over the entries since; and at every moment since its start, each image that a
 -- crash may leave is the store of the last step that ended by then, or of that with the doubt, or of one of these with the entry that
 -- is being written. So it holds whatever had been shown by then.
-pub record Served {D : Type 0} (view : D → View) (leave : D → Image → Type 0) (left_at : D → ℕ → Image → Type 0) (h : History) (result : Outcome)
+pub record Served {D : Type 0} (site : Seen D) (h : History) (result : Outcome)
     (turns : ℕ)
     (state : State) (d : D) : Type 0 where
   pub later : History
@@ -131,23 +131,23 @@ pub record Served {D : Type 0} (view : D → View) (leave : D → Image → Type
   -- the events that were taken
   pub deals : List Deal
   pub taken : deals_in later.items ≡ deals_in h.items ++ deals
-  pub ended : EndsAs turns result (view d).transcript (events_in h.items) (events_in later.items) deals
-  pub run : Run (is_told (view d)) later.first later.begin later.found.disk_faults later.items later.steps later.point
+  pub ended : EndsAs turns result (site.view d).transcript (events_in h.items) (events_in later.items) deals
+  pub run : Run (is_told (site.view d)) later.first later.begin later.found.disk_faults later.items later.steps later.point
   pub awaits : later.point.phase ≡ idle
-  pub told : (view d).transcript ≡ Some (later.base ++ later.items)
-  pub stands : StandsOn view leave later.point.machine state.origin d
-  pub recorded : Both later.found.calls (view d).calls (λ before now. now ≡ before ++ calls_of later.steps)
-  pub blamed : (view d).send_faults < 2 ^ 64 - 1 → later.found.send_faults + later.point.failed ≤ (view d).send_faults
-  pub counted : later.point.faults ≡ (view d).disk_faults
-  pub still_told : is_told (view d) ≡ is_told later.found
-  pub crash : (t : ℕ) (image : Image) → later.begin ≤ t → left_at d t image → FitsAt later.first later.steps t image
-  pub survives : (t : ℕ) (image : Image) → later.begin ≤ t → left_at d t image → Survives later.first later.items t image
+  pub told : (site.view d).transcript ≡ Some (later.base ++ later.items)
+  pub stands : StandsOn site later.point.machine state.origin d
+  pub recorded : Both later.found.calls (site.view d).calls (λ before now. now ≡ before ++ calls_of later.steps)
+  pub blamed : (site.view d).send_faults < 2 ^ 64 - 1 → later.found.send_faults + later.point.failed ≤ (site.view d).send_faults
+  pub counted : later.point.faults ≡ (site.view d).disk_faults
+  pub still_told : is_told (site.view d) ≡ is_told later.found
+  pub crash : (t : ℕ) (image : Image) → later.begin ≤ t → site.left_at d t image → FitsAt later.first later.steps t image
+  pub survives : (t : ℕ) (image : Image) → later.begin ≤ t → site.left_at d t image → Survives later.first later.items t image
 
 -- A new state is where a run begins, whatever the machine that its origin stands for and the transcript before it. The site is as it is found.
-abbrev pub Begins : {D : Type 0} (view : D → View) (leave : D → Image → Type 0) (left_at : D → ℕ → Image → Type 0) → State → D → Type 0
-Begins view leave left_at state d = (m : Machine) (base : List Item) → StandsOn view leave m state.origin d → (view d).transcript ≡ Some base
-    → (h : History) × (h.first ≡ m) × (h.begin ≡ (view d).moment) × (h.base ≡ base) × (h.items ≡ []) × (h.steps ≡ [])
-    × Serves view leave left_at h state d × (h.found ≡ view d)
+abbrev pub Begins : {D : Type 0} (site : Seen D) → State → D → Type 0
+Begins site state d = (m : Machine) (base : List Item) → StandsOn site m state.origin d → (site.view d).transcript ≡ Some base
+    → (h : History) × (h.first ≡ m) × (h.begin ≡ (site.view d).moment) × (h.base ≡ base) × (h.items ≡ []) × (h.steps ≡ [])
+    × Serves site h state d × (h.found ≡ site.view d)
 
 -- how many events a turn took
 abbrev pub taken_by : Turned → ℕ
@@ -164,11 +164,11 @@ HasTaken turned.LinkFault deals = deals ≡ []
 HasTaken turned.NoMemory deals = deals ≡ []
 
 -- A ladder is one step more, without a connection and without an entry.
-pub record DeclaresIn {D : Type 0} (view : D → View) (leave : D → Image → Type 0) (left_at : D → ℕ → Image → Type 0) (h : History) (channel : List Track)
+pub record DeclaresIn {D : Type 0} (site : Seen D) (h : History) (channel : List Track)
     (result : Declared)
     (state : State) (d : D) : Type 0 where
   pub later : History
-  pub serves : Serves view leave left_at later state d
+  pub serves : Serves site later state d
   pub since : Since h later
   pub same : later.items ≡ h.items
   pub step : Stepped
@@ -178,11 +178,11 @@ pub record DeclaresIn {D : Type 0} (view : D → View) (leave : D → Image → 
   pub reply : step.reply ≡ reply_to_header result
 
 -- A read-back is one step more, without a connection and without an entry. It leaves the log, where the disk tells its contents.
-pub record RecallsIn {D : Type 0} (view : D → View) (leave : D → Image → Type 0) (left_at : D → ℕ → Image → Type 0) (h : History) (a : Address)
+pub record RecallsIn {D : Type 0} (site : Seen D) (h : History) (a : Address)
     (result : Fetched)
     (state : State) (d : D) : Type 0 where
   pub later : History
-  pub serves : Serves view leave left_at later state d
+  pub serves : Serves site later state d
   pub since : Since h later
   pub same : later.items ≡ h.items
   pub step : Stepped
@@ -190,7 +190,7 @@ pub record RecallsIn {D : Type 0} (view : D → View) (leave : D → Image → T
   pub conn : step.conn ≡ None
   pub act : step.act ≡ Ask a
   pub reply : step.reply ≡ reply_to_fetched h.point.machine.log a result
-  pub log : IsTrue (is_told (view d)) → later.point.machine.log ≡ h.point.machine.log
+  pub log : IsTrue (is_told (site.view d)) → later.point.machine.log ≡ h.point.machine.log
 
 -- these events are the next ones of a script, one after the other
 abbrev pub AreTaken : List Deal → List Deal → List Deal → Type 0
@@ -198,9 +198,9 @@ AreTaken [] was now = now ≡ was
 AreTaken (deal ∷ deals) was now = (rest : List Deal) × Takes deal was rest × AreTaken deals rest now
 
 -- The run goes on by so many events, which are the next ones of the script, where one is told.
-pub record TurnsBy {D : Type 0} (view : D → View) (leave : D → Image → Type 0) (left_at : D → ℕ → Image → Type 0) (h : History) (events : ℕ)
+pub record TurnsBy {D : Type 0} (site : Seen D) (h : History) (events : ℕ)
     (script : Option (List Deal)) (state : State) (d : D) : Type 0 where
   pub deals : List Deal
   pub many : length deals ≡ events
-  pub turns : Turns view leave left_at h deals state d
-  pub script_is : Both script (view d).script (AreTaken deals)
+  pub turns : Turns site h deals state d
+  pub script_is : Both script (site.view d).script (AreTaken deals)

@@ -1,7 +1,7 @@
 -- A run so far, on a site.
-use Rattle.std.specs.Prelude.{◌≡◌, ◌≢◌, ℕ, ◌+◌, ◌-◌, ◌<◌, ◌≤◌, ◌^◌, Bool, List, [], ◌∷◌, ◌++◌, Option, Some, None, IsSome, is_some, if◌then◌else◌, IsTrue}
+use Rattle.std.specs.Prelude.{◌≡◌, ◌≢◌, ℕ, ◌+◌, ◌-◌, ◌<◌, ◌≤◌, ◌^◌, Bool, true, false, List, [], ◌∷◌, ◌++◌, Option, Some, None, IsSome, is_some, if◌then◌else◌, IsTrue}
 use Rattle.sm_site.specs.Image.{Image}
-use Rattle.sm_site.specs.Meanings.{View, Item, Deal, DiskCall}
+use Rattle.sm_site.specs.Meanings.{View, Item, Deal, DiskCall, Seen}
 use Rattle.sm_site.specs.Clauses.{Both}
 use Rattle.sm_wire.specs.declared.item.WireItem.{WireItem}
 use Rattle.sm_origin.specs.declared.origin.Origin.{Origin}
@@ -12,6 +12,8 @@ use Rattle.sm_origin.specs.Acting.{StandsFor}
 use Rattle.sm_serve.specs.Connections.{received, live, without, deals_in}
 use Rattle.sm_serve.specs.Run.{Counts, counts_after, Phase, Point, Stepped, Moves, at, Run, LeadsTo}
 use Rattle.sm_serve.specs.Moments.{machine_at, FitsAt}
+use Rattle.sm_serve.specs.declared.still.Still.{Still}
+use Rattle.sm_serve.specs.declared.still.Still.TheVariants.{Open, Closed}
 
 -- the machine found at the start and its moment, the transcript before it, what the site told then, and what has happened since
 pub record History : Type 0 where
@@ -29,44 +31,44 @@ calls_of [] = []
 calls_of (x ∷ steps) = x.calls ++ calls_of steps
 
 -- the origin stands for the machine on the site
-abbrev pub StandsOn : {D : Type 0} (view : D → View) (leave : D → Image → Type 0) → Machine → Origin → D → Type 0
-StandsOn view leave m origin d = StandsFor (IsSome (view d).contents) m origin (leave d)
+abbrev pub StandsOn : {D : Type 0} (site : Seen D) → Machine → Origin → D → Type 0
+StandsOn site m origin d = StandsFor (IsSome (site.view d).contents) m origin (site.may_leave d)
 
 -- it stands for some machine on the site
-abbrev pub StandsForSome : {D : Type 0} (view : D → View) (leave : D → Image → Type 0) → Origin → D → Type 0
-StandsForSome view leave origin d = (m : Machine) × StandsOn view leave m origin d
+abbrev pub StandsForSome : {D : Type 0} (site : Seen D) → Origin → D → Type 0
+StandsForSome site origin d = (m : Machine) × StandsOn site m origin d
 
 -- whether the site tells the contents of its disk
 abbrev pub is_told : View → Bool
 is_told v = is_some v.contents
 
 -- The site tells this run. What a crash may leave, now and at each moment since the start, fits it.
-pub record Keeps {D : Type 0} (view : D → View) (leave : D → Image → Type 0) (left_at : D → ℕ → Image → Type 0) (h : History) (d : D) : Type 0 where
-  pub run : Run (is_told (view d)) h.first h.begin h.found.disk_faults h.items h.steps h.point
-  pub told : (view d).transcript ≡ Some (h.base ++ h.items)
-  pub clock : IsTrue (is_told (view d)) → h.point.ended ≤ (view d).moment
-  pub current : IsTrue (is_told (view d)) → (t : ℕ) → h.point.ended ≤ t → machine_at h.first h.steps t ≡ h.point.machine
-  pub now : (image : Image) → leave d image → Fits h.point.machine image
-  pub images : (t : ℕ) (image : Image) → h.begin ≤ t → left_at d t image → FitsAt h.first h.steps t image
+pub record Keeps {D : Type 0} (site : Seen D) (h : History) (d : D) : Type 0 where
+  pub run : Run (is_told (site.view d)) h.first h.begin h.found.disk_faults h.items h.steps h.point
+  pub told : (site.view d).transcript ≡ Some (h.base ++ h.items)
+  pub clock : IsTrue (is_told (site.view d)) → h.point.ended ≤ (site.view d).moment
+  pub current : IsTrue (is_told (site.view d)) → (t : ℕ) → h.point.ended ≤ t → machine_at h.first h.steps t ≡ h.point.machine
+  pub now : (image : Image) → site.may_leave d image → Fits h.point.machine image
+  pub images : (t : ℕ) (image : Image) → h.begin ≤ t → site.left_at d t image → FitsAt h.first h.steps t image
   -- the record of disk calls, where it is told, is what it was at the start and behind that those of the steps
-  pub recorded : Both h.found.calls (view d).calls (λ before now. now ≡ before ++ calls_of h.steps)
+  pub recorded : Both h.found.calls (site.view d).calls (λ before now. now ≡ before ++ calls_of h.steps)
   -- each send that failed since was counted
-  pub blamed : (view d).send_faults < 2 ^ 64 - 1 → h.found.send_faults + h.point.failed ≤ (view d).send_faults
+  pub blamed : (site.view d).send_faults < 2 ^ 64 - 1 → h.found.send_faults + h.point.failed ≤ (site.view d).send_faults
   -- the disk's count of faults is the run's
-  pub counted : h.point.faults ≡ (view d).disk_faults
+  pub counted : h.point.faults ≡ (site.view d).disk_faults
   -- the disk tells its contents where it did at the start
-  pub still_told : is_told (view d) ≡ is_told h.found
+  pub still_told : is_told (site.view d) ≡ is_told h.found
 
 -- the history with further entries, at a point
 abbrev pub moved : History → List Item → Point → History
 moved h es q = record h { items = h.items ++ es; point = q }
 
 -- An event was taken, and the run goes on from it.
-abbrev pub Pending : {D : Type 0} (view : D → View) (leave : D → Image → Type 0) (left_at : D → ℕ → Image → Type 0) → History → ℕ → Deal → D
+abbrev pub Pending : {D : Type 0} (site : Seen D) → History → ℕ → Deal → D
     → Type 0
-Pending view leave left_at h m deal d =
-    (q : Point) → Moves (is_told (view d)) h.items h.point (at m deal) [] q → q.machine ≡ h.point.machine → q.ended ≡ m → q.failed ≡ h.point.failed
-    → q.faults ≡ h.point.faults → Keeps view leave left_at (moved h (at m deal) q) d
+Pending site h m deal d =
+    (q : Point) → Moves (is_told (site.view d)) h.items h.point (at m deal) [] q → q.machine ≡ h.point.machine → q.ended ≡ m → q.failed ≡ h.point.failed
+    → q.faults ≡ h.point.faults → Keeps site (moved h (at m deal) q) d
 
 -- A later history goes on from an earlier one: its entries and its steps begin with those of that one, and moves lead from its point on.
 pub record GoesOn (h k : History) : Type 0 where
@@ -88,13 +90,17 @@ pub record Follows (n : ℕ) (is_open : Bool) (h k : History) : Type 0 where
   pub live : live k.items ≡ (if is_open then live h.items else without n (live h.items))
   pub counts : (j : ℕ) → j ≢ n → k.point.counts j ≡ h.point.counts j
 
+abbrev pub stays_open : Still → Bool
+stays_open Open = true
+stays_open Closed = false
+
 -- The run reaches this phase, with these counts of the connection if it is open.
-pub record Reaches {D : Type 0} (view : D → View) (leave : D → Image → Type 0) (left_at : D → ℕ → Image → Type 0) (h : History) (n : ℕ) (is_open : Bool)
+pub record Reaches {D : Type 0} (site : Seen D) (h : History) (n : ℕ) (is_open : Bool)
     (phase : Phase) (counts : Counts)
     (origin : Origin) (d : D) : Type 0 where
   pub later : History
-  pub keeps : Keeps view leave left_at later d
-  pub stands : StandsOn view leave later.point.machine origin d
+  pub keeps : Keeps site later d
+  pub stands : StandsOn site later.point.machine origin d
   pub follows : Follows n is_open h later
   pub phase_is : later.point.phase ≡ phase
   pub counts_are : IsTrue is_open → later.point.counts n ≡ counts

@@ -1,5 +1,5 @@
 //! One act of a connection, and its reply.
-ghost use Rattle.std.specs.Prelude.{◌≡◌, ◌∷◌, false, List, Some, IfSome, IsSome, is_some, IsTrue, if◌then◌else◌, None};
+ghost use Rattle.std.specs.Prelude.{◌≡◌, ◌∷◌, List, Some, IfSome, IsSome, is_some, IsTrue, if◌then◌else◌, None};
 ghost use Rattle.sm_site.specs.Meanings.{IsLive};
 ghost use Rattle.sm_site.specs.Clauses.{SameOutcomes};
 ghost use Rattle.sm_wire.specs.declared.item.WireItem.{WireItem};
@@ -7,8 +7,9 @@ ghost use Rattle.sm_origin.specs.declared.origin.Origin.{Origin};
 ghost use Rattle.sm_origin.specs.Acting.{IsValidAct};
 ghost use Rattle.sm_serve.specs.Run.{idle, acting, act_of, closes, phase_after, sent_of};
 ghost use Rattle.sm_serve.specs.Between.{TakesNone};
-ghost use Rattle.sm_serve.specs.Standing.{History, StandsOn, StandsForSome, Keeps, Reaches, counts_with};
+ghost use Rattle.sm_serve.specs.Standing.{History, StandsOn, StandsForSome, Keeps, Reaches, counts_with, stays_open};
 
+use crate::still::Still;
 use crate::tell::{tell, tell_both};
 use sm_head::NO_MEMORY;
 use sm_model::Act;
@@ -17,22 +18,23 @@ use sm_origin::{Counted, Origin, Reply};
 use sm_site::Site;
 use std::alloc::Global;
 
-/// Sends a reply, where it has bytes, and closes the connection where that is to be closed. Says whether it is still open.
-fn send_reply<S: Site>(site: &mut S, number: u64, reply: &Reply, close: bool) -> bool
-    requires live { IfSome (S.Disk.view site.old).transcript (IsLive number) }
-    ensures goes_on { (h : History) (more : List WireItem) (origin : Origin) → Keeps S.Disk.view S.Disk.may_leave S.Disk.left_at h site.old
-        → StandsOn S.Disk.view S.Disk.may_leave h.point.machine origin site.old → h.point.phase ≡ phase_after number (sent_of reply.now) close more
-        → Reaches S.Disk.view S.Disk.may_leave S.Disk.left_at h number result (if result then acting number more else idle) (h.point.counts number) origin site.new }
-    ensures closed { IsTrue close → result ≡ false }
-    ensures same { SameOutcomes (S.Disk.may_leave site.old) (S.Disk.may_leave site.new) }
-    ensures contents { (S.Disk.view site.new).contents ≡ (S.Disk.view site.old).contents }
-    ensures open { IsTrue result → IfSome (S.Disk.view site.new).transcript (IsLive number) }
-    ensures link { TakesNone (S.Disk.view site.old) (S.Disk.view site.new) }
+/// Sends a reply, where it has bytes, and closes the connection where that is to be closed.
+fn send_reply<S: Site>(site: &mut S, number: u64, reply: &Reply, close: bool) -> Still
+    requires live { IfSome (S.Disk.seen.view site.old).transcript (IsLive number) }
+    ensures goes_on { (h : History) (more : List WireItem) (origin : Origin) → Keeps S.Disk.seen h site.old
+        → StandsOn S.Disk.seen h.point.machine origin site.old → h.point.phase ≡ phase_after number (sent_of reply.now) close more
+        → Reaches S.Disk.seen h number (stays_open result) (if stays_open result then acting number more else idle)
+        (h.point.counts number) origin site.new }
+    ensures closed { IsTrue close → result ≡ Still.Closed }
+    ensures same { SameOutcomes (S.Disk.seen.may_leave site.old) (S.Disk.seen.may_leave site.new) }
+    ensures contents { (S.Disk.seen.view site.new).contents ≡ (S.Disk.seen.view site.old).contents }
+    ensures open { result ≡ Still.Open → IfSome (S.Disk.seen.view site.new).transcript (IsLive number) }
+    ensures link { TakesNone (S.Disk.seen.view site.old) (S.Disk.seen.view site.new) }
 {
-    if reply.status == 0 {
+    if reply.is_silent() {
         return end_item(site, number, close);
     }
-    if reply.status == 500 {
+    if reply.is_starved() {
         return tell(site, number, NO_MEMORY, close);
     }
     let (head, tail) = reply.bytes.parts();
@@ -40,23 +42,24 @@ fn send_reply<S: Site>(site: &mut S, number: u64, reply: &Reply, close: bool) ->
 }
 
 /// Ends an item that has no reply.
-fn end_item<S: Site>(site: &mut S, number: u64, close: bool) -> bool
-    requires live { IfSome (S.Disk.view site.old).transcript (IsLive number) }
-    ensures goes_on { (h : History) (more : List WireItem) (origin : Origin) → Keeps S.Disk.view S.Disk.may_leave S.Disk.left_at h site.old
-        → StandsOn S.Disk.view S.Disk.may_leave h.point.machine origin site.old → h.point.phase ≡ phase_after number None close more
-        → Reaches S.Disk.view S.Disk.may_leave S.Disk.left_at h number result (if result then acting number more else idle) (h.point.counts number) origin site.new }
-    ensures closed { IsTrue close → result ≡ false }
-    ensures same { SameOutcomes (S.Disk.may_leave site.old) (S.Disk.may_leave site.new) }
-    ensures contents { (S.Disk.view site.new).contents ≡ (S.Disk.view site.old).contents }
-    ensures open { IsTrue result → IfSome (S.Disk.view site.new).transcript (IsLive number) }
-    ensures link { TakesNone (S.Disk.view site.old) (S.Disk.view site.new) }
+fn end_item<S: Site>(site: &mut S, number: u64, close: bool) -> Still
+    requires live { IfSome (S.Disk.seen.view site.old).transcript (IsLive number) }
+    ensures goes_on { (h : History) (more : List WireItem) (origin : Origin) → Keeps S.Disk.seen h site.old
+        → StandsOn S.Disk.seen h.point.machine origin site.old → h.point.phase ≡ phase_after number None close more
+        → Reaches S.Disk.seen h number (stays_open result) (if stays_open result then acting number more else idle)
+        (h.point.counts number) origin site.new }
+    ensures closed { IsTrue close → result ≡ Still.Closed }
+    ensures same { SameOutcomes (S.Disk.seen.may_leave site.old) (S.Disk.seen.may_leave site.new) }
+    ensures contents { (S.Disk.seen.view site.new).contents ≡ (S.Disk.seen.view site.old).contents }
+    ensures open { result ≡ Still.Open → IfSome (S.Disk.seen.view site.new).transcript (IsLive number) }
+    ensures link { TakesNone (S.Disk.seen.view site.old) (S.Disk.seen.view site.new) }
 {
     fewer_images_stand::<S>();
     if close {
         site.close(number);
-        return false;
+        return Still::Closed;
     }
-    true
+    Still::Open
 }
 
 /// Acts, and sends the reply. What the act counts, or None where the connection was closed.
@@ -69,24 +72,23 @@ pub(crate) fn answer<S: Site>(
     close: bool,
 ) -> Option<Counted>
     requires valid { IsValidAct act.now }
-    requires stands { StandsForSome S.Disk.view S.Disk.may_leave origin.old site.old }
-    requires live { IfSome (S.Disk.view site.old).transcript (IsLive number) }
-    ensures goes_on { (h : History) (item : WireItem) (more : List WireItem) → Keeps S.Disk.view S.Disk.may_leave S.Disk.left_at h site.old
-        → StandsOn S.Disk.view S.Disk.may_leave h.point.machine origin.old site.old → h.point.phase ≡ acting number (item ∷ more)
+    requires stands { StandsForSome S.Disk.seen origin.old site.old }
+    requires live { IfSome (S.Disk.seen.view site.old).transcript (IsLive number) }
+    ensures goes_on { (h : History) (item : WireItem) (more : List WireItem) → Keeps S.Disk.seen h site.old
+        → StandsOn S.Disk.seen h.point.machine origin.old site.old → h.point.phase ≡ acting number (item ∷ more)
         → act_of (h.point.counts number) item ≡ Some act.now → closes item ≡ close
-        → Reaches S.Disk.view S.Disk.may_leave S.Disk.left_at h number (is_some result) (if is_some result then acting number more else idle)
+        → Reaches S.Disk.seen h number (is_some result) (if is_some result then acting number more else idle)
         (counts_with item result (h.point.counts number)) origin.new site.new }
     ensures closed { IsTrue close → result ≡ None }
-    ensures stands { StandsForSome S.Disk.view S.Disk.may_leave origin.new site.new }
-    ensures open { IsSome result → IfSome (S.Disk.view site.new).transcript (IsLive number) }
-    ensures link { TakesNone (S.Disk.view site.old) (S.Disk.view site.new) }
+    ensures stands { StandsForSome S.Disk.seen origin.new site.new }
+    ensures open { IsSome result → IfSome (S.Disk.seen.view site.new).transcript (IsLive number) }
+    ensures link { TakesNone (S.Disk.seen.view site.old) (S.Disk.seen.view site.new) }
 {
     fewer_images_stand::<S>();
     let reply = origin.act(alloc, site, act);
     let close = reply.close | close;
-    if send_reply(site, number, &reply, close) {
-        Some(reply.counted)
-    } else {
-        None
+    match send_reply(site, number, &reply, close) {
+        Still::Open => Some(reply.counted),
+        Still::Closed => None,
     }
 }

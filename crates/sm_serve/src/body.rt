@@ -1,5 +1,5 @@
 //! The body of a push that is open.
-ghost use Rattle.std.specs.Prelude.{is_some, ◌≡◌, ◌<◌, ◌≤◌, ◌+◌, [], ◌∷◌, ◌++◌, false, true, List, ℕ, Option, Some, None, IfSome, IsTrue, if◌then◌else◌, map, length};
+ghost use Rattle.std.specs.Prelude.{is_some, ◌≡◌, ◌<◌, ◌≤◌, ◌+◌, [], ◌∷◌, ◌++◌, true, List, ℕ, Option, Some, None, IfSome, IsTrue, if◌then◌else◌, map};
 ghost use Rattle.sm_site.specs.Meanings.{IsLive};
 ghost use Rattle.sm_conn.specs.Parts.{PartItem, byte, ended};
 ghost use Rattle.sm_wire.specs.declared.item.WireItem.{WireItem};
@@ -9,12 +9,13 @@ ghost use Rattle.sm_origin.specs.declared.origin.Origin.{Origin};
 ghost use Rattle.sm_serve.specs.Pushes.{GivesValid};
 ghost use Rattle.sm_serve.specs.Run.{idle, acting};
 ghost use Rattle.sm_serve.specs.Between.{TakesNone};
-ghost use Rattle.sm_serve.specs.Standing.{History, StandsOn, StandsForSome, Keeps, Reaches};
+ghost use Rattle.sm_serve.specs.Standing.{History, StandsOn, StandsForSome, Keeps, Reaches, stays_open};
 ghost use Rattle.sm_serve.specs.Resting.{counts_of, PlaceIs, SameConn};
 ghost use Rattle.sm_serve.specs.Giving.{PartGives, FedPush, EndedPush};
 
 use crate::answer::answer;
 use crate::item::{act_on, starve, take_items};
+use crate::still::Still;
 use crate::{Live, OpenPush};
 use sm_model::{Act, Items};
 use sm_origin::Origin;
@@ -65,30 +66,30 @@ fn take_chunk<S: Site>(
     origin: &mut Origin,
     live: &mut Live,
     bytes: &[u8],
-) -> bool
-    requires stands { StandsForSome S.Disk.view S.Disk.may_leave origin.old site.old }
+) -> Still
+    requires stands { StandsForSome S.Disk.seen origin.old site.old }
     requires open { is_some live.old.push ≡ true }
-    requires live { IfSome (S.Disk.view site.old).transcript (IsLive live.old.number) }
-    ensures goes_on { (h : History) (b : List ℕ) (more : List PartItem) (items : List WireItem) → Keeps S.Disk.view S.Disk.may_leave S.Disk.left_at h site.old
-        → StandsOn S.Disk.view S.Disk.may_leave h.point.machine origin.old site.old → PlaceIs live.old.push (Some b)
+    requires live { IfSome (S.Disk.seen.view site.old).transcript (IsLive live.old.number) }
+    ensures goes_on { (h : History) (b : List ℕ) (more : List PartItem) (items : List WireItem) → Keeps S.Disk.seen h site.old
+        → StandsOn S.Disk.seen h.point.machine origin.old site.old → PlaceIs live.old.push (Some b)
         → Left (Some b) (map (λ x. byte x) bytes.now ++ more) items
         → h.point.phase ≡ acting live.old.number items → h.point.counts live.old.number ≡ counts_of live.old
-        → PartGives S.Disk.view S.Disk.may_leave S.Disk.left_at h live.old.number result live.new.push (counts_of live.new) (Some b)
+        → PartGives S.Disk.seen h live.old.number (stays_open result) live.new.push (counts_of live.new) (Some b)
         (map (λ x. byte x) bytes.now) more origin.new site.new }
-    ensures stands { StandsForSome S.Disk.view S.Disk.may_leave origin.new site.new }
-    ensures open { IsTrue result → IfSome (S.Disk.view site.new).transcript (IsLive live.old.number) }
-    ensures push { IsTrue result → is_some live.new.push ≡ true }
+    ensures stands { StandsForSome S.Disk.seen origin.new site.new }
+    ensures open { result ≡ Still.Open → IfSome (S.Disk.seen.view site.new).transcript (IsLive live.old.number) }
+    ensures push { result ≡ Still.Open → is_some live.new.push ≡ true }
     ensures same { SameConn live.old live.new }
-    ensures link { TakesNone (S.Disk.view site.old) (S.Disk.view site.new) }
+    ensures link { TakesNone (S.Disk.seen.view site.old) (S.Disk.seen.view site.new) }
 {
     wire_of_front();
     match feed(&mut live.push, bytes) {
         Ok(items) => take_items(alloc, site, origin, live, items.into_vec()),
         Err(PushFault::Refused { before, refusal }) => {
-            if !take_items(alloc, site, origin, live, before.into_vec()) {
-                return false;
+            match take_items(alloc, site, origin, live, before.into_vec()) {
+                Still::Open => act_on(alloc, site, origin, live, &Act::Refuse(refusal), true),
+                Still::Closed => Still::Closed,
             }
-            act_on(alloc, site, origin, live, &Act::Refuse(refusal), true)
         }
         Err(PushFault::Failed) => starve(site, live.number),
         Err(PushFault::NoMemory) => starve(site, live.number),
@@ -103,32 +104,33 @@ pub(crate) fn take_body<S: Site>(
     origin: &mut Origin,
     live: &mut Live,
     bytes: &[u8],
-) -> bool
-    requires stands { StandsForSome S.Disk.view S.Disk.may_leave origin.old site.old }
+) -> Still
+    requires stands { StandsForSome S.Disk.seen origin.old site.old }
     requires open { is_some live.old.push ≡ true }
-    requires live { IfSome (S.Disk.view site.old).transcript (IsLive live.old.number) }
-    ensures goes_on { (h : History) (b : List ℕ) (more : List PartItem) (items : List WireItem) → Keeps S.Disk.view S.Disk.may_leave S.Disk.left_at h site.old
-        → StandsOn S.Disk.view S.Disk.may_leave h.point.machine origin.old site.old → PlaceIs live.old.push (Some b)
+    requires live { IfSome (S.Disk.seen.view site.old).transcript (IsLive live.old.number) }
+    ensures goes_on { (h : History) (b : List ℕ) (more : List PartItem) (items : List WireItem) → Keeps S.Disk.seen h site.old
+        → StandsOn S.Disk.seen h.point.machine origin.old site.old → PlaceIs live.old.push (Some b)
         → Left (Some b) (map (λ x. byte x) bytes.now ++ more) items
         → h.point.phase ≡ acting live.old.number items → h.point.counts live.old.number ≡ counts_of live.old
-        → PartGives S.Disk.view S.Disk.may_leave S.Disk.left_at h live.old.number result live.new.push (counts_of live.new) (Some b)
+        → PartGives S.Disk.seen h live.old.number (stays_open result) live.new.push (counts_of live.new) (Some b)
         (map (λ x. byte x) bytes.now) more origin.new site.new }
-    ensures stands { StandsForSome S.Disk.view S.Disk.may_leave origin.new site.new }
-    ensures open { IsTrue result → IfSome (S.Disk.view site.new).transcript (IsLive live.old.number) }
-    ensures push { IsTrue result → is_some live.new.push ≡ true }
+    ensures stands { StandsForSome S.Disk.seen origin.new site.new }
+    ensures open { result ≡ Still.Open → IfSome (S.Disk.seen.view site.new).transcript (IsLive live.old.number) }
+    ensures push { result ≡ Still.Open → is_some live.new.push ≡ true }
     ensures same { SameConn live.old live.new }
-    ensures link { TakesNone (S.Disk.view site.old) (S.Disk.view site.new) }
+    ensures link { TakesNone (S.Disk.seen.view site.old) (S.Disk.seen.view site.new) }
 {
     let mut done = 0;
     while done < bytes.len() {
         let rest = &bytes[done..];
         let count = due(&live.push, rest.len());
-        if !take_chunk(alloc, site, origin, live, &rest[..count]) {
-            return false;
+        match take_chunk(alloc, site, origin, live, &rest[..count]) {
+            Still::Open => {}
+            Still::Closed => return Still::Closed,
         }
         done += count;
     }
-    true
+    Still::Open
 }
 
 /// Ends the push that is open.
@@ -138,18 +140,18 @@ pub(crate) fn take_end<S: Site>(
     origin: &mut Origin,
     live: &mut Live,
     close: bool,
-) -> bool
-    requires stands { StandsForSome S.Disk.view S.Disk.may_leave origin.old site.old }
-    requires live { IfSome (S.Disk.view site.old).transcript (IsLive live.old.number) }
-    ensures goes_on { (h : History) (b : List ℕ) (more : List PartItem) (items : List WireItem) → Keeps S.Disk.view S.Disk.may_leave S.Disk.left_at h site.old
-        → StandsOn S.Disk.view S.Disk.may_leave h.point.machine origin.old site.old → PlaceIs live.old.push (Some b) → Left (Some b) (ended close ∷ more) items
+) -> Still
+    requires stands { StandsForSome S.Disk.seen origin.old site.old }
+    requires live { IfSome (S.Disk.seen.view site.old).transcript (IsLive live.old.number) }
+    ensures goes_on { (h : History) (b : List ℕ) (more : List PartItem) (items : List WireItem) → Keeps S.Disk.seen h site.old
+        → StandsOn S.Disk.seen h.point.machine origin.old site.old → PlaceIs live.old.push (Some b) → Left (Some b) (ended close ∷ more) items
         → h.point.phase ≡ acting live.old.number items → h.point.counts live.old.number ≡ counts_of live.old
-        → PartGives S.Disk.view S.Disk.may_leave S.Disk.left_at h live.old.number result live.new.push (counts_of live.new) (Some b)
+        → PartGives S.Disk.seen h live.old.number (stays_open result) live.new.push (counts_of live.new) (Some b)
         (ended close ∷ []) more origin.new site.new }
-    ensures stands { StandsForSome S.Disk.view S.Disk.may_leave origin.new site.new }
-    ensures open { IsTrue result → IfSome (S.Disk.view site.new).transcript (IsLive live.old.number) }
+    ensures stands { StandsForSome S.Disk.seen origin.new site.new }
+    ensures open { result ≡ Still.Open → IfSome (S.Disk.seen.view site.new).transcript (IsLive live.old.number) }
     ensures same { SameConn live.old live.new }
-    ensures link { TakesNone (S.Disk.view site.old) (S.Disk.view site.new) }
+    ensures link { TakesNone (S.Disk.seen.view site.old) (S.Disk.seen.view site.new) }
 {
     match end(&mut live.push) {
         Ok(()) => end_push(alloc, site, origin, live, close),
@@ -173,20 +175,20 @@ fn end_push<S: Site>(
     origin: &mut Origin,
     live: &mut Live,
     close: bool,
-) -> bool
-    requires stands { StandsForSome S.Disk.view S.Disk.may_leave origin.old site.old }
-    requires live { IfSome (S.Disk.view site.old).transcript (IsLive live.old.number) }
-    ensures goes_on { (h : History) (more : List WireItem) → Keeps S.Disk.view S.Disk.may_leave S.Disk.left_at h site.old
-        → StandsOn S.Disk.view S.Disk.may_leave h.point.machine origin.old site.old → h.point.phase ≡ acting live.old.number (End close ∷ more)
+) -> Still
+    requires stands { StandsForSome S.Disk.seen origin.old site.old }
+    requires live { IfSome (S.Disk.seen.view site.old).transcript (IsLive live.old.number) }
+    ensures goes_on { (h : History) (more : List WireItem) → Keeps S.Disk.seen h site.old
+        → StandsOn S.Disk.seen h.point.machine origin.old site.old → h.point.phase ≡ acting live.old.number (End close ∷ more)
         → h.point.counts live.old.number ≡ counts_of live.old
-        → Reaches S.Disk.view S.Disk.may_leave S.Disk.left_at h live.old.number result (if result then acting live.old.number more else idle)
+        → Reaches S.Disk.seen h live.old.number (stays_open result) (if stays_open result then acting live.old.number more else idle)
         (counts_of live.new) origin.new site.new }
-    ensures closed { IsTrue close → result ≡ false }
-    ensures stands { StandsForSome S.Disk.view S.Disk.may_leave origin.new site.new }
-    ensures open { IsTrue result → IfSome (S.Disk.view site.new).transcript (IsLive live.old.number) }
-    ensures push { IsTrue result → live.new.push ≡ None }
+    ensures closed { IsTrue close → result ≡ Still.Closed }
+    ensures stands { StandsForSome S.Disk.seen origin.new site.new }
+    ensures open { result ≡ Still.Open → IfSome (S.Disk.seen.view site.new).transcript (IsLive live.old.number) }
+    ensures push { result ≡ Still.Open → live.new.push ≡ None }
     ensures same { SameConn live.old live.new }
-    ensures link { TakesNone (S.Disk.view site.old) (S.Disk.view site.new) }
+    ensures link { TakesNone (S.Disk.seen.view site.old) (S.Disk.seen.view site.new) }
 {
     let act = Act::End {
         kept: live.kept,
@@ -197,8 +199,8 @@ fn end_push<S: Site>(
             live.kept = 0;
             live.known = 0;
             live.push = None;
-            true
+            Still::Open
         }
-        None => false,
+        None => Still::Closed,
     }
 }

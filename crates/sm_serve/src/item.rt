@@ -9,13 +9,14 @@ ghost use Rattle.sm_origin.specs.Machine.{Machine};
 ghost use Rattle.sm_origin.specs.Acting.{IsValidAct};
 ghost use Rattle.sm_serve.specs.Run.{Counts, idle, acting, act_of, closes, counts_after, counts_by};
 ghost use Rattle.sm_serve.specs.Between.{TakesNone};
-ghost use Rattle.sm_serve.specs.Standing.{History, StandsOn, StandsForSome, Keeps, Reaches};
+ghost use Rattle.sm_serve.specs.Standing.{History, StandsOn, StandsForSome, Keeps, Reaches, stays_open};
 ghost use Rattle.sm_serve.specs.Resting.{counts_of, SameBut};
 ghost use Rattle.sm_serve.specs.Items.{shown_item, ItemIsValid};
 ghost use Rattle.std.specs.List.{AllByRecursion};
 
 use crate::Live;
 use crate::answer::answer;
+use crate::still::Still;
 use crate::tell::tell;
 use sm_head::NO_MEMORY;
 use sm_model::{Act, Item};
@@ -23,7 +24,7 @@ use sm_origin::Origin;
 use sm_site::Site;
 use std::alloc::Global;
 
-/// Acts on an item that is no end of a push. Says whether the connection is still open.
+/// Acts on an item that is no end of a push.
 pub(crate) fn act_on<S: Site>(
     alloc: Global,
     site: &mut S,
@@ -31,44 +32,44 @@ pub(crate) fn act_on<S: Site>(
     live: &mut Live,
     act: &Act,
     close: bool,
-) -> bool
+) -> Still
     requires valid { IsValidAct act.now }
-    requires stands { StandsForSome S.Disk.view S.Disk.may_leave origin.old site.old }
-    requires live { IfSome (S.Disk.view site.old).transcript (IsLive live.old.number) }
-    ensures goes_on { (h : History) (item : WireItem) (more : List WireItem) → Keeps S.Disk.view S.Disk.may_leave S.Disk.left_at h site.old
-        → StandsOn S.Disk.view S.Disk.may_leave h.point.machine origin.old site.old → h.point.phase ≡ acting live.old.number (item ∷ more)
+    requires stands { StandsForSome S.Disk.seen origin.old site.old }
+    requires live { IfSome (S.Disk.seen.view site.old).transcript (IsLive live.old.number) }
+    ensures goes_on { (h : History) (item : WireItem) (more : List WireItem) → Keeps S.Disk.seen h site.old
+        → StandsOn S.Disk.seen h.point.machine origin.old site.old → h.point.phase ≡ acting live.old.number (item ∷ more)
         → h.point.counts live.old.number ≡ counts_of live.old
         → act_of (counts_of live.old) item ≡ Some act.now → closes item ≡ close
         → ((c : Counted) (counts : Counts) → counts_after item c counts ≡ counts_by c counts)
-        → Reaches S.Disk.view S.Disk.may_leave S.Disk.left_at h live.old.number result (if result then acting live.old.number more else idle)
+        → Reaches S.Disk.seen h live.old.number (stays_open result) (if stays_open result then acting live.old.number more else idle)
         (counts_of live.new) origin.new site.new }
-    ensures closed { IsTrue close → result ≡ false }
-    ensures stands { StandsForSome S.Disk.view S.Disk.may_leave origin.new site.new }
-    ensures open { IsTrue result → IfSome (S.Disk.view site.new).transcript (IsLive live.old.number) }
+    ensures closed { IsTrue close → result ≡ Still.Closed }
+    ensures stands { StandsForSome S.Disk.seen origin.new site.new }
+    ensures open { result ≡ Still.Open → IfSome (S.Disk.seen.view site.new).transcript (IsLive live.old.number) }
     ensures same { SameBut live.old live.new }
-    ensures link { TakesNone (S.Disk.view site.old) (S.Disk.view site.new) }
+    ensures link { TakesNone (S.Disk.seen.view site.old) (S.Disk.seen.view site.new) }
 {
     match answer(alloc, site, origin, live.number, act, close) {
         Some(counted) => {
             live.count(counted);
-            true
+            Still::Open
         }
-        None => false,
+        None => Still::Closed,
     }
 }
 
 /// Sends 500 in place of what comes next, and closes.
-pub(crate) fn starve<S: Site>(site: &mut S, number: u64) -> bool
-    requires live { IfSome (S.Disk.view site.old).transcript (IsLive number) }
-    ensures goes_on { (h : History) (more : List WireItem) (counts : Counts) (origin : Origin) → Keeps S.Disk.view S.Disk.may_leave S.Disk.left_at h site.old
-        → StandsOn S.Disk.view S.Disk.may_leave h.point.machine origin site.old → h.point.phase ≡ acting number more
-        → Reaches S.Disk.view S.Disk.may_leave S.Disk.left_at h number false idle counts origin site.new }
-    ensures stands { (m : Machine) (origin : Origin) → StandsOn S.Disk.view S.Disk.may_leave m origin site.old
-        → StandsOn S.Disk.view S.Disk.may_leave m origin site.new }
-    ensures same { SameOutcomes (S.Disk.may_leave site.old) (S.Disk.may_leave site.new) }
-    ensures contents { (S.Disk.view site.new).contents ≡ (S.Disk.view site.old).contents }
-    ensures closed { result ≡ false }
-    ensures link { TakesNone (S.Disk.view site.old) (S.Disk.view site.new) }
+pub(crate) fn starve<S: Site>(site: &mut S, number: u64) -> Still
+    requires live { IfSome (S.Disk.seen.view site.old).transcript (IsLive number) }
+    ensures goes_on { (h : History) (more : List WireItem) (counts : Counts) (origin : Origin) → Keeps S.Disk.seen h site.old
+        → StandsOn S.Disk.seen h.point.machine origin site.old → h.point.phase ≡ acting number more
+        → Reaches S.Disk.seen h number false idle counts origin site.new }
+    ensures stands { (m : Machine) (origin : Origin) → StandsOn S.Disk.seen m origin site.old
+        → StandsOn S.Disk.seen m origin site.new }
+    ensures same { SameOutcomes (S.Disk.seen.may_leave site.old) (S.Disk.seen.may_leave site.new) }
+    ensures contents { (S.Disk.seen.view site.new).contents ≡ (S.Disk.seen.view site.old).contents }
+    ensures closed { result ≡ Still.Closed }
+    ensures link { TakesNone (S.Disk.seen.view site.old) (S.Disk.seen.view site.new) }
 {
     tell(site, number, NO_MEMORY, true)
 }
@@ -80,19 +81,19 @@ fn take_item<S: Site>(
     origin: &mut Origin,
     live: &mut Live,
     item: Item,
-) -> bool
+) -> Still
     requires valid { ItemIsValid item }
-    requires stands { StandsForSome S.Disk.view S.Disk.may_leave origin.old site.old }
-    requires live { IfSome (S.Disk.view site.old).transcript (IsLive live.old.number) }
-    ensures goes_on { (h : History) (more : List WireItem) → Keeps S.Disk.view S.Disk.may_leave S.Disk.left_at h site.old
-        → StandsOn S.Disk.view S.Disk.may_leave h.point.machine origin.old site.old → h.point.phase ≡ acting live.old.number (shown_item item ∷ more)
+    requires stands { StandsForSome S.Disk.seen origin.old site.old }
+    requires live { IfSome (S.Disk.seen.view site.old).transcript (IsLive live.old.number) }
+    ensures goes_on { (h : History) (more : List WireItem) → Keeps S.Disk.seen h site.old
+        → StandsOn S.Disk.seen h.point.machine origin.old site.old → h.point.phase ≡ acting live.old.number (shown_item item ∷ more)
         → h.point.counts live.old.number ≡ counts_of live.old
-        → Reaches S.Disk.view S.Disk.may_leave S.Disk.left_at h live.old.number result (if result then acting live.old.number more else idle)
+        → Reaches S.Disk.seen h live.old.number (stays_open result) (if stays_open result then acting live.old.number more else idle)
         (counts_of live.new) origin.new site.new }
-    ensures stands { StandsForSome S.Disk.view S.Disk.may_leave origin.new site.new }
-    ensures open { IsTrue result → IfSome (S.Disk.view site.new).transcript (IsLive live.old.number) }
+    ensures stands { StandsForSome S.Disk.seen origin.new site.new }
+    ensures open { result ≡ Still.Open → IfSome (S.Disk.seen.view site.new).transcript (IsLive live.old.number) }
     ensures same { SameBut live.old live.new }
-    ensures link { TakesNone (S.Disk.view site.old) (S.Disk.view site.new) }
+    ensures link { TakesNone (S.Disk.seen.view site.old) (S.Disk.seen.view site.new) }
 {
     let act = act_for_item(item);
     act_on(alloc, site, origin, live, &act, false)
@@ -117,24 +118,25 @@ pub(crate) fn take_items<S: Site>(
     origin: &mut Origin,
     live: &mut Live,
     items: Vec<Item>,
-) -> bool
+) -> Still
     requires valid { AllByRecursion ItemIsValid items.items }
-    requires stands { StandsForSome S.Disk.view S.Disk.may_leave origin.old site.old }
-    requires live { IfSome (S.Disk.view site.old).transcript (IsLive live.old.number) }
-    ensures goes_on { (h : History) (more : List WireItem) → Keeps S.Disk.view S.Disk.may_leave S.Disk.left_at h site.old
-        → StandsOn S.Disk.view S.Disk.may_leave h.point.machine origin.old site.old → h.point.phase ≡ acting live.old.number (map shown_item items.items ++ more)
+    requires stands { StandsForSome S.Disk.seen origin.old site.old }
+    requires live { IfSome (S.Disk.seen.view site.old).transcript (IsLive live.old.number) }
+    ensures goes_on { (h : History) (more : List WireItem) → Keeps S.Disk.seen h site.old
+        → StandsOn S.Disk.seen h.point.machine origin.old site.old → h.point.phase ≡ acting live.old.number (map shown_item items.items ++ more)
         → h.point.counts live.old.number ≡ counts_of live.old
-        → Reaches S.Disk.view S.Disk.may_leave S.Disk.left_at h live.old.number result (if result then acting live.old.number more else idle)
+        → Reaches S.Disk.seen h live.old.number (stays_open result) (if stays_open result then acting live.old.number more else idle)
         (counts_of live.new) origin.new site.new }
-    ensures stands { StandsForSome S.Disk.view S.Disk.may_leave origin.new site.new }
-    ensures open { IsTrue result → IfSome (S.Disk.view site.new).transcript (IsLive live.old.number) }
+    ensures stands { StandsForSome S.Disk.seen origin.new site.new }
+    ensures open { result ≡ Still.Open → IfSome (S.Disk.seen.view site.new).transcript (IsLive live.old.number) }
     ensures same { SameBut live.old live.new }
-    ensures link { TakesNone (S.Disk.view site.old) (S.Disk.view site.new) }
+    ensures link { TakesNone (S.Disk.seen.view site.old) (S.Disk.seen.view site.new) }
 {
     for item in items {
-        if !take_item(alloc, site, origin, live, item) {
-            return false;
+        match take_item(alloc, site, origin, live, item) {
+            Still::Open => {}
+            Still::Closed => return Still::Closed,
         }
     }
-    true
+    Still::Open
 }

@@ -13,6 +13,7 @@ mod push;
 mod serving;
 pub mod shown;
 mod state;
+mod still;
 mod tell;
 mod texts;
 

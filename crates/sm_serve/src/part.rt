@@ -1,5 +1,5 @@
 //! A part of what a connection sends.
-ghost use Rattle.std.specs.Prelude.{is_some, ◌≡◌, [], ◌∷◌, ◌++◌, false, true, List, ℕ, Option, Some, None, IfSome, IsTrue};
+ghost use Rattle.std.specs.Prelude.{is_some, ◌≡◌, ◌++◌, true, List, ℕ, Option, Some, None, IfSome};
 ghost use Rattle.sm_site.specs.Meanings.{IsLive};
 ghost use Rattle.sm_conn.specs.Parts.{PartItem};
 ghost use Rattle.sm_wire.specs.declared.item.WireItem.{WireItem};
@@ -8,13 +8,14 @@ ghost use Rattle.sm_origin.specs.declared.origin.Origin.{Origin};
 ghost use Rattle.sm_conn.specs.Stands.{items_of};
 ghost use Rattle.sm_serve.specs.Run.{acting, act_of_target};
 ghost use Rattle.sm_serve.specs.Between.{TakesNone};
-ghost use Rattle.sm_serve.specs.Standing.{History, StandsOn, StandsForSome, Keeps};
+ghost use Rattle.sm_serve.specs.Standing.{History, StandsOn, StandsForSome, Keeps, stays_open};
 ghost use Rattle.sm_serve.specs.Resting.{counts_of, PlaceIs, SameConn};
 ghost use Rattle.sm_serve.specs.Giving.{PartGives};
 ghost use Rattle.sm_origin.specs.Acting.{IsValidAct};
 
 use crate::body::{take_body, take_end};
 use crate::item::{act_on, starve};
+use crate::still::Still;
 use crate::tell::tell;
 use crate::{Live, OpenPush};
 use sm_conn::Part;
@@ -42,19 +43,19 @@ fn take_inside<S: Site>(
     origin: &mut Origin,
     live: &mut Live,
     part: Part,
-) -> bool
-    requires stands { StandsForSome S.Disk.view S.Disk.may_leave origin.old site.old }
+) -> Still
+    requires stands { StandsForSome S.Disk.seen origin.old site.old }
     requires open { is_some live.old.push ≡ true }
-    requires live { IfSome (S.Disk.view site.old).transcript (IsLive live.old.number) }
-    ensures goes_on { (h : History) (b : List ℕ) (more : List PartItem) (items : List WireItem) → Keeps S.Disk.view S.Disk.may_leave S.Disk.left_at h site.old
-        → StandsOn S.Disk.view S.Disk.may_leave h.point.machine origin.old site.old → PlaceIs live.old.push (Some b) → Left (Some b) (items_of part ++ more) items
+    requires live { IfSome (S.Disk.seen.view site.old).transcript (IsLive live.old.number) }
+    ensures goes_on { (h : History) (b : List ℕ) (more : List PartItem) (items : List WireItem) → Keeps S.Disk.seen h site.old
+        → StandsOn S.Disk.seen h.point.machine origin.old site.old → PlaceIs live.old.push (Some b) → Left (Some b) (items_of part ++ more) items
         → h.point.phase ≡ acting live.old.number items → h.point.counts live.old.number ≡ counts_of live.old
-        → PartGives S.Disk.view S.Disk.may_leave S.Disk.left_at h live.old.number result live.new.push (counts_of live.new) (Some b)
+        → PartGives S.Disk.seen h live.old.number (stays_open result) live.new.push (counts_of live.new) (Some b)
         (items_of part) more origin.new site.new }
-    ensures stands { StandsForSome S.Disk.view S.Disk.may_leave origin.new site.new }
-    ensures open { IsTrue result → IfSome (S.Disk.view site.new).transcript (IsLive live.old.number) }
+    ensures stands { StandsForSome S.Disk.seen origin.new site.new }
+    ensures open { result ≡ Still.Open → IfSome (S.Disk.seen.view site.new).transcript (IsLive live.old.number) }
     ensures same { SameConn live.old live.new }
-    ensures link { TakesNone (S.Disk.view site.old) (S.Disk.view site.new) }
+    ensures link { TakesNone (S.Disk.seen.view site.old) (S.Disk.seen.view site.new) }
 {
     match part {
         Part::Body(bytes) => {
@@ -85,18 +86,18 @@ fn take_outside<S: Site>(
     origin: &mut Origin,
     live: &mut Live,
     part: Part,
-) -> bool
-    requires stands { StandsForSome S.Disk.view S.Disk.may_leave origin.old site.old }
-    requires live { IfSome (S.Disk.view site.old).transcript (IsLive live.old.number) }
-    ensures goes_on { (h : History) (more : List PartItem) (items : List WireItem) → Keeps S.Disk.view S.Disk.may_leave S.Disk.left_at h site.old
-        → StandsOn S.Disk.view S.Disk.may_leave h.point.machine origin.old site.old → PlaceIs live.old.push None → Left None (items_of part ++ more) items
+) -> Still
+    requires stands { StandsForSome S.Disk.seen origin.old site.old }
+    requires live { IfSome (S.Disk.seen.view site.old).transcript (IsLive live.old.number) }
+    ensures goes_on { (h : History) (more : List PartItem) (items : List WireItem) → Keeps S.Disk.seen h site.old
+        → StandsOn S.Disk.seen h.point.machine origin.old site.old → PlaceIs live.old.push None → Left None (items_of part ++ more) items
         → h.point.phase ≡ acting live.old.number items → h.point.counts live.old.number ≡ counts_of live.old
-        → PartGives S.Disk.view S.Disk.may_leave S.Disk.left_at h live.old.number result live.new.push (counts_of live.new) None
+        → PartGives S.Disk.seen h live.old.number (stays_open result) live.new.push (counts_of live.new) None
         (items_of part) more origin.new site.new }
-    ensures stands { StandsForSome S.Disk.view S.Disk.may_leave origin.new site.new }
-    ensures open { IsTrue result → IfSome (S.Disk.view site.new).transcript (IsLive live.old.number) }
+    ensures stands { StandsForSome S.Disk.seen origin.new site.new }
+    ensures open { result ≡ Still.Open → IfSome (S.Disk.seen.view site.new).transcript (IsLive live.old.number) }
     ensures same { SameConn live.old live.new }
-    ensures link { TakesNone (S.Disk.view site.old) (S.Disk.view site.new) }
+    ensures link { TakesNone (S.Disk.seen.view site.old) (S.Disk.seen.view site.new) }
 {
     match part {
         Part::Get { target, close } => {
@@ -108,7 +109,7 @@ fn take_outside<S: Site>(
         }
         Part::Post => {
             live.push = Some(OpenPush::new(alloc));
-            return true;
+            return Still::Open;
         }
         Part::Bad(cause) => {
             return act_on(
@@ -132,19 +133,19 @@ pub(crate) fn take_part<S: Site>(
     origin: &mut Origin,
     live: &mut Live,
     part: Part,
-) -> bool
-    requires stands { StandsForSome S.Disk.view S.Disk.may_leave origin.old site.old }
-    requires live { IfSome (S.Disk.view site.old).transcript (IsLive live.old.number) }
+) -> Still
+    requires stands { StandsForSome S.Disk.seen origin.old site.old }
+    requires live { IfSome (S.Disk.seen.view site.old).transcript (IsLive live.old.number) }
     ensures goes_on { (h : History) (place : Option (List ℕ)) (more : List PartItem) (items : List WireItem)
-        → Keeps S.Disk.view S.Disk.may_leave S.Disk.left_at h site.old
-        → StandsOn S.Disk.view S.Disk.may_leave h.point.machine origin.old site.old → PlaceIs live.old.push place → Left place (items_of part ++ more) items
+        → Keeps S.Disk.seen h site.old
+        → StandsOn S.Disk.seen h.point.machine origin.old site.old → PlaceIs live.old.push place → Left place (items_of part ++ more) items
         → h.point.phase ≡ acting live.old.number items → h.point.counts live.old.number ≡ counts_of live.old
-        → PartGives S.Disk.view S.Disk.may_leave S.Disk.left_at h live.old.number result live.new.push (counts_of live.new) place
+        → PartGives S.Disk.seen h live.old.number (stays_open result) live.new.push (counts_of live.new) place
         (items_of part) more origin.new site.new }
-    ensures stands { StandsForSome S.Disk.view S.Disk.may_leave origin.new site.new }
-    ensures open { IsTrue result → IfSome (S.Disk.view site.new).transcript (IsLive live.old.number) }
+    ensures stands { StandsForSome S.Disk.seen origin.new site.new }
+    ensures open { result ≡ Still.Open → IfSome (S.Disk.seen.view site.new).transcript (IsLive live.old.number) }
     ensures same { SameConn live.old live.new }
-    ensures link { TakesNone (S.Disk.view site.old) (S.Disk.view site.new) }
+    ensures link { TakesNone (S.Disk.seen.view site.old) (S.Disk.seen.view site.new) }
 {
     if live.push.is_some() {
         return take_inside(alloc, site, origin, live, part);

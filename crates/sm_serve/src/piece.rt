@@ -1,5 +1,5 @@
 //! A piece that came on a connection.
-ghost use Rattle.std.specs.Prelude.{◌≡◌, ◌++◌, true, List, ℕ, Option, IfSome, IsTrue};
+ghost use Rattle.std.specs.Prelude.{◌≡◌, ◌++◌, true, List, ℕ, Option, IfSome};
 ghost use Rattle.sm_site.specs.Meanings.{IsLive};
 ghost use Rattle.sm_conn.specs.Parts.{PartItem};
 ghost use Rattle.sm_wire.specs.declared.item.WireItem.{WireItem};
@@ -10,12 +10,13 @@ ghost use Rattle.sm_conn.specs.Stands.{joined};
 ghost use Rattle.sm_serve.specs.Connections.{received, is_open};
 ghost use Rattle.sm_serve.specs.Run.{idle, acting};
 ghost use Rattle.sm_serve.specs.Between.{TakesNone};
-ghost use Rattle.sm_serve.specs.Standing.{History, StandsOn, StandsForSome, Keeps, Pending};
+ghost use Rattle.sm_serve.specs.Standing.{History, StandsOn, StandsForSome, Keeps, Pending, stays_open};
 ghost use Rattle.sm_serve.specs.Resting.{counts_of, PlaceIs, SameConn, Rests};
 ghost use Rattle.sm_serve.specs.Giving.{PartGives, PieceGives};
 
 use crate::Live;
 use crate::part::take_part;
+use crate::still::Still;
 use crate::tell::tell;
 use sm_conn::Part;
 use sm_head::NO_MEMORY;
@@ -31,46 +32,47 @@ fn take_parts<S: Site>(
     origin: &mut Origin,
     live: &mut Live,
     parts: Vec<Part>,
-) -> bool
-    requires stands { StandsForSome S.Disk.view S.Disk.may_leave origin.old site.old }
-    requires live { IfSome (S.Disk.view site.old).transcript (IsLive live.old.number) }
+) -> Still
+    requires stands { StandsForSome S.Disk.seen origin.old site.old }
+    requires live { IfSome (S.Disk.seen.view site.old).transcript (IsLive live.old.number) }
     ensures goes_on { (h : History) (place : Option (List ℕ)) (more : List PartItem) (items : List WireItem)
-        → Keeps S.Disk.view S.Disk.may_leave S.Disk.left_at h site.old
-        → StandsOn S.Disk.view S.Disk.may_leave h.point.machine origin.old site.old → PlaceIs live.old.push place → Left place (joined parts.items ++ more) items
+        → Keeps S.Disk.seen h site.old
+        → StandsOn S.Disk.seen h.point.machine origin.old site.old → PlaceIs live.old.push place → Left place (joined parts.items ++ more) items
         → h.point.phase ≡ acting live.old.number items → h.point.counts live.old.number ≡ counts_of live.old
-        → PartGives S.Disk.view S.Disk.may_leave S.Disk.left_at h live.old.number result live.new.push (counts_of live.new) place
+        → PartGives S.Disk.seen h live.old.number (stays_open result) live.new.push (counts_of live.new) place
         (joined parts.items) more origin.new site.new }
-    ensures stands { StandsForSome S.Disk.view S.Disk.may_leave origin.new site.new }
-    ensures open { IsTrue result → IfSome (S.Disk.view site.new).transcript (IsLive live.old.number) }
+    ensures stands { StandsForSome S.Disk.seen origin.new site.new }
+    ensures open { result ≡ Still.Open → IfSome (S.Disk.seen.view site.new).transcript (IsLive live.old.number) }
     ensures same { SameConn live.old live.new }
-    ensures link { TakesNone (S.Disk.view site.old) (S.Disk.view site.new) }
+    ensures link { TakesNone (S.Disk.seen.view site.old) (S.Disk.seen.view site.new) }
 {
     for part in parts {
-        if !take_part(alloc, site, origin, live, part) {
-            return false;
+        match take_part(alloc, site, origin, live, part) {
+            Still::Open => {}
+            Still::Closed => return Still::Closed,
         }
     }
-    true
+    Still::Open
 }
 
-/// Takes a piece that came on a live connection. Says whether the connection is still open.
+/// Takes a piece that came on a live connection.
 pub(crate) fn take_piece<S: Site>(
     alloc: Global,
     site: &mut S,
     origin: &mut Origin,
     live: &mut Live,
     piece: &[u8],
-) -> bool
-    requires stands { StandsForSome S.Disk.view S.Disk.may_leave origin.old site.old }
-    requires live { IfSome (S.Disk.view site.old).transcript (IsLive live.old.number) }
-    ensures goes_on { (h : History) (m : ℕ) → Pending S.Disk.view S.Disk.may_leave S.Disk.left_at h m (Came live.old.number piece.now) site.old
-        → StandsOn S.Disk.view S.Disk.may_leave h.point.machine origin.old site.old → h.point.phase ≡ idle → is_open live.old.number h.items ≡ true
+) -> Still
+    requires stands { StandsForSome S.Disk.seen origin.old site.old }
+    requires live { IfSome (S.Disk.seen.view site.old).transcript (IsLive live.old.number) }
+    ensures goes_on { (h : History) (m : ℕ) → Pending S.Disk.seen h m (Came live.old.number piece.now) site.old
+        → StandsOn S.Disk.seen h.point.machine origin.old site.old → h.point.phase ≡ idle → is_open live.old.number h.items ≡ true
         → h.point.counts live.old.number ≡ counts_of live.old
         → Rests live.old (received live.old.number h.items)
-        → PieceGives S.Disk.view S.Disk.may_leave S.Disk.left_at h m piece.now live.old.number result live.new origin.new site.new }
-    ensures stands { StandsForSome S.Disk.view S.Disk.may_leave origin.new site.new }
+        → PieceGives S.Disk.seen h m piece.now live.old.number (stays_open result) live.new origin.new site.new }
+    ensures stands { StandsForSome S.Disk.seen origin.new site.new }
     ensures same { live.new.number ≡ live.old.number }
-    ensures link { TakesNone (S.Disk.view site.old) (S.Disk.view site.new) }
+    ensures link { TakesNone (S.Disk.seen.view site.old) (S.Disk.seen.view site.new) }
 {
     wire_of_front();
     match live.conn.feed(piece) {

@@ -1,5 +1,5 @@
 //! The push that is open on a connection.
-ghost use Rattle.std.specs.Prelude.{◌≡◌, ◌<◌, ◌≤◌, ◌+◌, ◌++◌, ℕ, List, [], length, false};
+ghost use Rattle.std.specs.Prelude.{◌<◌, ◌≤◌, ◌+◌, ◌++◌, ℕ, List, [], length, false};
 ghost use Rattle.sm_push.specs.Body.{body};
 ghost use Rattle.sm_push.specs.Standing.{Stands, Answers, Ends};
 ghost use Rattle.sm_serve.specs.Pushes.{GivesValid};

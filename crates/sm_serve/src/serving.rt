@@ -1,5 +1,5 @@
 //! The loop.
-ghost use Rattle.std.specs.Prelude.{◌≡◌, ◌≢◌, ◌↔◌, ◌⊎◌, ◌∷◌, ◌++◌, IsTrue, [], ℕ, true, false, Some, IfSome, IfNone, IsSome, OnOk, OnErr, is_some, length, ◌<◌, ◌≤◌, slice_index};
+ghost use Rattle.std.specs.Prelude.{◌≡◌, ◌≢◌, ◌↔◌, ◌⊎◌, ◌∷◌, ◌++◌, [], ℕ, true, false, Some, IfSome, IfNone, IsSome, OnOk, OnErr, is_some, length, ◌<◌, ◌≤◌, slice_index};
 ghost use Rattle.sm_site.specs.Meanings.{IsLive};
 ghost use Rattle.sm_site.specs.Meanings.Deal.{Began, Came, Over};
 ghost use Rattle.sm_site.specs.Event.{deal_of};
@@ -16,6 +16,7 @@ use crate::item::starve;
 use crate::outcome::{Served, Turn};
 use crate::piece::take_piece;
 use crate::shown::crashes_hold_what_was_shown;
+use crate::still::Still;
 use crate::tell::tell;
 use crate::{Live, State, TOO_MANY};
 use sm_model::NoMemory;
@@ -37,25 +38,28 @@ fn find(lives: &[Live], number: u64) -> Option<usize>
 
 /// Takes a piece. That of a connection that isn't live is passed over.
 fn take<S: Site>(site: &mut S, state: &mut State, number: u64, piece: &[u8])
-    requires stands { StandsForSome S.Disk.view S.Disk.may_leave state.old.origin site.old }
-    requires live { is_among number (numbers_of state.old.lives.items) ≡ true → IfSome (S.Disk.view site.old).transcript (IsLive number) }
-    ensures goes_on { (h : History) (m : ℕ) → Pending S.Disk.view S.Disk.may_leave S.Disk.left_at h m (Came number piece.now) site.old
-        → IsAtRest S.Disk.view S.Disk.may_leave h state.old site.old
-        → Turns S.Disk.view S.Disk.may_leave S.Disk.left_at h (Came number piece.now ∷ []) state.new site.new }
-    ensures stands { StandsForSome S.Disk.view S.Disk.may_leave state.new.origin site.new }
-    ensures link { TakesNone (S.Disk.view site.old) (S.Disk.view site.new) }
+    requires stands { StandsForSome S.Disk.seen state.old.origin site.old }
+    requires live { is_among number (numbers_of state.old.lives.items) ≡ true → IfSome (S.Disk.seen.view site.old).transcript (IsLive number) }
+    ensures goes_on { (h : History) (m : ℕ) → Pending S.Disk.seen h m (Came number piece.now) site.old
+        → IsAtRest S.Disk.seen h state.old site.old
+        → Turns S.Disk.seen h (Came number piece.now ∷ []) state.new site.new }
+    ensures stands { StandsForSome S.Disk.seen state.new.origin site.new }
+    ensures link { TakesNone (S.Disk.seen.view site.old) (S.Disk.seen.view site.new) }
 {
     match find(&state.lives, number) {
         Some(i) => {
-            let open = take_piece(
+            let still = take_piece(
                 state.alloc,
                 site,
                 &mut state.origin,
                 &mut state.lives[i],
                 piece,
             );
-            if !open {
-                state.lives.remove(i);
+            match still {
+                Still::Open => {}
+                Still::Closed => {
+                    state.lives.remove(i);
+                }
             }
         }
         None => {}
@@ -64,13 +68,13 @@ fn take<S: Site>(site: &mut S, state: &mut State, number: u64, piece: &[u8])
 
 /// Takes a connection in, or refuses it where 64 are live.
 fn open<S: Site>(site: &mut S, state: &mut State, number: u64)
-    requires stands { StandsForSome S.Disk.view S.Disk.may_leave state.old.origin site.old }
-    requires live { IfSome (S.Disk.view site.old).transcript (IsLive number) }
-    ensures goes_on { (h : History) (m : ℕ) → Pending S.Disk.view S.Disk.may_leave S.Disk.left_at h m (Began number) site.old
-        → IsAtRest S.Disk.view S.Disk.may_leave h state.old site.old → is_among number (live h.items) ≡ false
-        → Turns S.Disk.view S.Disk.may_leave S.Disk.left_at h (Began number ∷ []) state.new site.new }
-    ensures stands { StandsForSome S.Disk.view S.Disk.may_leave state.new.origin site.new }
-    ensures link { TakesNone (S.Disk.view site.old) (S.Disk.view site.new) }
+    requires stands { StandsForSome S.Disk.seen state.old.origin site.old }
+    requires live { IfSome (S.Disk.seen.view site.old).transcript (IsLive number) }
+    ensures goes_on { (h : History) (m : ℕ) → Pending S.Disk.seen h m (Began number) site.old
+        → IsAtRest S.Disk.seen h state.old site.old → is_among number (live h.items) ≡ false
+        → Turns S.Disk.seen h (Began number ∷ []) state.new site.new }
+    ensures stands { StandsForSome S.Disk.seen state.new.origin site.new }
+    ensures link { TakesNone (S.Disk.seen.view site.old) (S.Disk.seen.view site.new) }
 {
     if state.lives.len() >= 64 {
         tell(site, number, TOO_MANY, true);
@@ -109,13 +113,13 @@ fn forget(state: &mut State, number: u64)
 
 /// Handles an event that was taken.
 fn handle<S: Site>(site: &mut S, state: &mut State, event: Event) -> Turn
-    requires stands { StandsForSome S.Disk.view S.Disk.may_leave state.old.origin site.old }
-    requires may { MayHandle event state.old.lives.items (S.Disk.view site.old).transcript }
-    ensures goes_on { (h : History) (m : ℕ) → Pending S.Disk.view S.Disk.may_leave S.Disk.left_at h m (deal_of event) site.old
-        → IsAtRest S.Disk.view S.Disk.may_leave h state.old site.old → IsNew event h
-        → Turns S.Disk.view S.Disk.may_leave S.Disk.left_at h (deal_of event ∷ []) state.new site.new }
-    ensures stands { StandsForSome S.Disk.view S.Disk.may_leave state.new.origin site.new }
-    ensures link { TakesNone (S.Disk.view site.old) (S.Disk.view site.new) }
+    requires stands { StandsForSome S.Disk.seen state.old.origin site.old }
+    requires may { MayHandle event state.old.lives.items (S.Disk.seen.view site.old).transcript }
+    ensures goes_on { (h : History) (m : ℕ) → Pending S.Disk.seen h m (deal_of event) site.old
+        → IsAtRest S.Disk.seen h state.old site.old → IsNew event h
+        → Turns S.Disk.seen h (deal_of event ∷ []) state.new site.new }
+    ensures stands { StandsForSome S.Disk.seen state.new.origin site.new }
+    ensures link { TakesNone (S.Disk.seen.view site.old) (S.Disk.seen.view site.new) }
     ensures ended { result ≡ Turn.Ended ↔ event ≡ Event.Ended }
     ensures still { event ≡ Event.Ended → site.new ≡ site.old }
     ensures no_fault { result ≢ Turn.LinkFault }
@@ -141,22 +145,22 @@ fn handle<S: Site>(site: &mut S, state: &mut State, event: Event) -> Turn
 /// Takes one event, handles all acts that it completes, and sends their replies in order. At `LinkFault` and `NoMemory`
 /// no event was taken. A failed send closes its connection, and the loop goes on.
 pub fn turn<S: Site>(site: &mut S, state: &mut State) -> Turn
-    requires stands { StandsForSome S.Disk.view S.Disk.may_leave state.old.origin site.old }
-    requires known { Known S.Disk.view S.Disk.may_leave S.Disk.left_at state.old site.old }
+    requires stands { StandsForSome S.Disk.seen state.old.origin site.old }
+    requires known { Known S.Disk.seen state.old site.old }
     // Wherever a run had come, it goes on: from the same machine at the start, over the entries since, and what a crash may leave at
     // each moment since fits it. What it took is what came next in the script, where one is told.
-    ensures runs { (h : History) → Serves S.Disk.view S.Disk.may_leave S.Disk.left_at h state.old site.old
-        → (turns : TurnsBy S.Disk.view S.Disk.may_leave S.Disk.left_at h (taken_by result) (S.Disk.view site.old).script state.new site.new)
+    ensures runs { (h : History) → Serves S.Disk.seen h state.old site.old
+        → (turns : TurnsBy S.Disk.seen h (taken_by result) (S.Disk.seen.view site.old).script state.new site.new)
         × HasTaken result turns.deals }
-    ensures stands { StandsForSome S.Disk.view S.Disk.may_leave state.new.origin site.new }
-    ensures told { is_some (S.Disk.view site.new).transcript ≡ is_some (S.Disk.view site.old).transcript }
+    ensures stands { StandsForSome S.Disk.seen state.new.origin site.new }
+    ensures told { is_some (S.Disk.seen.view site.new).transcript ≡ is_some (S.Disk.seen.view site.old).transcript }
     // Exactly where the event says so; whether it does is told by the transcript.
-    ensures ended { result ≡ Turn.Ended → Adds Over (S.Link.view site.old) (S.Link.view site.new) }
-    ensures over { IsSome (S.Disk.view site.old).transcript → Adds Over (S.Link.view site.old) (S.Link.view site.new) → result ≡ Turn.Ended }
-    ensures link_faults { (S.Disk.view site.old).link_faults ≤ (S.Disk.view site.new).link_faults }
-    ensures link_fault { result ≡ Turn.LinkFault → Rose (S.Disk.view site.old).link_faults (S.Disk.view site.new).link_faults }
-    ensures chosen { (S.Disk.view site.new).chosen ≡ (S.Disk.view site.old).chosen }
-    ensures none_taken { (result ≡ Turn.LinkFault) ⊎ (result ≡ Turn.NoMemory) → (S.Disk.view site.new).transcript ≡ (S.Disk.view site.old).transcript }
+    ensures ended { result ≡ Turn.Ended → Adds Over (S.Link.seen.view site.old) (S.Link.seen.view site.new) }
+    ensures over { IsSome (S.Disk.seen.view site.old).transcript → Adds Over (S.Link.seen.view site.old) (S.Link.seen.view site.new) → result ≡ Turn.Ended }
+    ensures link_faults { (S.Disk.seen.view site.old).link_faults ≤ (S.Disk.seen.view site.new).link_faults }
+    ensures link_fault { result ≡ Turn.LinkFault → Rose (S.Disk.seen.view site.old).link_faults (S.Disk.seen.view site.new).link_faults }
+    ensures chosen { (S.Disk.seen.view site.new).chosen ≡ (S.Disk.seen.view site.old).chosen }
+    ensures none_taken { (result ≡ Turn.LinkFault) ⊎ (result ≡ Turn.NoMemory) → (S.Disk.seen.view site.new).transcript ≡ (S.Disk.seen.view site.old).transcript }
 {
     fewer_images_stand::<S>();
     match site.next() {
@@ -168,18 +172,18 @@ pub fn turn<S: Site>(site: &mut S, state: &mut State) -> Turn
 
 /// Serves until nothing more comes, or so many events were taken.
 pub fn serve<S: Site>(site: &mut S, state: &mut State, turns: u64) -> Served
-    requires stands { StandsForSome S.Disk.view S.Disk.may_leave state.old.origin site.old }
-    requires known { Known S.Disk.view S.Disk.may_leave S.Disk.left_at state.old site.old }
-    ensures runs { (h : History) → Serves S.Disk.view S.Disk.may_leave S.Disk.left_at h state.old site.old
-        → HasServed S.Disk.view S.Disk.may_leave S.Disk.left_at h result turns state.new site.new }
-    ensures goes_on { (h : History) → Serves S.Disk.view S.Disk.may_leave S.Disk.left_at h state.old site.old → (n : ℕ)
-        × TurnsBy S.Disk.view S.Disk.may_leave S.Disk.left_at h n (S.Disk.view site.old).script state.new site.new }
-    ensures stands { StandsForSome S.Disk.view S.Disk.may_leave state.new.origin site.new }
+    requires stands { StandsForSome S.Disk.seen state.old.origin site.old }
+    requires known { Known S.Disk.seen state.old site.old }
+    ensures runs { (h : History) → Serves S.Disk.seen h state.old site.old
+        → HasServed S.Disk.seen h result turns state.new site.new }
+    ensures goes_on { (h : History) → Serves S.Disk.seen h state.old site.old → (n : ℕ)
+        × TurnsBy S.Disk.seen h n (S.Disk.seen.view site.old).script state.new site.new }
+    ensures stands { StandsForSome S.Disk.seen state.new.origin site.new }
     ensures counts { CountsNone result }
-    ensures told { is_some (S.Disk.view site.new).transcript ≡ is_some (S.Disk.view site.old).transcript }
-    ensures link_faults { (S.Disk.view site.old).link_faults ≤ (S.Disk.view site.new).link_faults }
-    ensures chosen { (S.Disk.view site.new).chosen ≡ (S.Disk.view site.old).chosen }
-    ensures link_fault { result ≡ Served.LinkFault → Rose (S.Disk.view site.old).link_faults (S.Disk.view site.new).link_faults }
+    ensures told { is_some (S.Disk.seen.view site.new).transcript ≡ is_some (S.Disk.seen.view site.old).transcript }
+    ensures link_faults { (S.Disk.seen.view site.old).link_faults ≤ (S.Disk.seen.view site.new).link_faults }
+    ensures chosen { (S.Disk.seen.view site.new).chosen ≡ (S.Disk.seen.view site.old).chosen }
+    ensures link_fault { result ≡ Served.LinkFault → Rose (S.Disk.seen.view site.old).link_faults (S.Disk.seen.view site.new).link_faults }
 {
     crashes_hold_what_was_shown();
     for taken in 0..turns {

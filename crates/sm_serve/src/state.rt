@@ -45,25 +45,25 @@ impl State {
         requires bytes { limits.store_bytes ≤ 2 ^ 62 }
         requires entries { limits.entries < 2 ^ 32 }
         // The origin stands for some log without a doubt, which is the store's where the disk tells its contents.
-        ensures opened { IfOk result (λ state. (m : Machine) × (m.doubt ≡ None) × StandsOn S.Disk.view S.Disk.may_leave m state.origin site.new) }
-        ensures store { IfOk result (λ state. IfSome (S.Disk.view site.old).contents (λ c. (m : Machine) × IsStore m.log c × (m.doubt ≡ None)
-            × StandsOn S.Disk.view S.Disk.may_leave m state.origin site.new)) }
+        ensures opened { IfOk result (λ state. (m : Machine) × (m.doubt ≡ None) × StandsOn S.Disk.seen m state.origin site.new) }
+        ensures store { IfOk result (λ state. IfSome (S.Disk.seen.view site.old).contents (λ c. (m : Machine) × IsStore m.log c × (m.doubt ≡ None)
+            × StandsOn S.Disk.seen m state.origin site.new)) }
         ensures limits { IfOk result (λ state. limits_of (archive_of state.origin) ≡ limits) }
         // A run begins here.
-        ensures begins { IfOk result (λ state. Begins S.Disk.view S.Disk.may_leave S.Disk.left_at state site.new) }
-        ensures refused { (at : ℕ) → IsErrOf result (open_fault.NotAStore at) → IfSome (S.Disk.view site.old).contents (NotAStore at) }
+        ensures begins { IfOk result (λ state. Begins S.Disk.seen state site.new) }
+        ensures refused { (at : ℕ) → IsErrOf result (open_fault.NotAStore at) → IfSome (S.Disk.seen.view site.old).contents (NotAStore at) }
         // A store that is refused isn't written: the contents stay, and at no moment a crash leaves what it couldn't leave before.
-        ensures untouched { (at : ℕ) → IsErrOf result (open_fault.NotAStore at) → ((S.Disk.view site.new).contents ≡ (S.Disk.view site.old).contents)
-            × NoMore (S.Disk.may_leave site.old) (S.Disk.may_leave site.new)
-            × Throughout S.Disk.view S.Disk.left_at site.old site.new (λ t c. S.Disk.may_leave site.old c) }
+        ensures untouched { (at : ℕ) → IsErrOf result (open_fault.NotAStore at) → ((S.Disk.seen.view site.new).contents ≡ (S.Disk.seen.view site.old).contents)
+            × NoMore (S.Disk.seen.may_leave site.old) (S.Disk.seen.may_leave site.new)
+            × Throughout S.Disk.seen site.old site.new (λ t c. S.Disk.seen.may_leave site.old c) }
         // Only the store of an empty log is written, whatever the answer.
-        ensures spared { WritesEmptyAlone S.Disk.view S.Disk.may_leave S.Disk.left_at site.old site.new }
+        ensures spared { WritesEmptyAlone S.Disk.seen site.old site.new }
         // Where every image is one store, it stays that at each moment.
-        ensures any_moment { (log : List Entry) → HasOneStore log (S.Disk.may_leave site.old)
-            → Throughout S.Disk.view S.Disk.left_at site.old site.new (λ t c. IsStore log c) }
-        ensures stays { (log : List Entry) → HasOneStore log (S.Disk.may_leave site.old) → HasOneStore log (S.Disk.may_leave site.new) }
-        ensures fault { IsErrOf result open_fault.DiskFault → Rose (S.Disk.view site.old).disk_faults (S.Disk.view site.new).disk_faults }
-        ensures disk_alone { DiskAlone (S.Disk.view site.old) (S.Disk.view site.new) }
+        ensures any_moment { (log : List Entry) → HasOneStore log (S.Disk.seen.may_leave site.old)
+            → Throughout S.Disk.seen site.old site.new (λ t c. IsStore log c) }
+        ensures stays { (log : List Entry) → HasOneStore log (S.Disk.seen.may_leave site.old) → HasOneStore log (S.Disk.seen.may_leave site.new) }
+        ensures fault { IsErrOf result open_fault.DiskFault → Rose (S.Disk.seen.view site.old).disk_faults (S.Disk.seen.view site.new).disk_faults }
+        ensures disk_alone { DiskAlone (S.Disk.seen.view site.old) (S.Disk.seen.view site.new) }
     {
         an_image_fits::<S>();
         let origin = Origin::open_origin(alloc, site, limits)?;
@@ -77,14 +77,14 @@ impl State {
     /// Declares the channel of a ladder, or compares it with the one that stands.
     pub fn declare<S: Site>(&mut self, site: &mut S, channel: &Channel) -> Declared
         requires valid { IsChannel channel.now }
-        requires stands { StandsForSome S.Disk.view S.Disk.may_leave self.old.origin site.old }
+        requires stands { StandsForSome S.Disk.seen self.old.origin site.old }
         // Wherever a run had come, it goes on by one step, whose reply is the answer's.
-        ensures runs { (h : History) → Serves S.Disk.view S.Disk.may_leave S.Disk.left_at h self.old site.old
-            → DeclaresIn S.Disk.view S.Disk.may_leave S.Disk.left_at h channel.now result self.new site.new }
-        ensures stands { StandsForSome S.Disk.view S.Disk.may_leave self.new.origin site.new }
+        ensures runs { (h : History) → Serves S.Disk.seen h self.old site.old
+            → DeclaresIn S.Disk.seen h channel.now result self.new site.new }
+        ensures stands { StandsForSome S.Disk.seen self.new.origin site.new }
         ensures lives { self.new.lives ≡ self.old.lives }
-        ensures fault { result ≡ answer.DiskFault → Rose (S.Disk.view site.old).disk_faults (S.Disk.view site.new).disk_faults }
-        ensures disk_alone { DiskAlone (S.Disk.view site.old) (S.Disk.view site.new) }
+        ensures fault { result ≡ answer.DiskFault → Rose (S.Disk.seen.view site.old).disk_faults (S.Disk.seen.view site.new).disk_faults }
+        ensures disk_alone { DiskAlone (S.Disk.seen.view site.old) (S.Disk.seen.view site.new) }
     {
         an_image_fits::<S>();
         self.origin.declare(self.alloc, site, channel)
@@ -92,22 +92,22 @@ impl State {
 
     /// Reads back the fragment of an address, from what was used last or from the disk, for one who is no connection.
     pub fn recall<S: Site>(&self, site: &mut S, address: &Address) -> Fetched
-        requires stands { StandsForSome S.Disk.view S.Disk.may_leave self.now.origin site.old }
+        requires stands { StandsForSome S.Disk.seen self.now.origin site.old }
         // Wherever a run had come, it goes on by one step, whose reply is what a connection would be told.
-        ensures runs { (h : History) → Serves S.Disk.view S.Disk.may_leave S.Disk.left_at h self.now site.old
-            → RecallsIn S.Disk.view S.Disk.may_leave S.Disk.left_at h address.now result self.now site.new }
-        ensures stands { StandsForSome S.Disk.view S.Disk.may_leave self.now.origin site.new }
+        ensures runs { (h : History) → Serves S.Disk.seen h self.now site.old
+            → RecallsIn S.Disk.seen h address.now result self.now site.new }
+        ensures stands { StandsForSome S.Disk.seen self.now.origin site.new }
         // What is found is what the log has at its place; where the disk tells its contents it is the log's own.
         ensures found { (place : ℕ) (f : Fragment) → result ≡ Found place f → (m : Machine)
-            → StandsOn S.Disk.view S.Disk.may_leave m self.now.origin site.old
-            → IsHeld (IsSome (S.Disk.view site.old).contents) m.log (address.now, record { place = place; fragment = f }) }
+            → StandsOn S.Disk.seen m self.now.origin site.old
+            → IsHeld (IsSome (S.Disk.seen.view site.old).contents) m.log (address.now, record { place = place; fragment = f }) }
         ensures valid { (place : ℕ) (f : Fragment) → result ≡ Found place f → IsValid f × (address_of f ≡ address.now) }
-        ensures absent { (m : Machine) → StandsOn S.Disk.view S.Disk.may_leave m self.now.origin site.old
+        ensures absent { (m : Machine) → StandsOn S.Disk.seen m self.now.origin site.old
             → (result ≡ Absent) ↔ (place_of address.now (adds_of m.log) ≡ None) }
-        ensures damaged { result ≡ Damaged → IsSome (S.Disk.view site.old).contents → ⊥ }
-        ensures fault { result ≡ DiskFault → Rose (S.Disk.view site.old).disk_faults (S.Disk.view site.new).disk_faults }
-        ensures told { is_some (S.Disk.view site.new).contents ≡ is_some (S.Disk.view site.old).contents }
-        ensures disk_alone { DiskAlone (S.Disk.view site.old) (S.Disk.view site.new) }
+        ensures damaged { result ≡ Damaged → IsSome (S.Disk.seen.view site.old).contents → ⊥ }
+        ensures fault { result ≡ DiskFault → Rose (S.Disk.seen.view site.old).disk_faults (S.Disk.seen.view site.new).disk_faults }
+        ensures told { is_some (S.Disk.seen.view site.new).contents ≡ is_some (S.Disk.seen.view site.old).contents }
+        ensures disk_alone { DiskAlone (S.Disk.seen.view site.old) (S.Disk.seen.view site.new) }
     {
         an_image_fits::<S>();
         self.origin.recall(self.alloc, site, address)

@@ -4,8 +4,7 @@ use Rattle.std.proofs.lemmas.List.{length-map, reverse-append, take-append-drop}
 use Rattle.std.proofs.lemmas.List.Sums.{sum_by-cons}
 use Rattle.std.proofs.lemmas.Option.{slice_get-get_or}
 use Rattle.std.specs.List.{slice_get}
-use Rattle.sm_site.specs.Image.{Image}
-use Rattle.sm_site.specs.Meanings.{View}
+use Rattle.sm_site.specs.Meanings.{Seen}
 use Rattle.sm_model.specs.declared.address.Address.{Address}
 use Rattle.sm_model.specs.declared.entry.Entry.{Entry}
 use Rattle.sm_model.specs.declared.entry.Entry.TheVariants.{Keep}
@@ -58,14 +57,14 @@ valid_cons : (fs : List Fragment) (f : Fragment) → IsValid f → All IsValid f
 valid_cons fs f one all zero d lt = one
 valid_cons fs f one all (suc k) d lt = all k d (omega (arith, lt))
 
-module _ {D : Type 0} (view : D → View) (leave : D → Image → Type 0) (left_at : D → ℕ → Image → Type 0) where
+module _ {D : Type 0} (site : Seen D) where
   -- so far the last ones were read, and so many are left
   pub record Gathered (state : State) (adds : List Add) (old : D) (left bytes : ℕ) (fs : List Fragment) : Type 0 where
     pub valid : All IsValid fs
     pub many : length fs + left ≡ length adds
     pub last : map address_of fs ≡ drop left (addresses_in adds)
     pub sum : bytes ≡ bytes_of fs
-    pub kept : (h : History) → Serves view leave left_at h state old → IsSome (view old).contents → fs ≡ drop left (keeps_of h.point.machine.log)
+    pub kept : (h : History) → Serves site h state old → IsSome (site.view old).contents → fs ≡ drop left (keeps_of h.point.machine.log)
 
   -- what a log says of what was added and what is kept
   pub record Laws : Type 0 where
@@ -103,7 +102,7 @@ module _ {D : Type 0} (view : D → View) (leave : D → Image → Type 0) (left
   }
 
   pub gathered : (state : State) (c : Content) (old mid : D) (left left' bytes bytes' index : ℕ) (fs : List Fragment) (f : Fragment) → Laws → Shows state.origin.archive (Some c)
-      → Recalls view leave left_at state old mid → Gathered state c.adds old left bytes fs → Reads view leave left_at state c.adds index mid f
+      → Recalls site state old mid → Gathered state c.adds old left bytes fs → Reads site state c.adds index mid f
       → left ≡ suc index → left' ≡ index → bytes' ≡ bytes + sample_bytes f.samples → Gathered state c.adds old left' bytes' (f ∷ fs)
   gathered state c old mid left left' bytes bytes' index fs f laws of recalls g reads here there sum =
       let many = g.many in
@@ -128,7 +127,7 @@ module _ {D : Type 0} (view : D → View) (leave : D → Image → Type 0) (left
       }
 
   pub end_gathered : (state : State) (adds : List Add) (old : D) (left bytes : ℕ) (fs : List Fragment) → Gathered state adds old left bytes fs → (left ≡ 0) ⊎ (67108864 < bytes)
-      → IsEndOf view leave left_at state adds old fs
+      → IsEndOf site state adds old fs
   end_gathered state adds old left bytes fs g enough =
       let many = g.many in
       let sum = g.sum in

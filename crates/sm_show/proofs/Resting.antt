@@ -1,7 +1,7 @@
 -- A run that goes on by reading back.
-use Rattle.std.proofs.Common.{◌≡◌, ℕ, List, [], Option, IsSome, is_some, refl, sym, ◌∙◌, ap, subst, le_refl, append-nil, arith}
-use Rattle.sm_site.specs.Image.{Image}
-use Rattle.sm_site.specs.Meanings.{View, Deal, SameLink}
+use Rattle.std.proofs.Common.{◌≡◌, List, [], Option, IsSome, is_some, refl, sym, ◌∙◌, ap, subst, append-nil}
+use Rattle.sm_site.specs.Meanings.{Deal, Seen}
+use Rattle.sm_site.proofs.Moments.{alone_here, alone_then}
 use Rattle.sm_model.specs.declared.address.Address.{Address}
 use Rattle.sm_archive.specs.declared.fetch.Fetched.{Fetched}
 use Rattle.sm_serve.specs.declared.state.State.{State}
@@ -26,27 +26,15 @@ since_then h k l one two = record {
   on = on_then h k l one.on two.on;
 }
 
-pub same_link_here : (v : View) → SameLink v v
-same_link_here v = record { transcript = refl; script = refl; link_faults = refl; send_faults = refl; chosen = refl }
-
-pub same_link_then : (a b c : View) → SameLink a b → SameLink b c → SameLink a c
-same_link_then a b c one two = record {
-  transcript = two.transcript ∙ one.transcript;
-  script = two.script ∙ one.script;
-  link_faults = two.link_faults ∙ one.link_faults;
-  send_faults = two.send_faults ∙ one.send_faults;
-  chosen = two.chosen ∙ one.chosen;
-}
-
-module _ {D : Type 0} (view : D → View) (leave : D → Image → Type 0) (left_at : D → ℕ → Image → Type 0) where
-  pub rests_here : (h : History) (state : State) (d : D) → Serves view leave left_at h state d → Rests view leave left_at h state d
+module _ {D : Type 0} (site : Seen D) where
+  pub rests_here : (h : History) (state : State) (d : D) → Serves site h state d → Rests site h state d
   rests_here h state d serves = record { later = h; serves = serves; since = since_itself h; same = refl; log = λ told. refl }
 
-  pub rests_by : (h : History) (a : Address) (r : Fetched) (state : State) (d : D) → RecallsIn view leave left_at h a r state d → Rests view leave left_at h state d
+  pub rests_by : (h : History) (a : Address) (r : Fetched) (state : State) (d : D) → RecallsIn site h a r state d → Rests site h state d
   rests_by h a r state d on = record { later = on.later; serves = on.serves; since = on.since; same = on.same; log = on.log }
 
-  pub rests_then : (h : History) (state : State) (d e : D) → is_some (view e).contents ≡ is_some (view d).contents → (one : Rests view leave left_at h state d)
-      → Rests view leave left_at one.later state e → Rests view leave left_at h state e
+  pub rests_then : (h : History) (state : State) (d e : D) → is_some (site.view e).contents ≡ is_some (site.view d).contents → (one : Rests site h state d)
+      → Rests site one.later state e → Rests site h state e
   rests_then h state d e told one two = record {
     later = two.later;
     serves = two.serves;
@@ -55,26 +43,24 @@ module _ {D : Type 0} (view : D → View) (leave : D → Image → Type 0) (left
     log = λ has. two.log has ∙ one.log (sym told ∙ has);
   }
 
-  pub recalls_here : (state : State) (d : D) → Recalls view leave left_at state d d
+  pub recalls_here : (state : State) (d : D) → Recalls site state d d
   recalls_here state d = record {
     rests = λ h serves. rests_here h state d serves;
     told = refl;
-    no_fewer = le_refl (view d).disk_faults;
-    link = same_link_here (view d);
+    disk_alone = alone_here (site.view d);
   }
 
-  pub recalls_then : (state : State) (d e f : D) → Recalls view leave left_at state d e → Recalls view leave left_at state e f → Recalls view leave left_at state d f
+  pub recalls_then : (state : State) (d e f : D) → Recalls site state d e → Recalls site state e f → Recalls site state d f
   recalls_then state d e f one two = record {
     rests = λ h serves.
         let mid = one.rests h serves in
         rests_then h state e f two.told mid (two.rests mid.later mid.serves);
     told = two.told ∙ one.told;
-    no_fewer = (let a = one.no_fewer in let b = two.no_fewer in omega (arith, a, b));
-    link = same_link_then (view d) (view e) (view f) one.link two.link;
+    disk_alone = alone_then (site.view d) (site.view e) (site.view f) one.disk_alone two.disk_alone;
   }
 
   -- it is no event
-  unfoldable pub turns_rest : (h : History) (was : Option (List Deal)) (state : State) (d : D) → (view d).script ≡ was → Rests view leave left_at h state d → TurnsBy view leave left_at h 0 was state d
+  unfoldable pub turns_rest : (h : History) (was : Option (List Deal)) (state : State) (d : D) → (site.view d).script ≡ was → Rests site h state d → TurnsBy site h 0 was state d
   turns_rest h was state d script rests = record {
     deals = [];
     many = refl;
@@ -84,14 +70,14 @@ module _ {D : Type 0} (view : D → View) (leave : D → Image → Type 0) (left
       since = rests.since;
       taken = ap deals_in rests.same ∙ sym (append-nil (deals_in h.items));
     };
-    script_is = same_script was (view d).script script;
+    script_is = same_script was (site.view d).script script;
   }
 
   -- what belongs to the log before belongs to it behind
-  pub belongs_then : (state : State) (old mid : D) (a b c : Desk) → Recalls view leave left_at state old mid
-      → ((h : History) → Serves view leave left_at h state old → IsSome (view old).contents → Belongs h.point.machine.log a → Belongs h.point.machine.log b)
-      → ((h : History) → Serves view leave left_at h state mid → IsSome (view mid).contents → Belongs h.point.machine.log b → Belongs h.point.machine.log c)
-      → (h : History) → Serves view leave left_at h state old → IsSome (view old).contents → Belongs h.point.machine.log a → Belongs h.point.machine.log c
+  pub belongs_then : (state : State) (old mid : D) (a b c : Desk) → Recalls site state old mid
+      → ((h : History) → Serves site h state old → IsSome (site.view old).contents → Belongs h.point.machine.log a → Belongs h.point.machine.log b)
+      → ((h : History) → Serves site h state mid → IsSome (site.view mid).contents → Belongs h.point.machine.log b → Belongs h.point.machine.log c)
+      → (h : History) → Serves site h state old → IsSome (site.view old).contents → Belongs h.point.machine.log a → Belongs h.point.machine.log c
   belongs_then state old mid a b c recalls one two h serves told belongs =
       let rests = recalls.rests h serves in
       let has = recalls.told ∙ told in

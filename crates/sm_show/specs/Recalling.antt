@@ -8,8 +8,7 @@ use Rattle.sm_model.specs.Fragments.{IsValid}
 use Rattle.sm_log.specs.Adds.{Add}
 use Rattle.sm_log.specs.Digests.{keeps_of, bytes_of}
 use Rattle.sm_catalog.specs.Content.{Content}
-use Rattle.sm_site.specs.Image.{Image}
-use Rattle.sm_site.specs.Meanings.{View, SameLink}
+use Rattle.sm_site.specs.Meanings.{DiskAlone, Seen}
 use Rattle.sm_archive.specs.declared.archive.Archive.{Archive}
 use Rattle.sm_archive.specs.declared.fetch.Fetched.{Fetched}
 use Rattle.sm_archive.specs.declared.fetch.Fetched.TheVariants as fetched
@@ -23,43 +22,38 @@ use Rattle.sm_show.specs.declared.outcome.Lack.{Lack}
 use Rattle.sm_show.specs.declared.outcome.Lack.TheVariants as lack
 
 -- The run goes on by steps alone that no connection asks for. They leave the log, where the disk tells its contents.
-pub record Rests {D : Type 0} (view : D → View) (leave : D → Image → Type 0) (left_at : D → ℕ → Image → Type 0) (h : History) (state : State) (d : D)
-    : Type 0 where
+pub record Rests {D : Type 0} (site : Seen D) (h : History) (state : State) (d : D) : Type 0 where
   pub later : History
-  pub serves : Serves view leave left_at later state d
+  pub serves : Serves site later state d
   pub since : Since h later
   pub same : later.items ≡ h.items
-  pub log : IsTrue (is_told (view d)) → later.point.machine.log ≡ h.point.machine.log
+  pub log : IsTrue (is_told (site.view d)) → later.point.machine.log ≡ h.point.machine.log
 
 -- So it does wherever it had come; the link stays as it is, and the disk's faults become no fewer.
-pub record Recalls {D : Type 0} (view : D → View) (leave : D → Image → Type 0) (left_at : D → ℕ → Image → Type 0) (state : State) (old new : D)
-    : Type 0 where
-  pub rests : (h : History) → Serves view leave left_at h state old → Rests view leave left_at h state new
-  pub told : is_some (view new).contents ≡ is_some (view old).contents
-  pub no_fewer : (view old).disk_faults ≤ (view new).disk_faults
-  pub link : SameLink (view old) (view new)
+pub record Recalls {D : Type 0} (site : Seen D) (state : State) (old new : D) : Type 0 where
+  pub rests : (h : History) → Serves site h state old → Rests site h state new
+  pub told : is_some (site.view new).contents ≡ is_some (site.view old).contents
+  pub disk_alone : DiskAlone (site.view old) (site.view new)
 
 -- the catalog is that of whichever log the archive keeps
 abbrev pub Shows : Archive → Option Content → Type 0
 Shows a o = (bodies : List (List ℕ)) (body : Option (List ℕ)) (log : List Entry) (doubt : Option Entry) → Keeps a bodies body log doubt → ShowsCatalog o log
 
 -- What was read back is a valid fragment of the address that was added there; where the disk tells its contents it is the log's.
-pub record Reads {D : Type 0} (view : D → View) (leave : D → Image → Type 0) (left_at : D → ℕ → Image → Type 0) (state : State) (adds : List Add)
-    (index : ℕ) (old : D) (f : Fragment) : Type 0 where
+pub record Reads {D : Type 0} (site : Seen D) (state : State) (adds : List Add) (index : ℕ) (old : D) (f : Fragment) : Type 0 where
   pub added : Add
   pub at : slice_get adds index ≡ Some added
   pub valid : IsValid f
   pub address : address_of f ≡ added.address
-  pub found : (h : History) → Serves view leave left_at h state old → IsSome (view old).contents → slice_get h.point.machine.log added.place ≡ Some (Keep f)
+  pub found : (h : History) → Serves site h state old → IsSome (site.view old).contents → slice_get h.point.machine.log added.place ≡ Some (Keep f)
 
 -- The fragments are valid, and stand at the last addresses that were added; where the disk tells its contents they are the log's last ones, and
 -- all of them or more than fit a window.
-pub record IsEndOf {D : Type 0} (view : D → View) (leave : D → Image → Type 0) (left_at : D → ℕ → Image → Type 0) (state : State) (adds : List Add)
-    (old : D) (fs : List Fragment) : Type 0 where
+pub record IsEndOf {D : Type 0} (site : Seen D) (state : State) (adds : List Add) (old : D) (fs : List Fragment) : Type 0 where
   pub valid : All IsValid fs
   pub within : length fs ≤ length adds
   pub last : IsEnd (addresses_in adds) (map address_of fs)
-  pub kept : (h : History) → Serves view leave left_at h state old → IsSome (view old).contents → (front : List Fragment)
+  pub kept : (h : History) → Serves site h state old → IsSome (site.view old).contents → (front : List Fragment)
       × (keeps_of h.point.machine.log ≡ front ++ fs) × ((front ≡ []) ⊎ (67108864 < bytes_of fs))
 
 -- what was fetched, or why it isn't there; one that is absent is not asked for

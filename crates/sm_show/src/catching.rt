@@ -52,14 +52,14 @@ fn begin<R: Wait, S: Site>(
     catalog: &Catalog,
     writer: &mut ShelfWriter,
 ) -> Up
-    requires stands { StandsForSome S.Disk.view S.Disk.may_leave state.now.origin site.old }
+    requires stands { StandsForSome S.Disk.seen state.now.origin site.old }
     requires of { Shows (archive_of state.now.origin) (Some catalog.now) }
-    ensures stands { StandsForSome S.Disk.view S.Disk.may_leave state.now.origin site.new }
-    ensures recalls { Recalls S.Disk.view S.Disk.may_leave S.Disk.left_at state.now site.old site.new }
-    ensures belongs { (h : History) → Serves S.Disk.view S.Disk.may_leave S.Disk.left_at h state.now site.old → IsSome (S.Disk.view site.old).contents
+    ensures stands { StandsForSome S.Disk.seen state.now.origin site.new }
+    ensures recalls { Recalls S.Disk.seen state.now site.old site.new }
+    ensures belongs { (h : History) → Serves S.Disk.seen h state.now site.old → IsSome (S.Disk.seen.view site.old).contents
         → Belongs h.point.machine.log writer.old → Belongs h.point.machine.log writer.new }
     ensures short { result ≢ Whole → writer.new.published ≡ writer.old.published }
-    ensures behind { result ≡ Behind → IsSome (S.Disk.view site.old).contents → Rose (S.Disk.view site.old).disk_faults (S.Disk.view site.new).disk_faults }
+    ensures behind { result ≡ Behind → IsSome (S.Disk.seen.view site.old).contents → Rose (S.Disk.seen.view site.old).disk_faults (S.Disk.seen.view site.new).disk_faults }
 {
     catalogs_of_logs_fit();
     let window = match read_back(site, state, catalog) {
@@ -74,13 +74,13 @@ fn begin<R: Wait, S: Site>(
 
 // Brings the shelf up by one fragment, or to the whole log where it has nothing. `Whole` says that this was done.
 fn step<R: Wait, S: Site>(rt: &R, site: &mut S, state: &State, writer: &mut ShelfWriter) -> Up
-    requires stands { StandsForSome S.Disk.view S.Disk.may_leave state.now.origin site.old }
-    ensures stands { StandsForSome S.Disk.view S.Disk.may_leave state.now.origin site.new }
-    ensures recalls { Recalls S.Disk.view S.Disk.may_leave S.Disk.left_at state.now site.old site.new }
-    ensures belongs { (h : History) → Serves S.Disk.view S.Disk.may_leave S.Disk.left_at h state.now site.old → IsSome (S.Disk.view site.old).contents
+    requires stands { StandsForSome S.Disk.seen state.now.origin site.old }
+    ensures stands { StandsForSome S.Disk.seen state.now.origin site.new }
+    ensures recalls { Recalls S.Disk.seen state.now site.old site.new }
+    ensures belongs { (h : History) → Serves S.Disk.seen h state.now site.old → IsSome (S.Disk.seen.view site.old).contents
         → Belongs h.point.machine.log writer.old → Belongs h.point.machine.log writer.new }
     ensures short { result ≢ Whole → writer.new.published ≡ writer.old.published }
-    ensures behind { result ≡ Behind → IsSome (S.Disk.view site.old).contents → Rose (S.Disk.view site.old).disk_faults (S.Disk.view site.new).disk_faults }
+    ensures behind { result ≡ Behind → IsSome (S.Disk.seen.view site.old).contents → Rose (S.Disk.seen.view site.old).disk_faults (S.Disk.seen.view site.new).disk_faults }
 {
     catalogs_of_logs_fit();
     let Some(catalog) = catalog_of(state) else {
@@ -104,14 +104,14 @@ pub fn catch_up<R: Wait, S: Site>(
     state: &State,
     writer: &mut ShelfWriter,
 ) -> Up
-    requires stands { StandsForSome S.Disk.view S.Disk.may_leave state.now.origin site.old }
-    ensures stands { StandsForSome S.Disk.view S.Disk.may_leave state.now.origin site.new }
-    ensures recalls { Recalls S.Disk.view S.Disk.may_leave S.Disk.left_at state.now site.old site.new }
-    ensures belongs { (h : History) → Serves S.Disk.view S.Disk.may_leave S.Disk.left_at h state.now site.old → IsSome (S.Disk.view site.old).contents
+    requires stands { StandsForSome S.Disk.seen state.now.origin site.old }
+    ensures stands { StandsForSome S.Disk.seen state.now.origin site.new }
+    ensures recalls { Recalls S.Disk.seen state.now site.old site.new }
+    ensures belongs { (h : History) → Serves S.Disk.seen h state.now site.old → IsSome (S.Disk.seen.view site.old).contents
         → Belongs h.point.machine.log writer.old → Belongs h.point.machine.log writer.new }
-    ensures whole { (h : History) → Serves S.Disk.view S.Disk.may_leave S.Disk.left_at h state.now site.old → IsSome (S.Disk.view site.old).contents
+    ensures whole { (h : History) → Serves S.Disk.seen h state.now site.old → IsSome (S.Disk.seen.view site.old).contents
         → Belongs h.point.machine.log writer.old → (result ≡ Whole) ↔ (writer.new.published ≡ digest_of h.point.machine.log) }
-    ensures behind { result ≡ Behind → IsSome (S.Disk.view site.old).contents → Rose (S.Disk.view site.old).disk_faults (S.Disk.view site.new).disk_faults }
+    ensures behind { result ≡ Behind → IsSome (S.Disk.seen.view site.old).contents → Rose (S.Disk.seen.view site.old).disk_faults (S.Disk.seen.view site.new).disk_faults }
 {
     heights_tell();
     let len = state.archive().len();

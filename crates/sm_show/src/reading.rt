@@ -48,13 +48,13 @@ fn recall<S: Site>(
     index: u64,
     address: &Address,
 ) -> Result<Fragment, Lack>
-    requires stands { StandsForSome S.Disk.view S.Disk.may_leave state.now.origin site.old }
+    requires stands { StandsForSome S.Disk.seen state.now.origin site.old }
     requires of { Shows (archive_of state.now.origin) (Some catalog.now) }
     requires at { (x : Add) × (slice_get catalog.now.adds index ≡ Some x) × (address.now ≡ x.address) }
-    ensures stands { StandsForSome S.Disk.view S.Disk.may_leave state.now.origin site.new }
-    ensures recalls { Recalls S.Disk.view S.Disk.may_leave S.Disk.left_at state.now site.old site.new }
-    ensures reads { IfOk result (Reads S.Disk.view S.Disk.may_leave S.Disk.left_at state.now catalog.now.adds index site.old) }
-    ensures fault { IsErrOf result lack.Disk → IsSome (S.Disk.view site.old).contents → Rose (S.Disk.view site.old).disk_faults (S.Disk.view site.new).disk_faults }
+    ensures stands { StandsForSome S.Disk.seen state.now.origin site.new }
+    ensures recalls { Recalls S.Disk.seen state.now site.old site.new }
+    ensures reads { IfOk result (Reads S.Disk.seen state.now catalog.now.adds index site.old) }
+    ensures fault { IsErrOf result lack.Disk → IsSome (S.Disk.seen.view site.old).contents → Rose (S.Disk.seen.view site.old).disk_faults (S.Disk.seen.view site.new).disk_faults }
 {
     catalogs_of_logs_fit();
     let fetched = state.recall(site, address);
@@ -68,12 +68,12 @@ pub fn fetch<S: Site>(
     catalog: &Catalog,
     index: u64,
 ) -> Result<Fragment, Lack>
-    requires stands { StandsForSome S.Disk.view S.Disk.may_leave state.now.origin site.old }
+    requires stands { StandsForSome S.Disk.seen state.now.origin site.old }
     requires of { Shows (archive_of state.now.origin) (Some catalog.now) }
-    ensures stands { StandsForSome S.Disk.view S.Disk.may_leave state.now.origin site.new }
-    ensures recalls { Recalls S.Disk.view S.Disk.may_leave S.Disk.left_at state.now site.old site.new }
-    ensures reads { IfOk result (Reads S.Disk.view S.Disk.may_leave S.Disk.left_at state.now catalog.now.adds index site.old) }
-    ensures fault { IsErrOf result lack.Disk → IsSome (S.Disk.view site.old).contents → Rose (S.Disk.view site.old).disk_faults (S.Disk.view site.new).disk_faults }
+    ensures stands { StandsForSome S.Disk.seen state.now.origin site.new }
+    ensures recalls { Recalls S.Disk.seen state.now site.old site.new }
+    ensures reads { IfOk result (Reads S.Disk.seen state.now catalog.now.adds index site.old) }
+    ensures fault { IsErrOf result lack.Disk → IsSome (S.Disk.seen.view site.old).contents → Rose (S.Disk.seen.view site.old).disk_faults (S.Disk.seen.view site.new).disk_faults }
 {
     match address_at(state.alloc, catalog, index) {
         Ok(Some(address)) => recall(site, state, catalog, index, &address),
@@ -89,13 +89,13 @@ fn read_next<S: Site>(
     index: u64,
     read: &mut Vec<Fragment>,
 ) -> Result<u64, Lack>
-    requires stands { StandsForSome S.Disk.view S.Disk.may_leave state.now.origin site.old }
+    requires stands { StandsForSome S.Disk.seen state.now.origin site.old }
     requires of { Shows (archive_of state.now.origin) (Some catalog.now) }
-    ensures stands { StandsForSome S.Disk.view S.Disk.may_leave state.now.origin site.new }
-    ensures recalls { Recalls S.Disk.view S.Disk.may_leave S.Disk.left_at state.now site.old site.new }
+    ensures stands { StandsForSome S.Disk.seen state.now.origin site.new }
+    ensures recalls { Recalls S.Disk.seen state.now site.old site.new }
     ensures read { IfOk result (λ n. (f : Fragment) × (read.new.items ≡ read.old.items ++ f ∷ []) × (n ≡ sample_bytes f.samples)
-        × Reads S.Disk.view S.Disk.may_leave S.Disk.left_at state.now catalog.now.adds index site.old f) }
-    ensures fault { IsErrOf result lack.Disk → IsSome (S.Disk.view site.old).contents → Rose (S.Disk.view site.old).disk_faults (S.Disk.view site.new).disk_faults }
+        × Reads S.Disk.seen state.now catalog.now.adds index site.old f) }
+    ensures fault { IsErrOf result lack.Disk → IsSome (S.Disk.seen.view site.old).contents → Rose (S.Disk.seen.view site.old).disk_faults (S.Disk.seen.view site.new).disk_faults }
 {
     match fetch(site, state, catalog, index) {
         Ok(fragment) => {
@@ -123,12 +123,12 @@ pub fn read_back<S: Site>(
     state: &State,
     catalog: &Catalog,
 ) -> Result<Vec<Fragment>, Lack>
-    requires stands { StandsForSome S.Disk.view S.Disk.may_leave state.now.origin site.old }
+    requires stands { StandsForSome S.Disk.seen state.now.origin site.old }
     requires of { Shows (archive_of state.now.origin) (Some catalog.now) }
-    ensures stands { StandsForSome S.Disk.view S.Disk.may_leave state.now.origin site.new }
-    ensures recalls { Recalls S.Disk.view S.Disk.may_leave S.Disk.left_at state.now site.old site.new }
-    ensures last { IfOk result (λ v. IsEndOf S.Disk.view S.Disk.may_leave S.Disk.left_at state.now catalog.now.adds site.old v.items) }
-    ensures fault { IsErrOf result lack.Disk → IsSome (S.Disk.view site.old).contents → Rose (S.Disk.view site.old).disk_faults (S.Disk.view site.new).disk_faults }
+    ensures stands { StandsForSome S.Disk.seen state.now.origin site.new }
+    ensures recalls { Recalls S.Disk.seen state.now site.old site.new }
+    ensures last { IfOk result (λ v. IsEndOf S.Disk.seen state.now catalog.now.adds site.old v.items) }
+    ensures fault { IsErrOf result lack.Disk → IsSome (S.Disk.seen.view site.old).contents → Rose (S.Disk.seen.view site.old).disk_faults (S.Disk.seen.view site.new).disk_faults }
 {
     catalogs_of_logs_fit();
     let mut read = Vec::new(state.alloc);

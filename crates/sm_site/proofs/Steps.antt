@@ -1,11 +1,13 @@
 -- One step more.
-use Rattle.std.proofs.Common.{◌≡◌, ◌⊎◌, inl, inr, ◌↔◌, ℕ, Bool, true, false, if◌then◌else◌, ◌+◌, ◌≤◌, ◌<◌, List, [], ◌∷◌, ◌++◌, length, take, refl, sym, ◌∙◌, ap, subst, arith, append_assoc, length-append}
+use Rattle.std.proofs.Common.{◌≡◌, ◌⊎◌, inl, inr, ◌↔◌, ℕ, Bool, true, false, if◌then◌else◌, ◌+◌, ◌≤◌, ◌<◌, List, [], ◌∷◌, ◌++◌, length, take, refl, sym, ◌∙◌, ap, subst, arith, append_assoc, length-append, Some}
 use Rattle.std.proofs.lemmas.List.{take_all, take-append-le, length_push, append-nil}
 use Rattle.sm_site.specs.declared.step.FileBytes.{FileBytes}
 use Rattle.sm_site.specs.declared.step.Step.{Step}
 use Rattle.sm_site.specs.Image.{Image}
 use Rattle.sm_site.specs.Meanings.{View, DiskCall, Item, Deal}
-use Rattle.sm_site.specs.Clauses.{Elapses}
+use Rattle.sm_site.specs.Clauses.{Elapses, LinkAlone}
+use Rattle.sm_site.specs.declared.memory.MemorySite.{MemorySite}
+use Rattle.sm_site.specs.Memory.{site_seen, site_view}
 use Rattle.sm_site.proofs.Given.{numbers_push}
 use Rattle.sm_site.specs.Past.{State, after, after_step, start, IsOutcome, LeftAt, is_crash, call_of, calls_on, calls_from, item_of, items_on, items_from}
 
@@ -56,6 +58,26 @@ module _ (first : List FileBytes) where
         let long : length later ≡ length past + 1 = ap length is ∙ length_push past step in
         inr (subst (λ (p : List Step). IsOutcome (after (start first) p) c) (take_all t later (omega arith)) left.1);
   }
+
+-- a step of the link alone
+pub link_step : (old new : MemorySite) (step : Step) → new.first.items ≡ old.first.items → new.past.items ≡ old.past.items ++ step ∷ []
+    → ((s : State) → after_step s step ≡ s) → is_crash step ≡ false → ((m : ℕ) → call_of m step ≡ [])
+    → new.reads ≡ old.reads → new.disk_faults ≡ old.disk_faults → (site_view new).chosen ≡ (site_view old).chosen → LinkAlone site_seen old new
+link_step old new step first past still quiet uncalled reads faults chosen =
+    let s = after (start old.first.items) old.past.items in
+    let state : after (start new.first.items) new.past.items ≡ s =
+    ap (λ (f : List FileBytes). after (start f) new.past.items) first
+    ∙ ap (λ (l : List Step). after (start old.first.items) l) past ∙ after_push (start old.first.items) old.past.items step ∙ still s in
+    let calls : calls_from 0 new.past.items ≡ calls_from 0 old.past.items =
+    ap (λ (l : List Step). calls_from 0 l) past ∙ calls_push 0 old.past.items step
+    ∙ ap (λ (b : Bool). if b then [] else calls_from 0 old.past.items ++ call_of (0 + length old.past.items + 1) step) quiet
+    ∙ ap (λ (l : List DiskCall). calls_from 0 old.past.items ++ l) (uncalled (0 + length old.past.items + 1)) ∙ append-nil (calls_from 0 old.past.items) in
+    record {
+      disk = record { contents = ap (λ (x : State). Some x.contents) state; calls = ap (λ (l : List DiskCall). Some l) calls; reads = reads; disk_faults = faults; chosen = chosen };
+      crash = λ c. (λ now. subst (λ (x : State). IsOutcome x c) state now, λ was. subst (λ (x : State). IsOutcome x c) (sym state) was);
+      time = subst (λ (f : List FileBytes). Elapses (site_view old) (site_view new) (LeftAt old.first.items old.past.items) (LeftAt f new.past.items) (IsOutcome s) (IsOutcome (after (start f) new.past.items)))
+          (sym first) (elapses_step old.first.items (site_view old) (site_view new) old.past.items new.past.items step past refl refl);
+    }
 
 pub ruleset stepping = (after_push, calls_push, items_push, numbers_push, append-nil)
 

@@ -54,6 +54,12 @@ pub record View : Type 0 where
   pub send_faults : ℕ
   pub chosen : Option Chosen
 
+-- what contracts see of a site: what it tells, the images that a crash now may leave, and those that one at a moment may have left
+pub record Seen (D : Type 0) : Type 1 where
+  pub view : D → View
+  pub may_leave : D → Image → Type 0
+  pub left_at : D → ℕ → Image → Type 0
+
 -- what a call of a disk leaves as it was
 pub record SameLink (old new : View) : Type 0 where
   pub transcript : new.transcript ≡ old.transcript

@@ -2,7 +2,7 @@
 use Rattle.std.specs.Prelude.{◌≡◌, ℕ, Bool, true, false, List, drop}
 use Rattle.sm_site.specs.declared.memory.MemorySite.{MemorySite}
 use Rattle.sm_site.specs.Image.{Image, WritesAt}
-use Rattle.sm_site.specs.Meanings.{Deal, Item, View}
+use Rattle.sm_site.specs.Meanings.{Deal, Item, Seen, View}
 use Rattle.sm_site.specs.Scripts.{deals_of}
 use Rattle.sm_site.specs.Faults.{Faults}
 use Rattle.sm_site.specs.Past.{State, after, chosen, start, view_of, IsOutcome, LeftAt, numbers_of, openings_of}
@@ -23,6 +23,9 @@ site_may_leave m c = IsOutcome (state_of m) c
 
 abbrev pub site_left_at : MemorySite → ℕ → Image → Type 0
 site_left_at m t c = LeftAt m.first.items m.past.items t c
+
+abbrev pub site_seen : Seen MemorySite
+site_seen = record { view = site_view; may_leave = site_may_leave; left_at = site_left_at }
 
 -- the image that a crash of this choice would leave
 abbrev pub site_left_by : MemorySite → ℕ → Image

@@ -27,17 +27,17 @@ pub trait Crashing: Site {
 
     /// The first number that a connection of further events may have: it is above all that were given and all still to come.
     fn next_number(&self) -> Option<u64>
-        ensures { IfSome (Self.Disk.view self.now).script (λ deals. IsNumber result (numbers_after (Self.Link.numbers self.now) deals)) };
+        ensures { IfSome (Self.Disk.seen.view self.now).script (λ deals. IsNumber result (numbers_after (Self.Link.numbers self.now) deals)) };
 
     /// Adds events to the script. The numbers of its connections go on above those given and those still to come. Want of memory
     /// leaves the site as it was.
     fn extend(&mut self, events: Script) -> Result<(), AllocError>
-        requires script { IfSome (Self.Disk.view self.old).script (λ deals. IsTrue (is_script (numbers_after (Self.Link.numbers self.old) deals) events)) }
-        ensures added { OnOk result (Both (Self.Disk.view self.old).script (Self.Disk.view self.new).script (λ old new. new ≡ old ++ deals_of events)) }
-        ensures refused { OnErr result ((Self.Disk.view self.new).script ≡ (Self.Disk.view self.old).script) }
-        ensures view { SameBut (Self.Disk.view self.old) (Self.Disk.view self.new) }
-        ensures crash { SameOutcomes (Self.Disk.may_leave self.old) (Self.Disk.may_leave self.new) }
-        ensures past { (t : ℕ) (c : Image) → Self.Disk.left_at self.new t c ↔ Self.Disk.left_at self.old t c }
+        requires script { IfSome (Self.Disk.seen.view self.old).script (λ deals. IsTrue (is_script (numbers_after (Self.Link.numbers self.old) deals) events)) }
+        ensures added { OnOk result (Both (Self.Disk.seen.view self.old).script (Self.Disk.seen.view self.new).script (λ old new. new ≡ old ++ deals_of events)) }
+        ensures refused { OnErr result ((Self.Disk.seen.view self.new).script ≡ (Self.Disk.seen.view self.old).script) }
+        ensures view { SameBut (Self.Disk.seen.view self.old) (Self.Disk.seen.view self.new) }
+        ensures crash { SameOutcomes (Self.Disk.seen.may_leave self.old) (Self.Disk.seen.may_leave self.new) }
+        ensures past { (t : ℕ) (c : Image) → Self.Disk.seen.left_at self.new t c ↔ Self.Disk.seen.left_at self.old t c }
         ensures numbers { Self.Link.numbers self.new ≡ Self.Link.numbers self.old }
         ensures openings { openings self.new ≡ openings self.old }
         ensures starved { is_starved self.new ≡ is_starved self.old }
@@ -46,13 +46,13 @@ pub trait Crashing: Site {
 
     /// The bytes that went out on a connection since the last crash.
     fn sent(&self, conn: u64) -> Result<Piece, AllocError>
-        ensures { IfOk result (λ piece. IfSome (Self.Disk.view self.now).transcript (λ items. piece ≡ sent_on conn items)) };
+        ensures { IfOk result (λ piece. IfSome (Self.Disk.seen.view self.now).transcript (λ items. piece ≡ sent_on conn items)) };
 
     /// Lets so many further writes and syncs pass. All behind them fail, up to the next crash.
     fn stop_after(&mut self, calls: u64)
-        ensures view { Self.Disk.view self.new ≡ Self.Disk.view self.old }
-        ensures crash { SameOutcomes (Self.Disk.may_leave self.old) (Self.Disk.may_leave self.new) }
-        ensures past { (t : ℕ) (c : Image) → Self.Disk.left_at self.new t c ↔ Self.Disk.left_at self.old t c }
+        ensures view { Self.Disk.seen.view self.new ≡ Self.Disk.seen.view self.old }
+        ensures crash { SameOutcomes (Self.Disk.seen.may_leave self.old) (Self.Disk.seen.may_leave self.new) }
+        ensures past { (t : ℕ) (c : Image) → Self.Disk.seen.left_at self.new t c ↔ Self.Disk.seen.left_at self.old t c }
         ensures numbers { Self.Link.numbers self.new ≡ Self.Link.numbers self.old }
         ensures openings { openings self.new ≡ openings self.old }
         ensures starved { is_starved self.new ≡ is_starved self.old }
@@ -63,16 +63,16 @@ pub trait Crashing: Site {
     /// nothing is pending, nothing stops, the script is empty, and the transcript begins anew, the old one being put to the others. It
     /// is selected with what it was selected with.
     fn crash_here(&mut self, choice: u8)
-        ensures kept { IfSome (Self.Disk.view self.new).contents (λ now. (file : ℕ) → bytes_of now file ≡ bytes_of (left_by self.old choice) file) }
-        ensures image { IfSome (Self.Disk.view self.new).contents (Self.Disk.may_leave self.old) }
-        ensures told { is_some (Self.Disk.view self.new).contents ≡ is_some (Self.Disk.view self.old).contents }
-        ensures settled { IfSome (Self.Disk.view self.new).contents (λ now. Settled now (Self.Disk.may_leave self.new)) }
-        ensures transcript { IfSome (Self.Disk.view self.new).transcript (λ items. items ≡ []) }
-        ensures script { IfSome (Self.Disk.view self.new).script (λ deals. deals ≡ []) }
-        ensures openings { IfSome (Self.Disk.view self.old).transcript (λ items. Kept items (openings self.old) (openings self.new)) }
+        ensures kept { IfSome (Self.Disk.seen.view self.new).contents (λ now. (file : ℕ) → bytes_of now file ≡ bytes_of (left_by self.old choice) file) }
+        ensures image { IfSome (Self.Disk.seen.view self.new).contents (Self.Disk.seen.may_leave self.old) }
+        ensures told { is_some (Self.Disk.seen.view self.new).contents ≡ is_some (Self.Disk.seen.view self.old).contents }
+        ensures settled { IfSome (Self.Disk.seen.view self.new).contents (λ now. Settled now (Self.Disk.seen.may_leave self.new)) }
+        ensures transcript { IfSome (Self.Disk.seen.view self.new).transcript (λ items. items ≡ []) }
+        ensures script { IfSome (Self.Disk.seen.view self.new).script (λ deals. deals ≡ []) }
+        ensures openings { IfSome (Self.Disk.seen.view self.old).transcript (λ items. Kept items (openings self.old) (openings self.new)) }
         ensures numbers { Self.Link.numbers self.new ≡ Self.Link.numbers self.old }
-        ensures counts { SameCounts (Self.Disk.view self.old) (Self.Disk.view self.new) }
-        ensures chosen { (Self.Disk.view self.new).chosen ≡ (Self.Disk.view self.old).chosen }
+        ensures counts { SameCounts (Self.Disk.seen.view self.old) (Self.Disk.seen.view self.new) }
+        ensures chosen { (Self.Disk.seen.view self.new).chosen ≡ (Self.Disk.seen.view self.old).chosen }
         ensures starved { is_starved self.new ≡ is_starved self.old }
         ensures stop { stop self.new ≡ None };
 
@@ -82,5 +82,5 @@ pub trait Crashing: Site {
         ensures { result ≡ is_starved self.now };
 
     /// It tells its contents, its transcript and its script.
-    ghost tells: { (s : Self) → Tells (Self.Disk.view s) };
+    ghost tells: { (s : Self) → Tells (Self.Disk.seen.view s) };
 }

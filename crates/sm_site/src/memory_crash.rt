@@ -3,12 +3,12 @@ ghost use Rattle.std.specs.Prelude.{◌≡◌, ◌↔◌, ◌≤◌, ◌++◌, �
 ghost use Rattle.std.specs.Prelude.{length, take};
 ghost use Rattle.sm_site.specs.Image.{Image, bytes_of};
 ghost use Rattle.sm_site.specs.Meanings.{sent_on};
-ghost use Rattle.sm_site.specs.Clauses.{Both, Elapses, Kept, Rose, SameOutcomes, Settled};
+ghost use Rattle.sm_site.specs.Clauses.{Both, Passes, Kept, Rose, SameOutcomes, Settled};
 ghost use Rattle.sm_site.specs.Past.{begins, is_open, is_ordered, items_from};
 ghost use Rattle.sm_site.specs.Scripts.{deals_of, is_script, numbers_after};
 ghost use Rattle.sm_site.specs.Sites.{SameBut, SameCounts};
 ghost use Rattle.sm_site.specs.Sending.{sent_after};
-ghost use Rattle.sm_site.specs.Memory.{coming, faults_of, site_left_at, site_left_by, site_may_leave, site_numbers, site_openings, site_view};
+ghost use Rattle.sm_site.specs.Memory.{coming, faults_of, site_left_at, site_left_by, site_may_leave, site_numbers, site_openings, site_seen, site_view};
 
 use crate::next_number::{above_past, above_script};
 use crate::note::has_begun;
@@ -94,11 +94,11 @@ impl MemorySite {
 
 #[tactic(auto, using(crate::proofs::Steps::stepping))]
 impl Site for MemorySite {
-    ghost one_view = { λ s. refl };
-
-    ghost one_disk = { λ s c. (λ x. x, λ x. x) };
-
-    ghost one_past = { λ s t c. (λ x. x, λ x. x) };
+    ghost one = { record {
+      view = λ s. refl;
+      may_leave = λ s c. (λ x. x, λ x. x);
+      left_at = λ s t c. (λ x. x, λ x. x);
+    } };
 
     fn select(&mut self, selection: Selection) -> Result<(), SiteError>
         ensures chosen { OnOk result ((site_view self.new).chosen ≡ Some selection) }
@@ -115,8 +115,7 @@ impl Site for MemorySite {
         ensures disk { IsErrOf result SiteError.Disk → Rose (site_view self.old).disk_faults (site_view self.new).disk_faults }
         ensures link { IsErrOf result SiteError.Link → Rose (site_view self.old).link_faults (site_view self.new).link_faults }
         ensures crash { SameOutcomes (site_may_leave self.old) (site_may_leave self.new) }
-        ensures time { Elapses (site_view self.old) (site_view self.new) (site_left_at self.old) (site_left_at self.new)
-            (site_may_leave self.old) (site_may_leave self.new) }
+        ensures time { Passes site_seen self.old self.new }
         ensures never { IsOk result }
         ensures faults { faults_of self.new ≡ faults_of self.old }
     {

@@ -3,9 +3,9 @@ ghost use Rattle.std.specs.Prelude.{◌≡◌, ◌⊎◌, ◌+◌, ◌<◌, ◌�
 ghost use Rattle.sm_site.specs.Image.{bytes_of, WritesAt, TearsAt};
 ghost use Rattle.sm_site.specs.Meanings.{SameLink};
 ghost use Rattle.sm_site.specs.Meanings.Deed.{Sized, Read, Wrote, Synced};
-ghost use Rattle.sm_site.specs.Clauses.{Both, HasCause, Rose, Elapses, Follows, NoMore, Durable, Notes, NotesFault, read};
+ghost use Rattle.sm_site.specs.Clauses.{Both, HasCause, Rose, Passes, Follows, NoMore, Durable, Notes, NotesFault, read};
 ghost use Rattle.sm_site.specs.Faults.{after_disk, after_write, disk_fails, is_listed, is_stopped, one_less, one_more, write_fails};
-ghost use Rattle.sm_site.specs.Memory.{Reaches, faults_of, site_left_at, site_may_leave, site_view, state_of};
+ghost use Rattle.sm_site.specs.Memory.{Reaches, faults_of, site_may_leave, site_seen, site_view, state_of};
 ghost use Rattle.sm_site.specs.PastLaws.{contents_pass, at_now, now_at};
 
 use crate::files::{bytes_in, read_bytes};
@@ -39,11 +39,7 @@ fn is_behind(stop: &mut Option<u64>) -> bool
 
 #[tactic(auto, using(crate::proofs::Steps::stepping))]
 impl Disk for MemorySite {
-    ghost view = { λ m. site_view m };
-
-    ghost may_leave = { λ m c. site_may_leave m c };
-
-    ghost left_at = { λ m t c. site_left_at m t c };
+    ghost seen = { site_seen };
 
     ghost contents_pass = { λ m. contents_pass (state_of m) };
 
@@ -62,8 +58,7 @@ impl Disk for MemorySite {
         ensures small { IfOk result (λ n. n < 2 ^ 63) }
         ensures contents { (site_view self.new).contents ≡ (site_view self.old).contents }
         ensures crash { NoMore (site_may_leave self.old) (site_may_leave self.new) }
-        ensures time { Elapses (site_view self.old) (site_view self.new) (site_left_at self.old) (site_left_at self.new)
-            (site_may_leave self.old) (site_may_leave self.new) }
+        ensures time { Passes site_seen self.old self.new }
         ensures note { OnOk result (Notes (Sized file) (site_view self.old) (site_view self.new)) }
         ensures note_fault { OnErr result (NotesFault (Sized file) (site_view self.old) (site_view self.new)) }
         ensures reads { (site_view self.new).reads ≡ (site_view self.old).reads }
@@ -91,8 +86,7 @@ impl Disk for MemorySite {
         ensures bytes { OnOk result (IfSome (site_view self.old).contents (λ c. into.new ≡ read (bytes_of c file) at (length into.old))) }
         ensures contents { (site_view self.new).contents ≡ (site_view self.old).contents }
         ensures crash { NoMore (site_may_leave self.old) (site_may_leave self.new) }
-        ensures time { Elapses (site_view self.old) (site_view self.new) (site_left_at self.old) (site_left_at self.new)
-            (site_may_leave self.old) (site_may_leave self.new) }
+        ensures time { Passes site_seen self.old self.new }
         ensures note { OnOk result (Notes (Read file at (length into.old)) (site_view self.old) (site_view self.new)) }
         ensures note_fault { OnErr result (NotesFault (Read file at (length into.old)) (site_view self.old) (site_view self.new)) }
         ensures reads { Rose (site_view self.old).reads (site_view self.new).reads }
@@ -125,8 +119,7 @@ impl Disk for MemorySite {
         ensures written { OnOk result (Both (site_view self.old).contents (site_view self.new).contents (WritesAt file at bytes.now)) }
         ensures torn { OnErr result (Both (site_view self.old).contents (site_view self.new).contents (TearsAt file at (length bytes.now))) }
         ensures crash { Follows (TearsAt file at (length bytes.now)) (site_may_leave self.old) (site_may_leave self.new) }
-        ensures time { Elapses (site_view self.old) (site_view self.new) (site_left_at self.old) (site_left_at self.new)
-            (site_may_leave self.old) (site_may_leave self.new) }
+        ensures time { Passes site_seen self.old self.new }
         ensures note { OnOk result (Notes (Wrote file at bytes.now) (site_view self.old) (site_view self.new)) }
         ensures note_fault { OnErr result (NotesFault (Wrote file at bytes.now) (site_view self.old) (site_view self.new)) }
         ensures reads { (site_view self.new).reads ≡ (site_view self.old).reads }
@@ -170,8 +163,7 @@ impl Disk for MemorySite {
         ensures durable { OnOk result (Durable file (site_view self.new).contents (site_may_leave self.new)) }
         ensures contents { (site_view self.new).contents ≡ (site_view self.old).contents }
         ensures crash { NoMore (site_may_leave self.old) (site_may_leave self.new) }
-        ensures time { Elapses (site_view self.old) (site_view self.new) (site_left_at self.old) (site_left_at self.new)
-            (site_may_leave self.old) (site_may_leave self.new) }
+        ensures time { Passes site_seen self.old self.new }
         ensures note { OnOk result (Notes (Synced file) (site_view self.old) (site_view self.new)) }
         ensures note_fault { OnErr result (NotesFault (Synced file) (site_view self.old) (site_view self.new)) }
         ensures reads { (site_view self.new).reads ≡ (site_view self.old).reads }

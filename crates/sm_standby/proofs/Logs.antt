@@ -10,7 +10,7 @@ use Rattle.sm_model.specs.declared.run.RawFragment.{RawFragment}
 use Rattle.sm_model.specs.declared.track.Track.{Track}
 use Rattle.sm_log.specs.Logs.{kept_from, kept_at, is_kept_at}
 use Rattle.sm_site.specs.Image.{Image}
-use Rattle.sm_site.specs.Meanings.{View}
+use Rattle.sm_site.specs.Meanings.{Seen}
 use Rattle.sm_site.proofs.Moments.{weakened}
 use Rattle.sm_archive.specs.declared.archive.Archive.{Archive}
 use Rattle.sm_manin.specs.declared.listing.Listing.{Listing}
@@ -253,16 +253,16 @@ pub places_grow : (log up more : List Entry) → Places log up → Places log (u
 places_grow log up more all = λ p f e. get_more up more p (Keep f) (all p f e)
 
 -- at each moment of a call
-pub stays_placed : {D C : Type 0} {view : D → View} {left_at : D → ℕ → Image → Type 0} {leave : D → Image → Type 0} {told : C → Option (List Exchange)}
+pub stays_placed : {D C : Type 0} {site : Seen D} {told : C → Option (List Exchange)}
     {store : C → List Entry → Type 0} {goes_on : C → C → Type 0} {faults : C → ℕ}
-    {d e : D} {x y : C} {plan : PullPlan} {channel : List Track} {a b : Archive} (before : List Entry) (end : FollowEnd) → (c : Called view left_at leave told store goes_on faults d e x y plan channel a b before end)
-    → StaysPlaced view left_at store d e x y plan.place before c.rounds c.part
-stays_placed {view = view} {left_at = left_at} {d = d} {e = e} {plan = plan} {channel = channel} {b = b} before end c = λ up told.
+    {d e : D} {x y : C} {plan : PullPlan} {channel : List Track} {a b : Archive} (before : List Entry) (end : FollowEnd) → (c : Called site told store goes_on faults d e x y plan channel a b before end)
+    → StaysPlaced site store d e x y plan.place before c.rounds c.part
+stays_placed {site = site} {d = d} {e = e} {plan = plan} {channel = channel} {b = b} before end c = λ up told.
     let u = c.up up told in (
       u.0,
       u.1,
       λ names named all some.
-          weakened view left_at d e _ (LeavesPlaces (up ++ u.0)) (c.adds.moments some)
+          weakened site d e _ (LeavesPlaces (up ++ u.0)) (c.adds.moments some)
           (λ t i left. front_places before (up ++ u.0) ((rounds.kept_by c.rounds ++ kept_in c.part.turns) ++ kept_in c.part.tried) t i
           (call_places plan channel before c.log (up ++ u.0) c.held c.rounds b c.part c.to end c.legal c.ended u.2.0 u.2.1 names named (places_grow before up u.0 all)) left),
     )

@@ -11,7 +11,7 @@ use Rattle.sm_log.specs.Adds.{id_in, place_of}
 use Rattle.sm_log.specs.Logs.{adds_of, kept_at}
 use Rattle.sm_log.proofs.AllLogs.{kept_place}
 use Rattle.sm_site.specs.Image.{Image}
-use Rattle.sm_site.specs.Meanings.{View}
+use Rattle.sm_site.specs.Meanings.{Seen}
 use Rattle.sm_archive.specs.declared.archive.Archive.{Archive}
 use Rattle.sm_archive.specs.declared.index.Index.{Index}
 use Rattle.sm_archive.specs.Stands.{Stands, IsIndex, IndexIs}
@@ -78,40 +78,40 @@ unput_by channel a new log n raw stop.Full next id not = record { tried_is = ref
 unput_by channel a new log n raw stop.DiskFault next id not = record { tried_is = refl; next = next; id = id; not = not }
 unput_by channel a new log n raw stop.NoMemory next id not = inr (record { tried_is = refl; next = next; id = id; not = not })
 
-module _ {D : Type 0} {view : D → View} {left_at : D → ℕ → Image → Type 0} {leave : D → Image → Type 0} where
-  pub put_later : ((d : D) (t : ℕ) (c : Image) → left_at d t c → t ≤ (view d).moment)
-      → (d : D) (x : Archive) (log : List Entry) (channel : List Track) (a : Address) (n next : ℕ) (raw : RawFragment) → Stands x log None (leave d)
-      → raw.id ≡ id_in channel a → next ≡ length log → next < n → IsPut view left_at leave d d channel a x x log n raw (step.Later n a)
+module _ {D : Type 0} {site : Seen D} where
+  pub put_later : ((d : D) (t : ℕ) (c : Image) → site.left_at d t c → t ≤ (site.view d).moment)
+      → (d : D) (x : Archive) (log : List Entry) (channel : List Track) (a : Address) (n next : ℕ) (raw : RawFragment) → Stands x log None (site.may_leave d)
+      → raw.id ≡ id_in channel a → next ≡ length log → next < n → IsPut site d d channel a x x log n raw (step.Later n a)
   put_later no_later d x log channel a n next raw stands id is lt =
       record { came = later n raw; came_is = refl; id = id; step = (omega (arith, is, lt), refl, refl); adds = adds_none no_later d x log stands }
 
-  pub put_dropped : ((d : D) (t : ℕ) (c : Image) → left_at d t c → t ≤ (view d).moment)
-      → (d : D) (x : Archive) (log : List Entry) (channel : List Track) (a : Address) (n next : ℕ) (raw : RawFragment) → Stands x log None (leave d)
-      → raw.id ≡ id_in channel a → next ≡ length log → n < next → IsPut view left_at leave d d channel a x x log n raw step.Passed
+  pub put_dropped : ((d : D) (t : ℕ) (c : Image) → site.left_at d t c → t ≤ (site.view d).moment)
+      → (d : D) (x : Archive) (log : List Entry) (channel : List Track) (a : Address) (n next : ℕ) (raw : RawFragment) → Stands x log None (site.may_leave d)
+      → raw.id ≡ id_in channel a → next ≡ length log → n < next → IsPut site d d channel a x x log n raw step.Passed
   put_dropped no_later d x log channel a n next raw stands id is lt =
       record { came = dropped n raw; came_is = refl; id = id; step = omega (arith, is, lt); adds = adds_none no_later d x log stands }
 
   pub put_kept : {d e : D} (x y : Archive) (log : List Entry) (channel : List Track) (a : Address) (n next : ℕ) (raw : RawFragment) (f : Fragment) → f ≡ given a.stream a.bitrate raw
-      → Adds view left_at leave d e x y log (f ∷ []) [] → raw.id ≡ id_in channel a → next ≡ length log → n ≤ next → next ≤ n → IsPut view left_at leave d e channel a x y log n raw step.Kept
+      → Adds site d e x y log (f ∷ []) [] → raw.id ≡ id_in channel a → next ≡ length log → n ≤ next → next ≤ n → IsPut site d e channel a x y log n raw step.Kept
   put_kept {d = d} {e = e} x y log channel a n next raw f made adds id is low high =
-      record { came = kept n raw; came_is = refl; id = id; step = omega (arith, is, low, high); adds = subst (λ (g : Fragment). Adds view left_at leave d e x y log (g ∷ []) []) made adds }
+      record { came = kept n raw; came_is = refl; id = id; step = omega (arith, is, low, high); adds = subst (λ (g : Fragment). Adds site d e x y log (g ∷ []) []) made adds }
 
-  pub unput_wanting : ((d : D) (t : ℕ) (c : Image) → left_at d t c → t ≤ (view d).moment)
-      → (d : D) (x : Archive) (log : List Entry) (channel : List Track) (a : Address) (n : ℕ) (raw : RawFragment) → Stands x log None (leave d)
-      → IsUnput view left_at leave d d channel a x x log n raw ends.NoMemory
+  pub unput_wanting : ((d : D) (t : ℕ) (c : Image) → site.left_at d t c → t ≤ (site.view d).moment)
+      → (d : D) (x : Archive) (log : List Entry) (channel : List Track) (a : Address) (n : ℕ) (raw : RawFragment) → Stands x log None (site.may_leave d)
+      → IsUnput site d d channel a x x log n raw ends.NoMemory
   unput_wanting no_later d x log channel a n raw stands = record { tried = []; by = inl refl; adds = adds_none no_later d x log stands }
 
-  pub unput_other : ((d : D) (t : ℕ) (c : Image) → left_at d t c → t ≤ (view d).moment) → (d : D) (x : Archive) (log : List Entry) (channel : List Track) (a : Address) (n : ℕ) (raw : RawFragment) → Stands x log None (leave d)
-      → raw.id ≢ id_in channel a → IsUnput view left_at leave d d channel a x x log n raw (ends.OtherId a raw.id)
+  pub unput_other : ((d : D) (t : ℕ) (c : Image) → site.left_at d t c → t ≤ (site.view d).moment) → (d : D) (x : Archive) (log : List Entry) (channel : List Track) (a : Address) (n : ℕ) (raw : RawFragment) → Stands x log None (site.may_leave d)
+      → raw.id ≢ id_in channel a → IsUnput site d d channel a x x log n raw (ends.OtherId a raw.id)
   unput_other no_later d x log channel a n raw stands other = record { tried = []; by = (refl, refl, other, refl); adds = adds_none no_later d x log stands }
 
   pub unput_kept : {d e : D} (x y : Archive) (log : List Entry) (channel : List Track) (a : Address) (n next : ℕ) (raw : RawFragment) (f : Fragment) (why : Stop) → f ≡ given a.stream a.bitrate raw
-      → NotKept y log f a why → Adds view left_at leave d e x y log [] (f ∷ []) → raw.id ≡ id_in channel a → next ≡ length log → n ≤ next → next ≤ n
-      → IsUnput view left_at leave d e channel a x y log n raw (end_of why)
+      → NotKept y log f a why → Adds site d e x y log [] (f ∷ []) → raw.id ≡ id_in channel a → next ≡ length log → n ≤ next → next ≤ n
+      → IsUnput site d e channel a x y log n raw (end_of why)
   unput_kept {d = d} {e = e} x y log channel a n next raw f why made not adds id is low high = record {
     tried = kept n raw ∷ [];
     by = unput_by channel a y log n raw why (omega (arith, is, low, high)) id (subst (λ (g : Fragment). NotKept y log g a why) made not);
-    adds = subst (λ (g : Fragment). Adds view left_at leave d e x y log [] (g ∷ [])) made adds;
+    adds = subst (λ (g : Fragment). Adds site d e x y log [] (g ∷ [])) made adds;
   }
 
 -- ---- asked for, and put
@@ -167,11 +167,11 @@ unput_up place url channel a new log n raw tried (ends.Gap p next) up u at = abs
 unput_up place url channel a new log n raw tried (ends.NoManifest outcomes) up u at = absurd u
 unput_up place url channel a new log n raw tried (ends.NoTrack index) up u at = absurd u
 
-module _ {D C : Type 0} {view : D → View} {left_at : D → ℕ → Image → Type 0} {leave : D → Image → Type 0} {told : C → Option (List Exchange)} {store : C → List Entry → Type 0}
+module _ {D C : Type 0} {site : Seen D} {told : C → Option (List Exchange)} {store : C → List Entry → Type 0}
     {goes_on : C → C → Type 0} {faults : C → ℕ} {plan : PullPlan} {channel : List Track} where
-  pub went_absent : ((d : D) (t : ℕ) (c : Image) → left_at d t c → t ≤ (view d).moment) → (d : D) {x y : C} (url : List ℕ) (a : Address) (z : Archive) (log : List Entry) (made : List Exchange) → Stands z log None (leave d)
+  pub went_absent : ((d : D) (t : ℕ) (c : Image) → site.left_at d t c → t ≤ (site.view d).moment) → (d : D) {x y : C} (url : List ℕ) (a : Address) (z : Archive) (log : List Entry) (made : List Exchange) → Stands z log None (site.may_leave d)
       → Asks told store goes_on faults unsaid x y made → Gives (AsksPlaced plan.place url a) missed plan.tries made (placed.Status 404)
-      → Went view left_at leave told store goes_on faults d d x y plan channel url a z z log step.Passed
+      → Went site told store goes_on faults d d x y plan channel url a z z log step.Passed
   went_absent no_later d url a z log made stands asks gives = record {
     made = made;
     came = absent;
@@ -184,8 +184,8 @@ module _ {D C : Type 0} {view : D → View} {left_at : D → ℕ → Image → T
   }
 
   pub went_put : {d e : D} {x y : C} (url : List ℕ) (a : Address) (z w : Archive) (log : List Entry) (made : List Exchange) (n m : ℕ) (raw : RawFragment) (s : Step) → m ≡ n
-      → Asks told store goes_on faults unsaid x y made → IsRead plan.place plan.tries url a made (store x) (store y) n raw → IsPut view left_at leave d e channel a z w log m raw s
-      → Went view left_at leave told store goes_on faults d e x y plan channel url a z w log s
+      → Asks told store goes_on faults unsaid x y made → IsRead plan.place plan.tries url a made (store x) (store y) n raw → IsPut site d e channel a z w log m raw s
+      → Went site told store goes_on faults d e x y plan channel url a z w log s
   went_put url a z w log made n m raw s same asks r p =
       let is : placed_of p.came ≡ placed.Fragment n raw = p.came_is ∙ ap (λ (k : ℕ). placed.Fragment k raw) same in
       record {
@@ -199,10 +199,10 @@ module _ {D C : Type 0} {view : D → View} {left_at : D → ℕ → Image → T
         adds = p.adds;
       }
 
-  pub stopped_bare : ((d : D) (t : ℕ) (c : Image) → left_at d t c → t ≤ (view d).moment) → (d : D) {x y : C} (url : List ℕ) (a : Address) (z : Archive) (log : List Entry) (made : List Exchange) (end
-      : FollowEnd) → Stands z log None (leave d)
+  pub stopped_bare : ((d : D) (t : ℕ) (c : Image) → site.left_at d t c → t ≤ (site.view d).moment) → (d : D) {x y : C} (url : List ℕ) (a : Address) (z : Archive) (log : List Entry) (made : List Exchange) (end
+      : FollowEnd) → Stands z log None (site.may_leave d)
       → Asks told store goes_on faults unsaid x y made → StopsAt plan channel url a z log made [] end
-      → Stopped view left_at leave told store goes_on faults d d x y plan channel url a z z log end
+      → Stopped site told store goes_on faults d d x y plan channel url a z z log end
   stopped_bare no_later d url a z log made end stands asks stops = record {
     made = made;
     tried = [];
@@ -213,8 +213,8 @@ module _ {D C : Type 0} {view : D → View} {left_at : D → ℕ → Image → T
   }
 
   pub stopped_unput : {d e : D} {x y : C} (url : List ℕ) (a : Address) (z w : Archive) (log : List Entry) (made : List Exchange) (n m : ℕ) (raw : RawFragment) (end : FollowEnd) → m ≡ n
-      → Asks told store goes_on faults unsaid x y made → IsRead plan.place plan.tries url a made (store x) (store y) n raw → IsUnput view left_at leave d e channel a z w log m raw end
-      → Stopped view left_at leave told store goes_on faults d e x y plan channel url a z w log end
+      → Asks told store goes_on faults unsaid x y made → IsRead plan.place plan.tries url a made (store x) (store y) n raw → IsUnput site d e channel a z w log m raw end
+      → Stopped site told store goes_on faults d e x y plan channel url a z w log end
   stopped_unput {d = d} {e = e} url a z w log made n m raw end same asks r p =
       let by : UnputBy channel a w log n raw p.tried end = subst (λ (k : ℕ). UnputBy channel a w log k raw p.tried end) same p.by in
       record {

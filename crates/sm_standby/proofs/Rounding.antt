@@ -5,7 +5,7 @@ use Rattle.sm_model.specs.declared.entry.Entry.{Entry}
 use Rattle.sm_model.specs.declared.fragment.Fragment.{Fragment}
 use Rattle.sm_model.specs.declared.track.Track.{Track}
 use Rattle.sm_site.specs.Image.{Image}
-use Rattle.sm_site.specs.Meanings.{View}
+use Rattle.sm_site.specs.Meanings.{Seen}
 use Rattle.sm_archive.specs.declared.archive.Archive.{Archive}
 use Rattle.sm_archive.specs.Stands.{Stands}
 use Rattle.sm_manin.specs.declared.listing.Listing.{Listing}
@@ -127,15 +127,15 @@ ends_early plan channel rounds log held new p to ends.Full few stops = (few, sto
 ends_early plan channel rounds log held new p to ends.DiskFault few stops = (few, stops)
 ends_early plan channel rounds log held new p to ends.NoMemory few stops = (few, stops)
 
-module _ {D C : Type 0} {view : D → View} {left_at : D → ℕ → Image → Type 0} {leave : D → Image → Type 0} {told : C → Option (List Exchange)} {store : C → List Entry → Type 0}
+module _ {D C : Type 0} {site : Seen D} {told : C → Option (List Exchange)} {store : C → List Entry → Type 0}
     {goes_on : C → C → Type 0} {faults : C → ℕ} {plan : PullPlan} {channel : List Track} where
-  pub rounds_stand : {d e : D} {x y : C} {a b : Archive} {log : List Entry} {held held' : List Later} {n : ℕ} → (r : Rounds view left_at leave told store goes_on faults d e x y plan channel a b log held held' n)
-      → Stands b r.log None (leave e)
-  rounds_stand {e = e} {b = b} r = subst (λ (l : List Entry). Stands b l None (leave e)) (sym r.log_is) r.adds.stands
+  pub rounds_stand : {d e : D} {x y : C} {a b : Archive} {log : List Entry} {held held' : List Later} {n : ℕ} → (r : Rounds site told store goes_on faults d e x y plan channel a b log held held' n)
+      → Stands b r.log None (site.may_leave e)
+  rounds_stand {e = e} {b = b} r = subst (λ (l : List Entry). Stands b l None (site.may_leave e)) (sym r.log_is) r.adds.stands
 
   -- no round yet
-  pub rounds_none : ((d : D) (t : ℕ) (c : Image) → left_at d t c → t ≤ (view d).moment) → ((x : C) → goes_on x x) → (d : D) (x : C) (a : Archive) (log : List Entry) (held : List Later)
-      → Stands a log None (leave d) → AreOpen log held → Rounds view left_at leave told store goes_on faults d d x x plan channel a a log held held 0
+  pub rounds_none : ((d : D) (t : ℕ) (c : Image) → site.left_at d t c → t ≤ (site.view d).moment) → ((x : C) → goes_on x x) → (d : D) (x : C) (a : Archive) (log : List Entry) (held : List Later)
+      → Stands a log None (site.may_leave d) → AreOpen log held → Rounds site told store goes_on faults d d x x plan channel a a log held held 0
   rounds_none no_later same d x a log held stands waiting = record {
     log = log;
     rounds = [];
@@ -148,16 +148,16 @@ module _ {D C : Type 0} {view : D → View} {left_at : D → ℕ → Image → T
     waiting = waiting;
   }
 
-  pub rounds_at : {d e : D} {x y : C} {a b : Archive} {log : List Entry} {held held' : List Later} (n m : ℕ) → n ≡ m → Rounds view left_at leave told store goes_on faults d e x y plan channel a b log held held' n
-      → Rounds view left_at leave told store goes_on faults d e x y plan channel a b log held held' m
+  pub rounds_at : {d e : D} {x y : C} {a b : Archive} {log : List Entry} {held held' : List Later} (n m : ℕ) → n ≡ m → Rounds site told store goes_on faults d e x y plan channel a b log held held' n
+      → Rounds site told store goes_on faults d e x y plan channel a b log held held' m
   rounds_at {d = d} {e = e} {x = x} {y = y} {a = a} {b = b} {log = log} {held = held} {held' = held'} n m is r =
-      subst (λ (k : ℕ). Rounds view left_at leave told store goes_on faults d e x y plan channel a b log held held' k) is r
+      subst (λ (k : ℕ). Rounds site told store goes_on faults d e x y plan channel a b log held held' k) is r
 
   -- a manifest was read, and all of its addresses had their turns
   pub rounds_one : {d e : D} {x y z : C} {a b : Archive} {log : List Entry} {held held' : List Later} (listing : Listing) (reads : List Exchange) → ((x y z : C) → goes_on x y → goes_on y z → goes_on x z)
       → Asks told store goes_on faults unsaid x y reads → Gives (AsksManifest plan.place) miss_of plan.tries reads (got.Manifest listing) → HasTracks listing channel
-      → (f : Follows view left_at leave told store goes_on faults d e y z plan channel listing a b (at log held (addresses_of channel listing)) held' []) → due (length f.log) held' ≡ None
-      → Rounds view left_at leave told store goes_on faults d e x z plan channel a b log held held' 1
+      → (f : Follows site told store goes_on faults d e y z plan channel listing a b (at log held (addresses_of channel listing)) held' []) → due (length f.log) held' ≡ None
+      → Rounds site told store goes_on faults d e x z plan channel a b log held held' 1
   rounds_one {d = d} {e = e} {x = x} {y = y} {z = z} {a = a} {b = b} {log = log} {held = held} {held' = held'} listing reads on asked gives tracks f nothing = record {
     log = f.log;
     rounds = (record { reads = reads; listing = listing; turns = f.turns }) ∷ [];
@@ -170,15 +170,15 @@ module _ {D C : Type 0} {view : D → View} {left_at : D → ℕ → Image → T
         let u = f.up (up ++ g.0) g.1 in
         let joined : (up ++ g.0) ++ u.0 ≡ up ++ (g.0 ++ u.0) = append_assoc up g.0 u.0 in
         (g.0 ++ u.0, subst (store z) joined u.1, (subst (λ (l : List Entry). AllByRecursion (IsUpstream plan.place listing l) f.turns) joined u.2, tt));
-    adds = subst (λ (fs : List Fragment). Adds view left_at leave d e a b log fs []) (sym (append-nil (kept_in f.turns))) f.adds;
+    adds = subst (λ (fs : List Fragment). Adds site d e a b log fs []) (sym (append-nil (kept_in f.turns))) f.adds;
     waiting = f.waiting;
   }
 
   -- some rounds, and then others
   pub rounds_then : {d e f : D} {x y z : C} {a b c : Archive} {log : List Entry} {held wait held' : List Later} {n m : ℕ} (k : ℕ) → ((x y z : C) → goes_on x y → goes_on y z → goes_on x z)
-      → (first : Rounds view left_at leave told store goes_on faults d e x y plan channel a b log held wait n)
-      → Rounds view left_at leave told store goes_on faults e f y z plan channel b c first.log wait held' m → k ≡ n + m
-      → Rounds view left_at leave told store goes_on faults d f x z plan channel a c log held held' k
+      → (first : Rounds site told store goes_on faults d e x y plan channel a b log held wait n)
+      → Rounds site told store goes_on faults e f y z plan channel b c first.log wait held' m → k ≡ n + m
+      → Rounds site told store goes_on faults d f x z plan channel a c log held held' k
   rounds_then {d = d} {e = e} {f = f} {x = x} {y = y} {z = z} {a = a} {b = b} {c = c} {log = log} {held = held} {wait = wait} {held' = held'} k on first second count = record {
     log = second.log;
     rounds = first.rounds ++ second.rounds;
@@ -190,15 +190,15 @@ module _ {D C : Type 0} {view : D → View} {left_at : D → ℕ → Image → T
     up = on_weak (store x) (store z) (λ up. RoundsUpstream plan.place first.rounds up × RoundsUpstream plan.place second.rounds up) (RoundsUpstream plan.place (first.rounds ++ second.rounds))
         (λ up both. both_all (λ (r : Round). AllByRecursion (IsUpstream plan.place r.listing up) r.turns) first.rounds second.rounds both.0 both.1)
         (on_then (store x) (store y) (store z) (RoundsUpstream plan.place first.rounds) (RoundsUpstream plan.place second.rounds) (λ up more all. rounds_grown plan.place up more first.rounds all) first.up second.up);
-    adds = subst (λ (fs : List Fragment). Adds view left_at leave d f a c log fs []) (sym (kept_more first.rounds second.rounds))
-        (adds_then first.adds (subst (λ (l : List Entry). Adds view left_at leave e f b c l (kept_by second.rounds) []) first.log_is second.adds));
+    adds = subst (λ (fs : List Fragment). Adds site d f a c log fs []) (sym (kept_more first.rounds second.rounds))
+        (adds_then first.adds (subst (λ (l : List Entry). Adds site e f b c l (kept_by second.rounds) []) first.log_is second.adds));
     waiting = second.waiting;
   }
 
   -- a pause, and then rounds
   pub rounds_paused : {d e : D} {x y z : C} {a b : Archive} {log : List Entry} {held held' : List Later} {n : ℕ} → ((x y z : C) → goes_on x y → goes_on y z → goes_on x z)
-      → Asks told store goes_on faults unsaid x y [] → Rounds view left_at leave told store goes_on faults d e y z plan channel a b log held held' n
-      → Rounds view left_at leave told store goes_on faults d e x z plan channel a b log held held' n
+      → Asks told store goes_on faults unsaid x y [] → Rounds site told store goes_on faults d e y z plan channel a b log held held' n
+      → Rounds site told store goes_on faults d e x z plan channel a b log held held' n
   rounds_paused {x = x} {y = y} {z = z} on paused r = record {
     log = r.log;
     rounds = r.rounds;
@@ -215,10 +215,10 @@ module _ {D C : Type 0} {view : D → View} {left_at : D → ℕ → Image → T
   -- ---- ends
 
   -- no manifest was read, or it lacks a track
-  pub ends_bare : {x y : C} → ((d : D) (t : ℕ) (c : Image) → left_at d t c → t ≤ (view d).moment) → (d : D) (a : Archive) (log : List Entry) (held : List Later) (reads : List Exchange) (listing : Listing) (end : FollowEnd)
-      → Stands a log None (leave d) → Asks told store goes_on faults unsaid x y reads
+  pub ends_bare : {x y : C} → ((d : D) (t : ℕ) (c : Image) → site.left_at d t c → t ≤ (site.view d).moment) → (d : D) (a : Archive) (log : List Entry) (held : List Later) (reads : List Exchange) (listing : Listing) (end : FollowEnd)
+      → Stands a log None (site.may_leave d) → Asks told store goes_on faults unsaid x y reads
       → StopsRound plan channel log held a (record { reads = reads; listing = listing; turns = []; last = []; tried = [] }) (at log held []) end → (end ≡ ends.DiskFault → ⊥)
-      → RoundEnds view left_at leave told store goes_on faults d d x y plan channel a a log held end
+      → RoundEnds site told store goes_on faults d d x y plan channel a a log held end
   ends_bare {x = x} {y = y} no_later d a log held reads listing end stands asked stops never = record {
     part = record { reads = reads; listing = listing; turns = []; last = []; tried = [] };
     to = at log held [];
@@ -233,8 +233,8 @@ module _ {D C : Type 0} {view : D → View} {left_at : D → ℕ → Image → T
   -- a manifest was read, and a turn ended the call
   pub ends_turns : {d e : D} {x y z : C} {a b : Archive} {log : List Entry} {held : List Later} (listing : Listing) (reads : List Exchange) (end : FollowEnd) → ((x y z : C) → goes_on x y → goes_on y z → goes_on x z)
       → Asks told store goes_on faults unsaid x y reads → Gives (AsksManifest plan.place) miss_of plan.tries reads (got.Manifest listing) → HasTracks listing channel
-      → Ends view left_at leave told store goes_on faults d e y z plan channel listing a b (at log held (addresses_of channel listing)) end
-      → RoundEnds view left_at leave told store goes_on faults d e x z plan channel a b log held end
+      → Ends site told store goes_on faults d e y z plan channel listing a b (at log held (addresses_of channel listing)) end
+      → RoundEnds site told store goes_on faults d e x z plan channel a b log held end
   ends_turns {x = x} {y = y} {z = z} listing reads end on asked gives tracks f = record {
     part = record { reads = reads; listing = listing; turns = f.turns; last = f.last; tried = f.tried };
     to = f.to;
@@ -248,8 +248,8 @@ module _ {D C : Type 0} {view : D → View} {left_at : D → ℕ → Image → T
   }
 
   pub ends_paused : {d e : D} {x y z : C} {a b : Archive} {log : List Entry} {held : List Later} (end : FollowEnd) → ((x y z : C) → goes_on x y → goes_on y z → goes_on x z)
-      → Asks told store goes_on faults unsaid x y [] → RoundEnds view left_at leave told store goes_on faults d e y z plan channel a b log held end
-      → RoundEnds view left_at leave told store goes_on faults d e x z plan channel a b log held end
+      → Asks told store goes_on faults unsaid x y [] → RoundEnds site told store goes_on faults d e y z plan channel a b log held end
+      → RoundEnds site told store goes_on faults d e x z plan channel a b log held end
   ends_paused {x = x} {y = y} {z = z} end on paused r = record {
     part = r.part;
     to = r.to;
@@ -267,9 +267,9 @@ module _ {D C : Type 0} {view : D → View} {left_at : D → ℕ → Image → T
   -- ---- whole calls
 
   pub called_early : {d e f : D} {x y z : C} {a b c : Archive} {log : List Entry} {wait : List Later} {n : ℕ} (end : FollowEnd) → ((x y z : C) → goes_on x y → goes_on y z → goes_on x z)
-      → (first : Rounds view left_at leave told store goes_on faults d e x y plan channel a b log [] wait n) → n < plan.rounds
-      → RoundEnds view left_at leave told store goes_on faults e f y z plan channel b c first.log wait end
-      → Called view left_at leave told store goes_on faults d f x z plan channel a c log end
+      → (first : Rounds site told store goes_on faults d e x y plan channel a b log [] wait n) → n < plan.rounds
+      → RoundEnds site told store goes_on faults e f y z plan channel b c first.log wait end
+      → Called site told store goes_on faults d f x z plan channel a c log end
   called_early {d = d} {e = e} {f = f} {x = x} {y = y} {z = z} {a = a} {b = b} {c = c} {log = log} {wait = wait} end on first few r = record {
     rounds = first.rounds;
     log = first.log;
@@ -281,15 +281,15 @@ module _ {D C : Type 0} {view : D → View} {left_at : D → ℕ → Image → T
     asks = asks_then on first.asks r.asks;
     up = on_then (store x) (store y) (store z) (RoundsUpstream plan.place first.rounds) (λ up. AllByRecursion (IsUpstream plan.place r.part.listing up) (r.part.turns ++ r.part.tried))
         (λ up more all. rounds_grown plan.place up more first.rounds all) first.up r.up;
-    adds = adds_then first.adds (subst (λ (l : List Entry). Adds view left_at leave e f b c l (kept_in r.part.turns) (kept_in r.part.tried)) first.log_is r.adds);
-    fault = λ is. rose_since (view d).disk_faults (view e).disk_faults (view f).disk_faults first.adds.no_fewer (r.fault is);
+    adds = adds_then first.adds (subst (λ (l : List Entry). Adds site e f b c l (kept_in r.part.turns) (kept_in r.part.tried)) first.log_is r.adds);
+    fault = λ is. rose_since (site.view d).disk_faults (site.view e).disk_faults (site.view f).disk_faults first.adds.disk_alone.no_fewer (r.fault is);
   }
 
   -- all rounds ended
   pub called_whole : {d e : D} {x y : C} {a b : Archive} {log : List Entry} {wait : List Later} {n : ℕ} (end : FollowEnd)
-      → (first : Rounds view left_at leave told store goes_on faults d e x y plan channel a b log [] wait n)
+      → (first : Rounds site told store goes_on faults d e x y plan channel a b log [] wait n)
       → EndsCall plan channel first.rounds first.log wait b no_part (at first.log wait []) end → (end ≡ ends.DiskFault → ⊥)
-      → Called view left_at leave told store goes_on faults d e x y plan channel a b log end
+      → Called site told store goes_on faults d e x y plan channel a b log end
   called_whole {d = d} {e = e} {x = x} {y = y} {a = a} {b = b} {log = log} {wait = wait} end first stops never = record {
     rounds = first.rounds;
     log = first.log;
@@ -300,15 +300,15 @@ module _ {D C : Type 0} {view : D → View} {left_at : D → ℕ → Image → T
     ended = stops;
     asks = subst (λ (xs : List Exchange). Asks told store goes_on faults unsaid x y xs) (sym (append-nil (made_by first.rounds))) first.asks;
     up = on_weak (store x) (store y) (RoundsUpstream plan.place first.rounds) (λ up. RoundsUpstream plan.place first.rounds up × Unit {0}) (λ up all. (all, tt)) first.up;
-    adds = subst (λ (fs : List Fragment). Adds view left_at leave d e a b log fs []) (sym (append-nil (kept_by first.rounds))) first.adds;
+    adds = subst (λ (fs : List Fragment). Adds site d e a b log fs []) (sym (append-nil (kept_by first.rounds))) first.adds;
     fault = λ is. absurd (never is);
   }
 
   -- memory was wanted before anything was asked
-  pub called_none : ((d : D) (t : ℕ) (c : Image) → left_at d t c → t ≤ (view d).moment) → ((x : C) → goes_on x x)
+  pub called_none : ((d : D) (t : ℕ) (c : Image) → site.left_at d t c → t ≤ (site.view d).moment) → ((x : C) → goes_on x x)
       → ((x y z : C) → goes_on x y → goes_on y z → goes_on x z) → (d : D) (x : C) (a : Archive) (log : List Entry)
-      → 0 < plan.rounds → Stands a log None (leave d) → Called view left_at leave told store goes_on faults d d x x plan channel a a log ends.NoMemory
+      → 0 < plan.rounds → Stands a log None (site.may_leave d) → Called site told store goes_on faults d d x x plan channel a a log ends.NoMemory
   called_none no_later same on d x a log some stands =
-      let r : Rounds view left_at leave told store goes_on faults d d x x plan channel a a log [] [] 0 = rounds_none no_later same d x a log [] stands tt in
+      let r : Rounds site told store goes_on faults d d x x plan channel a a log [] [] 0 = rounds_none no_later same d x a log [] stands tt in
       called_early ends.NoMemory on r some
       (ends_bare no_later d a r.log [] [] nothing_listed ends.NoMemory (rounds_stand r) (asks_same same x) (inl (record { each = tt; few = omega arith }, bare [] nothing_listed)) (λ is. cc))

@@ -11,7 +11,7 @@ use Rattle.sm_model.specs.Channels.{IsNarrowTrack}
 use Rattle.sm_model.specs.Entries.{address_of}
 use Rattle.sm_log.specs.Logs.{channel_of, IsSound}
 use Rattle.sm_site.specs.Image.{Image}
-use Rattle.sm_site.specs.Meanings.{View}
+use Rattle.sm_site.specs.Meanings.{Seen}
 use Rattle.sm_site.specs.Clauses.{Throughout}
 use Rattle.sm_site.proofs.Moments.{weakened}
 use Rattle.sm_archive.specs.declared.archive.Archive.{Archive}
@@ -173,9 +173,9 @@ reached plan up place_is narrow names x made rest moment last before log held (r
 
 -- ---- a whole call
 
-module _ {D C : Type 0} {view : D → View} {left_at : D → ℕ → Image → Type 0} {leave : D → Image → Type 0}
+module _ {D C : Type 0} {site : Seen D}
     {told : C → Option (List Exchange)} {store : C → List Entry → Type 0} {goes_on : C → C → Type 0} {faults : C → ℕ}
-    {d e : D} {x y : C} {plan : PullPlan} {channel : List Track} {a b : Archive} (before : List Entry) (end : FollowEnd) (c : Called view left_at leave told store goes_on faults d e x y plan channel a b before end) where
+    {d e : D} {x y : C} {plan : PullPlan} {channel : List Track} {a b : Archive} (before : List Entry) (end : FollowEnd) (c : Called site told store goes_on faults d e x y plan channel a b before end) where
   told_made : (up : List Track) (first last : List Entry) (made : List Exchange) → IsServed told x y plan.place up first last made → made ≡ made_by c.rounds ++ made_of c.part
   told_made up first last made s = made_same (told x) (told y) s.before made (made_by c.rounds ++ made_of c.part) s.told_before s.told_after c.asks.told_is
 
@@ -200,17 +200,17 @@ module _ {D C : Type 0} {view : D → View} {left_at : D → ℕ → Image → T
       (λ stops. stops_placed plan up s.place_is s.tracks s.names channel r.0 last c.log c.held b c.part c.to end r.1 r.2 stops r.3)
       (ended_part plan channel c.rounds c.log c.held b c.part c.to end c.ended))
 
-  pub stays : (up : List Track) (first last : List Entry) (made : List Exchange) → IsServed told x y plan.place up first last made → Places before first → IsSome (view d).contents
-      → Throughout view left_at d e (LeavesPlaces last)
+  pub stays : (up : List Track) (first last : List Entry) (made : List Exchange) → IsServed told x y plan.place up first last made → Places before first → IsSome (site.view d).contents
+      → Throughout site d e (LeavesPlaces last)
   stays up first last made s places some =
-      weakened view left_at d e _ (LeavesPlaces last) (c.adds.moments some)
+      weakened site d e _ (LeavesPlaces last) (c.adds.moments some)
       (λ t i left. front_places before last ((kept_by c.rounds ++ kept_in c.part.turns) ++ kept_in c.part.tried) t i (all_placed up first last made s places) left)
 
   pub starts : (first last : List Entry) (made : List Exchange) → IsSound before → channel_of before ≡ Some channel → IsServed told x y plan.place channel first last made → channel_of first ≡ Some channel
-      → Places before first → IsSome (view d).contents → Throughout view left_at d e (LeavesStart last)
+      → Places before first → IsSome (site.view d).contents → Throughout site d e (LeavesStart last)
   starts first last made sound is s up_is places some =
       let g = answered_grows channel first last made s.answered in
-      weakened view left_at d e _ (LeavesStart last) (c.adds.moments some)
+      weakened site d e _ (LeavesStart last) (c.adds.moments some)
       (λ t i left. start_left channel before last ((kept_by c.rounds ++ kept_in c.part.turns) ++ kept_in c.part.tried) t i (log_of before channel sound is) (channel_on first g.0 last channel g.1 up_is)
       (all_placed channel first last made s places) left)
 
@@ -228,7 +228,7 @@ module _ {D C : Type 0} {view : D → View} {left_at : D → ℕ → Image → T
 
   pub reaches : (first last : List Entry) (z : Exchange) (made : List Exchange) → IsSound before → channel_of before ≡ Some channel → 0 < plan.rounds
       → (s : IsServed told x y plan.place channel first last (z ∷ made)) → Places before first → IsPatient (z ∷ made) → LeadsToAll channel (moment_of s) → EndsRounds end
-      → Reaches (leave e) b last (length (moment_of s))
+      → Reaches (site.may_leave e) b last (length (moment_of s))
   reaches first last z made sound is rounds s places patient leads all =
       let ended = ended_rounds plan channel c.rounds c.log c.held b c.part c.to end c.ended all in
       let own = log_of before channel sound is in
@@ -242,13 +242,13 @@ module _ {D C : Type 0} {view : D → View} {left_at : D → ℕ → Image → T
       let log_is = rounds_log plan channel before c.log [] c.held c.rounds c.legal in
       let none : kept_in c.part.turns ≡ [] = ap (λ (p : Part). kept_in p.turns) ended.1 in
       let nothing : kept_in c.part.tried ≡ [] = ap (λ (p : Part). kept_in p.tried) ended.1 in
-      let stands : Stands b (before ++ keeps_of (kept_by c.rounds ++ kept_in c.part.turns)) None (leave e) =
-      subst (λ (fs : List Fragment). StandsWith b (before ++ keeps_of (kept_by c.rounds ++ kept_in c.part.turns)) fs (leave e)) nothing c.adds.stands in
+      let stands : Stands b (before ++ keeps_of (kept_by c.rounds ++ kept_in c.part.turns)) None (site.may_leave e) =
+      subst (λ (fs : List Fragment). StandsWith b (before ++ keeps_of (kept_by c.rounds ++ kept_in c.part.turns)) fs (site.may_leave e)) nothing c.adds.stands in
       let same : before ++ keeps_of (kept_by c.rounds ++ kept_in c.part.turns) ≡ c.log =
       ap (λ (fs : List Fragment). before ++ keeps_of fs) (ap (λ (fs : List Fragment). kept_by c.rounds ++ fs) none ∙ append-nil (kept_by c.rounds)) ∙ sym log_is in
       record {
         log = c.log;
-        stands = subst (λ (l : List Entry). Stands b l None (leave e)) same stands;
+        stands = subst (λ (l : List Entry). Stands b l None (site.may_leave e)) same stands;
         front = is_front channel c.log last (own_log sound is) (channel_on (first ++ m.0) h.0 last channel h.1 m.1.channel_is)
             (subst (λ (l : List Entry). Places c.log l) (sym g.1) (places_on c.log r.0 g.0 r.1));
         long = long;

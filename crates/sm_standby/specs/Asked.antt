@@ -7,8 +7,7 @@ use Rattle.sm_model.specs.declared.run.RawFragment.{RawFragment}
 use Rattle.sm_model.specs.declared.track.Track.{Track}
 use Rattle.sm_model.specs.Fragments.{IsValid}
 use Rattle.sm_log.specs.Adds.{id_in}
-use Rattle.sm_site.specs.Image.{Image}
-use Rattle.sm_site.specs.Meanings.{View}
+use Rattle.sm_site.specs.Meanings.{Seen}
 use Rattle.sm_archive.specs.declared.archive.Archive.{Archive}
 use Rattle.sm_fetch.specs.declared.dial.Exchange.{Exchange}
 use Rattle.sm_fetch.specs.declared.place.Place.{Place}
@@ -77,14 +76,13 @@ IsStep next a (dropped n raw) step.Kept = ⊥
 IsStep next a (dropped n raw) (step.Later m b) = ⊥
 
 -- A fragment that was read under this number was put in its place.
-pub record IsPut {D : Type 0} (view : D → View) (left_at : D → ℕ → Image → Type 0) (leave : D → Image → Type 0) (disk disk' : D) (channel : List Track)
-    (a : Address) (old new : Archive) (log : List Entry)
+pub record IsPut {D : Type 0} (site : Seen D) (disk disk' : D) (channel : List Track) (a : Address) (old new : Archive) (log : List Entry)
     (n : ℕ) (raw : RawFragment) (s : Step) : Type 0 where
   pub came : Came
   pub came_is : placed_of came ≡ placed.Fragment n raw
   pub id : HasId channel a came
   pub step : IsStep (length log) a came s
-  pub adds : Adds view left_at leave disk disk' old new log (kept_by a came) []
+  pub adds : Adds site disk disk' old new log (kept_by a came) []
 
 abbrev pub CameUpstream : Place → List ℕ → Address → Came → List Entry → Type 0
 CameUpstream place url a absent up = Unit {0}
@@ -93,10 +91,9 @@ CameUpstream place url a (later n raw) up = Unit {0}
 CameUpstream place url a (dropped n raw) up = Unit {0}
 
 -- An address was asked for, and this became of what came.
-pub record Went {D C : Type 0} (view : D → View) (left_at : D → ℕ → Image → Type 0) (leave : D → Image → Type 0) (told : C → Option (List Exchange))
-    (store : C → List Entry → Type 0)
-    (goes_on : C → C → Type 0) (faults : C → ℕ) (disk disk' : D) (dial dial' : C) (plan : PullPlan) (channel : List Track) (url : List ℕ) (a : Address)
-    (old new : Archive) (log : List Entry) (s : Step) : Type 0 where
+pub record Went {D C : Type 0} (site : Seen D) (told : C → Option (List Exchange)) (store : C → List Entry → Type 0)
+    (goes_on : C → C → Type 0) (faults : C → ℕ) (disk disk' : D) (dial dial' : C) (plan : PullPlan) (channel : List Track) (url : List ℕ)
+    (a : Address) (old new : Archive) (log : List Entry) (s : Step) : Type 0 where
   pub made : List Exchange
   pub came : Came
   pub gives : Gives (AsksPlaced plan.place url a) missed plan.tries made (placed_of came)
@@ -104,7 +101,7 @@ pub record Went {D C : Type 0} (view : D → View) (left_at : D → ℕ → Imag
   pub step : IsStep (length log) a came s
   pub asks : Asks told store goes_on faults unsaid dial dial' made
   pub up : OnUpstream (store dial) (store dial') (CameUpstream plan.place url a came)
-  pub adds : Adds view left_at leave disk disk' old new log (kept_by a came) []
+  pub adds : Adds site disk disk' old new log (kept_by a came) []
 
 -- ---- what stops
 
@@ -155,12 +152,11 @@ UnputBy channel a new log n raw tried (ends.Gap place next) = ⊥
 UnputBy channel a new log n raw tried (ends.NoManifest outcomes) = ⊥
 UnputBy channel a new log n raw tried (ends.NoTrack index) = ⊥
 
-pub record IsUnput {D : Type 0} (view : D → View) (left_at : D → ℕ → Image → Type 0) (leave : D → Image → Type 0) (disk disk' : D) (channel : List Track)
-    (a : Address) (old new : Archive) (log : List Entry)
+pub record IsUnput {D : Type 0} (site : Seen D) (disk disk' : D) (channel : List Track) (a : Address) (old new : Archive) (log : List Entry)
     (n : ℕ) (raw : RawFragment) (end : FollowEnd) : Type 0 where
   pub tried : List Came
   pub by : UnputBy channel a new log n raw tried end
-  pub adds : Adds view left_at leave disk disk' old new log [] (tried_by a tried)
+  pub adds : Adds site disk disk' old new log [] (tried_by a tried)
 
 -- the exchanges for an address, and how they end the call
 abbrev pub StopsAt : PullPlan → List Track → List ℕ → Address → Archive → List Entry → List Exchange → List Came → FollowEnd → Type 0
@@ -177,13 +173,12 @@ StopsAt plan channel url a new log made tried (ends.Gap place next) = ⊥
 StopsAt plan channel url a new log made tried (ends.NoManifest outcomes) = ⊥
 StopsAt plan channel url a new log made tried (ends.NoTrack index) = ⊥
 
-pub record Stopped {D C : Type 0} (view : D → View) (left_at : D → ℕ → Image → Type 0) (leave : D → Image → Type 0) (told : C → Option (List Exchange))
-    (store : C → List Entry → Type 0)
-    (goes_on : C → C → Type 0) (faults : C → ℕ) (disk disk' : D) (dial dial' : C) (plan : PullPlan) (channel : List Track) (url : List ℕ) (a : Address)
-    (old new : Archive) (log : List Entry) (end : FollowEnd) : Type 0 where
+pub record Stopped {D C : Type 0} (site : Seen D) (told : C → Option (List Exchange)) (store : C → List Entry → Type 0)
+    (goes_on : C → C → Type 0) (faults : C → ℕ) (disk disk' : D) (dial dial' : C) (plan : PullPlan) (channel : List Track) (url : List ℕ)
+    (a : Address) (old new : Archive) (log : List Entry) (end : FollowEnd) : Type 0 where
   pub made : List Exchange
   pub tried : List Came
   pub stops : StopsAt plan channel url a new log made tried end
   pub asks : Asks told store goes_on faults unsaid dial dial' made
   pub up : OnUpstream (store dial) (store dial') (TriedUpstream plan.place url a tried)
-  pub adds : Adds view left_at leave disk disk' old new log [] (tried_by a tried)
+  pub adds : Adds site disk disk' old new log [] (tried_by a tried)

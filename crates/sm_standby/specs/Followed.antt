@@ -3,8 +3,7 @@ use Rattle.std.specs.Prelude.{◌≡◌, ◌⊎◌, ℕ, List, [], ◌∷◌, �
 use Rattle.sm_model.specs.declared.address.Address.{Address}
 use Rattle.sm_model.specs.declared.entry.Entry.{Entry}
 use Rattle.sm_model.specs.declared.track.Track.{Track}
-use Rattle.sm_site.specs.Image.{Image}
-use Rattle.sm_site.specs.Meanings.{View}
+use Rattle.sm_site.specs.Meanings.{Seen}
 use Rattle.sm_site.specs.Clauses.{Rose}
 use Rattle.sm_archive.specs.declared.archive.Archive.{Archive}
 use Rattle.sm_manin.specs.declared.listing.Listing.{Listing}
@@ -23,17 +22,16 @@ abbrev pub at : List Entry → List Later → List Address → Standing
 at log held rest = record { log = log; held = held; rest = rest }
 
 -- Turns were taken from here on, and the call goes on.
-pub record Follows {D C : Type 0} (view : D → View) (left_at : D → ℕ → Image → Type 0) (leave : D → Image → Type 0) (told : C → Option (List Exchange))
-    (store : C → List Entry → Type 0)
-    (goes_on : C → C → Type 0) (faults : C → ℕ) (disk disk' : D) (dial dial' : C) (plan : PullPlan) (channel : List Track) (listing : Listing)
-    (old new : Archive) (s : Standing) (held : List Later) (rest : List Address) : Type 0 where
+pub record Follows {D C : Type 0} (site : Seen D) (told : C → Option (List Exchange)) (store : C → List Entry → Type 0)
+    (goes_on : C → C → Type 0) (faults : C → ℕ) (disk disk' : D) (dial dial' : C) (plan : PullPlan) (channel : List Track)
+    (listing : Listing) (old new : Archive) (s : Standing) (held : List Later) (rest : List Address) : Type 0 where
   pub log : List Entry
   pub turns : List Turn
   pub legal : Turns plan channel listing s turns (at log held rest)
   pub log_is : log ≡ s.log ++ keeps_of (kept_in turns)
   pub asks : Asks told store goes_on faults unsaid dial dial' (made_in turns)
   pub up : AreUpstream plan.place listing (store dial) (store dial') turns
-  pub adds : Adds view left_at leave disk disk' old new s.log (kept_in turns) []
+  pub adds : Adds site disk disk' old new s.log (kept_in turns) []
   pub waiting : AreOpen log held
 
 -- the last exchanges, and what was to be kept, as a turn that came to nothing
@@ -49,10 +47,9 @@ EndsTurns plan channel listing s new last tried end =
     × StopsAt plan channel (url_of listing (address_for who)) (address_for who) new s.log last cs end)
 
 -- Turns were taken from here on, and then the call ended.
-pub record Ends {D C : Type 0} (view : D → View) (left_at : D → ℕ → Image → Type 0) (leave : D → Image → Type 0) (told : C → Option (List Exchange))
-    (store : C → List Entry → Type 0)
-    (goes_on : C → C → Type 0) (faults : C → ℕ) (disk disk' : D) (dial dial' : C) (plan : PullPlan) (channel : List Track) (listing : Listing)
-    (old new : Archive) (s : Standing) (end : FollowEnd) : Type 0 where
+pub record Ends {D C : Type 0} (site : Seen D) (told : C → Option (List Exchange)) (store : C → List Entry → Type 0)
+    (goes_on : C → C → Type 0) (faults : C → ℕ) (disk disk' : D) (dial dial' : C) (plan : PullPlan) (channel : List Track)
+    (listing : Listing) (old new : Archive) (s : Standing) (end : FollowEnd) : Type 0 where
   pub to : Standing
   pub turns : List Turn
   pub last : List Exchange
@@ -62,5 +59,5 @@ pub record Ends {D C : Type 0} (view : D → View) (left_at : D → ℕ → Imag
   pub stops : EndsTurns plan channel listing to new last tried end
   pub asks : Asks told store goes_on faults unsaid dial dial' (made_in turns ++ last)
   pub up : AreUpstream plan.place listing (store dial) (store dial') (turns ++ tried)
-  pub adds : Adds view left_at leave disk disk' old new s.log (kept_in turns) (kept_in tried)
-  pub fault : end ≡ ends.DiskFault → Rose (view disk).disk_faults (view disk').disk_faults
+  pub adds : Adds site disk disk' old new s.log (kept_in turns) (kept_in tried)
+  pub fault : end ≡ ends.DiskFault → Rose (site.view disk).disk_faults (site.view disk').disk_faults

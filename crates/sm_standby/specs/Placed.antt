@@ -8,7 +8,7 @@ use Rattle.sm_model.specs.declared.target.Target.TheVariants as target
 use Rattle.sm_log.specs.Logs.{channel_of}
 use Rattle.sm_addr.specs.Targets.{target_of}
 use Rattle.sm_site.specs.Image.{Image}
-use Rattle.sm_site.specs.Meanings.{View}
+use Rattle.sm_site.specs.Meanings.{Seen}
 use Rattle.sm_site.specs.Clauses.{Throughout}
 use Rattle.sm_archive.specs.declared.archive.Archive.{Archive}
 use Rattle.sm_archive.specs.Store.{IsStore}
@@ -56,32 +56,30 @@ LeavesPlaces up t c = (after : List Entry) × IsStore after c × Places after up
 
 -- Where the opening log has its entries at their places in a log of the primary, so has each store that a crash may leave at any moment, in
 -- one that goes on from it: provided that the targets name the addresses that they were asked for.
-abbrev pub StaysPlaced : {D C : Type 0} → (D → View) → (D → ℕ → Image → Type 0) → (C → List Entry → Type 0) → D → D → C → C → Place
-    → List Entry
-    → List Round → Part → Type 0
-StaysPlaced view left_at store disk disk' dial dial' place before rounds part =
+abbrev pub StaysPlaced : {D C : Type 0} → Seen D → (C → List Entry → Type 0) → D → D → C → C → Place → List Entry → List Round → Part
+    → Type 0
+StaysPlaced site store disk disk' dial dial' place before rounds part =
     (up : List Entry) → store dial up → (more : List Entry) × store dial' (up ++ more)
-    × (RoundsName place rounds → PartNames place part → Places before up → IsSome (view disk).contents
-    → Throughout view left_at disk disk' (LeavesPlaces (up ++ more)))
+    × (RoundsName place rounds → PartNames place part → Places before up → IsSome (site.view disk).contents
+    → Throughout site disk disk' (LeavesPlaces (up ++ more)))
 
 -- What a call did, how many fragments were kept, and that these stand at their places; and what it comes to over a primary that keeps a log.
-pub record Followed {D C : Type 0} (view : D → View) (left_at : D → ℕ → Image → Type 0) (leave : D → Image → Type 0) (told : C → Option (List Exchange))
-    (store : C → List Entry → Type 0)
-    (goes_on : C → C → Type 0) (faults : C → ℕ) (disk disk' : D) (dial dial' : C) (plan : PullPlan) (channel : List Track) (old new : Archive)
-    (before : List Entry) (report : FollowReport) : Type 0 where
-  pub called : Called view left_at leave told store goes_on faults disk disk' dial dial' plan channel old new before report.end
+pub record Followed {D C : Type 0} (site : Seen D) (told : C → Option (List Exchange)) (store : C → List Entry → Type 0)
+    (goes_on : C → C → Type 0) (faults : C → ℕ) (disk disk' : D) (dial dial' : C) (plan : PullPlan) (channel : List Track)
+    (old new : Archive) (before : List Entry) (report : FollowReport) : Type 0 where
+  pub called : Called site told store goes_on faults disk disk' dial dial' plan channel old new before report.end
   pub kept : report.kept ≡ length (kept_by called.rounds ++ kept_in called.part.turns)
-  pub placed : StaysPlaced view left_at store disk disk' dial dial' plan.place before called.rounds called.part
+  pub placed : StaysPlaced site store disk disk' dial dial' plan.place before called.rounds called.part
   -- Where the primary's log has the store's entries at their places, it has those of each store that a crash may leave.
   pub stays : (up : List Track) (first last : List Entry) (made : List Exchange) → IsServed told dial dial' plan.place up first last made → Places before first
-      → IsSome (view disk).contents → Throughout view left_at disk disk' (LeavesPlaces last)
+      → IsSome (site.view disk).contents → Throughout site disk disk' (LeavesPlaces last)
   -- And where the primary's channel is the store's, each such store is a front of the primary's log;
   pub starts : (first last : List Entry) (made : List Exchange) → IsServed told dial dial' plan.place channel first last made → channel_of first ≡ Some channel
-      → Places before first → IsSome (view disk).contents → Throughout view left_at disk disk' (LeavesStart last)
+      → Places before first → IsSome (site.view disk).contents → Throughout site disk disk' (LeavesStart last)
   -- where it answers each request, no answer of it ends the call;
   pub well : (first last : List Entry) (made : List Exchange) → IsServed told dial dial' plan.place channel first last made → Places before first
       → 0 < plan.tries → IsPatient made → EndsWell report.end
   -- and once all rounds have ended, the store has as many entries as the primary had at its first manifest, if that led to each of them.
   pub reaches : (first last : List Entry) (x : Exchange) (made : List Exchange) → (s : IsServed told dial dial' plan.place channel first last (x ∷ made))
       → Places before first → IsPatient (x ∷ made) → LeadsToAll channel (moment_of s) → EndsRounds report.end
-      → Reaches (leave disk') new last (length (moment_of s))
+      → Reaches (site.may_leave disk') new last (length (moment_of s))

@@ -6,8 +6,7 @@ use Rattle.sm_model.specs.declared.entry.Entry.{Entry}
 use Rattle.sm_model.specs.declared.fragment.Fragment.{Fragment}
 use Rattle.sm_model.specs.declared.track.Track.{Track}
 use Rattle.sm_log.specs.Adds.{names_of}
-use Rattle.sm_site.specs.Image.{Image}
-use Rattle.sm_site.specs.Meanings.{View}
+use Rattle.sm_site.specs.Meanings.{Seen}
 use Rattle.sm_site.specs.Clauses.{Rose}
 use Rattle.sm_archive.specs.declared.archive.Archive.{Archive}
 use Rattle.sm_manin.specs.declared.listing.Listing.{Listing}
@@ -131,10 +130,9 @@ StopsRound plan channel log held new p to end =
 -- ---- calls
 
 -- So many rounds ended.
-pub record Rounds {D C : Type 0} (view : D → View) (left_at : D → ℕ → Image → Type 0) (leave : D → Image → Type 0) (told : C → Option (List Exchange))
-    (store : C → List Entry → Type 0)
-    (goes_on : C → C → Type 0) (faults : C → ℕ) (disk disk' : D) (dial dial' : C) (plan : PullPlan) (channel : List Track) (old new : Archive)
-    (before : List Entry) (held held' : List Later) (count : ℕ) : Type 0 where
+pub record Rounds {D C : Type 0} (site : Seen D) (told : C → Option (List Exchange)) (store : C → List Entry → Type 0)
+    (goes_on : C → C → Type 0) (faults : C → ℕ) (disk disk' : D) (dial dial' : C) (plan : PullPlan) (channel : List Track)
+    (old new : Archive) (before : List Entry) (held held' : List Later) (count : ℕ) : Type 0 where
   pub log : List Entry
   pub rounds : List Round
   pub legal : AreRounds plan channel before held rounds log held'
@@ -142,22 +140,21 @@ pub record Rounds {D C : Type 0} (view : D → View) (left_at : D → ℕ → Im
   pub log_is : log ≡ before ++ keeps_of (kept_by rounds)
   pub asks : Asks told store goes_on faults unsaid dial dial' (made_by rounds)
   pub up : OnUpstream (store dial) (store dial') (RoundsUpstream plan.place rounds)
-  pub adds : Adds view left_at leave disk disk' old new before (kept_by rounds) []
+  pub adds : Adds site disk disk' old new before (kept_by rounds) []
   pub waiting : AreOpen log held'
 
 -- A round ended the call.
-pub record RoundEnds {D C : Type 0} (view : D → View) (left_at : D → ℕ → Image → Type 0) (leave : D → Image → Type 0) (told : C → Option (List Exchange))
-    (store : C → List Entry → Type 0)
-    (goes_on : C → C → Type 0) (faults : C → ℕ) (disk disk' : D) (dial dial' : C) (plan : PullPlan) (channel : List Track) (old new : Archive)
-    (before : List Entry) (held : List Later) (end : FollowEnd) : Type 0 where
+pub record RoundEnds {D C : Type 0} (site : Seen D) (told : C → Option (List Exchange)) (store : C → List Entry → Type 0)
+    (goes_on : C → C → Type 0) (faults : C → ℕ) (disk disk' : D) (dial dial' : C) (plan : PullPlan) (channel : List Track)
+    (old new : Archive) (before : List Entry) (held : List Later) (end : FollowEnd) : Type 0 where
   pub part : Part
   pub to : Standing
   pub stops : StopsRound plan channel before held new part to end
   pub log_is : to.log ≡ before ++ keeps_of (kept_in part.turns)
   pub asks : Asks told store goes_on faults unsaid dial dial' (made_of part)
   pub up : OnUpstream (store dial) (store dial') (λ up. AllByRecursion (IsUpstream plan.place part.listing up) (part.turns ++ part.tried))
-  pub adds : Adds view left_at leave disk disk' old new before (kept_in part.turns) (kept_in part.tried)
-  pub fault : end ≡ ends.DiskFault → Rose (view disk).disk_faults (view disk').disk_faults
+  pub adds : Adds site disk disk' old new before (kept_in part.turns) (kept_in part.tried)
+  pub fault : end ≡ ends.DiskFault → Rose (site.view disk).disk_faults (site.view disk').disk_faults
 
 -- how a call ends, behind these rounds
 abbrev pub EndsCall : PullPlan → List Track → List Round → List Entry → List Later → Archive → Part → Standing → FollowEnd → Type 0
@@ -175,10 +172,9 @@ EndsCall plan channel rounds log held new p to ends.DiskFault = (length rounds <
 EndsCall plan channel rounds log held new p to ends.NoMemory = (length rounds < plan.rounds) × StopsRound plan channel log held new p to ends.NoMemory
 
 -- A whole call, from this log on: some rounds ended, and perhaps a part of one more.
-pub record Called {D C : Type 0} (view : D → View) (left_at : D → ℕ → Image → Type 0) (leave : D → Image → Type 0) (told : C → Option (List Exchange))
-    (store : C → List Entry → Type 0)
-    (goes_on : C → C → Type 0) (faults : C → ℕ) (disk disk' : D) (dial dial' : C) (plan : PullPlan) (channel : List Track) (old new : Archive)
-    (before : List Entry) (end : FollowEnd) : Type 0 where
+pub record Called {D C : Type 0} (site : Seen D) (told : C → Option (List Exchange)) (store : C → List Entry → Type 0)
+    (goes_on : C → C → Type 0) (faults : C → ℕ) (disk disk' : D) (dial dial' : C) (plan : PullPlan) (channel : List Track)
+    (old new : Archive) (before : List Entry) (end : FollowEnd) : Type 0 where
   pub rounds : List Round
   pub log : List Entry
   pub held : List Later
@@ -189,5 +185,5 @@ pub record Called {D C : Type 0} (view : D → View) (left_at : D → ℕ → Im
   pub asks : Asks told store goes_on faults unsaid dial dial' (made_by rounds ++ made_of part)
   pub up : OnUpstream (store dial) (store dial') (λ up. RoundsUpstream plan.place rounds up × AllByRecursion (IsUpstream plan.place part.listing up)
       (part.turns ++ part.tried))
-  pub adds : Adds view left_at leave disk disk' old new before (kept_by rounds ++ kept_in part.turns) (kept_in part.tried)
-  pub fault : end ≡ ends.DiskFault → Rose (view disk).disk_faults (view disk').disk_faults
+  pub adds : Adds site disk disk' old new before (kept_by rounds ++ kept_in part.turns) (kept_in part.tried)
+  pub fault : end ≡ ends.DiskFault → Rose (site.view disk).disk_faults (site.view disk').disk_faults

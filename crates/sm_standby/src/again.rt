@@ -29,14 +29,14 @@ fn take_one<C: Dial, D: Disk>(
     channel: &[Track],
     listing: &Listing,
 ) -> Result<bool, FollowEnd>
-    requires stands { (log : List Entry) × Stands archive.old log None (D.may_leave disk.old) × AreOpen log held.old }
-    ensures ok { OnOk result ((log : List Entry) (rest : List Address) → Stands archive.old log None (D.may_leave disk.old) → AreOpen log held.old
-        → Follows D.view D.left_at D.may_leave C.log C.store C.later C.dial_faults disk.old disk.new dial.old dial.new plan.now channel.now listing.now
+    requires stands { (log : List Entry) × Stands archive.old log None (D.seen.may_leave disk.old) × AreOpen log held.old }
+    ensures ok { OnOk result ((log : List Entry) (rest : List Address) → Stands archive.old log None (D.seen.may_leave disk.old) → AreOpen log held.old
+        → Follows D.seen C.log C.store C.later C.dial_faults disk.old disk.new dial.old dial.new plan.now channel.now listing.now
         archive.old archive.new (at log held.old rest) held.new rest) }
     ensures fewer { result ≡ Ok true → length held.new < length held.old }
-    ensures nothing { result ≡ Ok false → (log : List Entry) → Stands archive.new log None (D.may_leave disk.new) → due (length log) held.new ≡ None }
-    ensures err { IfErr result (λ end. (log : List Entry) (rest : List Address) → Stands archive.old log None (D.may_leave disk.old) → AreOpen log held.old
-        → Ends D.view D.left_at D.may_leave C.log C.store C.later C.dial_faults disk.old disk.new dial.old dial.new plan.now channel.now listing.now
+    ensures nothing { result ≡ Ok false → (log : List Entry) → Stands archive.new log None (D.seen.may_leave disk.new) → due (length log) held.new ≡ None }
+    ensures err { IfErr result (λ end. (log : List Entry) (rest : List Address) → Stands archive.old log None (D.seen.may_leave disk.old) → AreOpen log held.old
+        → Ends D.seen C.log C.store C.later C.dial_faults disk.old disk.new dial.old dial.new plan.now channel.now listing.now
         archive.old archive.new (at log held.old rest) end) }
 {
     match held.take(archive.len()) {
@@ -71,13 +71,13 @@ pub(crate) fn take_held<C: Dial, D: Disk>(
     channel: &[Track],
     listing: &Listing,
 ) -> Result<(), FollowEnd>
-    requires stands { (log : List Entry) × Stands archive.old log None (D.may_leave disk.old) × AreOpen log held.old }
-    ensures ok { OnOk result ((log : List Entry) (rest : List Address) → Stands archive.old log None (D.may_leave disk.old) → AreOpen log held.old
-        → Follows D.view D.left_at D.may_leave C.log C.store C.later C.dial_faults disk.old disk.new dial.old dial.new plan.now channel.now listing.now
+    requires stands { (log : List Entry) × Stands archive.old log None (D.seen.may_leave disk.old) × AreOpen log held.old }
+    ensures ok { OnOk result ((log : List Entry) (rest : List Address) → Stands archive.old log None (D.seen.may_leave disk.old) → AreOpen log held.old
+        → Follows D.seen C.log C.store C.later C.dial_faults disk.old disk.new dial.old dial.new plan.now channel.now listing.now
         archive.old archive.new (at log held.old rest) held.new rest) }
-    ensures nothing { OnOk result ((log : List Entry) → Stands archive.new log None (D.may_leave disk.new) → due (length log) held.new ≡ None) }
-    ensures err { IfErr result (λ end. (log : List Entry) (rest : List Address) → Stands archive.old log None (D.may_leave disk.old) → AreOpen log held.old
-        → Ends D.view D.left_at D.may_leave C.log C.store C.later C.dial_faults disk.old disk.new dial.old dial.new plan.now channel.now listing.now
+    ensures nothing { OnOk result ((log : List Entry) → Stands archive.new log None (D.seen.may_leave disk.new) → due (length log) held.new ≡ None) }
+    ensures err { IfErr result (λ end. (log : List Entry) (rest : List Address) → Stands archive.old log None (D.seen.may_leave disk.old) → AreOpen log held.old
+        → Ends D.seen C.log C.store C.later C.dial_faults disk.old disk.new dial.old dial.new plan.now channel.now listing.now
         archive.old archive.new (at log held.old rest) end) }
 {
     loop {

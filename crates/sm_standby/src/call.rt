@@ -38,9 +38,9 @@ fn follow_store<C: Dial, D: Disk>(
     plan: &PullPlan,
 ) -> FollowEnd
     requires rounds { 0 < plan.now.rounds }
-    requires stands { (log : List Entry) × (channel : List Track) × Stands archive.old log None (D.may_leave disk.old) × (channel_of log ≡ Some channel) }
-    ensures { (log : List Entry) (channel : List Track) → Stands archive.old log None (D.may_leave disk.old) → channel_of log ≡ Some channel
-        → Called D.view D.left_at D.may_leave C.log C.store C.later C.dial_faults disk.old disk.new dial.old dial.new plan.now channel
+    requires stands { (log : List Entry) × (channel : List Track) × Stands archive.old log None (D.seen.may_leave disk.old) × (channel_of log ≡ Some channel) }
+    ensures { (log : List Entry) (channel : List Track) → Stands archive.old log None (D.seen.may_leave disk.old) → channel_of log ≡ Some channel
+        → Called D.seen C.log C.store C.later C.dial_faults disk.old disk.new dial.old dial.new plan.now channel
         archive.old archive.new log result }
 {
     match channel_of(alloc, archive) {
@@ -62,9 +62,9 @@ pub fn follow<C: Dial, D: Disk>(
     plan: &PullPlan,
 ) -> FollowReport
     requires rounds { 0 < plan.now.rounds }
-    requires stands { (log : List Entry) × (channel : List Track) × Stands archive.old log None (D.may_leave disk.old) × (channel_of log ≡ Some channel) }
-    ensures followed { (log : List Entry) (channel : List Track) → Stands archive.old log None (D.may_leave disk.old) → channel_of log ≡ Some channel
-        → Followed D.view D.left_at D.may_leave C.log C.store C.later C.dial_faults disk.old disk.new dial.old dial.new plan.now channel
+    requires stands { (log : List Entry) × (channel : List Track) × Stands archive.old log None (D.seen.may_leave disk.old) × (channel_of log ≡ Some channel) }
+    ensures followed { (log : List Entry) (channel : List Track) → Stands archive.old log None (D.seen.may_leave disk.old) → channel_of log ≡ Some channel
+        → Followed D.seen C.log C.store C.later C.dial_faults disk.old disk.new dial.old dial.new plan.now channel
         archive.old archive.new log result }
 {
     let before = archive.len();

@@ -42,15 +42,14 @@ fn follow_one<C: Dial, D: Disk>(
     listing: &Listing,
     address: &Address,
 ) -> Result<(), FollowEnd>
-    requires stands { (log : List Entry) × Stands archive.old log None (D.may_leave disk.old) × AreOpen log held.old × (due (length log) held.old ≡ None) }
-    ensures ok { OnOk result ((log : List Entry) (more : List Address) → Stands archive.old log None (D.may_leave disk.old) → AreOpen log held.old
+    requires stands { (log : List Entry) × Stands archive.old log None (D.seen.may_leave disk.old) × AreOpen log held.old × (due (length log) held.old ≡ None) }
+    ensures ok { OnOk result ((log : List Entry) (more : List Address) → Stands archive.old log None (D.seen.may_leave disk.old) → AreOpen log held.old
         → due (length log) held.old ≡ None
-        → (f : Follows D.view D.left_at D.may_leave C.log C.store C.later C.dial_faults disk.old disk.new dial.old dial.new plan.now channel.now listing.now
-        archive.old archive.new (at log held.old (address.now ∷ more)) held.new more)
-        × (due (length f.log) held.new ≡ None)) }
-    ensures err { IfErr result (λ end. (log : List Entry) (more : List Address) → Stands archive.old log None (D.may_leave disk.old) → AreOpen log held.old
+        → (f : Follows D.seen C.log C.store C.later C.dial_faults disk.old disk.new dial.old dial.new plan.now channel.now listing.now
+        archive.old archive.new (at log held.old (address.now ∷ more)) held.new more) × (due (length f.log) held.new ≡ None)) }
+    ensures err { IfErr result (λ end. (log : List Entry) (more : List Address) → Stands archive.old log None (D.seen.may_leave disk.old) → AreOpen log held.old
         → due (length log) held.old ≡ None
-        → Ends D.view D.left_at D.may_leave C.log C.store C.later C.dial_faults disk.old disk.new dial.old dial.new plan.now channel.now listing.now
+        → Ends D.seen C.log C.store C.later C.dial_faults disk.old disk.new dial.old dial.new plan.now channel.now listing.now
         archive.old archive.new (at log held.old (address.now ∷ more)) end) }
 {
     if is_there(archive, held, address) {
@@ -98,15 +97,14 @@ fn follow_row<C: Dial, D: Disk>(
     listing: &Listing,
     addresses: &[Address],
 ) -> Result<(), FollowEnd>
-    requires stands { (log : List Entry) × Stands archive.old log None (D.may_leave disk.old) × AreOpen log held.old × (due (length log) held.old ≡ None) }
-    ensures ok { OnOk result ((log : List Entry) (more : List Address) → Stands archive.old log None (D.may_leave disk.old) → AreOpen log held.old
+    requires stands { (log : List Entry) × Stands archive.old log None (D.seen.may_leave disk.old) × AreOpen log held.old × (due (length log) held.old ≡ None) }
+    ensures ok { OnOk result ((log : List Entry) (more : List Address) → Stands archive.old log None (D.seen.may_leave disk.old) → AreOpen log held.old
         → due (length log) held.old ≡ None
-        → (f : Follows D.view D.left_at D.may_leave C.log C.store C.later C.dial_faults disk.old disk.new dial.old dial.new plan.now channel.now listing.now
-        archive.old archive.new (at log held.old (addresses.now ++ more)) held.new more)
-        × (due (length f.log) held.new ≡ None)) }
-    ensures err { IfErr result (λ end. (log : List Entry) (more : List Address) → Stands archive.old log None (D.may_leave disk.old) → AreOpen log held.old
+        → (f : Follows D.seen C.log C.store C.later C.dial_faults disk.old disk.new dial.old dial.new plan.now channel.now listing.now
+        archive.old archive.new (at log held.old (addresses.now ++ more)) held.new more) × (due (length f.log) held.new ≡ None)) }
+    ensures err { IfErr result (λ end. (log : List Entry) (more : List Address) → Stands archive.old log None (D.seen.may_leave disk.old) → AreOpen log held.old
         → due (length log) held.old ≡ None
-        → Ends D.view D.left_at D.may_leave C.log C.store C.later C.dial_faults disk.old disk.new dial.old dial.new plan.now channel.now listing.now
+        → Ends D.seen C.log C.store C.later C.dial_faults disk.old disk.new dial.old dial.new plan.now channel.now listing.now
         archive.old archive.new (at log held.old (addresses.now ++ more)) end) }
 {
     for address in addresses {
@@ -133,15 +131,15 @@ fn follow_place<C: Dial, D: Disk>(
     all: &[StreamCandidates],
     place: usize,
 ) -> Result<(), FollowEnd>
-    requires stands { (log : List Entry) × Stands archive.old log None (D.may_leave disk.old) × AreOpen log held.old × (due (length log) held.old ≡ None) }
-    ensures ok { OnOk result ((log : List Entry) (more : List Address) → Stands archive.old log None (D.may_leave disk.old) → AreOpen log held.old
+    requires stands { (log : List Entry) × Stands archive.old log None (D.seen.may_leave disk.old) × AreOpen log held.old × (due (length log) held.old ≡ None) }
+    ensures ok { OnOk result ((log : List Entry) (more : List Address) → Stands archive.old log None (D.seen.may_leave disk.old) → AreOpen log held.old
         → due (length log) held.old ≡ None
-        → (f : Follows D.view D.left_at D.may_leave C.log C.store C.later C.dial_faults disk.old disk.new dial.old dial.new plan.now channel.now listing.now
+        → (f : Follows D.seen C.log C.store C.later C.dial_faults disk.old disk.new dial.old dial.new plan.now channel.now listing.now
         archive.old archive.new (at log held.old (row channel.now place all.now ++ more)) held.new more)
         × (due (length f.log) held.new ≡ None)) }
-    ensures err { IfErr result (λ end. (log : List Entry) (more : List Address) → Stands archive.old log None (D.may_leave disk.old) → AreOpen log held.old
+    ensures err { IfErr result (λ end. (log : List Entry) (more : List Address) → Stands archive.old log None (D.seen.may_leave disk.old) → AreOpen log held.old
         → due (length log) held.old ≡ None
-        → Ends D.view D.left_at D.may_leave C.log C.store C.later C.dial_faults disk.old disk.new dial.old dial.new plan.now channel.now listing.now
+        → Ends D.seen C.log C.store C.later C.dial_faults disk.old disk.new dial.old dial.new plan.now channel.now listing.now
         archive.old archive.new (at log held.old (row channel.now place all.now ++ more)) end) }
 {
     match row(alloc, channel, place, all) {
@@ -169,14 +167,14 @@ pub(crate) fn follow_all<C: Dial, D: Disk>(
     listing: &Listing,
     all: &[StreamCandidates],
 ) -> Result<(), FollowEnd>
-    requires stands { (log : List Entry) × Stands archive.old log None (D.may_leave disk.old) × AreOpen log held.old × (due (length log) held.old ≡ None) }
-    ensures ok { OnOk result ((log : List Entry) → Stands archive.old log None (D.may_leave disk.old) → AreOpen log held.old → due (length log) held.old ≡ None
-        → (f : Follows D.view D.left_at D.may_leave C.log C.store C.later C.dial_faults disk.old disk.new dial.old dial.new plan.now channel.now listing.now
+    requires stands { (log : List Entry) × Stands archive.old log None (D.seen.may_leave disk.old) × AreOpen log held.old × (due (length log) held.old ≡ None) }
+    ensures ok { OnOk result ((log : List Entry) → Stands archive.old log None (D.seen.may_leave disk.old) → AreOpen log held.old → due (length log) held.old ≡ None
+        → (f : Follows D.seen C.log C.store C.later C.dial_faults disk.old disk.new dial.old dial.new plan.now channel.now listing.now
         archive.old archive.new (at log held.old (addresses_by channel.now all.now)) held.new [])
         × (due (length f.log) held.new ≡ None)) }
-    ensures err { IfErr result (λ end. (log : List Entry) → Stands archive.old log None (D.may_leave disk.old) → AreOpen log held.old
+    ensures err { IfErr result (λ end. (log : List Entry) → Stands archive.old log None (D.seen.may_leave disk.old) → AreOpen log held.old
         → due (length log) held.old ≡ None
-        → Ends D.view D.left_at D.may_leave C.log C.store C.later C.dial_faults disk.old disk.new dial.old dial.new plan.now channel.now listing.now
+        → Ends D.seen C.log C.store C.later C.dial_faults disk.old disk.new dial.old dial.new plan.now channel.now listing.now
         archive.old archive.new (at log held.old (addresses_by channel.now all.now)) end) }
 {
     for place in 0..longest(all) {

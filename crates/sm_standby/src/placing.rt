@@ -76,14 +76,13 @@ fn put<D: Disk>(
 ) -> Result<Step, FollowEnd>
     requires valid { IsValid (given [] 0 raw) }
     requires time { raw.time ≡ address.time }
-    requires stands { (log : List Entry) × Stands archive.old log None (D.may_leave disk.old) }
-    requires absent { (log : List Entry) → Stands archive.old log None (D.may_leave disk.old) → kept_at log address ≡ None }
-    ensures ok { IfOk result (λ step. (log : List Entry) → Stands archive.old log None (D.may_leave disk.old) → IsPut D.view D.left_at D.may_leave disk.old disk.new
+    requires stands { (log : List Entry) × Stands archive.old log None (D.seen.may_leave disk.old) }
+    requires absent { (log : List Entry) → Stands archive.old log None (D.seen.may_leave disk.old) → kept_at log address ≡ None }
+    ensures ok { IfOk result (λ step. (log : List Entry) → Stands archive.old log None (D.seen.may_leave disk.old) → IsPut D.seen disk.old disk.new
         channel.now address archive.old archive.new log place raw step) }
-    ensures err { IfErr result (λ end. (log : List Entry) → Stands archive.old log None (D.may_leave disk.old)
-        → IsUnput D.view D.left_at D.may_leave disk.old disk.new
-        channel.now address archive.old archive.new log place raw end) }
-    ensures fault { IsErrOf result ends.DiskFault → Rose (D.view disk.old).disk_faults (D.view disk.new).disk_faults }
+    ensures err { IfErr result (λ end. (log : List Entry) → Stands archive.old log None (D.seen.may_leave disk.old)
+        → IsUnput D.seen disk.old disk.new channel.now address archive.old archive.new log place raw end) }
+    ensures fault { IsErrOf result ends.DiskFault → Rose (D.seen.view disk.old).disk_faults (D.seen.view disk.new).disk_faults }
 {
     let id = raw.id;
     if u64::from(id) != id_of(channel, &address) {
@@ -116,15 +115,15 @@ pub(crate) fn place_one<C: Dial, D: Disk>(
     url: &[u8],
     address: Address,
 ) -> Result<Step, FollowEnd>
-    requires stands { (log : List Entry) × Stands archive.old log None (D.may_leave disk.old) }
-    requires absent { (log : List Entry) → Stands archive.old log None (D.may_leave disk.old) → kept_at log address ≡ None }
-    ensures ok { IfOk result (λ step. (log : List Entry) → Stands archive.old log None (D.may_leave disk.old)
-        → Went D.view D.left_at D.may_leave C.log C.store C.later C.dial_faults
+    requires stands { (log : List Entry) × Stands archive.old log None (D.seen.may_leave disk.old) }
+    requires absent { (log : List Entry) → Stands archive.old log None (D.seen.may_leave disk.old) → kept_at log address ≡ None }
+    ensures ok { IfOk result (λ step. (log : List Entry) → Stands archive.old log None (D.seen.may_leave disk.old)
+        → Went D.seen C.log C.store C.later C.dial_faults
         disk.old disk.new dial.old dial.new plan.now channel.now url.now address archive.old archive.new log step) }
-    ensures err { IfErr result (λ end. (log : List Entry) → Stands archive.old log None (D.may_leave disk.old)
-        → Stopped D.view D.left_at D.may_leave C.log C.store C.later C.dial_faults
+    ensures err { IfErr result (λ end. (log : List Entry) → Stands archive.old log None (D.seen.may_leave disk.old)
+        → Stopped D.seen C.log C.store C.later C.dial_faults
         disk.old disk.new dial.old dial.new plan.now channel.now url.now address archive.old archive.new log end) }
-    ensures fault { IsErrOf result ends.DiskFault → Rose (D.view disk.old).disk_faults (D.view disk.new).disk_faults }
+    ensures fault { IsErrOf result ends.DiskFault → Rose (D.seen.view disk.old).disk_faults (D.seen.view disk.new).disk_faults }
 {
     match ask(alloc, dial, &plan.place, plan.tries, url, &address) {
         Found::NoMemory => Err(FollowEnd::NoMemory),

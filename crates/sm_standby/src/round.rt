@@ -32,13 +32,13 @@ fn follow_listing<C: Dial, D: Disk>(
     channel: &[Track],
     listing: &Listing,
 ) -> Result<(), FollowEnd>
-    requires stands { (log : List Entry) × Stands archive.old log None (D.may_leave disk.old) × AreOpen log held.old }
-    ensures ok { OnOk result ((log : List Entry) → Stands archive.old log None (D.may_leave disk.old) → AreOpen log held.old
-        → (f : Follows D.view D.left_at D.may_leave C.log C.store C.later C.dial_faults disk.old disk.new dial.old dial.new plan.now channel.now listing.now
+    requires stands { (log : List Entry) × Stands archive.old log None (D.seen.may_leave disk.old) × AreOpen log held.old }
+    ensures ok { OnOk result ((log : List Entry) → Stands archive.old log None (D.seen.may_leave disk.old) → AreOpen log held.old
+        → (f : Follows D.seen C.log C.store C.later C.dial_faults disk.old disk.new dial.old dial.new plan.now channel.now listing.now
         archive.old archive.new (at log held.old (addresses_of channel.now listing.now)) held.new [])
         × (due (length f.log) held.new ≡ None)) }
-    ensures err { IfErr result (λ end. (log : List Entry) → Stands archive.old log None (D.may_leave disk.old) → AreOpen log held.old
-        → Ends D.view D.left_at D.may_leave C.log C.store C.later C.dial_faults disk.old disk.new dial.old dial.new plan.now channel.now listing.now
+    ensures err { IfErr result (λ end. (log : List Entry) → Stands archive.old log None (D.seen.may_leave disk.old) → AreOpen log held.old
+        → Ends D.seen C.log C.store C.later C.dial_faults disk.old disk.new dial.old dial.new plan.now channel.now listing.now
         archive.old archive.new (at log held.old (addresses_of channel.now listing.now)) end) }
 {
     match candidates_of(alloc, channel, listing) {
@@ -68,12 +68,12 @@ fn follow_round<C: Dial, D: Disk>(
     channel: &[Track],
 ) -> Result<(), FollowEnd>
     requires few { length channel.now ≤ 64 }
-    requires stands { (log : List Entry) × Stands archive.old log None (D.may_leave disk.old) × AreOpen log held.old }
-    ensures ok { OnOk result ((log : List Entry) → Stands archive.old log None (D.may_leave disk.old) → AreOpen log held.old
-        → Rounds D.view D.left_at D.may_leave C.log C.store C.later C.dial_faults disk.old disk.new dial.old dial.new plan.now channel.now
+    requires stands { (log : List Entry) × Stands archive.old log None (D.seen.may_leave disk.old) × AreOpen log held.old }
+    ensures ok { OnOk result ((log : List Entry) → Stands archive.old log None (D.seen.may_leave disk.old) → AreOpen log held.old
+        → Rounds D.seen C.log C.store C.later C.dial_faults disk.old disk.new dial.old dial.new plan.now channel.now
         archive.old archive.new log held.old held.new 1) }
-    ensures err { IfErr result (λ end. (log : List Entry) → Stands archive.old log None (D.may_leave disk.old) → AreOpen log held.old
-        → RoundEnds D.view D.left_at D.may_leave C.log C.store C.later C.dial_faults disk.old disk.new dial.old dial.new plan.now channel.now
+    ensures err { IfErr result (λ end. (log : List Entry) → Stands archive.old log None (D.seen.may_leave disk.old) → AreOpen log held.old
+        → RoundEnds D.seen C.log C.store C.later C.dial_faults disk.old disk.new dial.old dial.new plan.now channel.now
         archive.old archive.new log held.old end) }
 {
     match read_listing(alloc, dial, &plan.place, plan.tries) {
@@ -114,12 +114,12 @@ fn follow_next<C: Dial, D: Disk>(
     round: u64,
 ) -> Result<(), FollowEnd>
     requires few { length channel.now ≤ 64 }
-    requires stands { (log : List Entry) × Stands archive.old log None (D.may_leave disk.old) × AreOpen log held.old }
-    ensures ok { OnOk result ((log : List Entry) → Stands archive.old log None (D.may_leave disk.old) → AreOpen log held.old
-        → Rounds D.view D.left_at D.may_leave C.log C.store C.later C.dial_faults disk.old disk.new dial.old dial.new plan.now channel.now
+    requires stands { (log : List Entry) × Stands archive.old log None (D.seen.may_leave disk.old) × AreOpen log held.old }
+    ensures ok { OnOk result ((log : List Entry) → Stands archive.old log None (D.seen.may_leave disk.old) → AreOpen log held.old
+        → Rounds D.seen C.log C.store C.later C.dial_faults disk.old disk.new dial.old dial.new plan.now channel.now
         archive.old archive.new log held.old held.new 1) }
-    ensures err { IfErr result (λ end. (log : List Entry) → Stands archive.old log None (D.may_leave disk.old) → AreOpen log held.old
-        → RoundEnds D.view D.left_at D.may_leave C.log C.store C.later C.dial_faults disk.old disk.new dial.old dial.new plan.now channel.now
+    ensures err { IfErr result (λ end. (log : List Entry) → Stands archive.old log None (D.seen.may_leave disk.old) → AreOpen log held.old
+        → RoundEnds D.seen C.log C.store C.later C.dial_faults disk.old disk.new dial.old dial.new plan.now channel.now
         archive.old archive.new log held.old end) }
 {
     pause_before(dial, round);
@@ -141,12 +141,12 @@ fn follow_rounds<C: Dial, D: Disk>(
 ) -> Result<(), FollowEnd>
     requires few { length channel.now ≤ 64 }
     requires empty { held.old ≡ [] }
-    requires stands { (log : List Entry) × Stands archive.old log None (D.may_leave disk.old) }
-    ensures ok { OnOk result ((log : List Entry) → Stands archive.old log None (D.may_leave disk.old)
-        → Rounds D.view D.left_at D.may_leave C.log C.store C.later C.dial_faults disk.old disk.new dial.old dial.new plan.now channel.now
+    requires stands { (log : List Entry) × Stands archive.old log None (D.seen.may_leave disk.old) }
+    ensures ok { OnOk result ((log : List Entry) → Stands archive.old log None (D.seen.may_leave disk.old)
+        → Rounds D.seen C.log C.store C.later C.dial_faults disk.old disk.new dial.old dial.new plan.now channel.now
         archive.old archive.new log [] held.new plan.now.rounds) }
-    ensures err { IfErr result (λ end. (log : List Entry) → Stands archive.old log None (D.may_leave disk.old)
-        → Called D.view D.left_at D.may_leave C.log C.store C.later C.dial_faults disk.old disk.new dial.old dial.new plan.now channel.now
+    ensures err { IfErr result (λ end. (log : List Entry) → Stands archive.old log None (D.seen.may_leave disk.old)
+        → Called D.seen C.log C.store C.later C.dial_faults disk.old disk.new dial.old dial.new plan.now channel.now
         archive.old archive.new log end) }
 {
     for round in 0..plan.rounds {
@@ -168,9 +168,9 @@ pub(crate) fn follow_channel<C: Dial, D: Disk>(
     channel: &[Track],
 ) -> FollowEnd
     requires few { length channel.now ≤ 64 }
-    requires stands { (log : List Entry) × Stands archive.old log None (D.may_leave disk.old) }
-    ensures { (log : List Entry) → Stands archive.old log None (D.may_leave disk.old)
-        → Called D.view D.left_at D.may_leave C.log C.store C.later C.dial_faults disk.old disk.new dial.old dial.new plan.now channel.now
+    requires stands { (log : List Entry) × Stands archive.old log None (D.seen.may_leave disk.old) }
+    ensures { (log : List Entry) → Stands archive.old log None (D.seen.may_leave disk.old)
+        → Called D.seen C.log C.store C.later C.dial_faults disk.old disk.new dial.old dial.new plan.now channel.now
         archive.old archive.new log result }
 {
     let mut held = Held::new(alloc);

@@ -3,9 +3,7 @@ use Rattle.std.proofs.Common.{◌≡◌, ◌⊎◌, inl, inr, ℕ, List, Result,
 use Rattle.std.specs.Prelude.{IfOk, OnErr}
 use Rattle.sm_model.specs.declared.no_memory.NoMemory.{NoMemory}
 use Rattle.sm_model.specs.declared.track.Track.{Track}
-use Rattle.sm_site.specs.Image.{Image}
-use Rattle.sm_site.specs.Meanings.{Chosen, View}
-use Rattle.sm_command.specs.Serving.{Input}
+use Rattle.sm_site.specs.Meanings.{Chosen, Seen}
 use Rattle.sm_pull.specs.declared.plan.PullPlan.{PullPlan}
 use Rattle.sm_relay.specs.declared.report.RelayReport.{RelayReport}
 use Rattle.sm_relay.specs.declared.report.RelayEnd.{RelayEnd}
@@ -19,6 +17,7 @@ use Rattle.sm_tool.specs.declared.answer.Answer.{Answer}
 use Rattle.sm_tool.specs.declared.answer.Answer.TheVariants.{NotAStore, Starved}
 use Rattle.sm_tool.specs.Edges.{Dialing, TellsFollow, TellsFollowEnd, TellsRelay, TellsRelayEnd}
 use Rattle.sm_tool.specs.Stores.{or_starved}
+use Rattle.sm_ends.specs.Ended.{End}
 
 -- ---- what is told, or that there was no memory for it
 
@@ -66,14 +65,14 @@ follow_is_store channel report (Err none) answer line tells is e = let no = sym 
 
 -- ---- the host by its other name
 
-module _ {S C : Type 0} (view : S → View) (left_at : S → ℕ → Image → Type 0) (leave : S → Image → Type 0) (t : Dialing C) (input input' : Input) (selection : Chosen) (plan : PullPlan)
+module _ {S C : Type 0} (site : Seen S) (t : Dialing C) (input input' : End) (selection : Chosen) (plan : PullPlan)
     (old new : S) (dial dial' : C) (channel : List Track) (host place : List ℕ) (same : host ≡ place) where
-  pub relayed_at : (report : RelayReport) → HasRelayed view left_at leave t.log t.store t.later t.faults t.chosen input input' selection host plan old new dial dial' channel report
-      → HasRelayed view left_at leave t.log t.store t.later t.faults t.chosen input input' selection place plan old new dial dial' channel report
+  pub relayed_at : (report : RelayReport) → HasRelayed site t.log t.store t.later t.faults t.chosen input input' selection host plan old new dial dial' channel report
+      → HasRelayed site t.log t.store t.later t.faults t.chosen input input' selection place plan old new dial dial' channel report
   relayed_at report r =
-      subst (λ (h : List ℕ). HasRelayed view left_at leave t.log t.store t.later t.faults t.chosen input input' selection h plan old new dial dial' channel report) same r
+      subst (λ (h : List ℕ). HasRelayed site t.log t.store t.later t.faults t.chosen input input' selection h plan old new dial dial' channel report) same r
 
-  pub followed_at : (report : FollowReport) → HasFollowed view left_at leave t.log t.store t.later t.faults t.chosen input input' selection host plan old new dial dial' channel report
-      → HasFollowed view left_at leave t.log t.store t.later t.faults t.chosen input input' selection place plan old new dial dial' channel report
+  pub followed_at : (report : FollowReport) → HasFollowed site t.log t.store t.later t.faults t.chosen input input' selection host plan old new dial dial' channel report
+      → HasFollowed site t.log t.store t.later t.faults t.chosen input input' selection place plan old new dial dial' channel report
   followed_at report r =
-      subst (λ (h : List ℕ). HasFollowed view left_at leave t.log t.store t.later t.faults t.chosen input input' selection h plan old new dial dial' channel report) same r
+      subst (λ (h : List ℕ). HasFollowed site t.log t.store t.later t.faults t.chosen input input' selection h plan old new dial dial' channel report) same r

@@ -3,8 +3,7 @@ use Rattle.std.specs.Prelude.{◌≡◌, ◌⊎◌, ◌++◌, ℕ, true, List, O
 use Rattle.sm_model.specs.declared.address.Address.{Address}
 use Rattle.sm_model.specs.declared.entry.Entry.{Entry}
 use Rattle.sm_model.specs.declared.track.Track.{Track}
-use Rattle.sm_site.specs.Image.{Image}
-use Rattle.sm_site.specs.Meanings.{Chosen, View}
+use Rattle.sm_site.specs.Meanings.{Chosen, Seen}
 use Rattle.sm_fetch.specs.declared.dial.Exchange.{Exchange}
 use Rattle.sm_fetch.specs.Exchanges.{Peer}
 use Rattle.sm_command.specs.declared.fault.StoreFault.{StoreFault}
@@ -22,7 +21,8 @@ use Rattle.sm_words.specs.Words.{Pulling}
 use Rattle.sm_tool.specs.declared.answer.Answer.{Answer}
 use Rattle.sm_tool.specs.declared.answer.Answer.TheVariants.{Found, Undone, DiskFault, Starved, Full}
 use Rattle.sm_tool.specs.Misses.{gave_up_line, no_manifest_line}
-use Rattle.sm_tool.specs.Stores.{End, Tells, clash_line, input_of}
+use Rattle.sm_tool.specs.Stores.{Tells, clash_line}
+use Rattle.sm_ends.specs.Ended.{End}
 
 -- what a dial tells of itself, and which dial is a later one
 pub record Dialing (C : Type 0) : Type 1 where
@@ -31,6 +31,9 @@ pub record Dialing (C : Type 0) : Type 1 where
   pub later : C → C → Type 0
   pub faults : C → ℕ
   pub chosen : C → Option Peer
+
+abbrev pub dialing : {C : Type 0} → (C → Option (List Exchange)) → (C → List Entry → Type 0) → (C → C → Type 0) → (C → ℕ) → (C → Option Peer) → Dialing C
+dialing log store later faults chosen = record { log = log; store = store; later = later; faults = faults; chosen = chosen }
 
 -- the folder of the words, which is made where it isn't there, and no port
 abbrev pub at_edge : List ℕ → Chosen
@@ -126,29 +129,29 @@ HasFollowLine followed.NoMemory = ⊥
 -- ---- both
 
 -- no store was opened, nothing was asked for, and why is told, but for want of memory
-abbrev pub IsUnpulled : {D C : Type 0} → (D → View) → (D → Image → Type 0) → Dialing C → Pulling → End → End → D → D → C → C → Answer
+abbrev pub IsUnpulled : {D C : Type 0} → Seen D → Dialing C → Pulling → End → End → D → D → C → C → Answer
     → Type 0
-IsUnpulled view leave t e input input' d d' c c' answer =
-    (why : StoreFault) × WhyNoEdge view leave (input_of input) (input_of input') (t.faults c) (t.faults c') (at_edge e.store) d d' why × (t.log c' ≡ t.log c)
+IsUnpulled site t e input input' d d' c c' answer =
+    (why : StoreFault) × WhyNoEdge site input input' (t.faults c) (t.faults c') (at_edge e.store) d d' why × (t.log c' ≡ t.log c)
     × (Tells why answer ⊎ (answer ≡ Starved))
 
 -- a relay pulled into the store, and how it ended is told, but for want of memory for the line; or no store was opened
-abbrev pub RelayMeans : {D C : Type 0} → (D → View) → (D → ℕ → Image → Type 0) → (D → Image → Type 0) → Dialing C → Pulling → End → End → D
+abbrev pub RelayMeans : {D C : Type 0} → Seen D → Dialing C → Pulling → End → End → D
     → D → C → C → Answer → Type 0
-RelayMeans view left_at leave t e input input' d d' c c' answer =
+RelayMeans site t e input input' d d' c c' answer =
     ((channel : List Track) × (report : RelayReport)
-    × HasRelayed view left_at leave t.log t.store t.later t.faults t.chosen (input_of input) (input_of input') (at_edge e.store)
+    × HasRelayed site t.log t.store t.later t.faults t.chosen input input' (at_edge e.store)
     e.place.host (plan_of e) d d' c c' channel report
     × (TellsRelay channel report answer ⊎ ((answer ≡ Starved) × HasRelayLine report.end)))
-    ⊎ IsUnpulled view leave t e input input' d d' c c' answer
+    ⊎ IsUnpulled site t e input input' d d' c c' answer
 
 -- the log of a primary was rebuilt in the store, and how that ended is told, but for want of memory for the line; or no store was opened
-abbrev pub StandbyMeans : {D C : Type 0} → (D → View) → (D → ℕ → Image → Type 0) → (D → Image → Type 0) → Dialing C → Pulling → End → End
+abbrev pub StandbyMeans : {D C : Type 0} → Seen D → Dialing C → Pulling → End → End
     → D → D → C → C → Answer
     → Type 0
-StandbyMeans view left_at leave t e input input' d d' c c' answer =
+StandbyMeans site t e input input' d d' c c' answer =
     ((channel : List Track) × (report : FollowReport)
-    × HasFollowed view left_at leave t.log t.store t.later t.faults t.chosen (input_of input) (input_of input') (at_edge e.store)
+    × HasFollowed site t.log t.store t.later t.faults t.chosen input input' (at_edge e.store)
     e.place.host (plan_of e) d d' c c' channel report
     × (TellsFollow channel report answer ⊎ ((answer ≡ Starved) × HasFollowLine report.end)))
-    ⊎ IsUnpulled view leave t e input input' d d' c c' answer
+    ⊎ IsUnpulled site t e input input' d d' c c' answer

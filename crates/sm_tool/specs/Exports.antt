@@ -7,16 +7,13 @@ use Rattle.sm_export.specs.declared.exported.Exported.{Exported}
 use Rattle.sm_export.specs.declared.exported.Exported.TheVariants as exported
 use Rattle.sm_export.specs.declared.exported.StoreExport.{StoreExport}
 use Rattle.sm_export.specs.declared.exported.StoreExport.TheVariants as ends
-use Rattle.sm_export.specs.Storing as storing
 use Rattle.sm_export.specs.Storing.{ComesTo}
 use Rattle.sm_tool.specs.declared.answer.Answer.{Answer}
 use Rattle.sm_tool.specs.declared.answer.Answer.TheVariants.{Found, Unread, TooLong, Refused, Clash, Starved, Unfinished}
 use Rattle.sm_tool.specs.declared.answer.Stop.TheVariants as stops
 use Rattle.sm_pick.specs.Due.{refusal_line}
-use Rattle.sm_tool.specs.Stores.{End, Tells, clash_line}
-
-abbrev pub end_of : End → storing.End
-end_of end = record { told = end.told; faults = end.faults }
+use Rattle.sm_tool.specs.Stores.{Tells, clash_line}
+use Rattle.sm_ends.specs.Ended.{End}
 
 -- How it is told what came of an archive and an input. A file that is whole is told by nothing further, and one that was begun and isn't
 -- whole is followed by no line.
@@ -60,5 +57,5 @@ IsUnwritten (ends.Unread fault) = ⊥
 -- line.
 abbrev pub ExportMeans : List ℕ → ℕ → View → View → End → End → End → End → Answer → Type 0
 ExportMeans name bitrate old new input input' output output' answer =
-    (comes : StoreExport) × ComesTo name bitrate old new (end_of input) (end_of input') (end_of output) (end_of output') comes
+    (comes : StoreExport) × ComesTo name bitrate old new input input' output output' comes
     × (TellsExport comes answer ⊎ ((answer ≡ Starved) × IsUnwritten comes))

@@ -7,14 +7,11 @@ use Rattle.sm_fetch.specs.declared.push.Pushed.TheVariants as pushed
 use Rattle.sm_fetch.specs.Origins.{Answered}
 use Rattle.sm_client.specs.declared.fault.VisitFault.{VisitFault}
 use Rattle.sm_client.specs.declared.fault.VisitFault.TheVariants as fault
-use Rattle.sm_client.specs.Pushing.{HasPushed, Input, Line, WhyUnpushed}
+use Rattle.sm_client.specs.Pushing.{HasPushed, Line, WhyUnpushed}
 use Rattle.sm_tool.specs.declared.answer.Answer.{Answer}
 use Rattle.sm_tool.specs.declared.answer.Answer.TheVariants.{Found, Unread, TooLong, Undone, LinkFault, Starved}
 use Rattle.sm_words.specs.declared.order.PushOrder.{PushOrder}
-use Rattle.sm_tool.specs.Stores.{End}
-
-abbrev pub source_of : End → Input
-source_of end = record { told = end.told; faults = end.faults }
+use Rattle.sm_ends.specs.Ended.{End}
 
 -- where the order goes
 abbrev pub place_of : PushOrder → Place
@@ -57,6 +54,6 @@ pub record IsAnswered (dial dial' : Line) (store store' : List Entry → Type 0)
 abbrev pub PushMeans : Place → List ℕ → End → End → Line → Line → (List Entry → Type 0) → (List Entry → Type 0) → Answer → Type 0
 PushMeans place id input input' dial dial' store store' answer =
     IsAnswered dial dial' store store' × (
-    ((p : Pushed) × HasPushed place.host place id (source_of input) (source_of input') dial dial' p × (TellsPush p answer ⊎ (answer ≡ Starved)))
-    ⊎ ((why : VisitFault) × WhyUnpushed (source_of input) (source_of input') dial dial' why × TellsUnpushed why answer)
+    ((p : Pushed) × HasPushed place.host place id input input' dial dial' p × (TellsPush p answer ⊎ (answer ≡ Starved)))
+    ⊎ ((why : VisitFault) × WhyUnpushed input input' dial dial' why × TellsUnpushed why answer)
     )

@@ -24,6 +24,9 @@ pub record Tape : Type 0 where
   pub held : ℕ → Option (List ℕ)
   pub faults : ℕ
 
+abbrev pub tape_of : {T : Type 0} → (T → ℕ → Option (List ℕ)) → (T → ℕ) → T → Tape
+tape_of held faults t = record { held = held t; faults = faults t }
+
 -- ---- the lines
 
 abbrev pub played_line : ℕ → List ℕ

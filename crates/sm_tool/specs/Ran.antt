@@ -6,8 +6,7 @@ use Rattle.sm_ends.specs.Moves.{TakesCount, TakesAtMost, AppendsFront}
 use Rattle.sm_fetch.specs.Origins.{Grows}
 use Rattle.sm_client.specs.Turns.{Meaning}
 use Rattle.sm_command.specs.Lasting.{Lasts, NoFewer, Spared, Untouched}
-use Rattle.sm_site.specs.Image.{Image}
-use Rattle.sm_site.specs.Meanings.{View}
+use Rattle.sm_site.specs.Meanings.{Seen}
 use Rattle.sm_pick.specs.declared.picked.Picked.TheVariants as picked
 use Rattle.sm_tool.specs.declared.answer.Answer.{Answer}
 use Rattle.sm_tool.specs.declared.answer.Answer.TheVariants.{Found, Words, Unread, TooLong, LongLadder, Refused, NotKept, Clash, Undone}
@@ -20,10 +19,11 @@ use Rattle.sm_tool.specs.Edges.{Dialing, RelayMeans, StandbyMeans, at_edge}
 use Rattle.sm_tool.specs.Exports.{ExportMeans}
 use Rattle.sm_words.specs.Helps.{help_of, version}
 use Rattle.sm_usage.specs.Wrong.{wrong_words}
-use Rattle.sm_tool.specs.Stores.{End, IsSelected, IsSilent, ListMeans, ServeMeans, at_folder, chosen_of}
+use Rattle.sm_tool.specs.Stores.{IsSelected, IsSilent, ListMeans, ServeMeans, at_folder, chosen_of}
 use Rattle.sm_tool.specs.Origins.{PushMeans}
 use Rattle.sm_tool.specs.Plays.{PlayMeans, Tape}
 use Rattle.sm_tool.specs.Rehearsals.{RehearseMeans}
+use Rattle.sm_ends.specs.Ended.{End}
 
 -- ---- pick
 
@@ -65,6 +65,9 @@ pub record Around : Type 0 where
   pub dial : Line
   pub tracks : Tape
 
+abbrev pub around : End → Line → Tape → Around
+around input dial tracks = record { input = input; dial = dial; tracks = tracks }
+
 -- nothing was read, nothing was sent, nothing was written to a track and nothing was done
 pub record IsIdle {D C : Type 0} (old new : Around) (d d' : D) (c c' : C) : Type 0 where
   pub around_is : new ≡ old
@@ -74,45 +77,45 @@ pub record IsIdle {D C : Type 0} (old new : Around) (d d' : D) (c c' : C) : Type
 -- The answer that words, input, dial, tracks and site have. Words that ask for nothing have no other than that, with what is wrong in them,
 -- but for want of memory, and leave all of them alone. So do words that ask for threads, since none is started here. A dial has
 -- logs that the origin behind it may have. `export` alone writes to the output before its answer is told.
-abbrev pub MeansBy : {D C P : Type 0} (view : D → View) (leave : D → Image → Type 0) (left_at : D → ℕ → Image → Type 0) (t : Dialing C)
+abbrev pub MeansBy : {D C P : Type 0} (site : Seen D) (t : Dialing C)
     → Meaning P → List P → List ℕ → Option Wanted → Around → Around → End → End → D → D → C → C → Answer → Type 0
-MeansBy view leave left_at t m policies wrong None old new out out' d d' c c' answer = (answer ≡ Words wrong) × (out' ≡ out) × IsIdle old new d d' c c'
-MeansBy view leave left_at t m policies wrong (Some (Pick track time)) old new out out' d d' c c' answer =
+MeansBy site t m policies wrong None old new out out' d d' c c' answer = (answer ≡ Words wrong) × (out' ≡ out) × IsIdle old new d d' c c'
+MeansBy site t m policies wrong (Some (Pick track time)) old new out out' d d' c c' answer =
     PickMeans track time old.input new.input answer × (out' ≡ out) × (new.dial ≡ old.dial) × (new.tracks ≡ old.tracks) × (d' ≡ d) × (c' ≡ c)
-MeansBy view leave left_at t m policies wrong (Some (Serve s)) old new out out' d d' c c' answer =
-    ServeMeans view leave left_at s.ladder s.turns old.input new.input d d' answer × IsSelected answer (chosen_of s) (view d')
+MeansBy site t m policies wrong (Some (Serve s)) old new out out' d d' c c' answer =
+    ServeMeans site s.ladder s.turns old.input new.input d d' answer × IsSelected answer (chosen_of s) (site.view d')
     × (old.input.faults ≤ new.input.faults) × (out' ≡ out) × (new.dial ≡ old.dial) × (new.tracks ≡ old.tracks) × (c' ≡ c)
-MeansBy view leave left_at t m policies wrong (Some (ServeShown s players)) old new out out' d d' c c' answer =
+MeansBy site t m policies wrong (Some (ServeShown s players)) old new out out' d d' c c' answer =
     (answer ≡ Words wrong) × (out' ≡ out) × IsIdle old new d d' c c'
-MeansBy view leave left_at t m policies wrong (Some (Push host port path id)) old new out out' d d' c c' answer =
+MeansBy site t m policies wrong (Some (Push host port path id)) old new out out' d d' c c' answer =
     PushMeans (record { host = host; port = port; path = path }) id old.input new.input old.dial new.dial (t.store c) (t.store c') answer
     × (out' ≡ out) × (new.tracks ≡ old.tracks) × (d' ≡ d)
-MeansBy view leave left_at t m policies wrong (Some (Play plan)) old new out out' d d' c c' answer =
+MeansBy site t m policies wrong (Some (Play plan)) old new out out' d d' c c' answer =
     PlayMeans m plan policies old.dial new.dial (t.store c) (t.store c') old.tracks new.tracks answer × (out' ≡ out) × (new.input ≡ old.input) × (d' ≡ d)
-MeansBy view leave left_at t m policies wrong (Some (Relay e)) old new out out' d d' c c' answer =
-    RelayMeans view left_at leave t e old.input new.input d d' c c' answer × (t.faults c ≤ t.faults c') × Grows (t.store c) (t.store c')
-    × IsSilent (view d) (view d') × NoFewer (view d) (view d') × IsSelected answer (at_edge e.store) (view d') × (out' ≡ out) × (new.tracks ≡ old.tracks)
-MeansBy view leave left_at t m policies wrong (Some (Standby e)) old new out out' d d' c c' answer =
-    StandbyMeans view left_at leave t e old.input new.input d d' c c' answer × (t.faults c ≤ t.faults c') × Grows (t.store c) (t.store c')
-    × IsSilent (view d) (view d') × NoFewer (view d) (view d') × IsSelected answer (at_edge e.store) (view d') × (out' ≡ out) × (new.tracks ≡ old.tracks)
-MeansBy view leave left_at t m policies wrong (Some (Listing folder)) old new out out' d d' c c' answer =
-    ListMeans view leave left_at d d' answer × IsSilent (view d) (view d') × NoFewer (view d) (view d') × IsSelected answer (at_folder folder) (view d')
+MeansBy site t m policies wrong (Some (Relay e)) old new out out' d d' c c' answer =
+    RelayMeans site t e old.input new.input d d' c c' answer × (t.faults c ≤ t.faults c') × Grows (t.store c) (t.store c')
+    × IsSilent (site.view d) (site.view d') × NoFewer (site.view d) (site.view d') × IsSelected answer (at_edge e.store) (site.view d') × (out' ≡ out) × (new.tracks ≡ old.tracks)
+MeansBy site t m policies wrong (Some (Standby e)) old new out out' d d' c c' answer =
+    StandbyMeans site t e old.input new.input d d' c c' answer × (t.faults c ≤ t.faults c') × Grows (t.store c) (t.store c')
+    × IsSilent (site.view d) (site.view d') × NoFewer (site.view d) (site.view d') × IsSelected answer (at_edge e.store) (site.view d') × (out' ≡ out) × (new.tracks ≡ old.tracks)
+MeansBy site t m policies wrong (Some (Listing folder)) old new out out' d d' c c' answer =
+    ListMeans site d d' answer × IsSilent (site.view d) (site.view d') × NoFewer (site.view d) (site.view d') × IsSelected answer (at_folder folder) (site.view d')
     × (out' ≡ out) × (new.input ≡ old.input) × (new.dial ≡ old.dial) × (new.tracks ≡ old.tracks) × (c' ≡ c)
-MeansBy view leave left_at t m policies wrong (Some (Rehearse number size)) old new out out' d d' c c' answer =
+MeansBy site t m policies wrong (Some (Rehearse number size)) old new out out' d d' c c' answer =
     RehearseMeans m number size policies answer × (out' ≡ out) × IsIdle old new d d' c c'
-MeansBy view leave left_at t m policies wrong (Some (Export folder name bitrate)) old new out out' d d' c c' answer =
-    ExportMeans name bitrate (view d) (view d') old.input new.input out out' answer × IsSilent (view d) (view d') × NoFewer (view d) (view d')
-    × IsSelected answer (at_folder folder) (view d') × (old.input.faults ≤ new.input.faults) × (out.faults ≤ out'.faults)
+MeansBy site t m policies wrong (Some (Export folder name bitrate)) old new out out' d d' c c' answer =
+    ExportMeans name bitrate (site.view d) (site.view d') old.input new.input out out' answer × IsSilent (site.view d) (site.view d') × NoFewer (site.view d) (site.view d')
+    × IsSelected answer (at_folder folder) (site.view d') × (old.input.faults ≤ new.input.faults) × (out.faults ≤ out'.faults)
     × (new.dial ≡ old.dial) × (new.tracks ≡ old.tracks) × (c' ≡ c)
-MeansBy view leave left_at t m policies wrong (Some (Help about)) old new out out' d d' c c' answer =
+MeansBy site t m policies wrong (Some (Help about)) old new out out' d d' c c' answer =
     (answer ≡ Found (help_of about)) × (out' ≡ out) × IsIdle old new d d' c c'
-MeansBy view leave left_at t m policies wrong (Some Version) old new out out' d d' c c' answer =
+MeansBy site t m policies wrong (Some Version) old new out out' d d' c c' answer =
     (answer ≡ Found version) × (out' ≡ out) × IsIdle old new d d' c c'
 
-abbrev pub Means : {D C P : Type 0} (view : D → View) (leave : D → Image → Type 0) (left_at : D → ℕ → Image → Type 0) (t : Dialing C)
+abbrev pub Means : {D C P : Type 0} (site : Seen D) (t : Dialing C)
     → Meaning P → List P → List (List ℕ) → Around → Around → End → End → D → D → C → C → Answer → Type 0
-Means view leave left_at t m policies words old new out out' d d' c c' answer =
-    MeansBy view leave left_at t m policies (wrong_words words) (asked words) old new out out' d d' c c' answer
+Means site t m policies words old new out out' d d' c c' answer =
+    MeansBy site t m policies (wrong_words words) (asked words) old new out out' d d' c c' answer
     ⊎ ((answer ≡ Starved) × (out' ≡ out) × IsIdle old new d d' c c')
 
 -- the whole line went out, or a front of it where the sink failed
@@ -123,24 +126,24 @@ Prints answer old new status =
 
 -- The words, the input, the dial, the tracks and the site have an answer, its line was printed behind what the command had written, and the
 -- status tells it.
-pub record IsRun {D C P : Type 0} (view : D → View) (leave : D → Image → Type 0) (left_at : D → ℕ → Image → Type 0) (t : Dialing C)
+pub record IsRun {D C P : Type 0} (site : Seen D) (t : Dialing C)
     (m : Meaning P) (policies : List P) (words : List (List ℕ)) (old new : Around) (output output' : End) (d d' : D) (c c' : C) (status : ℕ) : Type 0 where
   pub answer : Answer
   pub written : End
-  pub means : Means view leave left_at t m policies words old new output written d d' c c' answer
+  pub means : Means site t m policies words old new output written d d' c c' answer
   pub prints : Prints answer written output' status
   -- Whatever the command, and however it ended: what a crash may leave at each moment of the call is a store whose log begins with the one
   -- that was there, and holds what the call had shown by then.
-  pub lasts : Lasts view leave left_at d d'
+  pub lasts : Lasts site d d'
   -- files that are said to be no store weren't written
-  pub untouched : (line : List ℕ) → answer ≡ NotAStore line → Untouched view leave left_at d d'
+  pub untouched : (line : List ℕ) → answer ≡ NotAStore line → Untouched site d d'
   -- and none that are no store were, however it ended
-  pub spared : Spared view leave left_at d d'
+  pub spared : Spared site d d'
 
 -- A program ended with the status of a run; where there was no memory for its words, that alone was told.
-abbrev pub EndsAs : {D C P : Type 0} (view : D → View) (leave : D → Image → Type 0) (left_at : D → ℕ → Image → Type 0) (t : Dialing C)
+abbrev pub EndsAs : {D C P : Type 0} (site : Seen D) (t : Dialing C)
     → Meaning P → List P → Option (List (List ℕ)) → Around → Around → End → End → D → D → C → C → ℕ → Type 0
-EndsAs view leave left_at t m policies None old new output output' d d' c c' status =
+EndsAs site t m policies None old new output output' d d' c c' status =
     Prints Starved output output' status × IsIdle old new d d' c c'
-EndsAs view leave left_at t m policies (Some words) old new output output' d d' c c' status =
-    IsRun view leave left_at t m policies words old new output output' d d' c c' status
+EndsAs site t m policies (Some words) old new output output' d d' c c' status =
+    IsRun site t m policies words old new output output' d d' c c' status

@@ -6,7 +6,7 @@ use Rattle.sm_model.specs.declared.no_memory.NoMemory.{NoMemory}
 use Rattle.sm_model.specs.Causes.{cause_line}
 use Rattle.sm_pick.specs.Sentences.{sentence_of}
 use Rattle.sm_site.specs.Image.{Image}
-use Rattle.sm_site.specs.Meanings.{Chosen, View}
+use Rattle.sm_site.specs.Meanings.{Chosen, View, Seen}
 use Rattle.sm_archive.specs.Store.{IsStore}
 use Rattle.sm_serve.specs.declared.outcome.Served.{Served as Outcome}
 use Rattle.sm_serve.specs.declared.outcome.Served.TheVariants as served
@@ -14,19 +14,12 @@ use Rattle.sm_command.specs.declared.fault.StoreFault.{StoreFault}
 use Rattle.sm_command.specs.declared.fault.StoreFault.TheVariants as fault
 use Rattle.sm_command.specs.Listing.{WhyUnlisted, lines_of}
 use Rattle.sm_serve.specs.Serving.{CountsNone}
-use Rattle.sm_command.specs.Serving.{HasRun, Input, WhyUnready}
+use Rattle.sm_command.specs.Serving.{HasRun, WhyUnready}
 use Rattle.sm_words.specs.Words.{Serving}
 use Rattle.sm_tool.specs.declared.answer.Answer.{Answer}
 use Rattle.sm_tool.specs.declared.answer.Answer.TheVariants.{Found, Words, Unread, TooLong, LongLadder, Refused, NotKept, Clash, Undone}
 use Rattle.sm_tool.specs.declared.answer.Answer.TheVariants.{Damaged, DiskFault, LinkFault, TrackFault, Starved, Full, NotAStore, Unfinished}
-
--- an end before a call and after it: what it tells, and its count of faults
-pub record End : Type 0 where
-  pub told : Option (List ℕ)
-  pub faults : ℕ
-
-abbrev pub input_of : End → Input
-input_of end = record { told = end.told; faults = end.faults }
+use Rattle.sm_ends.specs.Ended.{End}
 
 -- the folder, the port, the address and the journal of the words; the folder is made where it isn't there
 abbrev pub chosen_of : Serving → Chosen
@@ -84,45 +77,45 @@ or_starved (Err none) = Starved
 -- ---- serve
 
 -- the loop ran to its end, and the line tells how many events it took
-pub record HasServed {D : Type 0} (view : D → View) (leave : D → Image → Type 0) (left_at : D → ℕ → Image → Type 0) (ladder : Bool) (turns : ℕ)
+pub record HasServed {D : Type 0} (site : Seen D) (ladder : Bool) (turns : ℕ)
     (input input' : End) (d d' : D) (line : List ℕ) : Type 0 where
   pub taken : ℕ
   pub behind : ℕ
   pub short : ℕ
   pub line_is : line ≡ turns_line taken
   pub counts : CountsNone (served.Done taken behind short)
-  pub run : HasRun view leave left_at ladder input.told input'.told turns d d' (served.Done taken behind short)
+  pub run : HasRun site ladder input.told input'.told turns d d' (served.Done taken behind short)
 
 -- A fault of the disk is one before the first event. One of the link is that of a choice of the port, or ended the loop. Want of memory may
 -- come at any time, and what was done until then is done.
-abbrev pub ServeMeans : {D : Type 0} (view : D → View) (leave : D → Image → Type 0) (left_at : D → ℕ → Image → Type 0) → Bool → ℕ → End → End
+abbrev pub ServeMeans : {D : Type 0} (site : Seen D) → Bool → ℕ → End → End
     → D → D → Answer → Type 0
-ServeMeans view leave left_at ladder turns input input' d d' (Found line) = HasServed view leave left_at ladder turns input input' d d' line
-ServeMeans view leave left_at ladder turns input input' d d' (Words text) = ⊥
-ServeMeans view leave left_at ladder turns input input' d d' Unread = WhyUnready view leave left_at ladder (input_of input) (input_of input') d d' fault.Unread
-ServeMeans view leave left_at ladder turns input input' d d' TooLong = ⊥
-ServeMeans view leave left_at ladder turns input input' d d' LongLadder =
-    WhyUnready view leave left_at ladder (input_of input) (input_of input') d d' fault.LongLadder
-ServeMeans view leave left_at ladder turns input input' d d' (Refused line) =
-    (at : ℕ) × (line ≡ ladder_line at) × WhyUnready view leave left_at ladder (input_of input) (input_of input') d d' (fault.BadLadder at)
-ServeMeans view leave left_at ladder turns input input' d d' NotKept = ⊥
-ServeMeans view leave left_at ladder turns input input' d d' (Clash line) =
-    (cause : Cause) × (line ≡ clash_line cause) × WhyUnready view leave left_at ladder (input_of input) (input_of input') d d' (fault.Refused cause)
-ServeMeans view leave left_at ladder turns input input' d d' (Undone line) = ⊥
-ServeMeans view leave left_at ladder turns input input' d d' Damaged = ⊥
-ServeMeans view leave left_at ladder turns input input' d d' DiskFault =
-    WhyUnready view leave left_at ladder (input_of input) (input_of input') d d' fault.DiskFault
-ServeMeans view leave left_at ladder turns input input' d d' LinkFault =
-    HasRun view leave left_at ladder input.told input'.told turns d d' served.LinkFault
-    ⊎ WhyUnready view leave left_at ladder (input_of input) (input_of input') d d' fault.LinkFault
-ServeMeans view leave left_at ladder turns input input' d d' TrackFault = ⊥
-ServeMeans view leave left_at ladder turns input input' d d' Starved =
-    ((end : Outcome) × CountsNone end × HasRun view leave left_at ladder input.told input'.told turns d d' end)
-    ⊎ ((why : StoreFault) × WhyUnready view leave left_at ladder (input_of input) (input_of input') d d' why)
-ServeMeans view leave left_at ladder turns input input' d d' Full = WhyUnready view leave left_at ladder (input_of input) (input_of input') d d' fault.Full
-ServeMeans view leave left_at ladder turns input input' d d' (NotAStore line) =
-    (at : ℕ) × (line ≡ store_line at) × WhyUnready view leave left_at ladder (input_of input) (input_of input') d d' (fault.NotAStore at)
-ServeMeans view leave left_at ladder turns input input' d d' (Unfinished stop) = ⊥
+ServeMeans site ladder turns input input' d d' (Found line) = HasServed site ladder turns input input' d d' line
+ServeMeans site ladder turns input input' d d' (Words text) = ⊥
+ServeMeans site ladder turns input input' d d' Unread = WhyUnready site ladder input input' d d' fault.Unread
+ServeMeans site ladder turns input input' d d' TooLong = ⊥
+ServeMeans site ladder turns input input' d d' LongLadder =
+    WhyUnready site ladder input input' d d' fault.LongLadder
+ServeMeans site ladder turns input input' d d' (Refused line) =
+    (at : ℕ) × (line ≡ ladder_line at) × WhyUnready site ladder input input' d d' (fault.BadLadder at)
+ServeMeans site ladder turns input input' d d' NotKept = ⊥
+ServeMeans site ladder turns input input' d d' (Clash line) =
+    (cause : Cause) × (line ≡ clash_line cause) × WhyUnready site ladder input input' d d' (fault.Refused cause)
+ServeMeans site ladder turns input input' d d' (Undone line) = ⊥
+ServeMeans site ladder turns input input' d d' Damaged = ⊥
+ServeMeans site ladder turns input input' d d' DiskFault =
+    WhyUnready site ladder input input' d d' fault.DiskFault
+ServeMeans site ladder turns input input' d d' LinkFault =
+    HasRun site ladder input.told input'.told turns d d' served.LinkFault
+    ⊎ WhyUnready site ladder input input' d d' fault.LinkFault
+ServeMeans site ladder turns input input' d d' TrackFault = ⊥
+ServeMeans site ladder turns input input' d d' Starved =
+    ((end : Outcome) × CountsNone end × HasRun site ladder input.told input'.told turns d d' end)
+    ⊎ ((why : StoreFault) × WhyUnready site ladder input input' d d' why)
+ServeMeans site ladder turns input input' d d' Full = WhyUnready site ladder input input' d d' fault.Full
+ServeMeans site ladder turns input input' d d' (NotAStore line) =
+    (at : ℕ) × (line ≡ store_line at) × WhyUnready site ladder input input' d d' (fault.NotAStore at)
+ServeMeans site ladder turns input input' d d' (Unfinished stop) = ⊥
 
 -- ---- list
 
@@ -131,25 +124,25 @@ abbrev pub IsListed : Option Image → List ℕ → Type 0
 IsListed contents text = IfSome contents (λ c. (log : List Entry) × IsStore log c × (text ≡ lines_of log))
 
 -- the lines of the log that the disk has, or why not; without memory for its line a fault is told as that
-abbrev pub ListMeans : {D : Type 0} (view : D → View) (leave : D → Image → Type 0) (left_at : D → ℕ → Image → Type 0) → D → D → Answer → Type 0
-ListMeans view leave left_at d d' (Found text) = IsListed (view d).contents text
-ListMeans view leave left_at d d' (Words text) = ⊥
-ListMeans view leave left_at d d' Unread = ⊥
-ListMeans view leave left_at d d' TooLong = ⊥
-ListMeans view leave left_at d d' LongLadder = ⊥
-ListMeans view leave left_at d d' (Refused line) = ⊥
-ListMeans view leave left_at d d' NotKept = ⊥
-ListMeans view leave left_at d d' (Clash line) = ⊥
-ListMeans view leave left_at d d' (Undone line) = ⊥
-ListMeans view leave left_at d d' Damaged = WhyUnlisted view leave left_at d d' fault.Damaged
-ListMeans view leave left_at d d' DiskFault = WhyUnlisted view leave left_at d d' fault.DiskFault
-ListMeans view leave left_at d d' LinkFault = WhyUnlisted view leave left_at d d' fault.LinkFault
-ListMeans view leave left_at d d' TrackFault = ⊥
-ListMeans view leave left_at d d' Starved = (why : StoreFault) × WhyUnlisted view leave left_at d d' why
-ListMeans view leave left_at d d' Full = ⊥
-ListMeans view leave left_at d d' (NotAStore line) =
-    (at : ℕ) × (line ≡ store_line at) × WhyUnlisted view leave left_at d d' (fault.NotAStore at)
-ListMeans view leave left_at d d' (Unfinished stop) = ⊥
+abbrev pub ListMeans : {D : Type 0} (site : Seen D) → D → D → Answer → Type 0
+ListMeans site d d' (Found text) = IsListed (site.view d).contents text
+ListMeans site d d' (Words text) = ⊥
+ListMeans site d d' Unread = ⊥
+ListMeans site d d' TooLong = ⊥
+ListMeans site d d' LongLadder = ⊥
+ListMeans site d d' (Refused line) = ⊥
+ListMeans site d d' NotKept = ⊥
+ListMeans site d d' (Clash line) = ⊥
+ListMeans site d d' (Undone line) = ⊥
+ListMeans site d d' Damaged = WhyUnlisted site d d' fault.Damaged
+ListMeans site d d' DiskFault = WhyUnlisted site d d' fault.DiskFault
+ListMeans site d d' LinkFault = WhyUnlisted site d d' fault.LinkFault
+ListMeans site d d' TrackFault = ⊥
+ListMeans site d d' Starved = (why : StoreFault) × WhyUnlisted site d d' why
+ListMeans site d d' Full = ⊥
+ListMeans site d d' (NotAStore line) =
+    (at : ℕ) × (line ≡ store_line at) × WhyUnlisted site d d' (fault.NotAStore at)
+ListMeans site d d' (Unfinished stop) = ⊥
 
 -- nothing was taken from the link, and nothing was sent
 pub record IsSilent (old new : View) : Type 0 where

@@ -3,7 +3,12 @@ ghost use Rattle.std.specs.Prelude.{◌≡◌, ◌⊎◌, ℕ, List, length, map
 ghost use Rattle.sm_command.specs.Lasting.{Lasts, Spared, Untouched};
 ghost use Rattle.sm_usage.specs.Wrong.{wrong_words};
 ghost use Rattle.sm_tool.specs.declared.answer.Answer.TheVariants as answers;
-ghost use Rattle.sm_tool.specs.Ran.{IsRun, Means, PickMeans, Prints};
+ghost use Rattle.sm_tool.specs.Ran.{IsRun, Means, PickMeans, Prints, around};
+ghost use Rattle.sm_ends.specs.Ended.{end_of};
+ghost use Rattle.sm_client.specs.Pushing.{line_of};
+ghost use Rattle.sm_client.specs.Turns.{meant};
+ghost use Rattle.sm_tool.specs.Edges.{dialing};
+ghost use Rattle.sm_tool.specs.Plays.{tape_of};
 
 use crate::answer::Answer;
 use crate::edges::{relay, standby};
@@ -25,8 +30,7 @@ use std::alloc::Global;
 
 // What the input comes to, where a fragment of it is asked for.
 fn picked<I: Source>(alloc: Global, input: &mut I, track: u32, time: u64) -> Answer
-    ensures { PickMeans track time (record { told = I.left input.old; faults = I.faults input.old })
-        (record { told = I.left input.new; faults = I.faults input.new }) result }
+    ensures { PickMeans track time (end_of I.left I.faults input.old) (end_of I.left I.faults input.new) result }
 {
     match pick(alloc, input, track, time) {
         Ok(Picked::Found(text)) => Answer::Found(text),
@@ -70,24 +74,14 @@ fn answer_to<I: Source, O: Sink, S: Site, C: Dial, T: Tracks>(
     policies: Vec<Box<dyn Policy>>,
 ) -> Answer
     requires policies { length policies.items ≡ 3 }
-    ensures means { Means S.Disk.view S.Disk.may_leave S.Disk.left_at
-        (record { log = C.log; store = C.store; later = C.later; faults = C.dial_faults; chosen = C.chosen })
-        (record { pick = pick_after; retired = retired_after }) policies.items (map string_bytes words.now)
-        (record {
-          input = record { told = I.left input.old; faults = I.faults input.old };
-          dial = record { log = C.log dial.old; faults = C.dial_faults dial.old; chosen = C.chosen dial.old };
-          tracks = record { held = T.held tracks.old; faults = T.faults tracks.old };
-        })
-        (record {
-          input = record { told = I.left input.new; faults = I.faults input.new };
-          dial = record { log = C.log dial.new; faults = C.dial_faults dial.new; chosen = C.chosen dial.new };
-          tracks = record { held = T.held tracks.new; faults = T.faults tracks.new };
-        })
-        (record { told = O.held output.old; faults = O.faults output.old })
-        (record { told = O.held output.new; faults = O.faults output.new }) site.old site.new dial.old dial.new result }
-    ensures lasts { Lasts S.Disk.view S.Disk.may_leave S.Disk.left_at site.old site.new }
-    ensures untouched { (line : List ℕ) → result ≡ answers.NotAStore line → Untouched S.Disk.view S.Disk.may_leave S.Disk.left_at site.old site.new }
-    ensures spared { Spared S.Disk.view S.Disk.may_leave S.Disk.left_at site.old site.new }
+    ensures means { Means S.Disk.seen (dialing C.log C.store C.later C.dial_faults C.chosen)
+        (meant pick_after retired_after) policies.items (map string_bytes words.now)
+        (around (end_of I.left I.faults input.old) (line_of C.log C.dial_faults C.chosen dial.old) (tape_of T.held T.faults tracks.old))
+        (around (end_of I.left I.faults input.new) (line_of C.log C.dial_faults C.chosen dial.new) (tape_of T.held T.faults tracks.new))
+        (end_of O.held O.faults output.old) (end_of O.held O.faults output.new) site.old site.new dial.old dial.new result }
+    ensures lasts { Lasts S.Disk.seen site.old site.new }
+    ensures untouched { (line : List ℕ) → result ≡ answers.NotAStore line → Untouched S.Disk.seen site.old site.new }
+    ensures spared { Spared S.Disk.seen site.old site.new }
     ensures goes_on { C.later dial.old dial.new }
 {
     match order_of(alloc, words) {
@@ -142,21 +136,11 @@ pub fn tool<I: Source, O: Sink, S: Site, C: Dial, T: Tracks>(
     policies: Vec<Box<dyn Policy>>,
 ) -> u8
     requires policies { length policies.items ≡ 3 }
-    ensures run { IsRun S.Disk.view S.Disk.may_leave S.Disk.left_at
-        (record { log = C.log; store = C.store; later = C.later; faults = C.dial_faults; chosen = C.chosen })
-        (record { pick = pick_after; retired = retired_after }) policies.items (map string_bytes words.now)
-        (record {
-          input = record { told = I.left input.old; faults = I.faults input.old };
-          dial = record { log = C.log dial.old; faults = C.dial_faults dial.old; chosen = C.chosen dial.old };
-          tracks = record { held = T.held tracks.old; faults = T.faults tracks.old };
-        })
-        (record {
-          input = record { told = I.left input.new; faults = I.faults input.new };
-          dial = record { log = C.log dial.new; faults = C.dial_faults dial.new; chosen = C.chosen dial.new };
-          tracks = record { held = T.held tracks.new; faults = T.faults tracks.new };
-        })
-        (record { told = O.held output.old; faults = O.faults output.old })
-        (record { told = O.held output.new; faults = O.faults output.new }) site.old site.new dial.old dial.new result }
+    ensures run { IsRun S.Disk.seen (dialing C.log C.store C.later C.dial_faults C.chosen)
+        (meant pick_after retired_after) policies.items (map string_bytes words.now)
+        (around (end_of I.left I.faults input.old) (line_of C.log C.dial_faults C.chosen dial.old) (tape_of T.held T.faults tracks.old))
+        (around (end_of I.left I.faults input.new) (line_of C.log C.dial_faults C.chosen dial.new) (tape_of T.held T.faults tracks.new))
+        (end_of O.held O.faults output.old) (end_of O.held O.faults output.new) site.old site.new dial.old dial.new result }
     // What the dial promises of whatever is done with it holds of the call.
     ensures goes_on { C.later dial.old dial.new }
 {
@@ -166,8 +150,7 @@ pub fn tool<I: Source, O: Sink, S: Site, C: Dial, T: Tracks>(
 
 /// Writes the line of a want of memory before any command was begun, and gives the exit status.
 pub fn starved<O: Sink>(output: &mut O) -> u8
-    ensures { Prints answers.Starved (record { told = O.held output.old; faults = O.faults output.old })
-        (record { told = O.held output.new; faults = O.faults output.new }) result }
+    ensures { Prints answers.Starved (end_of O.held O.faults output.old) (end_of O.held O.faults output.new) result }
 {
     print(output, &Answer::Starved)
 }

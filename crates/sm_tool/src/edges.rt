@@ -4,9 +4,10 @@ ghost use Rattle.sm_command.specs.Lasting.{Lasts, NoFewer, Spared, Untouched};
 ghost use Rattle.sm_fetch.specs.Origins.{Grows};
 ghost use Rattle.sm_words.specs.Orders.{IsPullable, pulling_of};
 ghost use Rattle.sm_tool.specs.declared.answer.Answer.TheVariants as answers;
-ghost use Rattle.sm_tool.specs.Edges.{HasFollowLine, HasRelayLine, RelayMeans, StandbyMeans, TellsFollow, TellsRelay, at_edge};
+ghost use Rattle.sm_tool.specs.Edges.{HasFollowLine, HasRelayLine, RelayMeans, StandbyMeans, TellsFollow, TellsRelay, at_edge, dialing};
 ghost use Rattle.sm_tool.specs.Edges.{followed_line, gap_line, no_track_line, other_id_line, relayed_line};
 ghost use Rattle.sm_tool.specs.Stores.{IsSelected, IsSilent};
+ghost use Rattle.sm_ends.specs.Ended.{end_of};
 
 use crate::answer::Answer;
 use crate::misses::{gave_up_line, no_manifest_line};
@@ -138,19 +139,17 @@ pub fn relay<I: Source, S: Site, C: Dial>(
     order: EdgeOrder,
 ) -> Answer
     requires pullable { IsPullable (pulling_of order) }
-    ensures selected { IsSelected result (at_edge (string_bytes order.store)) (S.Disk.view site.new) }
-    ensures means { RelayMeans S.Disk.view S.Disk.left_at S.Disk.may_leave
-        (record { log = C.log; store = C.store; later = C.later; faults = C.dial_faults; chosen = C.chosen }) (pulling_of order)
-        (record { told = I.left input.old; faults = I.faults input.old })
-        (record { told = I.left input.new; faults = I.faults input.new }) site.old site.new dial.old dial.new result }
+    ensures selected { IsSelected result (at_edge (string_bytes order.store)) (S.Disk.seen.view site.new) }
+    ensures means { RelayMeans S.Disk.seen (dialing C.log C.store C.later C.dial_faults C.chosen) (pulling_of order)
+        (end_of I.left I.faults input.old) (end_of I.left I.faults input.new) site.old site.new dial.old dial.new result }
     ensures later { C.dial_faults dial.old ≤ C.dial_faults dial.new }
     ensures goes_on { C.later dial.old dial.new }
     ensures grows { Grows (C.store dial.old) (C.store dial.new) }
-    ensures no_fewer { NoFewer (S.Disk.view site.old) (S.Disk.view site.new) }
-    ensures silent { IsSilent (S.Disk.view site.old) (S.Disk.view site.new) }
-    ensures lasts { Lasts S.Disk.view S.Disk.may_leave S.Disk.left_at site.old site.new }
-    ensures untouched { (line : List ℕ) → result ≡ answers.NotAStore line → Untouched S.Disk.view S.Disk.may_leave S.Disk.left_at site.old site.new }
-    ensures spared { Spared S.Disk.view S.Disk.may_leave S.Disk.left_at site.old site.new }
+    ensures no_fewer { NoFewer (S.Disk.seen.view site.old) (S.Disk.seen.view site.new) }
+    ensures silent { IsSilent (S.Disk.seen.view site.old) (S.Disk.seen.view site.new) }
+    ensures lasts { Lasts S.Disk.seen site.old site.new }
+    ensures untouched { (line : List ℕ) → result ≡ answers.NotAStore line → Untouched S.Disk.seen site.old site.new }
+    ensures spared { Spared S.Disk.seen site.old site.new }
 {
     let selection = Selection {
         store: order.store,
@@ -187,19 +186,17 @@ pub fn standby<I: Source, S: Site, C: Dial>(
     order: EdgeOrder,
 ) -> Answer
     requires pullable { IsPullable (pulling_of order) }
-    ensures selected { IsSelected result (at_edge (string_bytes order.store)) (S.Disk.view site.new) }
-    ensures means { StandbyMeans S.Disk.view S.Disk.left_at S.Disk.may_leave
-        (record { log = C.log; store = C.store; later = C.later; faults = C.dial_faults; chosen = C.chosen }) (pulling_of order)
-        (record { told = I.left input.old; faults = I.faults input.old })
-        (record { told = I.left input.new; faults = I.faults input.new }) site.old site.new dial.old dial.new result }
+    ensures selected { IsSelected result (at_edge (string_bytes order.store)) (S.Disk.seen.view site.new) }
+    ensures means { StandbyMeans S.Disk.seen (dialing C.log C.store C.later C.dial_faults C.chosen) (pulling_of order)
+        (end_of I.left I.faults input.old) (end_of I.left I.faults input.new) site.old site.new dial.old dial.new result }
     ensures later { C.dial_faults dial.old ≤ C.dial_faults dial.new }
     ensures goes_on { C.later dial.old dial.new }
     ensures grows { Grows (C.store dial.old) (C.store dial.new) }
-    ensures no_fewer { NoFewer (S.Disk.view site.old) (S.Disk.view site.new) }
-    ensures silent { IsSilent (S.Disk.view site.old) (S.Disk.view site.new) }
-    ensures lasts { Lasts S.Disk.view S.Disk.may_leave S.Disk.left_at site.old site.new }
-    ensures untouched { (line : List ℕ) → result ≡ answers.NotAStore line → Untouched S.Disk.view S.Disk.may_leave S.Disk.left_at site.old site.new }
-    ensures spared { Spared S.Disk.view S.Disk.may_leave S.Disk.left_at site.old site.new }
+    ensures no_fewer { NoFewer (S.Disk.seen.view site.old) (S.Disk.seen.view site.new) }
+    ensures silent { IsSilent (S.Disk.seen.view site.old) (S.Disk.seen.view site.new) }
+    ensures lasts { Lasts S.Disk.seen site.old site.new }
+    ensures untouched { (line : List ℕ) → result ≡ answers.NotAStore line → Untouched S.Disk.seen site.old site.new }
+    ensures spared { Spared S.Disk.seen site.old site.new }
 {
     let selection = Selection {
         store: order.store,

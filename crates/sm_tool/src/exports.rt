@@ -5,6 +5,7 @@ ghost use Rattle.sm_export.specs.declared.exported.StoreExport.TheVariants as en
 ghost use Rattle.sm_tool.specs.declared.answer.Answer.TheVariants as answers;
 ghost use Rattle.sm_tool.specs.Exports.{ExportMeans, IsUnwritten, TellsExport};
 ghost use Rattle.sm_tool.specs.Stores.{IsSelected, IsSilent, at_folder};
+ghost use Rattle.sm_ends.specs.Ended.{end_of};
 
 use crate::answer::{Answer, Stop};
 use crate::stores::{clash_line, or_starved, refused};
@@ -63,19 +64,17 @@ pub fn export<I: Source, O: Sink, S: Site>(
     site: &mut S,
     order: ExportOrder,
 ) -> Answer
-    ensures selected { IsSelected result (at_folder (string_bytes order.store)) (S.Disk.view site.new) }
-    ensures means { ExportMeans order.name order.bitrate (S.Disk.view site.old) (S.Disk.view site.new)
-        (record { told = I.left input.old; faults = I.faults input.old })
-        (record { told = I.left input.new; faults = I.faults input.new })
-        (record { told = O.held output.old; faults = O.faults output.old })
-        (record { told = O.held output.new; faults = O.faults output.new }) result }
+    ensures selected { IsSelected result (at_folder (string_bytes order.store)) (S.Disk.seen.view site.new) }
+    ensures means { ExportMeans order.name order.bitrate (S.Disk.seen.view site.old) (S.Disk.seen.view site.new)
+        (end_of I.left I.faults input.old) (end_of I.left I.faults input.new) (end_of O.held O.faults output.old)
+        (end_of O.held O.faults output.new) result }
     ensures counted { I.faults input.old ≤ I.faults input.new }
     ensures later { O.faults output.old ≤ O.faults output.new }
-    ensures no_fewer { NoFewer (S.Disk.view site.old) (S.Disk.view site.new) }
-    ensures silent { IsSilent (S.Disk.view site.old) (S.Disk.view site.new) }
-    ensures lasts { Lasts S.Disk.view S.Disk.may_leave S.Disk.left_at site.old site.new }
-    ensures untouched { (line : List ℕ) → result ≡ answers.NotAStore line → Untouched S.Disk.view S.Disk.may_leave S.Disk.left_at site.old site.new }
-    ensures spared { Spared S.Disk.view S.Disk.may_leave S.Disk.left_at site.old site.new }
+    ensures no_fewer { NoFewer (S.Disk.seen.view site.old) (S.Disk.seen.view site.new) }
+    ensures silent { IsSilent (S.Disk.seen.view site.old) (S.Disk.seen.view site.new) }
+    ensures lasts { Lasts S.Disk.seen site.old site.new }
+    ensures untouched { (line : List ℕ) → result ≡ answers.NotAStore line → Untouched S.Disk.seen site.old site.new }
+    ensures spared { Spared S.Disk.seen site.old site.new }
 {
     let ExportOrder {
         store,

@@ -1,7 +1,8 @@
 //! The commands at an origin.
 ghost use Rattle.std.specs.Prelude.{◌≡◌, ◌++◌, IfOk, IfErr};
-ghost use Rattle.sm_client.specs.Pushing.{HasPushed, WhyUnpushed};
+ghost use Rattle.sm_client.specs.Pushing.{HasPushed, WhyUnpushed, line_of};
 ghost use Rattle.sm_tool.specs.Origins.{IsAnswered, PushMeans, TellsPush, TellsUnpushed, place_of, status_line, unreadable_line};
+ghost use Rattle.sm_ends.specs.Ended.{end_of};
 
 use crate::answer::Answer;
 use sm_client::{VisitFault, push_input};
@@ -82,16 +83,12 @@ fn push_to<I: Source, C: Dial>(
     order: &PushOrder,
 ) -> Result<Pushed, VisitFault>
     ensures pushed { IfOk result (λ pushed. HasPushed (place_of order.now).host (place_of order.now) order.now.id
-        (record { told = I.left input.old; faults = I.faults input.old }) (record { told = I.left input.new; faults = I.faults input.new })
-        (record { log = C.log dial.old; faults = C.dial_faults dial.old; chosen = C.chosen dial.old })
-        (record { log = C.log dial.new; faults = C.dial_faults dial.new; chosen = C.chosen dial.new }) pushed) }
-    ensures why { IfErr result (λ why. WhyUnpushed
-        (record { told = I.left input.old; faults = I.faults input.old }) (record { told = I.left input.new; faults = I.faults input.new })
-        (record { log = C.log dial.old; faults = C.dial_faults dial.old; chosen = C.chosen dial.old })
-        (record { log = C.log dial.new; faults = C.dial_faults dial.new; chosen = C.chosen dial.new }) why) }
-    ensures answered { IsAnswered
-        (record { log = C.log dial.old; faults = C.dial_faults dial.old; chosen = C.chosen dial.old })
-        (record { log = C.log dial.new; faults = C.dial_faults dial.new; chosen = C.chosen dial.new }) (C.store dial.old) (C.store dial.new) }
+        (end_of I.left I.faults input.old) (end_of I.left I.faults input.new) (line_of C.log C.dial_faults C.chosen dial.old)
+        (line_of C.log C.dial_faults C.chosen dial.new) pushed) }
+    ensures why { IfErr result (λ why. WhyUnpushed (end_of I.left I.faults input.old) (end_of I.left I.faults input.new)
+        (line_of C.log C.dial_faults C.chosen dial.old) (line_of C.log C.dial_faults C.chosen dial.new) why) }
+    ensures answered { IsAnswered (line_of C.log C.dial_faults C.chosen dial.old)
+        (line_of C.log C.dial_faults C.chosen dial.new) (C.store dial.old) (C.store dial.new) }
     ensures goes_on { C.later dial.old dial.new }
 {
     let Ok(place) = place_of(alloc, order) else {
@@ -107,11 +104,9 @@ pub fn push<I: Source, C: Dial>(
     dial: &mut C,
     order: &PushOrder,
 ) -> Answer
-    ensures means { PushMeans (place_of order.now) order.now.id
-        (record { told = I.left input.old; faults = I.faults input.old })
-        (record { told = I.left input.new; faults = I.faults input.new })
-        (record { log = C.log dial.old; faults = C.dial_faults dial.old; chosen = C.chosen dial.old })
-        (record { log = C.log dial.new; faults = C.dial_faults dial.new; chosen = C.chosen dial.new }) (C.store dial.old) (C.store dial.new) result }
+    ensures means { PushMeans (place_of order.now) order.now.id (end_of I.left I.faults input.old) (end_of I.left I.faults input.new)
+        (line_of C.log C.dial_faults C.chosen dial.old)
+        (line_of C.log C.dial_faults C.chosen dial.new) (C.store dial.old) (C.store dial.new) result }
     ensures goes_on { C.later dial.old dial.new }
 {
     match push_to(alloc, input, dial, order) {

@@ -1,8 +1,10 @@
 //! Playing streams of an origin.
 ghost use Rattle.std.specs.Prelude.{◌≡◌, ◌<◌, length, IfOk, IfErr};
 ghost use Rattle.sm_words.specs.Orders.{IsPlayable};
-ghost use Rattle.sm_tool.specs.Plays.{HasPlayed, PlayMeans, TellsPlay, WhyUnplayed, hole_line};
+ghost use Rattle.sm_tool.specs.Plays.{HasPlayed, PlayMeans, TellsPlay, WhyUnplayed, hole_line, tape_of};
 ghost use Rattle.sm_tool.specs.Plays.{name_at, no_more_line, no_stream_line, played_line};
+ghost use Rattle.sm_client.specs.Pushing.{line_of};
+ghost use Rattle.sm_client.specs.Turns.{meant};
 
 use crate::answer::Answer;
 use crate::misses::{gave_up_line, no_manifest_line};
@@ -86,14 +88,12 @@ fn play_at<C: Dial, T: Tracks>(
 ) -> Result<Report, DialError>
     requires policies { 0 < length policies.items }
     requires playable { IsPlayable order.now.plan }
-    ensures played { IfOk result (λ report. HasPlayed (record { pick = pick_after; retired = retired_after }) order.now.plan policies.items
-        (record { log = C.log dial.old; faults = C.dial_faults dial.old; chosen = C.chosen dial.old })
-        (record { log = C.log dial.new; faults = C.dial_faults dial.new; chosen = C.chosen dial.new }) (C.store dial.old) (C.store dial.new)
-        (record { held = T.held tracks.old; faults = T.faults tracks.old }) (record { held = T.held tracks.new; faults = T.faults tracks.new }) report) }
-    ensures why { IfErr result (λ why. WhyUnplayed
-        (record { log = C.log dial.old; faults = C.dial_faults dial.old; chosen = C.chosen dial.old })
-        (record { log = C.log dial.new; faults = C.dial_faults dial.new; chosen = C.chosen dial.new }) (C.store dial.old) (C.store dial.new)
-        (record { held = T.held tracks.old; faults = T.faults tracks.old }) (record { held = T.held tracks.new; faults = T.faults tracks.new }) why) }
+    ensures played { IfOk result (λ report. HasPlayed (meant pick_after retired_after) order.now.plan policies.items
+        (line_of C.log C.dial_faults C.chosen dial.old) (line_of C.log C.dial_faults C.chosen dial.new) (C.store dial.old) (C.store dial.new)
+        (tape_of T.held T.faults tracks.old) (tape_of T.held T.faults tracks.new) report) }
+    ensures why { IfErr result (λ why. WhyUnplayed (line_of C.log C.dial_faults C.chosen dial.old)
+        (line_of C.log C.dial_faults C.chosen dial.new) (C.store dial.old) (C.store dial.new)
+        (tape_of T.held T.faults tracks.old) (tape_of T.held T.faults tracks.new) why) }
     ensures goes_on { C.later dial.old dial.new }
 {
     dial.select(order.host.as_str(), order.plan.place.port)?;
@@ -110,10 +110,9 @@ pub fn play<C: Dial, T: Tracks>(
 ) -> Answer
     requires policies { 0 < length policies.items }
     requires playable { IsPlayable order.now.plan }
-    ensures means { PlayMeans (record { pick = pick_after; retired = retired_after }) order.now.plan policies.items
-        (record { log = C.log dial.old; faults = C.dial_faults dial.old; chosen = C.chosen dial.old })
-        (record { log = C.log dial.new; faults = C.dial_faults dial.new; chosen = C.chosen dial.new }) (C.store dial.old) (C.store dial.new)
-        (record { held = T.held tracks.old; faults = T.faults tracks.old }) (record { held = T.held tracks.new; faults = T.faults tracks.new }) result }
+    ensures means { PlayMeans (meant pick_after retired_after) order.now.plan policies.items (line_of C.log C.dial_faults C.chosen dial.old)
+        (line_of C.log C.dial_faults C.chosen dial.new) (C.store dial.old) (C.store dial.new)
+        (tape_of T.held T.faults tracks.old) (tape_of T.held T.faults tracks.new) result }
     ensures goes_on { C.later dial.old dial.new }
 {
     match play_at(alloc, dial, tracks, policies, order) {

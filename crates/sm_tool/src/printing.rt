@@ -5,6 +5,7 @@ ghost use Rattle.sm_ends.specs.Faults.{HasCause};
 ghost use Rattle.sm_ends.specs.Moves.{AppendsFront};
 ghost use Rattle.sm_tool.specs.Answers.{line_of, status_of, stop_status_of, unwritten_status_of};
 ghost use Rattle.sm_tool.specs.Ran.{Prints};
+ghost use Rattle.sm_ends.specs.Ended.{end_of};
 
 use crate::answer::{Answer, Stop};
 use sm_ends::{Failed, Sink, write_all};
@@ -91,8 +92,7 @@ fn unwritten_status(answer: &Answer) -> u8
 
 /// Prints the line of an answer, and gives the status that tells both.
 pub fn print<O: Sink>(sink: &mut O, answer: &Answer) -> u8
-    ensures { Prints answer.now (record { told = O.held sink.old; faults = O.faults sink.old })
-        (record { told = O.held sink.new; faults = O.faults sink.new }) result }
+    ensures { Prints answer.now (end_of O.held O.faults sink.old) (end_of O.held O.faults sink.new) result }
 {
     match write_line(sink, answer) {
         Ok(()) => status(answer),

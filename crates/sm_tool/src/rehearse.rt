@@ -1,6 +1,7 @@
 //! Rehearsing in a stated world.
 ghost use Rattle.std.specs.Prelude.{◌≡◌, ◌≤◌, ◌<◌, ◌^◌, length, IfOk};
 ghost use Rattle.sm_tool.specs.Rehearsals.{IsRehearsed, RehearseMeans, rehearse_line};
+ghost use Rattle.sm_client.specs.Turns.{meant};
 
 use crate::answer::Answer;
 use sm_model::{Bytes, NoMemory};
@@ -36,7 +37,7 @@ fn rehearsed(
     requires policies { length policies.items ≡ 3 }
     requires number { number < 2 ^ 31 }
     requires size { size ≤ 2000 }
-    ensures { IfOk result (IsRehearsed (record { pick = pick_after; retired = retired_after }) number size policies.items) }
+    ensures { IfOk result (IsRehearsed (meant pick_after retired_after) number size policies.items) }
 {
     let rehearsal = sm_world::rehearse(alloc, number, size, policies)?;
     let line = rehearse_line(alloc, number, size, rehearsal.summary)?;
@@ -48,7 +49,7 @@ pub fn rehearse(alloc: Global, number: u64, size: u64, policies: Vec<Box<dyn Pol
     requires policies { length policies.items ≡ 3 }
     requires number { number < 2 ^ 31 }
     requires size { size ≤ 2000 }
-    ensures { RehearseMeans (record { pick = pick_after; retired = retired_after }) number size policies.items result }
+    ensures { RehearseMeans (meant pick_after retired_after) number size policies.items result }
 {
     match rehearsed(alloc, number, size, policies) {
         Ok(line) => Answer::Found(line),

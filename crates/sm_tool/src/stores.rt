@@ -4,6 +4,7 @@ ghost use Rattle.sm_command.specs.Lasting.{Lasts, NoFewer, Spared, Untouched};
 ghost use Rattle.sm_tool.specs.declared.answer.Answer.TheVariants as answers;
 ghost use Rattle.sm_words.specs.Orders.{serving_of};
 ghost use Rattle.sm_tool.specs.Stores.{IsSelected, IsSilent, ListMeans, ServeMeans, Tells, at_folder, chosen_of, TellsEnd, clash_line, ladder_line, or_starved, store_line, turns_line};
+ghost use Rattle.sm_ends.specs.Ended.{end_of};
 
 use crate::answer::Answer;
 use sm_command::{StoreFault, list_store, serve_store};
@@ -101,14 +102,13 @@ pub fn serve<I: Source, S: Site>(
     site: &mut S,
     order: ServeOrder,
 ) -> Answer
-    ensures selected { IsSelected result (chosen_of (serving_of order)) (S.Disk.view site.new) }
-    ensures means { ServeMeans S.Disk.view S.Disk.may_leave S.Disk.left_at order.ladder order.turns
-        (record { told = I.left input.old; faults = I.faults input.old })
-        (record { told = I.left input.new; faults = I.faults input.new }) site.old site.new result }
+    ensures selected { IsSelected result (chosen_of (serving_of order)) (S.Disk.seen.view site.new) }
+    ensures means { ServeMeans S.Disk.seen order.ladder order.turns (end_of I.left I.faults input.old)
+        (end_of I.left I.faults input.new) site.old site.new result }
     ensures counted { I.faults input.old ≤ I.faults input.new }
-    ensures lasts { Lasts S.Disk.view S.Disk.may_leave S.Disk.left_at site.old site.new }
-    ensures untouched { (line : List ℕ) → result ≡ answers.NotAStore line → Untouched S.Disk.view S.Disk.may_leave S.Disk.left_at site.old site.new }
-    ensures spared { Spared S.Disk.view S.Disk.may_leave S.Disk.left_at site.old site.new }
+    ensures lasts { Lasts S.Disk.seen site.old site.new }
+    ensures untouched { (line : List ℕ) → result ≡ answers.NotAStore line → Untouched S.Disk.seen site.old site.new }
+    ensures spared { Spared S.Disk.seen site.old site.new }
 {
     let selection = Selection {
         store: order.store,
@@ -125,13 +125,13 @@ pub fn serve<I: Source, S: Site>(
 
 /// Lists the store in that folder.
 pub fn list<S: Site>(alloc: Global, site: &mut S, store: String) -> Answer
-    ensures selected { IsSelected result (at_folder (string_bytes store)) (S.Disk.view site.new) }
-    ensures means { ListMeans S.Disk.view S.Disk.may_leave S.Disk.left_at site.old site.new result }
-    ensures no_fewer { NoFewer (S.Disk.view site.old) (S.Disk.view site.new) }
-    ensures silent { IsSilent (S.Disk.view site.old) (S.Disk.view site.new) }
-    ensures lasts { Lasts S.Disk.view S.Disk.may_leave S.Disk.left_at site.old site.new }
-    ensures untouched { (line : List ℕ) → result ≡ answers.NotAStore line → Untouched S.Disk.view S.Disk.may_leave S.Disk.left_at site.old site.new }
-    ensures spared { Spared S.Disk.view S.Disk.may_leave S.Disk.left_at site.old site.new }
+    ensures selected { IsSelected result (at_folder (string_bytes store)) (S.Disk.seen.view site.new) }
+    ensures means { ListMeans S.Disk.seen site.old site.new result }
+    ensures no_fewer { NoFewer (S.Disk.seen.view site.old) (S.Disk.seen.view site.new) }
+    ensures silent { IsSilent (S.Disk.seen.view site.old) (S.Disk.seen.view site.new) }
+    ensures lasts { Lasts S.Disk.seen site.old site.new }
+    ensures untouched { (line : List ℕ) → result ≡ answers.NotAStore line → Untouched S.Disk.seen site.old site.new }
+    ensures spared { Spared S.Disk.seen site.old site.new }
 {
     match list_store(alloc, site, store) {
         Ok(text) => Answer::Found(text),

@@ -7,7 +7,7 @@ use Rattle.sm_model.specs.declared.entry.Entry.TheVariants.{Keep}
 use Rattle.sm_site.specs.declared.event.Event.{Event}
 use Rattle.sm_site.specs.Image.{Image}
 use Rattle.sm_site.specs.Clauses.{Both, Rose, Settled}
-use Rattle.sm_site.specs.Meanings.{View, Item, SameLink}
+use Rattle.sm_site.specs.Meanings.{View, Item, SameLink, Seen}
 use Rattle.sm_site.specs.Meanings.Deal.{Over}
 use Rattle.sm_site.specs.Scripts.{deals_of}
 use Rattle.sm_site.specs.Sites.{SameBut}
@@ -68,21 +68,21 @@ unfolding events_in
 events_both [] ys = omega arith
 events_both (x ∷ xs) ys = one_more_event (is_event x.deal) (events_in (xs ++ ys)) (events_in xs) (events_in ys) (events_both xs ys)
 
-module _ {D : Type 0} (view : D → View) (leave : D → Image → Type 0) (left_at : D → ℕ → Image → Type 0) where
-  pub served_all : (h : History) (taken late short turns : ℕ) (state : State) (d : D) → 2 ^ 64 - 1 ≤ turns → Served view leave left_at h (served.Done taken late short) turns state d
-      → IfSome (view d).transcript IsServed
+module _ {D : Type 0} (site : Seen D) where
+  pub served_all : (h : History) (taken late short turns : ℕ) (state : State) (d : D) → 2 ^ 64 - 1 ≤ turns → Served site h (served.Done taken late short) turns state d
+      → IfSome (site.view d).transcript IsServed
   served_all h taken late short turns state d many s = ⊎_elim
-      (λ all. from_some (view d).transcript IsServed (k.base ++ k.items) s.told
+      (λ all. from_some (site.view d).transcript IsServed (k.base ++ k.items) s.told
       (inr (let sum = events_both k.base k.items in let count = all.1 in let is = all.0 in omega (arith, sum, count, is, many))))
-      (λ over. if_some (view d).transcript (λ items. (before : List Item) × (m : ℕ) × (items ≡ before ++ at m Over)) IsServed (λ items is. inl is) over.2)
+      (λ over. if_some (site.view d).transcript (λ items. (before : List Item) × (m : ℕ) × (items ≡ before ++ at m Over)) IsServed (λ items is. inl is) over.2)
       s.ended
     where
       k : History
       k = s.later
 
-  pub handed : (state : Option State) (s : State) (d between e : D) (request : List ℕ) (conn : ℕ) (came : Acted) → HasSent conn (view e).transcript came → 2 ^ 63 ≤ conn
-      → ((events : List Event) × Brings conn request events × Both (view d).script (view between).script (λ was now. now ≡ was ++ deals_of events))
-      → IfSome (view e).transcript IsServed → HasCause view state d (Some s) e request came
+  pub handed : (state : Option State) (s : State) (d between e : D) (request : List ℕ) (conn : ℕ) (came : Acted) → HasSent conn (site.view e).transcript came → 2 ^ 63 ≤ conn
+      → ((events : List Event) × Brings conn request events × Both (site.view d).script (site.view between).script (λ was now. now ≡ was ++ deals_of events))
+      → IfSome (site.view e).transcript IsServed → HasCause site.view state d (Some s) e request came
   handed state s d between e request conn acted.Unopened sent high brings all = absurd sent
   handed state s d between e request conn acted.Broken sent high brings all = absurd sent
   handed state s d between e request conn acted.NoMemory sent high brings all = tt
@@ -107,11 +107,11 @@ module _ {D : Type 0} (view : D → View) (leave : D → Image → Type 0) (left
   not_unopened conn told (acted.Sent bytes) sent is = absurd (cc)
 
   -- a store that was opened before leaves the cause as it is
-  pub cause_before : (state state' : Option State) (s : State) (d mid e : D) (request : List ℕ) (came : Acted) → SameLink (view d) (view mid)
-      → HasCause view (Some s) mid state' e request came → HasCause view state d state' e request came
+  pub cause_before : (state state' : Option State) (s : State) (d mid e : D) (request : List ℕ) (came : Acted) → SameLink (site.view d) (site.view mid)
+      → HasCause site.view (Some s) mid state' e request came → HasCause site.view state d state' e request came
   cause_before state state' s d mid e request acted.Unopened link cause = absurd (let closed = cause.0 in cc)
   cause_before state state' s d mid e request acted.Broken link cause =
-      (cause.0, rose_from (view d).link_faults (view mid).link_faults (view e).link_faults link.link_faults cause.1)
+      (cause.0, rose_from (site.view d).link_faults (site.view mid).link_faults (site.view e).link_faults link.link_faults cause.1)
   cause_before state state' s d mid e request acted.NoMemory link cause = tt
   cause_before state state' s d mid e request (acted.Sent bytes) link cause = (
     cause.0,
@@ -121,7 +121,7 @@ module _ {D : Type 0} (view : D → View) (leave : D → Image → Type 0) (left
       events = cause.1.events;
       brings = cause.1.brings;
       between = cause.1.between;
-      added = subst (λ (script : _). Both script (view cause.1.between).script (λ was now. now ≡ was ++ deals_of cause.1.events)) link.script cause.1.added;
+      added = subst (λ (script : _). Both script (site.view cause.1.between).script (λ was now. now ≡ was ++ deals_of cause.1.events)) link.script cause.1.added;
       served = cause.1.served;
       sent = cause.1.sent;
     },
@@ -129,37 +129,37 @@ module _ {D : Type 0} (view : D → View) (leave : D → Image → Type 0) (left
 
   -- ---- a dial that is made
 
-  pub begins_closed : (d : D) (log : List Entry) (past : List (List Item)) → IsSome (view d).contents → IsSome (view d).transcript → IfSome (view d).contents (λ now. Settled now (leave d))
-      → IfSome (view d).contents (IsStore log) → IsClosed view leave (record { first = log; past = past; log = log }) d
+  pub begins_closed : (d : D) (log : List Entry) (past : List (List Item)) → IsSome (site.view d).contents → IsSome (site.view d).transcript → IfSome (site.view d).contents (λ now. Settled now (site.may_leave d))
+      → IfSome (site.view d).contents (IsStore log) → IsClosed site (record { first = log; past = past; log = log }) d
   begins_closed d log past some told settled store =
-      let c = some_of (view d).contents some in
-      let items = some_of (view d).transcript told in
+      let c = some_of (site.view d).contents some in
+      let items = some_of (site.view d).transcript told in
       record {
-        one = one_store log c.0 (leave d) (at_some (view d).contents (IsStore log) c.0 c.1 store) (at_some (view d).contents (λ now. Settled now (leave d)) c.0 c.1 settled);
+        one = one_store log c.0 (site.may_leave d) (at_some (site.view d).contents (IsStore log) c.0 c.1 store) (at_some (site.view d).contents (λ now. Settled now (site.may_leave d)) c.0 c.1 settled);
         items = items.0;
         told = items.1;
         comes = record { more = []; log_is = sym (append-nil log); pushed = λ f there. absurd (in_none (Keep f) there) };
       }
 
-  pub some_world : (d : D) (past : List (List Item)) → IsSome (view d).contents → IsSome (view d).transcript → IfSome (view d).contents (λ now. Settled now (leave d))
-      → IfSome (view d).contents (λ now. (log : List Entry) × IsStore log now) → (w : World) × IsClosed view leave w d
+  pub some_world : (d : D) (past : List (List Item)) → IsSome (site.view d).contents → IsSome (site.view d).transcript → IfSome (site.view d).contents (λ now. Settled now (site.may_leave d))
+      → IfSome (site.view d).contents (λ now. (log : List Entry) × IsStore log now) → (w : World) × IsClosed site w d
   some_world d past some told settled store =
-      let c = some_of (view d).contents some in
-      let s = at_some (view d).contents (λ now. (log : List Entry) × IsStore log now) c.0 c.1 store in (
+      let c = some_of (site.view d).contents some in
+      let s = at_some (site.view d).contents (λ now. (log : List Entry) × IsStore log now) c.0 c.1 store in (
         record { first = s.0; past = past; log = s.0 },
-        begins_closed d s.0 past some told settled (from_some (view d).contents (IsStore s.0) c.0 c.1 s.1),
+        begins_closed d s.0 past some told settled (from_some (site.view d).contents (IsStore s.0) c.0 c.1 s.1),
       )
 
 pub empty_told : (o : Option (List Item)) → IsSome o → IfSome o (λ items. items ≡ []) → o ≡ Some []
 empty_told None some empty = absurd (cc)
 empty_told (Some items) some empty = ap (λ (l : List Item). Some l) empty
 
-pub never_fails : {D : Type 0} (view : D → View) (leave : D → Image → Type 0) (left_at : D → ℕ → Image → Type 0)
+pub never_fails : {D : Type 0} (site : Seen D)
     (one_list : (xs ys : List (List ℕ)) (image : Image) → HasStore xs image → HasStore ys image → xs ≡ ys)
     (no_fault : (xs : List (List ℕ)) (at : ℕ) (image : Image) → HasStore xs image → NoLog at image → ⊥)
     (one_log : (bodies : List (List ℕ)) (a b : List Entry) → Spell bodies a → Spell bodies b → a ≡ b)
-    (w : World) (d : D) (at : ℕ) → IsSome (view d).contents → IfSome (view d).contents (leave d) → IsClosed view leave w d → IfSome (view d).contents (NotAStore at) → ⊥
-never_fails view leave left_at one_list no_fault one_log w d at some passes closed fails =
-    let c = some_of (view d).contents some in
+    (w : World) (d : D) (at : ℕ) → IsSome (site.view d).contents → IfSome (site.view d).contents (site.may_leave d) → IsClosed site w d → IfSome (site.view d).contents (NotAStore at) → ⊥
+never_fails site one_list no_fault one_log w d at some passes closed fails =
+    let c = some_of (site.view d).contents some in
     stores_open one_list no_fault one_log w.log c.0 at
-    (store_in w.log c.0 (leave d) closed.one (at_some (view d).contents (leave d) c.0 c.1 passes)) (at_some (view d).contents (NotAStore at) c.0 c.1 fails)
+    (store_in w.log c.0 (site.may_leave d) closed.one (at_some (site.view d).contents (site.may_leave d) c.0 c.1 passes)) (at_some (site.view d).contents (NotAStore at) c.0 c.1 fails)

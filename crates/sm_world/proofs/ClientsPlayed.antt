@@ -4,9 +4,8 @@ use Rattle.std.specs.Prelude.{codes}
 use Rattle.std.proofs.Math.Seq.{drop-append_seam}
 use Rattle.std.proofs.lemmas.List.{length-map, length-drop, append_cancel_left}
 use Rattle.sm_model.specs.declared.entry.Entry.{Entry}
-use Rattle.sm_site.specs.Image.{Image}
-use Rattle.sm_site.specs.Meanings.{View}
-use Rattle.sm_site.specs.Memory.{site_view, site_may_leave, site_left_at}
+use Rattle.sm_site.specs.Meanings.{Seen}
+use Rattle.sm_site.specs.Memory.{site_seen, site_view}
 use Rattle.sm_site.specs.declared.memory.MemorySite.{MemorySite}
 use Rattle.sm_log.specs.Logs.{IsSound}
 use Rattle.sm_fetch.specs.declared.dial.Exchange.{Exchange}
@@ -34,10 +33,10 @@ use Rattle.sm_world.proofs.Numbers.{Lists, are_due, length_log, all_rounds, same
 use Rattle.sm_world.proofs.ClientsKept.{serves_client}
 
 -- the log of a world is sound, wherever it stands
-sound_world : {D : Type 0} (view : D → View) (leave : D → Image → Type 0) (left_at : D → ℕ → Image → Type 0) (w : World) (state : Option State) (d : D)
-    → Stands view leave left_at w state d → IsSound w.log
-sound_world view leave left_at w None d stands = stands.one.sound
-sound_world view leave left_at w (Some state) d stands = subst IsSound stands.log_is stands.serves.rest.stands.stands.keeps.sound
+sound_world : {D : Type 0} (site : Seen D) (w : World) (state : Option State) (d : D)
+    → Stands site w state d → IsSound w.log
+sound_world site w None d stands = stands.one.sound
+sound_world site w (Some state) d stands = subst IsSound stands.log_is stands.serves.rest.stands.stands.keeps.sound
 
 -- all that is behind a place
 pub take_rest : (n : ℕ) (xs : List Exchange) → take (length xs - n) (drop n xs) ≡ drop n xs
@@ -84,9 +83,9 @@ renumbered old lost cut = (old.0, record old.1 { lost = lost; cut = cut; since =
 -- a play of one stream into new tracks, from that dial on
 pub record Plays {P : Type 0} (m : Meaning P) (p : P) (name : List ℕ) (count : ℕ) (mid new : MemorySite × Dialing) (tracks : TracksState) (report : Report) : Type 0 where
   pub served : PlaysServed m (plan_of name count) (settle m p [] []) (Some mid.1.made) (Some new.1.made) (λ k. Some []) (λ k. Some (held_at tracks.tracks k)) report
-  pub later : IsLater site_view site_may_leave site_left_at mid new
-  pub answered : Answered (Some mid.1.made) (Some new.1.made) (StandsAt site_view site_may_leave site_left_at mid.1.state mid.0)
-      (StandsAt site_view site_may_leave site_left_at new.1.state new.0)
+  pub later : IsLater site_seen mid new
+  pub answered : Answered (Some mid.1.made) (Some new.1.made) (StandsAt site_seen mid.1.state mid.0)
+      (StandsAt site_seen new.1.state new.0)
 
 module _ {P : Type 0} (m : Meaning P) (p : P) (name : List ℕ) (count most : ℕ) (old new : MemorySite × Dialing) (lost cut : List ℕ) (tracks : TracksState) (report : Report)
     (which : (name ≡ codes "video") ⊎ (name ≡ codes "audio")) (few : count ≤ 2000) (within : (count + 1) * 9 ≤ most) (five : Lists 5 most lost) (seven : Lists 7 most cut)
@@ -117,8 +116,8 @@ module _ {P : Type 0} (m : Meaning P) (p : P) (name : List ℕ) (count most : �
   same_more : plays.later.exchanges.more ≡ more
   same_more = append_cancel_left old.1.made plays.later.exchanges.more more (sym plays.later.exchanges.made ∙ made)
 
-  due : (w : World) → Stands site_view site_may_leave site_left_at w old.1.state old.0 → w.log ≡ log_of count
-      → ((now : World) → Stands site_view site_may_leave site_left_at now new.1.state new.0 → length now.log ≡ entries_after count)
+  due : (w : World) → Stands site_seen w old.1.state old.0 → w.log ≡ log_of count
+      → ((now : World) → Stands site_seen now new.1.state new.0 → length now.log ≡ entries_after count)
       → AreDue (site_view old.0) (site_view new.0) (log_of count) 1 more
   due w stands is after =
       let on = plays.later.exchanges.on (omega arith) (log_of count) (record { world = w; stands = stands; log_is = is }) in
@@ -137,14 +136,14 @@ module _ {P : Type 0} (m : Meaning P) (p : P) (name : List ℕ) (count most : �
       let is : count_of (plan_of name count) (name ∷ []) plays.served.plays.parts ≡ length written + 0 = ap (count_of (plan_of name count) (name ∷ [])) one.is in
       let told = plays.served.plays.played in omega (arith, is, told, whole)
 
-  kept : (w : World) → Stands site_view site_may_leave site_left_at w old.1.state old.0 → w.log ≡ log_of count
-      → ((now : World) → Stands site_view site_may_leave site_left_at now new.1.state new.0 → length now.log ≡ entries_after count)
+  kept : (w : World) → Stands site_seen w old.1.state old.0 → w.log ≡ log_of count
+      → ((now : World) → Stands site_seen now new.1.state new.0 → length now.log ≡ entries_after count)
       → 0 < count → AreIn (log_of count) written
   kept w stands is after some =
       let on = plays.answered.on (log_of count) (record { world = w; stands = stands; log_is = is }) in
       let last = log_of count ++ on.0 in
       let len : length last ≡ entries_after count = ap (λ (l : List Entry). length l) (sym on.1.log_is) ∙ after on.1.world on.1.stands in
-      let sound : IsSound (log_of count) = subst IsSound is (sound_world site_view site_may_leave site_left_at w old.1.state old.0 stands) in
+      let sound : IsSound (log_of count) = subst IsSound is (sound_world site_seen w old.1.state old.0 stands) in
       let serves : Serves (plan_of name count) channel (log_of count) last plays.answered.made =
       serves_client name count last plays.answered.made which some few sound len on.2
       in
@@ -154,8 +153,8 @@ module _ {P : Type 0} (m : Meaning P) (p : P) (name : List ℕ) (count most : �
       let first : AreIn last written = (subst (PartsIn (plan_of name count) last (name ∷ [])) one.is parts).0 in
       subst (λ (l : List Entry). AreIn l written) (same_log (log_of count) on.0 (let was = length_log count in omega (arith, len, was))) first
 
-  client : (w : World) → Stands site_view site_may_leave site_left_at w old.1.state old.0 → w.log ≡ log_of count
-      → ((now : World) → Stands site_view site_may_leave site_left_at now new.1.state new.0 → length now.log ≡ entries_after count)
+  client : (w : World) → Stands site_seen w old.1.state old.0 → w.log ≡ log_of count
+      → ((now : World) → Stands site_seen now new.1.state new.0 → length now.log ≡ entries_after count)
       → IsClient m p name count (site_view old.0) (site_view new.0) more tracks
   client w stands is after = record {
     part = one.part;
@@ -184,7 +183,7 @@ module _ {P : Type 0} (m : Meaning P) (p : P) (name : List ℕ) (count most : �
     played = refl;
     crashes = plays.later.crashes;
     tells = plays.later.tells;
-    stays_on = continues_later site_view site_may_leave site_left_at (renumbered old lost cut) new plays.later;
+    stays_on = continues_later site_seen (renumbered old lost cut) new plays.later;
   }
 
 -- ---- as the calls tell it
@@ -195,9 +194,9 @@ module _ {P : Type 0} (m : Meaning P) (p : P) (name : List ℕ) (count : ℕ) (o
   pub plays_one : plan ≡ plan_of name count → policies ≡ p ∷ [] → tracks.tracks ≡ [] → mid.0 ≡ old.0
       → mid.1 ≡ record old.1 { lost = lost; cut = cut; since = length old.1.made }
       → PlayedServed m plan policies (Some mid.1.made) (Some new.1.made) (λ k. Some (held_at tracks.tracks k)) (λ k. Some (held_at tracks'.tracks k)) report
-      → IsLater site_view site_may_leave site_left_at mid new
-      → Answered (Some mid.1.made) (Some new.1.made) (StandsAt site_view site_may_leave site_left_at mid.1.state mid.0)
-      (StandsAt site_view site_may_leave site_left_at new.1.state new.0)
+      → IsLater site_seen mid new
+      → Answered (Some mid.1.made) (Some new.1.made) (StandsAt site_seen mid.1.state mid.0)
+      (StandsAt site_seen new.1.state new.0)
       → Plays m p name count (renumbered old lost cut) new tracks' report
   plays_one plan_is one empty site dialing served later answered =
       let first = subst (λ (q : Plan). PlayedServed m q policies (Some mid.1.made) (Some new.1.made) (λ k. Some (held_at tracks.tracks k)) (λ k. Some (held_at tracks'.tracks k)) report) plan_is served in

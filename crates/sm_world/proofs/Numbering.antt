@@ -7,8 +7,7 @@ use Rattle.sm_fetch.specs.declared.dial.Answer.TheVariants as answers
 use Rattle.sm_fetch.specs.declared.dial.Exchange.{Exchange}
 use Rattle.sm_fetch.specs.Exchanges.{logged, IsWithin}
 use Rattle.sm_site.specs.Faults.{is_listed}
-use Rattle.sm_site.specs.Image.{Image}
-use Rattle.sm_site.specs.Meanings.{View}
+use Rattle.sm_site.specs.Meanings.{Seen}
 use Rattle.sm_world.specs.Answering.{answer_for, halved}
 use Rattle.sm_world.specs.Dialing.{Dialing, next_number}
 use Rattle.sm_world.specs.Later.{HasMade, IsLater}
@@ -22,9 +21,9 @@ use Rattle.sm_world.specs.declared.acted.Acted.TheVariants as acted
 abbrev pub by_number : Dialing → ℕ → Acted → Answer
 by_number s limit came = answer_for (is_listed (next_number s) s.lost) (is_listed (next_number s) s.cut) limit came
 
-module _ {D : Type 0} (view : D → View) (leave : D → Image → Type 0) (left_at : D → ℕ → Image → Type 0) (d e : D × Dialing) (request : List ℕ) (limit : ℕ) (came : Acted)
-    (says : SaysOn view leave left_at d.1.state d.0 request came e.1.state e.0) where
-  one_more : (answer : Answer) → e.1.made ≡ d.1.made ++ (record { request = request; limit = limit; answer = answer }) ∷ [] → answer ≡ by_number d.1 limit came → HasMade view leave left_at d e
+module _ {D : Type 0} (site : Seen D) (d e : D × Dialing) (request : List ℕ) (limit : ℕ) (came : Acted)
+    (says : SaysOn site d.1.state d.0 request came e.1.state e.0) where
+  one_more : (answer : Answer) → e.1.made ≡ d.1.made ++ (record { request = request; limit = limit; answer = answer }) ∷ [] → answer ≡ by_number d.1 limit came → HasMade site d e
   one_more answer is by = record {
     more = x ∷ [];
     made = is;
@@ -35,7 +34,7 @@ module _ {D : Type 0} (view : D → View) (leave : D → Image → Type 0) (left
           record { world = s.now; stands = s.stands; log_is = same },
           (
             s.until,
-            record { came = came; said = subst (λ (l : List Entry). IsSaidBetween (view d.0) (view e.0) (l ++ s.until) request came) at.log_is s.said; answer = by },
+            record { came = came; said = subst (λ (l : List Entry). IsSaidBetween (site.view d.0) (site.view e.0) (l ++ s.until) request came) at.log_is s.said; answer = by },
             (s.since, refl),
           ),
         );
@@ -44,15 +43,15 @@ module _ {D : Type 0} (view : D → View) (leave : D → Image → Type 0) (left
       x : Exchange
       x = record { request = request; limit = limit; answer = answer }
 
-  none_more : e.1.made ≡ d.1.made → HasMade view leave left_at d e
-  none_more is = made_not view leave left_at d e is (λ log at.
+  none_more : e.1.made ≡ d.1.made → HasMade site d e
+  none_more is = made_not site d e is (λ log at.
       let s = says at.world at.stands in
       let same : s.now.log ≡ log ++ (s.until ++ s.since) =
       s.log_is ∙ ap (λ (l : List Entry). (l ++ s.until) ++ s.since) at.log_is ∙ append_assoc log s.until s.since
       in (s.until ++ s.since, record { world = s.now; stands = s.stands; log_is = same }))
 
   made : (result : Answer) → Some e.1.made ≡ logged (Some d.1.made) request limit result → (result ≡ answers.NoMemory) ⊎ (result ≡ by_number d.1 limit came)
-      → HasMade view leave left_at d e
+      → HasMade site d e
   made (answers.Bytes bytes) log by =
       one_more (answers.Bytes bytes) (cc) (⊎_elim (λ wants. absurd (cc)) (λ same. same) by)
   made answers.Lost log by = one_more answers.Lost (cc) (⊎_elim (λ wants. absurd (cc)) (λ same. same) by)
@@ -60,7 +59,7 @@ module _ {D : Type 0} (view : D → View) (leave : D → Image → Type 0) (left
 
   pub later_exchange : (result : Answer) → Some e.1.made ≡ logged (Some d.1.made) request limit result → (result ≡ answers.NoMemory) ⊎ (result ≡ by_number d.1 limit came)
       → e.1.limits ≡ d.1.limits → e.1.lost ≡ d.1.lost → e.1.cut ≡ d.1.cut → e.1.since ≡ d.1.since → e.1.crashes ≡ d.1.crashes
-      → TellsOn (view d.0) (view e.0) → GoesOn view leave left_at d.1.state d.0 e.1.state e.0 → IsLater view leave left_at d e
+      → TellsOn (site.view d.0) (site.view e.0) → GoesOn site d.1.state d.0 e.1.state e.0 → IsLater site d e
   later_exchange result log by limits lost cut since crashes tells goes = record {
     limits = limits;
     lost = lost;

@@ -6,7 +6,7 @@ use Rattle.sm_model.specs.declared.entry.Entry.{Entry}
 use Rattle.sm_site.specs.declared.event.Event.{Event}
 use Rattle.sm_site.specs.Clauses.{Both, Rose}
 use Rattle.sm_site.specs.Image.{Image}
-use Rattle.sm_site.specs.Meanings.{View, Item, Deal, sent_on}
+use Rattle.sm_site.specs.Meanings.{Item, Deal, sent_on, Seen}
 use Rattle.sm_site.specs.Scripts.{deals_of, numbers_after}
 use Rattle.sm_archive.specs.Store.{IsStore}
 use Rattle.sm_log.specs.Logs.{channel_of}
@@ -81,10 +81,10 @@ both_some {A = A} a b R x y is_a is_b so = subst (λ (o : Option A). Both o b R)
 
 -- ---- what was served
 
-module _ {D : Type 0} (view : D → View) (leave : D → Image → Type 0) (left_at : D → ℕ → Image → Type 0) where
+module _ {D : Type 0} (site : Seen D) where
   -- nothing that could be said came
-  pub says_nothing : (w : World) (before : D) (request : List ℕ) (came : Acted) (state : Option State) (d : D) → ((log : List Entry) → IsSaidBetween (view before) (view d) log request came)
-      → (now : World) × Stands view leave left_at now state d × Grows w now → Says view leave left_at w before request came state d
+  pub says_nothing : (w : World) (before : D) (request : List ℕ) (came : Acted) (state : Option State) (d : D) → ((log : List Entry) → IsSaidBetween (site.view before) (site.view d) log request came)
+      → (now : World) × Stands site now state d × Grows w now → Says site w before request came state d
   says_nothing w before request came state d said (now, stands, grows) = record {
     now = now;
     stands = stands;
@@ -96,12 +96,12 @@ module _ {D : Type 0} (view : D → View) (leave : D → Image → Type 0) (left
   }
 
   -- a request was brought on an unused connection, and all was served
-  pub says_sent : (w : World) (state : State) (c d : D) (new : State) (e : D) (from conn : ℕ) (request : List ℕ) (events : List Event) (came : Acted) → IsSome (view d).contents → IsSome (view e).contents
-      → IfSome (view e).contents (leave e) → IsSome (view c).script → IfSome (view c).script (λ deals. numbers_after from deals ≤ conn) → is_among conn (numbers_of state.lives.items) ≡ false
-      → IfSome (view c).transcript (λ items. sent_on conn items ≡ []) → (view d).transcript ≡ (view c).transcript → Brings conn request events
-      → Both (view c).script (view d).script (λ was now. now ≡ was ++ deals_of events) → HasSent conn (view e).transcript came
-      → (turns : (h : History) → Serves view leave left_at h state d → (n : ℕ) × TurnsBy view leave left_at h n (view d).script new e)
-      → (view d).disk_faults ≡ (view c).disk_faults → IsOpen view leave left_at w state d → Says view leave left_at w c request came (Some new) e
+  pub says_sent : (w : World) (state : State) (c d : D) (new : State) (e : D) (from conn : ℕ) (request : List ℕ) (events : List Event) (came : Acted) → IsSome (site.view d).contents → IsSome (site.view e).contents
+      → IfSome (site.view e).contents (site.may_leave e) → IsSome (site.view c).script → IfSome (site.view c).script (λ deals. numbers_after from deals ≤ conn) → is_among conn (numbers_of state.lives.items) ≡ false
+      → IfSome (site.view c).transcript (λ items. sent_on conn items ≡ []) → (site.view d).transcript ≡ (site.view c).transcript → Brings conn request events
+      → Both (site.view c).script (site.view d).script (λ was now. now ≡ was ++ deals_of events) → HasSent conn (site.view e).transcript came
+      → (turns : (h : History) → Serves site h state d → (n : ℕ) × TurnsBy site h n (site.view d).script new e)
+      → (site.view d).disk_faults ≡ (site.view c).disk_faults → IsOpen site w state d → Says site w c request came (Some new) e
   says_sent w state c d new e from conn request events came told after pass some_script above unused unsent same brings added sent turns kept_faults o = record {
     now = on.0;
     stands = on.1;
@@ -109,13 +109,13 @@ module _ {D : Type 0} (view : D → View) (leave : D → Image → Type 0) (left
     until = good.until;
     since = good.since;
     log_is = on.3 ∙ good.log_is ∙ ap (λ (l : List Entry). (l ++ good.until) ++ good.since) o.log_is;
-    said = subst (λ (l : List Entry). IsSaidBetween (view c) (view e) (l ++ good.until) request came) o.log_is (said came sent);
+    said = subst (λ (l : List Entry). IsSaidBetween (site.view c) (site.view e) (l ++ good.until) request came) o.log_is (said came sent);
   }
     where
       h : History
       h = o.run
 
-      t : (n : ℕ) × TurnsBy view leave left_at h n (view d).script new e
+      t : (n : ℕ) × TurnsBy site h n (site.view d).script new e
       t = turns h o.serves
 
       k : History
@@ -124,8 +124,8 @@ module _ {D : Type 0} (view : D → View) (leave : D → Image → Type 0) (left
       since : Since h k
       since = t.1.turns.since
 
-      on : (now : World) × IsOpen view leave left_at now new e × Grows w now × (now.log ≡ k.point.machine.log)
-      on = serves_to view leave left_at w state d new e told after turns o
+      on : (now : World) × IsOpen site now new e × Grows w now × (now.log ≡ k.point.machine.log)
+      on = serves_to site w state d new e told after turns o
 
       first : List Entry
       first = h.point.machine.log
@@ -133,20 +133,20 @@ module _ {D : Type 0} (view : D → View) (leave : D → Image → Type 0) (left
       none_sent : sent_on conn h.base ++ sent_on conn h.items ≡ []
       none_sent =
           sym (sent_both conn h.base h.items)
-          ∙ at_some (view c).transcript (λ items. sent_on conn items ≡ []) (h.base ++ h.items) (sym same ∙ o.serves.keeps.told) unsent
+          ∙ at_some (site.view c).transcript (λ items. sent_on conn items ≡ []) (h.base ++ h.items) (sym same ∙ o.serves.keeps.told) unsent
 
       out : is_among conn (live h.items) ≡ false
       out = subst (λ (ns : List ℕ). is_among conn ns ≡ false) o.serves.rest.numbers unused
 
       failed : Type 0
-      failed = Rose (view c).disk_faults (view e).disk_faults
+      failed = Rose (site.view c).disk_faults (site.view e).disk_faults
 
       crowded : Type 0
-      crowded = WasCrowded (view c) (view e)
+      crowded = WasCrowded (site.view c) (site.view e)
 
       crowding : (es more : List Item) → k.items ≡ (h.items ++ es) ++ more → 64 ≤ length (live (h.items ++ es)) → crowded
       crowding es more is many =
-          both_some (view c).transcript (view e).transcript IsCrowdedSince (h.base ++ h.items) (k.base ++ k.items) (sym same ∙ o.serves.keeps.told) t.1.turns.serves.keeps.told (record {
+          both_some (site.view c).transcript (site.view e).transcript IsCrowdedSince (h.base ++ h.items) (k.base ++ k.items) (sym same ∙ o.serves.keeps.told) t.1.turns.serves.keeps.told (record {
             until = es;
             since = more;
             goes_on = ap (λ (l : List Item). l ++ k.items) since.base ∙ ap (λ (l : List Item). h.base ++ l) is ∙ sym (append_assoc h.base (h.items ++ es) more)
@@ -169,26 +169,26 @@ module _ {D : Type 0} (view : D → View) (leave : D → Image → Type 0) (left
       causes : AllCause failed path.1
       causes =
           let same : counts.0 ≡ path.1 = append_cancel_left h.steps counts.0 path.1 (sym counts.1 ∙ path.3) in
-          let from : h.point.faults ≡ (view c).disk_faults = o.serves.keeps.counted ∙ kept_faults in
-          let to : k.point.faults ≡ (view e).disk_faults = t.1.turns.serves.keeps.counted in
+          let from : h.point.faults ≡ (site.view c).disk_faults = o.serves.keeps.counted ∙ kept_faults in
+          let to : k.point.faults ≡ (site.view e).disk_faults = t.1.turns.serves.keeps.counted in
           subst (λ (xs : List Stepped). AllCause failed xs) same
-          (subst (λ (n : ℕ). AllCause (Rose n (view e).disk_faults) counts.0) from (subst (λ (n : ℕ). AllCause (Rose h.point.faults n) counts.0) to
+          (subst (λ (n : ℕ). AllCause (Rose n (site.view e).disk_faults) counts.0) from (subst (λ (n : ℕ). AllCause (Rose h.point.faults n) counts.0) to
           (all_cause h.point.faults k.point.faults counts.0 counts.2.between)))
 
       deals_are : deals_in path.0 ≡ t.1.deals
       deals_are = same_rest (deals_in h.items) (deals_in path.0) t.1.deals (sym (deals_both h.items path.0) ∙ sym (ap deals_in path.2) ∙ t.1.turns.taken)
 
-      script : (was : List Deal) × ((view c).script ≡ Some was) × ((view d).script ≡ Some (was ++ deals_of events))
-      script = script_on (view c).script (view d).script events some_script added
+      script : (was : List Deal) × ((site.view c).script ≡ Some was) × ((site.view d).script ≡ Some (was ++ deals_of events))
+      script = script_on (site.view c).script (site.view d).script events some_script added
 
       comes : AreFirst conn request (deals_in path.0)
       comes =
-          let taken = taken_in (view d).script (view e).script (script.0 ++ deals_of events) t.1.deals script.2 t.1.script_is in
-          let none : begun conn script.0 ≡ 0 = none_above conn from script.0 (at_some (view c).script (λ deals. numbers_after from deals ≤ conn) script.0 script.1 above) in
+          let taken = taken_in (site.view d).script (site.view e).script (script.0 ++ deals_of events) t.1.deals script.2 t.1.script_is in
+          let none : begun conn script.0 ≡ 0 = none_above conn from script.0 (at_some (site.view c).script (λ deals. numbers_after from deals ≤ conn) script.0 script.1 above) in
           subst (λ (ds : List Deal). AreFirst conn request ds) (sym deals_are) (taken_of conn request events script.0 t.1.deals taken.0 brings none taken.1)
 
       run : Run true k.first k.begin k.found.disk_faults k.items k.steps k.point
-      run = run_as (is_told (view e)) true k.first k.begin k.found.disk_faults k.items k.steps k.point (sym after) t.1.turns.serves.keeps.run
+      run = run_as (is_told (site.view e)) true k.first k.begin k.found.disk_faults k.items k.steps k.point (sym after) t.1.turns.serves.keeps.run
 
       good : Good failed crowded conn request first h.items k.point.machine.log (sent_on conn k.items)
       good = spoken failed crowded conn request first h.items k.items k.point.machine.log k.point.phase path.0 (path.4 comes (run_acts k.first k.begin k.found.disk_faults k.items k.steps k.point run) causes)
@@ -196,14 +196,14 @@ module _ {D : Type 0} (view : D → View) (leave : D → Image → Type 0) (left
       real : IsReal (first ++ good.until)
       real =
           front_real (first ++ good.until) good.since
-          (subst (λ (l : List Entry). IsReal l) good.log_is (now_real (view e).contents (leave e) k.point.machine after pass t.1.turns.serves.keeps.now))
+          (subst (λ (l : List Entry). IsReal l) good.log_is (now_real (site.view e).contents (site.may_leave e) k.point.machine after pass t.1.turns.serves.keeps.now))
 
-      sent_is : (bytes : List ℕ) → IfSome (view e).transcript (λ items. bytes ≡ sent_on conn items) → bytes ≡ sent_on conn k.items
+      sent_is : (bytes : List ℕ) → IfSome (site.view e).transcript (λ items. bytes ≡ sent_on conn items) → bytes ≡ sent_on conn k.items
       sent_is bytes is =
-          at_some (view e).transcript (λ items. bytes ≡ sent_on conn items) (k.base ++ k.items) t.1.turns.serves.keeps.told is ∙ sent_both conn k.base k.items
+          at_some (site.view e).transcript (λ items. bytes ≡ sent_on conn items) (k.base ++ k.items) t.1.turns.serves.keeps.told is ∙ sent_both conn k.base k.items
           ∙ ap (λ (l : List ℕ). l ++ sent_on conn k.items) (ap (sent_on conn) since.base ∙ nothing_front (sent_on conn h.base) (sent_on conn h.items) none_sent)
 
-      said : (a : Acted) → HasSent conn (view e).transcript a → IsSaidBetween (view c) (view e) (first ++ good.until) request a
+      said : (a : Acted) → HasSent conn (site.view e).transcript a → IsSaidBetween (site.view c) (site.view e) (first ++ good.until) request a
       said acted.Unopened is = absurd is
       said acted.Broken is = absurd is
       said acted.NoMemory is = tt
@@ -211,10 +211,10 @@ module _ {D : Type 0} (view : D → View) (leave : D → Image → Type 0) (left
           subst (λ (b : List ℕ). IsReplyFront failed crowded (first ++ good.until) named b) (sym (sent_is bytes is))
           (good.says (record { host = host; port = port; named = named; may = may; text = text }) real)
 
-module _ {D : Type 0} (view : D → View) (leave : D → Image → Type 0) (left_at : D → ℕ → Image → Type 0) where
+module _ {D : Type 0} (site : Seen D) where
   -- from where the site was before
-  pub says_before : (w : World) (d mid e : D) (request : List ℕ) (came : Acted) (state : Option State) → TellsOn (view d) (view mid)
-      → Says view leave left_at w mid request came state e → Says view leave left_at w d request came state e
+  pub says_before : (w : World) (d mid e : D) (request : List ℕ) (came : Acted) (state : Option State) → TellsOn (site.view d) (site.view mid)
+      → Says site w mid request came state e → Says site w d request came state e
   says_before w d mid e request came state tells s = record {
     now = s.now;
     stands = s.stands;
@@ -222,12 +222,12 @@ module _ {D : Type 0} (view : D → View) (leave : D → Image → Type 0) (left
     until = s.until;
     since = s.since;
     log_is = s.log_is;
-    said = said_between (view d) (view mid) (view e) (view e) tells (tells_same (view e)) (w.log ++ s.until) request came s.said;
+    said = said_between (site.view d) (site.view mid) (site.view e) (site.view e) tells (tells_same (site.view e)) (w.log ++ s.until) request came s.said;
   }
 
   -- what serving leaves of the counts and the transcript
-  pub tells_served : (w : World) (state : State) (d : D) (new : State) (e : D) → ((h : History) → Serves view leave left_at h state d → (n : ℕ) × TurnsBy view leave left_at h n (view d).script new e)
-      → (view d).link_faults ≤ (view e).link_faults → IsOpen view leave left_at w state d → TellsOn (view d) (view e)
+  pub tells_served : (w : World) (state : State) (d : D) (new : State) (e : D) → ((h : History) → Serves site h state d → (n : ℕ) × TurnsBy site h n (site.view d).script new e)
+      → (site.view d).link_faults ≤ (site.view e).link_faults → IsOpen site w state d → TellsOn (site.view d) (site.view e)
   tells_served w state d new e turns links o =
       let h : History = o.run in
       let t = turns h o.serves in
@@ -240,7 +240,7 @@ module _ {D : Type 0} (view : D → View) (leave : D → Image → Type 0) (left
       record {
         disk_faults = omega (arith, later, from, to);
         link_faults = links;
-        transcript = both_some (view d).transcript (view e).transcript IsLonger (h.base ++ h.items) (k.base ++ k.items) o.serves.keeps.told t.1.turns.serves.keeps.told (
+        transcript = both_some (site.view d).transcript (site.view e).transcript IsLonger (h.base ++ h.items) (k.base ++ k.items) o.serves.keeps.told t.1.turns.serves.keeps.told (
           since.on.entries,
           ap (λ (l : List Item). l ++ k.items) since.base ∙ ap (λ (l : List Item). h.base ++ l) since.on.items ∙ sym (append_assoc h.base h.items since.on.entries),
         );
@@ -274,10 +274,10 @@ either_from : (log : List Entry) (request : List ℕ) (answer result : Answer) �
 either_from log request answer result (inl wants) from = subst (λ (a : Answer). FromOrigin log request a) (sym wants) tt
 either_from log request answer result (inr is) from = subst (λ (a : Answer). FromOrigin log request a) (sym is) from
 
-module _ {D : Type 0} (view : D → View) (leave : D → Image → Type 0) (left_at : D → ℕ → Image → Type 0) where
-  pub answers_on : (state state' : Option State) (d e : D) (request : List ℕ) (lost cut : Bool) (limit : ℕ) (came : Acted) (result : Answer) → SaysOn view leave left_at state d request came state' e
+module _ {D : Type 0} (site : Seen D) where
+  pub answers_on : (state state' : Option State) (d e : D) (request : List ℕ) (lost cut : Bool) (limit : ℕ) (came : Acted) (result : Answer) → SaysOn site state d request came state' e
       → (result ≡ answers.NoMemory) ⊎ (result ≡ answer_for lost cut limit came)
-      → AnswersFrom (StandsAt view leave left_at state d) (StandsAt view leave left_at state' e) request result
+      → AnswersFrom (StandsAt site state d) (StandsAt site state' e) request result
   answers_on state state' d e request lost cut limit came result says either log was =
       let s = says was.world was.stands in
       let on : s.now.log ≡ (log ++ s.until) ++ s.since = s.log_is ∙ ap (λ (l : List Entry). (l ++ s.until) ++ s.since) was.log_is in (
@@ -286,8 +286,8 @@ module _ {D : Type 0} (view : D → View) (leave : D → Image → Type 0) (left
         record { world = s.now; stands = s.stands; log_is = on },
         either_from (log ++ s.until) request (answer_for lost cut limit came) result either
             (answer_from _ _ _ (log ++ s.until) request lost cut limit came
-            (subst (λ (l : List Entry). IsSaidBetween (view d) (view e) (l ++ s.until) request came) was.log_is s.said)),
+            (subst (λ (l : List Entry). IsSaidBetween (site.view d) (site.view e) (l ++ s.until) request came) was.log_is s.said)),
       )
 
-  pub stays_at : (state : Option State) (d : D) → Lasts (StandsAt view leave left_at state d) (StandsAt view leave left_at state d)
-  stays_at state d log at = ([], subst (λ (l : List Entry). StandsAt view leave left_at state d l) (sym (append-nil log)) at)
+  pub stays_at : (state : Option State) (d : D) → Lasts (StandsAt site state d) (StandsAt site state d)
+  stays_at state d log at = ([], subst (λ (l : List Entry). StandsAt site state d l) (sym (append-nil log)) at)

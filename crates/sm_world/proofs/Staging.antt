@@ -11,7 +11,7 @@ use Rattle.sm_fetch.specs.Exchanges.{logged}
 use Rattle.sm_fetch.specs.Fetched.{PushedBody}
 use Rattle.sm_fetch.specs.Spelt.{SpellsPush}
 use Rattle.sm_reply.specs.Replies.{counts_line}
-use Rattle.sm_site.specs.Memory.{site_view, site_may_leave, site_left_at}
+use Rattle.sm_site.specs.Memory.{site_seen}
 use Rattle.sm_site.specs.declared.memory.MemorySite.{MemorySite}
 use Rattle.sm_fetch.specs.Requests.{push_request, push_limit}
 use Rattle.sm_world.specs.Deeds.{Deed, IsDone, AreDone, before_a, chance_by, deeds_in, fragments_in, of_b, requests_of, round_of}
@@ -116,7 +116,7 @@ one_more made made' request limit answers.NoMemory came log spells something = a
 module _ (old new : Stage) (place : new.place ≡ old.place) (id : new.id ≡ old.id) (header : new.header ≡ old.header) where
   pub has_pushed : (body : List ℕ) (came : Pushed) (t : Told) (fragments : ℕ) → PushedBody old.place old.id body (Some old.dial.1.made) (Some new.dial.1.made) came
       → Says fragments came t → fragments ≤ 3 → new.known ≡ old.known + known_by t → new.refused ≡ old.refused + refused_by t
-      → IsLater site_view site_may_leave site_left_at old.dial new.dial → HasPushed old new (Pushes fragments body ∷ []) 0 (refused_by t) 3
+      → IsLater site_seen old.dial new.dial → HasPushed old new (Pushes fragments body ∷ []) 0 (refused_by t) 3
   has_pushed body came t fragments p says few known refused later =
       let x : Exchange = record { request = push_request old.place old.id body; limit = push_limit; answer = p.answer } in
       let made : new.dial.1.made ≡ old.dial.1.made ++ x ∷ [] =
@@ -135,7 +135,7 @@ module _ (old new : Stage) (place : new.place ≡ old.place) (id : new.id ≡ ol
         few = few_known fragments came t few says;
         refused_is = refused;
         crashed = λ low. (let e = later.crashes in omega (arith, e));
-        stays_on = continues_later site_view site_may_leave site_left_at old.dial new.dial later;
+        stays_on = continues_later site_seen old.dial new.dial later;
       }
 
   -- no push, but perhaps crashes
@@ -179,7 +179,7 @@ pushed_then a b c ds es n n' r r' m m' x y = record {
       (let e = x.crashed (omega (arith, low)) in
       let f = y.crashed (omega (arith, low, e)) in
       omega (arith, e, f));
-  stays_on = continues_then site_view site_may_leave site_left_at a.dial b.dial c.dial x.stays_on y.stays_on;
+  stays_on = continues_then site_seen a.dial b.dial c.dial x.stays_on y.stays_on;
 }
 
 -- as many, in other words; and as many known at most
@@ -215,7 +215,7 @@ pushed_not a = record {
   few = omega arith;
   refused_is = omega arith;
   crashed = λ low. omega arith;
-  stays_on = continues_same site_view site_may_leave site_left_at a.dial;
+  stays_on = continues_same site_seen a.dial;
 }
 
 pub on_ok : {A E : Type 0} (r : Result A E) (P Q : Type 0) → (P → Q) → OnOk r P → OnOk r Q

@@ -9,7 +9,7 @@ use Rattle.sm_model.specs.declared.entry.Entry.TheVariants.{Keep}
 use Rattle.sm_model.specs.declared.fragment.Fragment.{Fragment}
 use Rattle.sm_site.specs.Image.{Image}
 use Rattle.sm_site.specs.Clauses.{Both, NoMore, SameOutcomes, Settled}
-use Rattle.sm_site.specs.Meanings.{View, Item, DiskCall}
+use Rattle.sm_site.specs.Meanings.{Item, DiskCall, Seen}
 use Rattle.sm_site.specs.Sites.{SameBut}
 use Rattle.sm_seglog.specs.Stores.{HasStore}
 use Rattle.sm_archive.specs.Store.{IsStore, Spell}
@@ -56,9 +56,9 @@ comes_crashed first past items log c = record { more = c.more; log_is = c.log_is
     now : (f : Fragment) → IsPushed items f → IsPushedIn (past ++ items ∷ []) f
     now f p = (items, Contains-push past items, p)
 
-module _ {D : Type 0} (view : D → View) (leave : D → Image → Type 0) (left_at : D → ℕ → Image → Type 0) where
+module _ {D : Type 0} (site : Seen D) where
   -- the log and a part of what is in doubt
-  comes_open : (w : World) (state : State) (d : D) (o : IsOpen view leave left_at w state d) → IsSome (view d).contents → (part : List Entry) → IsPartOf o.run.point.machine.doubt part
+  comes_open : (w : World) (state : State) (d : D) (o : IsOpen site w state d) → IsSome (site.view d).contents → (part : List Entry) → IsPartOf o.run.point.machine.doubt part
       → ComesOf w.first w.past (o.run.base ++ o.run.items) (w.log ++ part)
   comes_open w state d o told part of_doubt = record {
     more = (o.found.more ++ s.more) ++ part;
@@ -71,7 +71,7 @@ module _ {D : Type 0} (view : D → View) (leave : D → Image → Type 0) (left
       h = o.run
 
       run : Run true h.first h.begin h.found.disk_faults h.items h.steps h.point
-      run = run_as (is_told (view d)) true h.first h.begin h.found.disk_faults h.items h.steps h.point (sym told) o.serves.keeps.run
+      run = run_as (is_told (site.view d)) true h.first h.begin h.found.disk_faults h.items h.steps h.point (sym told) o.serves.keeps.run
 
       s : Comes h.items h.first h.point.machine
       s = (stood h.first h.begin h.found.disk_faults h.items h.steps h.point o.settled run).comes
@@ -93,8 +93,8 @@ module _ {D : Type 0} (view : D → View) (leave : D → Image → Type 0) (left
           of_doubt
 
   -- what a dial keeps was pushed
-  pub comes_now : (w : World) (state : Option State) (d : D) → IsSome (view d).contents → Stands view leave left_at w state d
-      → (items : List Item) × ((view d).transcript ≡ Some items) × ComesOf w.first w.past items w.log
+  pub comes_now : (w : World) (state : Option State) (d : D) → IsSome (site.view d).contents → Stands site w state d
+      → (items : List Item) × ((site.view d).transcript ≡ Some items) × ComesOf w.first w.past items w.log
   comes_now w None d told c = (c.items, c.told, c.comes)
   comes_now w (Some state) d told o = (
     o.run.base ++ o.run.items,
@@ -104,14 +104,14 @@ module _ {D : Type 0} (view : D → View) (leave : D → Image → Type 0) (left
 
   -- ---- a site that is the same but for its script
 
-  module _ (fewer : (m : Machine) (o : Origin) (old new : D) → StandsOn view leave m o old → (view new).contents ≡ (view old).contents → NoMore (leave old) (leave new) → StandsOn view leave m o new)
-      (w : World) (d e : D) (same : SameBut (view d) (view e)) (outcomes : SameOutcomes (leave d) (leave e)) (past : (t : ℕ) (c : Image) → left_at e t c ↔ left_at d t c) where
-    pub open_stays : (state : State) → IsOpen view leave left_at w state d → IsOpen view leave left_at w state e
+  module _ (fewer : (m : Machine) (o : Origin) (old new : D) → StandsOn site m o old → (site.view new).contents ≡ (site.view old).contents → NoMore (site.may_leave old) (site.may_leave new) → StandsOn site m o new)
+      (w : World) (d e : D) (same : SameBut (site.view d) (site.view e)) (outcomes : SameOutcomes (site.may_leave d) (site.may_leave e)) (past : (t : ℕ) (c : Image) → site.left_at e t c ↔ site.left_at d t c) where
+    pub open_stays : (state : State) → IsOpen site w state d → IsOpen site w state e
     open_stays state o = record {
       run = h;
       serves = record {
         keeps = record {
-          run = run_as (is_told (view d)) (is_told (view e)) h.first h.begin h.found.disk_faults h.items h.steps h.point (ap (λ (i : Option Image). is_some i) same.contents) k.run;
+          run = run_as (is_told (site.view d)) (is_told (site.view e)) h.first h.begin h.found.disk_faults h.items h.steps h.point (ap (λ (i : Option Image). is_some i) same.contents) k.run;
           told = same.transcript ∙ k.told;
           clock = λ has. subst (λ (m : ℕ). h.point.ended ≤ m) (sym same.moment) (k.clock (was has));
           current = λ has. k.current (was has);
@@ -137,19 +137,19 @@ module _ {D : Type 0} (view : D → View) (leave : D → Image → Type 0) (left
         h : History
         h = o.run
 
-        k : Keeps view leave left_at h d
+        k : Keeps site h d
         k = o.serves.keeps
 
-        was : IsTrue (is_told (view e)) → IsTrue (is_told (view d))
+        was : IsTrue (is_told (site.view e)) → IsTrue (is_told (site.view d))
         was has = sym (ap (λ (i : Option Image). is_some i) same.contents) ∙ has
 
-    pub stays : (state : Option State) → Stands view leave left_at w state d → Stands view leave left_at w state e
-    stays None c = record { one = fewer_stores w.log (leave d) (leave e) (λ image left. (outcomes image).0 left) c.one; items = c.items; told = same.transcript ∙ c.told; comes = c.comes }
+    pub stays : (state : Option State) → Stands site w state d → Stands site w state e
+    stays None c = record { one = fewer_stores w.log (site.may_leave d) (site.may_leave e) (λ image left. (outcomes image).0 left) c.one; items = c.items; told = same.transcript ∙ c.told; comes = c.comes }
     stays (Some state) o = open_stays state o
 
   -- ---- opening
 
-  pub closed_stays : (w : World) (d e : D) → (HasOneStore w.log (leave d) → HasOneStore w.log (leave e)) → (view e).transcript ≡ (view d).transcript → IsClosed view leave w d → IsClosed view leave w e
+  pub closed_stays : (w : World) (d e : D) → (HasOneStore w.log (site.may_leave d) → HasOneStore w.log (site.may_leave e)) → (site.view e).transcript ≡ (site.view d).transcript → IsClosed site w d → IsClosed site w e
   closed_stays w d e one same c = record { one = one c.one; items = c.items; told = same ∙ c.told; comes = c.comes }
 
   module _ (one_list : (xs ys : List (List ℕ)) (image : Image) → HasStore xs image → HasStore ys image → xs ≡ ys)
@@ -157,9 +157,9 @@ module _ {D : Type 0} (view : D → View) (leave : D → Image → Type 0) (left
     same_log : (a b : List Entry) (c : Image) → IsStore a c → IsStore b c → a ≡ b
     same_log a b c x y = one_log x.bodies a b x.spell (subst (λ (bodies : List (List ℕ)). Spell bodies b) (sym (one_list x.bodies y.bodies c x.has y.has)) y.spell)
 
-    pub opens : (w : World) (d e : D) (new : State) → IsSome (view d).contents → IfSome (view d).contents (leave d)
-        → IfSome (view d).contents (λ c. (m : Machine) × IsStore m.log c × (m.doubt ≡ None) × StandsOn view leave m new.origin e) → Begins view leave left_at new e
-        → IsSome (view e).contents → (view e).transcript ≡ (view d).transcript → IsClosed view leave w d → IsOpen view leave left_at w new e
+    pub opens : (w : World) (d e : D) (new : State) → IsSome (site.view d).contents → IfSome (site.view d).contents (site.may_leave d)
+        → IfSome (site.view d).contents (λ c. (m : Machine) × IsStore m.log c × (m.doubt ≡ None) × StandsOn site m new.origin e) → Begins site new e
+        → IsSome (site.view e).contents → (site.view e).transcript ≡ (site.view d).transcript → IsClosed site w d → IsOpen site w new e
     opens w d e new some passes found begins told same closed = record {
       run = h;
       serves = b.6;
@@ -168,29 +168,29 @@ module _ {D : Type 0} (view : D → View) (leave : D → Image → Type 0) (left
       log_is = ap (λ (n : Machine). n.log) now ∙ first_log;
     }
       where
-        c : (x : Image) × ((view d).contents ≡ Some x)
-        c = some_of (view d).contents some
+        c : (x : Image) × ((site.view d).contents ≡ Some x)
+        c = some_of (site.view d).contents some
 
-        m : (m : Machine) × IsStore m.log c.0 × (m.doubt ≡ None) × StandsOn view leave m new.origin e
-        m = at_some (view d).contents (λ c. (m : Machine) × IsStore m.log c × (m.doubt ≡ None) × StandsOn view leave m new.origin e) c.0 c.1 found
+        m : (m : Machine) × IsStore m.log c.0 × (m.doubt ≡ None) × StandsOn site m new.origin e
+        m = at_some (site.view d).contents (λ c. (m : Machine) × IsStore m.log c × (m.doubt ≡ None) × StandsOn site m new.origin e) c.0 c.1 found
 
-        b : (h : History) × (h.first ≡ m.0) × (h.begin ≡ (view e).moment) × (h.base ≡ closed.items) × (h.items ≡ []) × (h.steps ≡ []) × Serves view leave left_at h new e × (h.found ≡ view e)
+        b : (h : History) × (h.first ≡ m.0) × (h.begin ≡ (site.view e).moment) × (h.base ≡ closed.items) × (h.items ≡ []) × (h.steps ≡ []) × Serves site h new e × (h.found ≡ site.view e)
         b = begins m.0 closed.items m.3 (same ∙ closed.told)
 
         h : History
         h = b.0
 
         first_log : h.first.log ≡ w.log
-        first_log = ap (λ (n : Machine). n.log) b.1 ∙ same_log m.0.log w.log c.0 m.1 (store_in w.log c.0 (leave d) closed.one (at_some (view d).contents (leave d) c.0 c.1 passes))
+        first_log = ap (λ (n : Machine). n.log) b.1 ∙ same_log m.0.log w.log c.0 m.1 (store_in w.log c.0 (site.may_leave d) closed.one (at_some (site.view d).contents (site.may_leave d) c.0 c.1 passes))
 
         now : h.point.machine ≡ h.first
         now = sym (b.6.keeps.current told h.point.ended (omega arith)) ∙ ap (λ (xs : _). machine_at h.first xs h.point.ended) b.5
 
   -- ---- serving
 
-  pub serves_to : (w : World) (state : State) (d : D) (new : State) (e : D) → IsSome (view d).contents → IsSome (view e).contents
-      → (turns : (h : History) → Serves view leave left_at h state d → (n : ℕ) × TurnsBy view leave left_at h n (view d).script new e)
-      → (o : IsOpen view leave left_at w state d) → (now : World) × IsOpen view leave left_at now new e × Grows w now × (now.log ≡ (turns o.run o.serves).1.turns.later.point.machine.log)
+  pub serves_to : (w : World) (state : State) (d : D) (new : State) (e : D) → IsSome (site.view d).contents → IsSome (site.view e).contents
+      → (turns : (h : History) → Serves site h state d → (n : ℕ) × TurnsBy site h n (site.view d).script new e)
+      → (o : IsOpen site w state d) → (now : World) × IsOpen site now new e × Grows w now × (now.log ≡ (turns o.run o.serves).1.turns.later.point.machine.log)
   serves_to w state d new e told after turns o = (
     now,
     record {
@@ -207,7 +207,7 @@ module _ {D : Type 0} (view : D → View) (leave : D → Image → Type 0) (left
       h : History
       h = o.run
 
-      t : (n : ℕ) × TurnsBy view leave left_at h n (view d).script new e
+      t : (n : ℕ) × TurnsBy site h n (site.view d).script new e
       t = turns h o.serves
 
       k : History
@@ -220,40 +220,40 @@ module _ {D : Type 0} (view : D → View) (leave : D → Image → Type 0) (left
       now = record { first = w.first; past = w.past; log = k.point.machine.log }
 
       run : Run true h.first h.begin h.found.disk_faults h.items h.steps h.point
-      run = run_as (is_told (view d)) true h.first h.begin h.found.disk_faults h.items h.steps h.point (sym told) o.serves.keeps.run
+      run = run_as (is_told (site.view d)) true h.first h.begin h.found.disk_faults h.items h.steps h.point (sym told) o.serves.keeps.run
 
       later : Run true h.first k.begin k.found.disk_faults k.items k.steps k.point
       later = subst (λ (m : Machine). Run true m k.begin k.found.disk_faults k.items k.steps k.point) since.first
-          (run_as (is_told (view e)) true k.first k.begin k.found.disk_faults k.items k.steps k.point (sym after) t.1.turns.serves.keeps.run)
+          (run_as (is_told (site.view e)) true k.first k.begin k.found.disk_faults k.items k.steps k.point (sym after) t.1.turns.serves.keeps.run)
 
       grown : Extends h.point.machine k.point.machine
       grown = later_extends h.first h.begin h.found.disk_faults k.begin k.found.disk_faults h.items k.items h.steps since.on.further k.steps h.point k.point run later since.on.steps
 
-  pub serves_on : (w : World) (state : State) (d : D) (new : State) (e : D) → IsSome (view d).contents → IsSome (view e).contents
-      → ((h : History) → Serves view leave left_at h state d → (n : ℕ) × TurnsBy view leave left_at h n (view d).script new e)
-      → IsOpen view leave left_at w state d → (now : World) × IsOpen view leave left_at now new e × Grows w now
+  pub serves_on : (w : World) (state : State) (d : D) (new : State) (e : D) → IsSome (site.view d).contents → IsSome (site.view e).contents
+      → ((h : History) → Serves site h state d → (n : ℕ) × TurnsBy site h n (site.view d).script new e)
+      → IsOpen site w state d → (now : World) × IsOpen site now new e × Grows w now
   serves_on w state d new e told after turns o = let all = serves_to w state d new e told after turns o in (all.0, all.1, all.2)
 
   -- ---- a crash
 
-  crashed_by : (w : World) (d e : D) (items : List Item) (more : List Entry) (c : Image) → (view d).transcript ≡ Some items → ComesOf w.first w.past items (w.log ++ more) → IsStore (w.log ++ more) c
-      → Settled c (leave e) → (view e).transcript ≡ Some [] → (now : World) × IsClosed view leave now e × Crashes (view d).transcript w now
+  crashed_by : (w : World) (d e : D) (items : List Item) (more : List Entry) (c : Image) → (site.view d).transcript ≡ Some items → ComesOf w.first w.past items (w.log ++ more) → IsStore (w.log ++ more) c
+      → Settled c (site.may_leave e) → (site.view e).transcript ≡ Some [] → (now : World) × IsClosed site now e × Crashes (site.view d).transcript w now
   crashed_by w d e items more c was comes store settled empty = (
     record { first = w.first; past = w.past ++ items ∷ []; log = w.log ++ more },
-    record { one = one_store (w.log ++ more) c (leave e) store settled; items = []; told = empty; comes = comes_crashed w.first w.past items (w.log ++ more) comes },
-    record { first = refl; past = from_some (view d).transcript (λ now. w.past ++ items ∷ [] ≡ w.past ++ now ∷ []) items was refl; more = more; log = refl },
+    record { one = one_store (w.log ++ more) c (site.may_leave e) store settled; items = []; told = empty; comes = comes_crashed w.first w.past items (w.log ++ more) comes },
+    record { first = refl; past = from_some (site.view d).transcript (λ now. w.past ++ items ∷ [] ≡ w.past ++ now ∷ []) items was refl; more = more; log = refl },
   )
 
-  pub crashes : (w : World) (state : Option State) (d e : D) → IsSome (view d).contents → IsSome (view e).contents → IfSome (view e).contents (leave d)
-      → IfSome (view e).contents (λ now. Settled now (leave e)) → (view e).transcript ≡ Some [] → Stands view leave left_at w state d
-      → (now : World) × IsClosed view leave now e × Crashes (view d).transcript w now
+  pub crashes : (w : World) (state : Option State) (d e : D) → IsSome (site.view d).contents → IsSome (site.view e).contents → IfSome (site.view e).contents (site.may_leave d)
+      → IfSome (site.view e).contents (λ now. Settled now (site.may_leave e)) → (site.view e).transcript ≡ Some [] → Stands site w state d
+      → (now : World) × IsClosed site now e × Crashes (site.view d).transcript w now
   crashes w None d e was told left settled empty closed =
-      let c = some_of (view e).contents told in
-      let store = store_in w.log c.0 (leave d) closed.one (at_some (view e).contents (leave d) c.0 c.1 left) in
+      let c = some_of (site.view e).contents told in
+      let store = store_in w.log c.0 (site.may_leave d) closed.one (at_some (site.view e).contents (site.may_leave d) c.0 c.1 left) in
       crashed_by w d e closed.items [] c.0 closed.told (subst (ComesOf w.first w.past closed.items) (sym (append-nil w.log)) closed.comes)
-      (subst (λ (l : List Entry). IsStore l c.0) (sym (append-nil w.log)) store) (at_some (view e).contents (λ now. Settled now (leave e)) c.0 c.1 settled) empty
+      (subst (λ (l : List Entry). IsStore l c.0) (sym (append-nil w.log)) store) (at_some (site.view e).contents (λ now. Settled now (site.may_leave e)) c.0 c.1 settled) empty
   crashes w (Some state) d e was told left settled empty o =
-      let c = some_of (view e).contents told in
-      let fits : Fits o.run.point.machine c.0 = o.serves.keeps.now c.0 (at_some (view e).contents (leave d) c.0 c.1 left) in
+      let c = some_of (site.view e).contents told in
+      let fits : Fits o.run.point.machine c.0 = o.serves.keeps.now c.0 (at_some (site.view e).contents (site.may_leave d) c.0 c.1 left) in
       crashed_by w d e (o.run.base ++ o.run.items) fits.doubt c.0 o.serves.keeps.told (comes_open w state d o was fits.doubt fits.of_doubt)
-      (subst (λ (l : List Entry). IsStore (l ++ fits.doubt) c.0) o.log_is fits.store) (at_some (view e).contents (λ now. Settled now (leave e)) c.0 c.1 settled) empty
+      (subst (λ (l : List Entry). IsStore (l ++ fits.doubt) c.0) o.log_is fits.store) (at_some (site.view e).contents (λ now. Settled now (site.may_leave e)) c.0 c.1 settled) empty

@@ -9,7 +9,7 @@ use Rattle.sm_serve.specs.declared.state.State.{State}
 use Rattle.sm_site.specs.declared.memory.MemorySite.{MemorySite}
 use Rattle.sm_ends.specs.TracksHeld.{TracksState}
 use Rattle.sm_site.specs.Meanings.{View, SameLink}
-use Rattle.sm_site.specs.Memory.{site_view, site_may_leave, site_left_at}
+use Rattle.sm_site.specs.Memory.{site_seen, site_view}
 use Rattle.sm_world.specs.Clients.{HasPlayed, HasPlayedFirst, HavePlayed, IsClient}
 use Rattle.sm_world.specs.Deeds.{IsCrash}
 use Rattle.sm_world.specs.Dialing.{Dialing}
@@ -61,11 +61,11 @@ module _ {P : Type 0} (m : Meaning P) (count : ℕ) where
   }
 
   pub played_first : (p : P) (old d e f : MemorySite × Dialing) (c : Client) → HasPlayed m p (codes "video") count old d c → HasEntries d (entries_after count)
-      → ((w : World) → Stands site_view site_may_leave site_left_at w d.1.state d.0
-      → (now : World) × Stands site_view site_may_leave site_left_at now e.1.state e.0 × Crashes (site_view d.0).transcript w now)
+      → ((w : World) → Stands site_seen w d.1.state d.0
+      → (now : World) × Stands site_seen now e.1.state e.0 × Crashes (site_view d.0).transcript w now)
       → IsCrash 0 d e → f.1 ≡ e.1
-      → ((w : World) → IsClosed site_view site_may_leave w e.0 → IsClosed site_view site_may_leave w f.0)
-      → ((w : World) → IsClosed site_view site_may_leave w e.0 → w.log ≡ log_of count)
+      → ((w : World) → IsClosed site_seen w e.0 → IsClosed site_seen w f.0)
+      → ((w : World) → IsClosed site_seen w e.0 → w.log ≡ log_of count)
       → (site_view e.0).disk_faults ≤ (site_view f.0).disk_faults → SameLink (site_view e.0) (site_view f.0) → HasPlayedFirst m p count old f c
   played_first p old d e f c played entries crash by same stays kept no_fewer link = record {
     more = played.more;
@@ -75,13 +75,13 @@ module _ {P : Type 0} (m : Meaning P) (count : ℕ) where
         let y = crash x.0 x.1 in
         let none : e.1.state ≡ None = ap (λ (z : Dialing). z.state) by.dialing in
         let still : f.1.state ≡ None = ap (λ (z : Dialing). z.state) same ∙ none in
-        let closed : IsClosed site_view site_may_leave y.0 e.0 = subst (λ (o : Option State). Stands site_view site_may_leave site_left_at y.0 o e.0) none y.1 in
+        let closed : IsClosed site_seen y.0 e.0 = subst (λ (o : Option State). Stands site_seen y.0 o e.0) none y.1 in
         let all = kept y.0 closed in
         let on : y.0.log ≡ w.log ++ (x.3.0 ++ y.2.more) = y.2.log ∙ ap (λ (l : List Entry). l ++ y.2.more) x.3.1 ∙ append_assoc w.log x.3.0 y.2.more in (
           played.client w stands (was_log_of count w.log y.0.log (x.3.0 ++ y.2.more) on all (λ some. has some w stands)) entries,
           (
             y.0,
-            subst (λ (o : Option State). Stands site_view site_may_leave site_left_at y.0 o f.0) (sym still) (stays y.0 closed),
+            subst (λ (o : Option State). Stands site_seen y.0 o f.0) (sym still) (stays y.0 closed),
             y.2.first ∙ x.2,
             all,
           ),
@@ -101,9 +101,9 @@ module _ {P : Type 0} (m : Meaning P) (count : ℕ) where
       on = λ w stands.
           let none : e.1.state ≡ None = ap (λ (z : Dialing). z.state) by.dialing in
           let still : f.1.state ≡ None = ap (λ (z : Dialing). z.state) same ∙ none in
-          let closed : IsClosed site_view site_may_leave w e.0 = subst (λ (o : Option State). Stands site_view site_may_leave site_left_at w o e.0) none stands in (
+          let closed : IsClosed site_seen w e.0 = subst (λ (o : Option State). Stands site_seen w o e.0) none stands in (
             w,
-            subst (λ (o : Option State). Stands site_view site_may_leave site_left_at w o f.0) (sym still) (stays w closed),
+            subst (λ (o : Option State). Stands site_seen w o f.0) (sym still) (stays w closed),
             refl,
             ([], sym (append-nil w.log)),
           );
@@ -151,7 +151,7 @@ module _ {P : Type 0} (m : Meaning P) (count : ℕ) where
       when = first.crash.when;
       crash = first.crash.crash;
       since = tells_then (site_view first.crash.behind.0) (site_view e.0) (site_view f.0) to_middle third.tells;
-      on = continues_then site_view site_may_leave site_left_at first.crash.behind e f on_middle third.stays_on;
+      on = continues_then site_seen first.crash.behind e f on_middle third.stays_on;
     };
     middle = record {
       dial = e;
@@ -168,4 +168,4 @@ module _ {P : Type 0} (m : Meaning P) (count : ℕ) where
       to_middle = tells_then (site_view first.crash.behind.0) (site_view d.0) (site_view e.0) first.crash.since second.tells
 
       on_middle : StaysOn first.crash.behind e
-      on_middle = continues_then site_view site_may_leave site_left_at first.crash.behind d e first.crash.on second.stays_on
+      on_middle = continues_then site_seen first.crash.behind d e first.crash.on second.stays_on

@@ -14,7 +14,7 @@ use Rattle.sm_fetch.specs.declared.dial.Answer.TheVariants as answers
 use Rattle.sm_world.specs.Answering.{halved}
 use Rattle.sm_site.specs.declared.memory.MemorySite.{MemorySite}
 use Rattle.sm_site.specs.Meanings.{View}
-use Rattle.sm_site.specs.Memory.{site_view, site_may_leave, site_left_at}
+use Rattle.sm_site.specs.Memory.{site_seen, site_view}
 use Rattle.sm_world.specs.Deeds.{IsCrash, place}
 use Rattle.sm_world.specs.Dialing.{Dialing}
 use Rattle.sm_world.specs.Encoders.{entries_after, log_of}
@@ -91,8 +91,8 @@ pub record IsClient {P : Type 0} (m : Meaning P) (p : P) (name : List ℕ) (coun
 pub record HasPlayed {P : Type 0} (m : Meaning P) (p : P) (name : List ℕ) (count : ℕ) (old new : MemorySite × Dialing) (c : Client) : Type 0 where
   pub more : List Exchange
   pub made : new.1.made ≡ old.1.made ++ more
-  pub client : (w : World) → Stands site_view site_may_leave site_left_at w old.1.state old.0 → w.log ≡ log_of count
-      → ((now : World) → Stands site_view site_may_leave site_left_at now new.1.state new.0 → length now.log ≡ entries_after count)
+  pub client : (w : World) → Stands site_seen w old.1.state old.0 → w.log ≡ log_of count
+      → ((now : World) → Stands site_seen now new.1.state new.0 → length now.log ≡ entries_after count)
       → IsClient m p name count (site_view old.0) (site_view new.0) more c.tracks
   pub few : length more ≤ (count + 1) * 9
   pub lost : c.lost ≡ lost_among more
@@ -127,9 +127,9 @@ pub record HasPlayedFirst {P : Type 0} (m : Meaning P) (p : P) (count : ℕ) (ol
   pub more : List Exchange
   pub made : new.1.made ≡ old.1.made ++ more
   pub crash : CrashedBehind old new (old.1.made ++ more)
-  pub client : (0 < count → HasEntries old (entries_after count)) → (w : World) → Stands site_view site_may_leave site_left_at w old.1.state old.0
+  pub client : (0 < count → HasEntries old (entries_after count)) → (w : World) → Stands site_seen w old.1.state old.0
       → IsClient m p (codes "video") count (site_view old.0) (site_view crash.before.0) more c.tracks
-      × ((now : World) × Stands site_view site_may_leave site_left_at now new.1.state new.0
+      × ((now : World) × Stands site_seen now new.1.state new.0
       × (now.first ≡ w.first) × (now.log ≡ log_of count))
   pub few : length more ≤ (count + 1) * 9
   pub lost : c.lost ≡ lost_among more
@@ -145,11 +145,11 @@ pub record HavePlayed {P : Type 0} (m : Meaning P) (p q r : P) (count : ℕ) (ol
   pub made : new.1.made ≡ ((old.1.made ++ ones) ++ twos) ++ threes
   pub crash : CrashedBehind old new (old.1.made ++ ones)
   pub middle : PassedThrough crash.behind new ((old.1.made ++ ones) ++ twos)
-  pub client : (0 < count → HasEntries old (entries_after count)) → (w : World) → Stands site_view site_may_leave site_left_at w old.1.state old.0
+  pub client : (0 < count → HasEntries old (entries_after count)) → (w : World) → Stands site_seen w old.1.state old.0
       → IsClient m p (codes "video") count (site_view old.0) (site_view crash.before.0) ones c.first.tracks
       × IsClient m q (codes "video") count (site_view crash.behind.0) (site_view middle.dial.0) twos c.second.tracks
       × IsClient m r (codes "audio") count (site_view middle.dial.0) (site_view new.0) threes c.third.tracks
-      × ((now : World) × Stands site_view site_may_leave site_left_at now new.1.state new.0 × (now.first ≡ w.first) × (now.log ≡ log_of count))
+      × ((now : World) × Stands site_seen now new.1.state new.0 × (now.first ≡ w.first) × (now.log ≡ log_of count))
   pub few : length ones + length twos + length threes ≤ (count + 1) * 27
   pub lost : c.first.lost + c.second.lost + c.third.lost ≡ lost_among ones + lost_among twos + lost_among threes
   pub cut : c.first.cut + c.second.cut + c.third.cut ≡ cut_among ones + cut_among twos + cut_among threes

@@ -6,7 +6,7 @@ use Rattle.sm_fetch.specs.declared.place.Place.{Place}
 use Rattle.sm_fetch.specs.Requests.{push_request, push_limit}
 use Rattle.sm_site.specs.declared.memory.MemorySite.{MemorySite}
 use Rattle.sm_site.specs.Image.{bytes_of}
-use Rattle.sm_site.specs.Memory.{faults_of, site_view, site_may_leave, site_left_at, site_left_by, state_of}
+use Rattle.sm_site.specs.Memory.{faults_of, site_seen, site_view, site_left_by, state_of}
 use Rattle.sm_site.specs.Sites.{SameCounts}
 use Rattle.sm_world.specs.Answering.{one_more}
 use Rattle.sm_world.specs.Dialing.{Dialing}
@@ -89,7 +89,7 @@ fragments_in (Crashes choice ∷ deeds) = fragments_in deeds
 pub record IsPush (place : Place) (id body : List ℕ) (old new : MemorySite × Dialing) : Type 0 where
   pub answer : Answer
   pub made : new.1.made ≡ old.1.made ++ (record { request = push_request place id body; limit = push_limit; answer = answer }) ∷ []
-  pub later : IsLater site_view site_may_leave site_left_at old new
+  pub later : IsLater site_seen old new
 
 -- so many writes and syncs still pass
 pub record IsStop (calls : ℕ) (old new : MemorySite × Dialing) : Type 0 where

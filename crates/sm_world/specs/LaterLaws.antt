@@ -1,8 +1,7 @@
 -- What the laws of a dial on a site stand on: what becomes of it over one call after another.
 use Rattle.std.proofs.Common.{◌≡◌, ℕ, ◌+◌, ◌≤◌, List, [], ◌∷◌, ◌++◌, length, refl, sym, ◌∙◌, ap, subst, arith, append_assoc, append-nil, length-append}
 use Rattle.sm_model.specs.declared.entry.Entry.{Entry}
-use Rattle.sm_site.specs.Image.{Image}
-use Rattle.sm_site.specs.Meanings.{View}
+use Rattle.sm_site.specs.Meanings.{View, Seen}
 use Rattle.sm_fetch.specs.declared.dial.Exchange.{Exchange}
 use Rattle.sm_world.specs.Dialing.{Dialing, next_number}
 use Rattle.sm_world.specs.Later.{HasMade, IsLater, Continues}
@@ -54,18 +53,18 @@ module _ (from to : View) (lost cut : List ℕ) where
   by_both n m log mid (x ∷ xs) ys later is (more, by, rest) then =
       (more, by, by_both (n + 1) m (log ++ more) mid xs ys later (omega (arith, is)) rest then)
 
-module _ {D : Type 0} (view : D → View) (leave : D → Image → Type 0) (left_at : D → ℕ → Image → Type 0) where
+module _ {D : Type 0} (site : Seen D) where
   pub made_not : (d e : D × Dialing) → e.1.made ≡ d.1.made
-      → ((log : List Entry) → StandsAt view leave left_at d.1.state d.0 log
-      → (more : List Entry) × StandsAt view leave left_at e.1.state e.0 (log ++ more)) → HasMade view leave left_at d e
+      → ((log : List Entry) → StandsAt site d.1.state d.0 log
+      → (more : List Entry) × StandsAt site e.1.state e.0 (log ++ more)) → HasMade site d e
   made_not d e same on = record {
     more = [];
     made = same ∙ sym (append-nil d.1.made);
     on = λ within log at. (let x = on log at in (log ++ x.0, x.1, (x.0, refl)));
   }
 
-  made_then : (d e f : D × Dialing) → e.1.lost ≡ d.1.lost → e.1.cut ≡ d.1.cut → e.1.since ≡ d.1.since → TellsOn (view d.0) (view e.0)
-      → TellsOn (view e.0) (view f.0) → HasMade view leave left_at d e → HasMade view leave left_at e f → HasMade view leave left_at d f
+  made_then : (d e f : D × Dialing) → e.1.lost ≡ d.1.lost → e.1.cut ≡ d.1.cut → e.1.since ≡ d.1.since → TellsOn (site.view d.0) (site.view e.0)
+      → TellsOn (site.view e.0) (site.view f.0) → HasMade site d e → HasMade site e f → HasMade site d f
   made_then d e f lost cut since before behind a b = record {
     more = a.more ++ b.more;
     made = b.made ∙ ap (λ (l : List Exchange). l ++ b.more) a.made ∙ append_assoc d.1.made a.more b.more;
@@ -75,58 +74,58 @@ module _ {D : Type 0} (view : D → View) (leave : D → Image → Type 0) (left
       long : length e.1.made ≡ length d.1.made + length a.more
       long = ap (λ (l : List Exchange). length l) a.made ∙ length-append d.1.made a.more
 
-      on : d.1.since ≤ length d.1.made → (log : List Entry) → StandsAt view leave left_at d.1.state d.0 log
-          → (later : List Entry) × StandsAt view leave left_at f.1.state f.0 later
-          × AreByNumber (view d.0) (view f.0) d.1.lost d.1.cut (next_number d.1) log (a.more ++ b.more) later
+      on : d.1.since ≤ length d.1.made → (log : List Entry) → StandsAt site d.1.state d.0 log
+          → (later : List Entry) × StandsAt site f.1.state f.0 later
+          × AreByNumber (site.view d.0) (site.view f.0) d.1.lost d.1.cut (next_number d.1) log (a.more ++ b.more) later
       on within log at =
           let x = a.on within log at in
           let y = b.on (omega (arith, long, since, within)) x.0 x.1 in
-          let first : AreByNumber (view d.0) (view f.0) d.1.lost d.1.cut (next_number d.1) log a.more x.0 =
-          by_wider (view d.0) (view d.0) (view e.0) (view f.0) (tells_same (view d.0)) behind d.1.lost d.1.cut (next_number d.1) log a.more x.0 x.2
+          let first : AreByNumber (site.view d.0) (site.view f.0) d.1.lost d.1.cut (next_number d.1) log a.more x.0 =
+          by_wider (site.view d.0) (site.view d.0) (site.view e.0) (site.view f.0) (tells_same (site.view d.0)) behind d.1.lost d.1.cut (next_number d.1) log a.more x.0 x.2
           in
-          let then : AreByNumber (view e.0) (view f.0) d.1.lost d.1.cut (next_number e.1) x.0 b.more y.0 =
-          subst (λ (l : List ℕ). AreByNumber (view e.0) (view f.0) l d.1.cut (next_number e.1) x.0 b.more y.0) lost
-          (subst (λ (l : List ℕ). AreByNumber (view e.0) (view f.0) e.1.lost l (next_number e.1) x.0 b.more y.0) cut y.2)
+          let then : AreByNumber (site.view e.0) (site.view f.0) d.1.lost d.1.cut (next_number e.1) x.0 b.more y.0 =
+          subst (λ (l : List ℕ). AreByNumber (site.view e.0) (site.view f.0) l d.1.cut (next_number e.1) x.0 b.more y.0) lost
+          (subst (λ (l : List ℕ). AreByNumber (site.view e.0) (site.view f.0) e.1.lost l (next_number e.1) x.0 b.more y.0) cut y.2)
           in
-          let second : AreByNumber (view d.0) (view f.0) d.1.lost d.1.cut (next_number e.1) x.0 b.more y.0 =
-          by_wider (view d.0) (view e.0) (view f.0) (view f.0) before (tells_same (view f.0)) d.1.lost d.1.cut (next_number e.1) x.0 b.more y.0 then
+          let second : AreByNumber (site.view d.0) (site.view f.0) d.1.lost d.1.cut (next_number e.1) x.0 b.more y.0 =
+          by_wider (site.view d.0) (site.view e.0) (site.view f.0) (site.view f.0) before (tells_same (site.view f.0)) d.1.lost d.1.cut (next_number e.1) x.0 b.more y.0 then
           in (
             y.0,
             y.1,
-            by_both (view d.0) (view f.0) d.1.lost d.1.cut (next_number d.1) (next_number e.1) log x.0 a.more b.more y.0
+            by_both (site.view d.0) (site.view f.0) d.1.lost d.1.cut (next_number d.1) (next_number e.1) log x.0 a.more b.more y.0
                 (omega (arith, long, since, within)) first second,
           )
 
-  pub is_later_same : (d : D × Dialing) → IsLater view leave left_at d d
+  pub is_later_same : (d : D × Dialing) → IsLater site d d
   is_later_same d = record {
     limits = refl;
     lost = refl;
     cut = refl;
     since = refl;
     crashes = refl;
-    tells = tells_same (view d.0);
-    exchanges = made_not d d refl (λ log at. ([], subst (λ (l : List Entry). StandsAt view leave left_at d.1.state d.0 l) (sym (append-nil log)) at));
+    tells = tells_same (site.view d.0);
+    exchanges = made_not d d refl (λ log at. ([], subst (λ (l : List Entry). StandsAt site d.1.state d.0 l) (sym (append-nil log)) at));
     goes_on = λ w stands. (w, stands, grows_not w);
   }
 
-  pub is_later_then : (d e f : D × Dialing) → IsLater view leave left_at d e → IsLater view leave left_at e f → IsLater view leave left_at d f
+  pub is_later_then : (d e f : D × Dialing) → IsLater site d e → IsLater site e f → IsLater site d f
   is_later_then d e f a b = record {
     limits = b.limits ∙ a.limits;
     lost = b.lost ∙ a.lost;
     cut = b.cut ∙ a.cut;
     since = b.since ∙ a.since;
     crashes = b.crashes ∙ a.crashes;
-    tells = tells_then (view d.0) (view e.0) (view f.0) a.tells b.tells;
+    tells = tells_then (site.view d.0) (site.view e.0) (site.view f.0) a.tells b.tells;
     exchanges = made_then d e f a.lost a.cut a.since a.tells b.tells a.exchanges b.exchanges;
     goes_on = λ w stands. (let x = a.goes_on w stands in let y = b.goes_on x.0 x.1 in (y.0, y.1, grows_then w x.0 y.0 x.2 y.2));
   }
 
   -- ---- through crashes too
 
-  pub continues_same : (d : D × Dialing) → Continues view leave left_at d d
+  pub continues_same : (d : D × Dialing) → Continues site d d
   continues_same d w stands = (w, stands, refl, ([], sym (append-nil w.log)))
 
-  pub continues_then : (d e f : D × Dialing) → Continues view leave left_at d e → Continues view leave left_at e f → Continues view leave left_at d f
+  pub continues_then : (d e f : D × Dialing) → Continues site d e → Continues site e f → Continues site d f
   continues_then d e f a b w stands =
       let x = a w stands in
       let y = b x.0 x.1 in (
@@ -136,5 +135,5 @@ module _ {D : Type 0} (view : D → View) (leave : D → Image → Type 0) (left
         (x.3.0 ++ y.3.0, y.3.1 ∙ ap (λ (l : List Entry). l ++ y.3.0) x.3.1 ∙ append_assoc w.log x.3.0 y.3.0),
       )
 
-  pub continues_later : (d e : D × Dialing) → IsLater view leave left_at d e → Continues view leave left_at d e
+  pub continues_later : (d e : D × Dialing) → IsLater site d e → Continues site d e
   continues_later d e a w stands = let x = a.goes_on w stands in (x.0, x.1, x.2.first, (x.2.more, x.2.log))

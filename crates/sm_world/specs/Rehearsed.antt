@@ -2,7 +2,7 @@
 use Rattle.std.specs.Prelude.{◌≡◌, ◌+◌, ◌*◌, ℕ, List, [], ◌∷◌, ◌++◌, map, codes, false}
 use Rattle.sm_fetch.specs.declared.dial.Exchange.{Exchange}
 use Rattle.sm_client.specs.Turns.{Meaning}
-use Rattle.sm_site.specs.Memory.{site_view, site_may_leave, site_left_at, faults_of}
+use Rattle.sm_site.specs.Memory.{site_seen, site_view, faults_of}
 use Rattle.sm_site.specs.declared.memory.MemorySite.{MemorySite}
 use Rattle.sm_world.specs.Clients.{CrashedBehind, PassedThrough, IsClient, lost_among, cut_among}
 use Rattle.sm_world.specs.Deeds.{AreDone, deeds_in, fragments_in, place, requests_of}
@@ -20,7 +20,7 @@ use Rattle.sm_world.specs.declared.rehearsal.Rehearsal.{Rehearsal}
 -- clients' exchanges and fragments.
 pub record Rehearsed {P : Type 0} (m : Meaning P) (number size : ℕ) (policies : List P) (r : Rehearsal) : Type 0 where
   pub world : World
-  pub stands : Stands site_view site_may_leave site_left_at world r.dial.1.state r.dial.0
+  pub stands : Stands site_seen world r.dial.1.state r.dial.0
   pub began : world.first ≡ []
   pub log : world.log ≡ log_of size
   pub first : P
@@ -36,7 +36,7 @@ pub record Rehearsed {P : Type 0} (m : Meaning P) (number size : ℕ) (policies 
   pub start : MemorySite × Dialing
   pub pushed : MemorySite × Dialing
   pub before : World
-  pub stood : Stands site_view site_may_leave site_left_at before start.1.state start.0
+  pub stood : Stands site_seen before start.1.state start.0
   pub empty : before.log ≡ []
   pub none_made : start.1.made ≡ []
   pub done : AreDone place (codes "a") (deeds_in header_text size number) start pushed

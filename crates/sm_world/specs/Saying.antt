@@ -2,8 +2,7 @@
 use Rattle.std.specs.Prelude.{◌≡◌, ◌≤◌, ℕ, List, ◌++◌, length, Option}
 use Rattle.sm_model.specs.declared.entry.Entry.{Entry}
 use Rattle.sm_site.specs.Clauses.{Both, Rose}
-use Rattle.sm_site.specs.Image.{Image}
-use Rattle.sm_site.specs.Meanings.{View, Item}
+use Rattle.sm_site.specs.Meanings.{View, Item, Seen}
 use Rattle.sm_serve.specs.Connections.{live}
 use Rattle.sm_serve.specs.declared.state.State.{State}
 use Rattle.sm_fetch.specs.Origins.{MayBeAsked}
@@ -14,10 +13,10 @@ use Rattle.sm_world.specs.declared.acted.Acted.TheVariants as acted
 use Rattle.sm_world.specs.Worlds.{World, Stands, Grows}
 
 -- in some world with this log it stands
-pub record StandsAt {D : Type 0} (view : D → View) (leave : D → Image → Type 0) (left_at : D → ℕ → Image → Type 0) (state : Option State) (d : D)
+pub record StandsAt {D : Type 0} (site : Seen D) (state : Option State) (d : D)
     (log : List Entry) : Type 0 where
   pub world : World
-  pub stands : Stands view leave left_at world state d
+  pub stands : Stands site world state d
   pub log_is : world.log ≡ log
 
 -- What went out in answer to the GET of a target of any place is the reply of this log, or a front of it. The store stays closed, or a disk that
@@ -61,18 +60,18 @@ IsSaidBetween old new log request came =
     IsSaidBy (Rose old.disk_faults new.disk_faults) (Rose old.link_faults new.link_faults) (WasCrowded old new) log request came
 
 -- The world went on, and what came of the request was said of its log at some moment of that, for a cause that came on the way.
-pub record Says {D : Type 0} (view : D → View) (leave : D → Image → Type 0) (left_at : D → ℕ → Image → Type 0) (w : World) (before : D) (request : List ℕ)
+pub record Says {D : Type 0} (site : Seen D) (w : World) (before : D) (request : List ℕ)
     (came : Acted) (state : Option State) (d : D) : Type 0 where
   pub now : World
-  pub stands : Stands view leave left_at now state d
+  pub stands : Stands site now state d
   pub grows : Grows w now
   pub until : List Entry
   pub since : List Entry
   pub log_is : now.log ≡ (w.log ++ until) ++ since
-  pub said : IsSaidBetween (view before) (view d) (w.log ++ until) request came
+  pub said : IsSaidBetween (site.view before) (site.view d) (w.log ++ until) request came
 
 -- wherever it stood
-abbrev pub SaysOn : {D : Type 0} (view : D → View) (leave : D → Image → Type 0) (left_at : D → ℕ → Image → Type 0) → Option State → D → List ℕ
+abbrev pub SaysOn : {D : Type 0} (site : Seen D) → Option State → D → List ℕ
     → Acted → Option State → D → Type 0
-SaysOn view leave left_at state d request came state' d' =
-    (w : World) → Stands view leave left_at w state d → Says view leave left_at w d request came state' d'
+SaysOn site state d request came state' d' =
+    (w : World) → Stands site w state d → Says site w d request came state' d'

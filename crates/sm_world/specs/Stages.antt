@@ -2,7 +2,7 @@
 use Rattle.std.specs.Prelude.{◌≡◌, ◌≤◌, ◌<◌, ◌+◌, ◌^◌, ℕ, List, [], ◌++◌, length, codes}
 use Rattle.sm_fetch.specs.declared.dial.Exchange.{Exchange}
 use Rattle.sm_site.specs.declared.memory.MemorySite.{MemorySite}
-use Rattle.sm_site.specs.Memory.{site_view, site_may_leave, site_left_at}
+use Rattle.sm_site.specs.Memory.{site_seen}
 use Rattle.sm_world.specs.Deeds.{Deed, AreDone, fragments_in, place}
 use Rattle.sm_world.specs.Dialing.{Dialing}
 use Rattle.sm_world.specs.Header.{header_text}
@@ -13,7 +13,7 @@ use Rattle.sm_world.specs.declared.stage.Stage.{Stage}
 
 -- wherever an origin in memory stood, it stands at a log that goes on
 abbrev pub StaysOn : MemorySite × Dialing → MemorySite × Dialing → Type 0
-StaysOn old new = Continues site_view site_may_leave site_left_at old new
+StaysOn old new = Continues site_seen old new
 
 -- This was done to the origin, and further exchanges are its pushes. So many were refused, at most so many of their fragments were known, and
 -- the site crashed so often; and what their answers say is counted.
@@ -35,7 +35,7 @@ pub record HasPushed (old new : Stage) (deeds : List Deed) (crashes refusals mos
 -- Nothing has happened yet: the store is empty.
 pub record Begins (s : Stage) : Type 0 where
   pub world : World
-  pub stands : Stands site_view site_may_leave site_left_at world s.dial.1.state s.dial.0
+  pub stands : Stands site_seen world s.dial.1.state s.dial.0
   pub first : world.first ≡ []
   pub log : world.log ≡ []
   pub place : s.place ≡ place
@@ -48,4 +48,4 @@ pub record Begins (s : Stage) : Type 0 where
 
 -- wherever an origin in memory stands, its log has so many entries
 abbrev pub HasEntries : MemorySite × Dialing → ℕ → Type 0
-HasEntries dial entries = (w : World) → Stands site_view site_may_leave site_left_at w dial.1.state dial.0 → length w.log ≡ entries
+HasEntries dial entries = (w : World) → Stands site_seen w dial.1.state dial.0 → length w.log ≡ entries

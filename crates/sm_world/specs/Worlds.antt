@@ -1,8 +1,7 @@
 -- What stands behind a dial.
-use Rattle.std.specs.Prelude.{◌≡◌, ℕ, List, [], ◌∷◌, ◌++◌, Option, Some, None, IfSome}
+use Rattle.std.specs.Prelude.{◌≡◌, List, [], ◌∷◌, ◌++◌, Option, Some, None, IfSome}
 use Rattle.sm_model.specs.declared.entry.Entry.{Entry}
-use Rattle.sm_site.specs.Image.{Image}
-use Rattle.sm_site.specs.Meanings.{View, Item}
+use Rattle.sm_site.specs.Meanings.{Item, Seen}
 use Rattle.sm_origin.specs.Opening.{HasOneStore}
 use Rattle.sm_serve.specs.declared.state.State.{State}
 use Rattle.sm_serve.specs.Standing.{History}
@@ -16,25 +15,25 @@ pub record World : Type 0 where
   pub log : List Entry
 
 -- The store isn't open: each image that a crash may leave is the log, which comes of what was pushed.
-pub record IsClosed {D : Type 0} (view : D → View) (leave : D → Image → Type 0) (w : World) (d : D) : Type 0 where
-  pub one : HasOneStore w.log (leave d)
+pub record IsClosed {D : Type 0} (site : Seen D) (w : World) (d : D) : Type 0 where
+  pub one : HasOneStore w.log (site.may_leave d)
   pub items : List Item
-  pub told : (view d).transcript ≡ Some items
+  pub told : (site.view d).transcript ≡ Some items
   pub comes : ComesOf w.first w.past items w.log
 
 -- The store is open: the state is where a run is, that began with a log which comes of what was pushed, and now has this log.
-pub record IsOpen {D : Type 0} (view : D → View) (leave : D → Image → Type 0) (left_at : D → ℕ → Image → Type 0) (w : World)
+pub record IsOpen {D : Type 0} (site : Seen D) (w : World)
     (state : State) (d : D) : Type 0 where
   pub run : History
-  pub serves : Serves view leave left_at run state d
+  pub serves : Serves site run state d
   pub settled : run.first.doubt ≡ None
   pub found : ComesOf w.first w.past run.base run.first.log
   pub log_is : run.point.machine.log ≡ w.log
 
-abbrev pub Stands : {D : Type 0} (view : D → View) (leave : D → Image → Type 0) (left_at : D → ℕ → Image → Type 0) → World → Option State → D
+abbrev pub Stands : {D : Type 0} (site : Seen D) → World → Option State → D
     → Type 0
-Stands view leave left_at w None d = IsClosed view leave w d
-Stands view leave left_at w (Some state) d = IsOpen view leave left_at w state d
+Stands site w None d = IsClosed site w d
+Stands site w (Some state) d = IsOpen site w state d
 
 -- the log goes on
 pub record Grows (old new : World) : Type 0 where
@@ -51,7 +50,7 @@ pub record Crashes (items : Option (List Item)) (old new : World) : Type 0 where
   pub log : new.log ≡ old.log ++ more
 
 -- wherever it stood, it stands at a log that goes on
-abbrev pub GoesOn : {D : Type 0} (view : D → View) (leave : D → Image → Type 0) (left_at : D → ℕ → Image → Type 0) → Option State → D
+abbrev pub GoesOn : {D : Type 0} (site : Seen D) → Option State → D
     → Option State → D → Type 0
-GoesOn view leave left_at state d state' d' =
-    (w : World) → Stands view leave left_at w state d → (now : World) × Stands view leave left_at now state' d' × Grows w now
+GoesOn site state d state' d' =
+    (w : World) → Stands site w state d → (now : World) × Stands site now state' d' × Grows w now

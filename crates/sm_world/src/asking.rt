@@ -15,7 +15,7 @@ const PIECE: usize = 65_536;
 /// The number of the next connection.
 pub(crate) fn next_connection<S: Crashing>(site: &S) -> Option<u64>
     ensures first { IfSome result (λ n. 2 ^ 63 ≤ n) }
-    ensures above { IfSome result (λ n. IfSome (S.Disk.view site.now).script (λ deals. numbers_after (S.Link.numbers site.now) deals ≤ n)) }
+    ensures above { IfSome result (λ n. IfSome (S.Disk.seen.view site.now).script (λ deals. numbers_after (S.Link.numbers site.now) deals ≤ n)) }
 {
     match site.next_number() {
         Some(number) => Some(number.max(FIRST)),

@@ -3,6 +3,7 @@ ghost use Rattle.std.specs.Prelude.{◌≡◌, ◌≤◌, ◌<◌, ◌⊎◌, �
 ghost use Rattle.sm_site.specs.Faults.{is_listed};
 ghost use Rattle.sm_world.specs.Clients.{CameBy, HasPlayed, HaveCome, plan_of};
 ghost use Rattle.sm_world.specs.Deeds.{place};
+ghost use Rattle.sm_client.specs.Turns.{meant};
 
 use crate::OriginDial;
 use crate::header::name;
@@ -129,7 +130,7 @@ pub(crate) fn play_stream(
 ) -> Result<Client, NoMemory>
     requires few { count ≤ 2000 }
     requires stream { (stream.now ≡ codes "video") ⊎ (stream.now ≡ codes "audio") }
-    ensures { IfOk result (HasPlayed (record { pick = pick_after; retired = retired_after }) policy stream.now count dial.old dial.new) }
+    ensures { IfOk result (HasPlayed (meant pick_after retired_after) policy stream.now count dial.old dial.new) }
 {
     let most = (count + 1) * (TRIES as u64 * (REFRESH as u64 + 1));
     dial.renumber(multiples(alloc, LOST, most)?, multiples(alloc, CUT, most)?);

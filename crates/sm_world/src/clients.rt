@@ -3,6 +3,7 @@ ghost use Rattle.std.specs.Prelude.{◌≡◌, ◌≤◌, ◌⊎◌, IfOk, IsTru
 ghost use Rattle.sm_world.specs.Clients.{HasPlayed, HasPlayedFirst, HavePlayed};
 ghost use Rattle.sm_world.specs.Encoders.{entries_after};
 ghost use Rattle.sm_world.specs.Stages.{HasEntries};
+ghost use Rattle.sm_client.specs.Turns.{meant};
 
 use crate::OriginDial;
 use crate::client::{Client, play_stream};
@@ -40,7 +41,7 @@ fn client(
 ) -> Result<Client, NoMemory>
     requires few { size ≤ 2000 }
     requires stream { (stream.now ≡ codes "video") ⊎ (stream.now ≡ codes "audio") }
-    ensures played { IfOk result (HasPlayed (record { pick = pick_after; retired = retired_after }) policy stream.now size dial.old dial.new) }
+    ensures played { IfOk result (HasPlayed (meant pick_after retired_after) policy stream.now size dial.old dial.new) }
     ensures entries { OnOk result (HasEntries dial.new (entries_after size)) }
 {
     let client = play_stream(alloc, dial, policy, stream, size)?;
@@ -61,7 +62,7 @@ fn play_first(
     size: u64,
 ) -> Result<Client, NoMemory>
     requires few { size ≤ 2000 }
-    ensures { IfOk result (HasPlayedFirst (record { pick = pick_after; retired = retired_after }) policy size dial.old dial.new) }
+    ensures { IfOk result (HasPlayedFirst (meant pick_after retired_after) policy size dial.old dial.new) }
 {
     let client = client(alloc, dial, policy, b"video", size)?;
     dial.crash_by(0);
@@ -82,7 +83,7 @@ pub(crate) fn play_all(
     size: u64,
 ) -> Result<Clients, NoMemory>
     requires few { size ≤ 2000 }
-    ensures { IfOk result (HavePlayed (record { pick = pick_after; retired = retired_after }) first second third size dial.old dial.new) }
+    ensures { IfOk result (HavePlayed (meant pick_after retired_after) first second third size dial.old dial.new) }
 {
     let first = play_first(alloc, dial, first, size)?;
     let second = client(alloc, dial, second, b"video", size)?;

@@ -58,7 +58,7 @@ impl<S: Crashing> Model for OriginDial<S> {
     ) };
 
     ghost invariant = { λ d. (d.limits.store_bytes ≤ 2 ^ 62) × (d.limits.entries < 2 ^ 32)
-        × ((w : World) × Stands S.Disk.view S.Disk.may_leave S.Disk.left_at w d.state d.site)
+        × ((w : World) × Stands S.Disk.seen w d.state d.site)
         × (d.since ≤ length d.made.items) };
 }
 
@@ -68,12 +68,12 @@ impl<S: Crashing> OriginDial<S> {
     pub fn new(alloc: Global, site: S, limits: Limits, lost: Numbers, cut: Numbers) -> OriginDial<S>
         requires bytes { limits.store_bytes ≤ 2 ^ 62 }
         requires entries { limits.entries < 2 ^ 32 }
-        requires settled { IfSome (S.Disk.view site).contents (λ now. Settled now (S.Disk.may_leave site)) }
-        requires store { IfSome (S.Disk.view site).contents (λ now. (log : List Entry) × IsStore log now) }
+        requires settled { IfSome (S.Disk.seen.view site).contents (λ now. Settled now (S.Disk.seen.may_leave site)) }
+        requires store { IfSome (S.Disk.seen.view site).contents (λ now. (log : List Entry) × IsStore log now) }
         ensures site { result.0 ≡ site }
         ensures dialing { result.1 ≡ record { state = None; limits = limits; lost = lost; cut = cut; since = 0; made = []; faults = 0; crashes = 0 } }
-        ensures stands { (log : List Entry) → IfSome (S.Disk.view site).contents (IsStore log)
-            → Stands S.Disk.view S.Disk.may_leave S.Disk.left_at (record { first = log; past = S.openings site; log = log }) None result.0 }
+        ensures stands { (log : List Entry) → IfSome (S.Disk.seen.view site).contents (IsStore log)
+            → Stands S.Disk.seen (record { first = log; past = S.openings site; log = log }) None result.0 }
     {
         OriginDial {
             alloc,
@@ -99,11 +99,10 @@ impl<S: Crashing> OriginDial<S> {
     /// Crashes the site. What it keeps is one of the images that a crash may leave, chosen by the number; the next exchange opens
     /// the store again.
     pub fn crash(&mut self, choice: u8)
-        ensures crashes { (w : World) → Stands S.Disk.view S.Disk.may_leave S.Disk.left_at w self.old.1.state self.old.0
-            → (now : World) × Stands S.Disk.view S.Disk.may_leave S.Disk.left_at now self.new.1.state self.new.0
-            × Crashes (S.Disk.view self.old.0).transcript w now }
-        ensures image { IfSome (S.Disk.view self.new.0).contents (S.Disk.may_leave self.old.0) }
-        ensures kept { IfSome (S.Disk.view self.new.0).contents (λ now. (file : ℕ) → bytes_of now file ≡ bytes_of (S.left_by self.old.0 choice) file) }
+        ensures crashes { (w : World) → Stands S.Disk.seen w self.old.1.state self.old.0
+            → (now : World) × Stands S.Disk.seen now self.new.1.state self.new.0 × Crashes (S.Disk.seen.view self.old.0).transcript w now }
+        ensures image { IfSome (S.Disk.seen.view self.new.0).contents (S.Disk.seen.may_leave self.old.0) }
+        ensures kept { IfSome (S.Disk.seen.view self.new.0).contents (λ now. (file : ℕ) → bytes_of now file ≡ bytes_of (S.left_by self.old.0 choice) file) }
         ensures dialing { self.new.1 ≡ record self.old.1 { state = None; crashes = one_more self.old.1.crashes } }
         ensures starved { S.is_starved self.new.0 ≡ S.is_starved self.old.0 }
         ensures stop { S.stop self.new.0 ≡ None }
@@ -148,10 +147,9 @@ impl<S: Crashing> OriginDial<S> {
 
     /// Lets so many further writes and syncs of the site pass. All behind them fail, up to the next crash.
     pub fn stop_after(&mut self, calls: u64)
-        ensures stands { (w : World) → Stands S.Disk.view S.Disk.may_leave S.Disk.left_at w self.old.1.state self.old.0
-            → Stands S.Disk.view S.Disk.may_leave S.Disk.left_at w self.new.1.state self.new.0 }
-        ensures view { S.Disk.view self.new.0 ≡ S.Disk.view self.old.0 }
-        ensures outcomes { SameOutcomes (S.Disk.may_leave self.old.0) (S.Disk.may_leave self.new.0) }
+        ensures stands { (w : World) → Stands S.Disk.seen w self.old.1.state self.old.0 → Stands S.Disk.seen w self.new.1.state self.new.0 }
+        ensures view { S.Disk.seen.view self.new.0 ≡ S.Disk.seen.view self.old.0 }
+        ensures outcomes { SameOutcomes (S.Disk.seen.may_leave self.old.0) (S.Disk.seen.may_leave self.new.0) }
         ensures dialing { self.new.1 ≡ self.old.1 }
         ensures starved { S.is_starved self.new.0 ≡ S.is_starved self.old.0 }
         ensures stop { S.stop self.new.0 ≡ Some calls }

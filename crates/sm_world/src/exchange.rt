@@ -74,19 +74,18 @@ impl<S: Crashing> Dial for OriginDial<S> {
 
     ghost chosen = { λ d. untold_peer };
 
-    ghost store = { λ d. StandsAt S.Disk.view S.Disk.may_leave S.Disk.left_at d.1.state d.0 };
+    ghost store = { λ d. StandsAt S.Disk.seen d.1.state d.0 };
 
     /// Nothing that an exchange doesn't do was done: no crash, and no new numbers; and the log only goes on.
-    ghost later = { λ d e. IsLater S.Disk.view S.Disk.may_leave S.Disk.left_at d e };
+    ghost later = { λ d e. IsLater S.Disk.seen d e };
 
     fn select(&mut self, _host: &str, _port: u16) -> Result<(), DialError>
         ensures chosen { OnOk result (IsTurnedTo untold_peer _host.now _port) }
         ensures log { Some self.new.1.made ≡ Some self.old.1.made }
         ensures later { self.old.1.faults ≤ self.new.1.faults }
         ensures failed { IsErrOf result DialError.Failed → Rose self.old.1.faults self.new.1.faults }
-        ensures store { Grows (StandsAt S.Disk.view S.Disk.may_leave S.Disk.left_at self.old.1.state self.old.0)
-            (StandsAt S.Disk.view S.Disk.may_leave S.Disk.left_at self.new.1.state self.new.0) }
-        ensures goes_on { IsLater S.Disk.view S.Disk.may_leave S.Disk.left_at self.old self.new }
+        ensures store { Grows (StandsAt S.Disk.seen self.old.1.state self.old.0) (StandsAt S.Disk.seen self.new.1.state self.new.0) }
+        ensures goes_on { IsLater S.Disk.seen self.old self.new }
         ensures always { result ≡ Ok tt }
         ensures same { self.new ≡ self.old }
     {
@@ -103,12 +102,12 @@ impl<S: Crashing> Dial for OriginDial<S> {
         ensures within { IsWithin limit result }
         ensures later { self.old.1.faults ≤ self.new.1.faults }
         ensures lost { result ≡ Answer.Lost → Rose self.old.1.faults self.new.1.faults }
-        ensures store { AnswersFrom (StandsAt S.Disk.view S.Disk.may_leave S.Disk.left_at self.old.1.state self.old.0)
-            (StandsAt S.Disk.view S.Disk.may_leave S.Disk.left_at self.new.1.state self.new.0) request.now result }
+        ensures store { AnswersFrom (StandsAt S.Disk.seen self.old.1.state self.old.0)
+            (StandsAt S.Disk.seen self.new.1.state self.new.0) request.now result }
         ensures faults { self.new.1.faults ≡ faults_after self.old.1.faults result }
-        ensures goes_on { IsLater S.Disk.view S.Disk.may_leave S.Disk.left_at self.old self.new }
-        ensures answers { (came : Came) × HasCause S.Disk.view self.old.1.state self.old.0 self.new.1.state self.new.0 request.now came
-            × SaysOn S.Disk.view S.Disk.may_leave S.Disk.left_at self.old.1.state self.old.0 request.now came self.new.1.state self.new.0
+        ensures goes_on { IsLater S.Disk.seen self.old self.new }
+        ensures answers { (came : Came) × HasCause S.Disk.seen.view self.old.1.state self.old.0 self.new.1.state self.new.0 request.now came
+            × SaysOn S.Disk.seen self.old.1.state self.old.0 request.now came self.new.1.state self.new.0
             × ((result ≡ Answer.NoMemory)
             ⊎ (result ≡ answer_for (is_listed (next_number self.old.1) self.old.1.lost) (is_listed (next_number self.old.1) self.old.1.cut) limit came)) }
     {
@@ -133,13 +132,12 @@ impl<S: Crashing> Dial for OriginDial<S> {
         ensures chosen { untold_peer ≡ untold_peer }
         ensures log { Some self.new.1.made ≡ Some self.old.1.made }
         ensures later { self.old.1.faults ≤ self.new.1.faults }
-        ensures store { Grows (StandsAt S.Disk.view S.Disk.may_leave S.Disk.left_at self.old.1.state self.old.0)
-            (StandsAt S.Disk.view S.Disk.may_leave S.Disk.left_at self.new.1.state self.new.0) }
-        ensures goes_on { IsLater S.Disk.view S.Disk.may_leave S.Disk.left_at self.old self.new }
+        ensures store { Grows (StandsAt S.Disk.seen self.old.1.state self.old.0) (StandsAt S.Disk.seen self.new.1.state self.new.0) }
+        ensures goes_on { IsLater S.Disk.seen self.old self.new }
         ensures same { self.new ≡ self.old }
     {}
 
-    ghost later_same = { λ d. is_later_same S.Disk.view S.Disk.may_leave S.Disk.left_at d };
+    ghost later_same = { λ d. is_later_same S.Disk.seen d };
 
-    ghost later_then = { λ d e f first then. is_later_then S.Disk.view S.Disk.may_leave S.Disk.left_at d e f first then };
+    ghost later_then = { λ d e f first then. is_later_then S.Disk.seen d e f first then };
 }

@@ -10,6 +10,6 @@ use sm_site::Crashing;
 /// Each fragment that a dial's log keeps behind its first log was pushed: by some moment, in one of the transcripts of the openings
 /// before the last crash or in the one since, the bytes that had come on a connection gave it.
 pub fn what_is_kept_was_pushed<S: Crashing>()
-    ensures { (w : World) (state : Option State) (site : S) → Stands S.Disk.view S.Disk.may_leave S.Disk.left_at w state site
-        → (items : List Item) × ((S.Disk.view site).transcript ≡ Some items) × ComesOf w.first w.past items w.log }
+    ensures { (w : World) (state : Option State) (site : S) → Stands S.Disk.seen w state site
+        → (items : List Item) × ((S.Disk.seen.view site).transcript ≡ Some items) × ComesOf w.first w.past items w.log }
 {}

@@ -1,5 +1,5 @@
 //! An origin in memory, whose disk stops and whose site crashes.
-ghost use Rattle.sm_site.specs.Memory.{site_left_at, site_may_leave, site_view};
+ghost use Rattle.sm_site.specs.Memory.{site_seen, site_view};
 ghost use Rattle.sm_world.specs.Deeds.{IsCrash, IsStop};
 ghost use Rattle.sm_world.specs.Worlds.{World, Crashes, Stands};
 
@@ -11,8 +11,7 @@ impl OriginDial<MemorySite> {
     /// Lets so many further writes and syncs of the disk pass, up to the next crash.
     pub(crate) fn stop_disk(&mut self, calls: u64)
         ensures stop { IsStop calls self.old self.new }
-        ensures stands { (w : World) → Stands site_view site_may_leave site_left_at w self.old.1.state self.old.0
-            → Stands site_view site_may_leave site_left_at w self.new.1.state self.new.0 }
+        ensures stands { (w : World) → Stands site_seen w self.old.1.state self.old.0 → Stands site_seen w self.new.1.state self.new.0 }
     {
         fewer_images_stand::<MemorySite>();
         self.site.stop_after(calls);
@@ -21,9 +20,8 @@ impl OriginDial<MemorySite> {
     /// Crashes the site, which keeps the image of this choice.
     pub(crate) fn crash_by(&mut self, choice: u8)
         ensures crash { IsCrash choice self.old self.new }
-        ensures crashes { (w : World) → Stands site_view site_may_leave site_left_at w self.old.1.state self.old.0
-            → (now : World) × Stands site_view site_may_leave site_left_at now self.new.1.state self.new.0
-            × Crashes (site_view self.old.0).transcript w now }
+        ensures crashes { (w : World) → Stands site_seen w self.old.1.state self.old.0
+            → (now : World) × Stands site_seen now self.new.1.state self.new.0 × Crashes (site_view self.old.0).transcript w now }
     {
         an_image_fits::<MemorySite>();
         self.site.crash_here(choice);

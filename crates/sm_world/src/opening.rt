@@ -38,16 +38,13 @@ fn opened<S: Crashing>(
 ) -> Result<State, OpenFault>
     requires bytes { limits.store_bytes ≤ 2 ^ 62 }
     requires entries { limits.entries < 2 ^ 32 }
-    ensures opened { IfOk result (λ new. (w : World) → Stands S.Disk.view S.Disk.may_leave S.Disk.left_at w state site.old
-        → IsOpen S.Disk.view S.Disk.may_leave S.Disk.left_at w new site.new) }
-    ensures refused { OnErr result ((w : World) → Stands S.Disk.view S.Disk.may_leave S.Disk.left_at w state site.old
-        → Stands S.Disk.view S.Disk.may_leave S.Disk.left_at w None site.new) }
-    ensures fault { IsErrOf result open_fault.DiskFault → Rose (S.Disk.view site.old).disk_faults (S.Disk.view site.new).disk_faults }
+    ensures opened { IfOk result (λ new. (w : World) → Stands S.Disk.seen w state site.old → IsOpen S.Disk.seen w new site.new) }
+    ensures refused { OnErr result ((w : World) → Stands S.Disk.seen w state site.old → Stands S.Disk.seen w None site.new) }
+    ensures fault { IsErrOf result open_fault.DiskFault → Rose (S.Disk.seen.view site.old).disk_faults (S.Disk.seen.view site.new).disk_faults }
     ensures closed { OnErr result (state ≡ None) }
     // An image that has a log is a store.
-    ensures never { (w : World) → Stands S.Disk.view S.Disk.may_leave S.Disk.left_at w state site.old
-        → (at : ℕ) → IsErrOf result (open_fault.NotAStore at) → ⊥ }
-    ensures disk_alone { DiskAlone (S.Disk.view site.old) (S.Disk.view site.new) }
+    ensures never { (w : World) → Stands S.Disk.seen w state site.old → (at : ℕ) → IsErrOf result (open_fault.NotAStore at) → ⊥ }
+    ensures disk_alone { DiskAlone (S.Disk.seen.view site.old) (S.Disk.seen.view site.new) }
 {
     bodies_have_one_log();
     stores_have_one_reading();
@@ -62,12 +59,11 @@ fn opened<S: Crashing>(
 
 // Puts events behind the script, which open this connection. None where memory wants.
 fn put<S: Crashing>(site: &mut S, conn: u64, script: Script) -> Option<u64>
-    requires fits { IfSome (S.Disk.view site.old).script (λ deals. IsTrue (is_script (numbers_after (S.Link.numbers site.old) deals) script)) }
+    requires fits { IfSome (S.Disk.seen.view site.old).script (λ deals. IsTrue (is_script (numbers_after (S.Link.numbers site.old) deals) script)) }
     ensures conn { IfSome result (λ n. n ≡ conn) }
-    ensures added { IfSome result (λ n. Both (S.Disk.view site.old).script (S.Disk.view site.new).script (λ was now. now ≡ was ++ deals_of script)) }
-    ensures stays { (w : World) (state : Kept) → IsOpen S.Disk.view S.Disk.may_leave S.Disk.left_at w state site.old
-        → IsOpen S.Disk.view S.Disk.may_leave S.Disk.left_at w state site.new }
-    ensures view { SameBut (S.Disk.view site.old) (S.Disk.view site.new) }
+    ensures added { IfSome result (λ n. Both (S.Disk.seen.view site.old).script (S.Disk.seen.view site.new).script (λ was now. now ≡ was ++ deals_of script)) }
+    ensures stays { (w : World) (state : Kept) → IsOpen S.Disk.seen w state site.old → IsOpen S.Disk.seen w state site.new }
+    ensures view { SameBut (S.Disk.seen.view site.old) (S.Disk.seen.view site.new) }
 {
     fewer_images_stand::<S>();
     match site.extend(script) {
@@ -91,7 +87,7 @@ fn is_live(state: &State, conn: u64) -> bool
 // Whether a connection isn't live and nothing went out on it. Each that is new is unused; so is none where memory wants.
 fn is_unused<S: Crashing>(site: &S, state: &State, conn: u64) -> bool
     ensures live { IsTrue result → is_among conn (numbers_of state.now.lives.items) ≡ false }
-    ensures sent { IsTrue result → IfSome (S.Disk.view site.now).transcript (λ items. sent_on conn items ≡ []) }
+    ensures sent { IsTrue result → IfSome (S.Disk.seen.view site.now).transcript (λ items. sent_on conn items ≡ []) }
 {
     if is_live(state, conn) {
         return false;
@@ -105,14 +101,13 @@ fn is_unused<S: Crashing>(site: &S, state: &State, conn: u64) -> bool
 // Puts a request, as an unused connection of its own, behind the script. None where memory wants.
 fn bring<S: Crashing>(alloc: Global, site: &mut S, state: &State, request: &[u8]) -> Option<u64>
     ensures first { IfSome result (λ n. 2 ^ 63 ≤ n) }
-    ensures above { IfSome result (λ n. IfSome (S.Disk.view site.old).script (λ deals. numbers_after (S.Link.numbers site.old) deals ≤ n)) }
+    ensures above { IfSome result (λ n. IfSome (S.Disk.seen.view site.old).script (λ deals. numbers_after (S.Link.numbers site.old) deals ≤ n)) }
     ensures live { IfSome result (λ n. is_among n (numbers_of state.now.lives.items) ≡ false) }
-    ensures sent { IfSome result (λ n. IfSome (S.Disk.view site.old).transcript (λ items. sent_on n items ≡ [])) }
+    ensures sent { IfSome result (λ n. IfSome (S.Disk.seen.view site.old).transcript (λ items. sent_on n items ≡ [])) }
     ensures brings { IfSome result (λ n. (events : List Event) × Brings n request.now events
-        × Both (S.Disk.view site.old).script (S.Disk.view site.new).script (λ was now. now ≡ was ++ deals_of events)) }
-    ensures stays { (w : World) (state : Kept) → IsOpen S.Disk.view S.Disk.may_leave S.Disk.left_at w state site.old
-        → IsOpen S.Disk.view S.Disk.may_leave S.Disk.left_at w state site.new }
-    ensures view { SameBut (S.Disk.view site.old) (S.Disk.view site.new) }
+        × Both (S.Disk.seen.view site.old).script (S.Disk.seen.view site.new).script (λ was now. now ≡ was ++ deals_of events)) }
+    ensures stays { (w : World) (state : Kept) → IsOpen S.Disk.seen w state site.old → IsOpen S.Disk.seen w state site.new }
+    ensures view { SameBut (S.Disk.seen.view site.old) (S.Disk.seen.view site.new) }
 {
     match next_connection(site) {
         None => None,
@@ -129,7 +124,7 @@ fn bring<S: Crashing>(alloc: Global, site: &mut S, state: &State, request: &[u8]
 }
 
 fn sent_on<S: Crashing>(site: &S, conn: u64) -> Acted
-    ensures { HasSent conn (S.Disk.view site.now).transcript result }
+    ensures { HasSent conn (S.Disk.seen.view site.now).transcript result }
 {
     match site.sent(conn) {
         Ok(piece) => Acted::Sent(piece),
@@ -143,11 +138,11 @@ fn serve_request<S: Crashing>(
     state: &mut State,
     request: &[u8],
 ) -> Acted
-    requires stands { (w : World) × IsOpen S.Disk.view S.Disk.may_leave S.Disk.left_at w state.old site.old }
-    ensures goes_on { GoesOn S.Disk.view S.Disk.may_leave S.Disk.left_at (Some state.old) site.old (Some state.new) site.new }
-    ensures says { SaysOn S.Disk.view S.Disk.may_leave S.Disk.left_at (Some state.old) site.old request.now result (Some state.new) site.new }
-    ensures cause { HasCause S.Disk.view (Some state.old) site.old (Some state.new) site.new request.now result }
-    ensures tells { TellsOn (S.Disk.view site.old) (S.Disk.view site.new) }
+    requires stands { (w : World) × IsOpen S.Disk.seen w state.old site.old }
+    ensures goes_on { GoesOn S.Disk.seen (Some state.old) site.old (Some state.new) site.new }
+    ensures says { SaysOn S.Disk.seen (Some state.old) site.old request.now result (Some state.new) site.new }
+    ensures cause { HasCause S.Disk.seen.view (Some state.old) site.old (Some state.new) site.new request.now result }
+    ensures tells { TellsOn (S.Disk.seen.view site.old) (S.Disk.seen.view site.new) }
     ensures opened { result ≢ Acted.Unopened }
 {
     match bring(alloc, site, state, request) {
@@ -170,11 +165,11 @@ pub(crate) fn ask<S: Crashing>(
 ) -> Asked
     requires bytes { limits.store_bytes ≤ 2 ^ 62 }
     requires entries { limits.entries < 2 ^ 32 }
-    requires stands { (w : World) × Stands S.Disk.view S.Disk.may_leave S.Disk.left_at w state site.old }
-    ensures goes_on { GoesOn S.Disk.view S.Disk.may_leave S.Disk.left_at state site.old result.state site.new }
-    ensures says { SaysOn S.Disk.view S.Disk.may_leave S.Disk.left_at state site.old request.now result.acted result.state site.new }
-    ensures cause { HasCause S.Disk.view state site.old result.state site.new request.now result.acted }
-    ensures tells { TellsOn (S.Disk.view site.old) (S.Disk.view site.new) }
+    requires stands { (w : World) × Stands S.Disk.seen w state site.old }
+    ensures goes_on { GoesOn S.Disk.seen state site.old result.state site.new }
+    ensures says { SaysOn S.Disk.seen state site.old request.now result.acted result.state site.new }
+    ensures cause { HasCause S.Disk.seen.view state site.old result.state site.new request.now result.acted }
+    ensures tells { TellsOn (S.Disk.seen.view site.old) (S.Disk.seen.view site.new) }
 {
     match opened(alloc, site, state, limits) {
         Ok(mut state) => {

@@ -36,13 +36,13 @@ fn keeps_one<S: Crashing>(
     i: u64,
     id: u32,
 ) -> Result<bool, NoMemory>
-    requires stands { (log : List Entry) × Holds archive.now log None (S.Disk.may_leave site.old) }
+    requires stands { (log : List Entry) × Holds archive.now log None (S.Disk.seen.may_leave site.old) }
     requires early { i < 2 ^ 32 }
     requires low { id < 4 }
-    ensures kept { IfOk result (λ same. IsTrue same → (log : List Entry) → Holds archive.now log None (S.Disk.may_leave site.old)
+    ensures kept { IfOk result (λ same. IsTrue same → (log : List Entry) → Holds archive.now log None (S.Disk.seen.may_leave site.old)
         → slice_get log place ≡ Some (Keep (of_encoder_a i id))) }
-    ensures stands { (log : List Entry) → Holds archive.now log None (S.Disk.may_leave site.old) → Holds archive.now log None (S.Disk.may_leave site.new) }
-    ensures disk_alone { DiskAlone (S.Disk.view site.old) (S.Disk.view site.new) }
+    ensures stands { (log : List Entry) → Holds archive.now log None (S.Disk.seen.may_leave site.old) → Holds archive.now log None (S.Disk.seen.may_leave site.new) }
+    ensures disk_alone { DiskAlone (S.Disk.seen.view site.old) (S.Disk.seen.view site.new) }
 {
     let wanted = of_encoder_a(alloc, i, id)?;
     let address = Address::of(alloc, &wanted)?;
@@ -68,11 +68,11 @@ fn keeps_round<S: Crashing>(
     archive: &Archive,
     i: u64,
 ) -> Result<bool, NoMemory>
-    requires stands { (log : List Entry) × Holds archive.now log None (S.Disk.may_leave site.old) }
+    requires stands { (log : List Entry) × Holds archive.now log None (S.Disk.seen.may_leave site.old) }
     requires early { i < 2 ^ 32 }
-    ensures kept { IfOk result (λ same. IsTrue same → (log : List Entry) → Holds archive.now log None (S.Disk.may_leave site.old) → KeepsRound log i) }
-    ensures stands { (log : List Entry) → Holds archive.now log None (S.Disk.may_leave site.old) → Holds archive.now log None (S.Disk.may_leave site.new) }
-    ensures disk_alone { DiskAlone (S.Disk.view site.old) (S.Disk.view site.new) }
+    ensures kept { IfOk result (λ same. IsTrue same → (log : List Entry) → Holds archive.now log None (S.Disk.seen.may_leave site.old) → KeepsRound log i) }
+    ensures stands { (log : List Entry) → Holds archive.now log None (S.Disk.seen.may_leave site.old) → Holds archive.now log None (S.Disk.seen.may_leave site.new) }
+    ensures disk_alone { DiskAlone (S.Disk.seen.view site.old) (S.Disk.seen.view site.new) }
 {
     if !keeps_one(alloc, site, archive, 3 * i + 1, i, 1)? {
         return Ok(false);
@@ -102,11 +102,11 @@ fn keeps_all<S: Crashing>(
     archive: &Archive,
     rounds: u64,
 ) -> Result<bool, NoMemory>
-    requires stands { (log : List Entry) × Holds archive.now log None (S.Disk.may_leave site.old) }
+    requires stands { (log : List Entry) × Holds archive.now log None (S.Disk.seen.may_leave site.old) }
     requires few { rounds ≤ 2000 }
-    ensures kept { IfOk result (λ same. IsTrue same → (log : List Entry) → Holds archive.now log None (S.Disk.may_leave site.old) → log ≡ log_of rounds) }
-    ensures stands { (log : List Entry) → Holds archive.now log None (S.Disk.may_leave site.old) → Holds archive.now log None (S.Disk.may_leave site.new) }
-    ensures disk_alone { DiskAlone (S.Disk.view site.old) (S.Disk.view site.new) }
+    ensures kept { IfOk result (λ same. IsTrue same → (log : List Entry) → Holds archive.now log None (S.Disk.seen.may_leave site.old) → log ≡ log_of rounds) }
+    ensures stands { (log : List Entry) → Holds archive.now log None (S.Disk.seen.may_leave site.old) → Holds archive.now log None (S.Disk.seen.may_leave site.new) }
+    ensures disk_alone { DiskAlone (S.Disk.seen.view site.old) (S.Disk.seen.view site.new) }
 {
     if archive.len() != entries_after(rounds) {
         return Ok(false);
@@ -134,11 +134,11 @@ fn read_all<S: Crashing>(
 ) -> Result<bool, NoMemory>
     requires bytes { limits.store_bytes ≤ 2 ^ 62 }
     requires entries { limits.entries < 2 ^ 32 }
-    requires closed { (w : World) × IsClosed S.Disk.view S.Disk.may_leave w site.old }
+    requires closed { (w : World) × IsClosed S.Disk.seen w site.old }
     requires few { rounds ≤ 2000 }
-    ensures stays { (w : World) → IsClosed S.Disk.view S.Disk.may_leave w site.old → IsClosed S.Disk.view S.Disk.may_leave w site.new }
-    ensures kept { IfOk result (λ same. IsTrue same → (w : World) → IsClosed S.Disk.view S.Disk.may_leave w site.old → w.log ≡ log_of rounds) }
-    ensures disk_alone { DiskAlone (S.Disk.view site.old) (S.Disk.view site.new) }
+    ensures stays { (w : World) → IsClosed S.Disk.seen w site.old → IsClosed S.Disk.seen w site.new }
+    ensures kept { IfOk result (λ same. IsTrue same → (w : World) → IsClosed S.Disk.seen w site.old → w.log ≡ log_of rounds) }
+    ensures disk_alone { DiskAlone (S.Disk.seen.view site.old) (S.Disk.seen.view site.new) }
 {
     bodies_have_one_log();
     stores_have_one_reading();
@@ -151,7 +151,7 @@ fn read_all<S: Crashing>(
 impl<S: Crashing> OriginDial<S> {
     /// How many entries the store has, where it is open.
     pub fn entries(&self) -> Option<u64>
-        ensures { IfSome result (λ n. (w : World) → Stands S.Disk.view S.Disk.may_leave S.Disk.left_at w self.now.1.state self.now.0 → n ≡ length w.log) }
+        ensures { IfSome result (λ n. (w : World) → Stands S.Disk.seen w self.now.1.state self.now.0 → n ≡ length w.log) }
     {
         match &self.state {
             Some(state) => Some(state.archive().len()),
@@ -165,9 +165,9 @@ impl<S: Crashing> OriginDial<S> {
         requires closed { self.old.1.state ≡ None }
         requires few { rounds ≤ 2000 }
         ensures dialing { self.new.1 ≡ self.old.1 }
-        ensures stays { (w : World) → IsClosed S.Disk.view S.Disk.may_leave w self.old.0 → IsClosed S.Disk.view S.Disk.may_leave w self.new.0 }
-        ensures kept { IfOk result (λ same. IsTrue same → (w : World) → IsClosed S.Disk.view S.Disk.may_leave w self.old.0 → w.log ≡ log_of rounds) }
-        ensures disk_alone { DiskAlone (S.Disk.view self.old.0) (S.Disk.view self.new.0) }
+        ensures stays { (w : World) → IsClosed S.Disk.seen w self.old.0 → IsClosed S.Disk.seen w self.new.0 }
+        ensures kept { IfOk result (λ same. IsTrue same → (w : World) → IsClosed S.Disk.seen w self.old.0 → w.log ≡ log_of rounds) }
+        ensures disk_alone { DiskAlone (S.Disk.seen.view self.old.0) (S.Disk.seen.view self.new.0) }
     {
         read_all(self.alloc, &mut self.site, self.limits, rounds)
     }

@@ -5,6 +5,7 @@ ghost use Rattle.sm_world.specs.Encoders.{entries_after};
 ghost use Rattle.sm_world.specs.Rehearsed.{Rehearsed};
 ghost use Rattle.sm_world.specs.Rounds.{crashes, refusals};
 ghost use Rattle.sm_world.specs.Stages.{Begins, HasEntries, HasPushed};
+ghost use Rattle.sm_client.specs.Turns.{meant};
 
 use crate::OriginDial;
 use crate::client::place;
@@ -101,7 +102,7 @@ pub fn rehearse(
     requires three { length policies.items ≡ 3 }
     requires number { number < 2 ^ 31 }
     requires size { size ≤ 2000 }
-    ensures { IfOk result (Rehearsed (record { pick = pick_after; retired = retired_after }) number size policies.items) }
+    ensures { IfOk result (Rehearsed (meant pick_after retired_after) number size policies.items) }
 {
     let mut policies = policies;
     let Some(third) = policies.pop() else {

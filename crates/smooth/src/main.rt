@@ -7,11 +7,17 @@ ghost use Rattle.std.specs.IoError.{error_kind};
 ghost use Rattle.std.specs.Option.{option_map};
 ghost use Rattle.std.specs.Process.{exit_status};
 ghost use Rattle.std.specs.Result.{result_ok};
-ghost use Rattle.sm_tool.specs.Ran.{Prints};
+ghost use Rattle.sm_tool.specs.Ran.{Prints, around};
 ghost use Rattle.sm_tool.specs.declared.answer.Answer.TheVariants.{Starved};
 ghost use Rattle.sm_run.specs.Runs.{EndsAs};
 ghost use Rattle.smooth.specs.Given.{words_in};
 ghost use Rattle.smooth.specs.Troubles.{TellsLine, first_trouble};
+ghost use Rattle.sm_ends.specs.Ended.{end_of};
+ghost use Rattle.sm_client.specs.Pushing.{line_of};
+ghost use Rattle.sm_client.specs.Turns.{meant};
+ghost use Rattle.sm_tool.specs.Edges.{dialing};
+ghost use Rattle.sm_tool.specs.Plays.{tape_of};
+ghost use Rattle.sm_run.specs.Staff.{staff_of};
 
 mod std_ends;
 
@@ -67,36 +73,13 @@ fn run_words<R: Wait, I: Source, O: Sink, S: Site, C: Dial, T: Tracks, P: Spawne
     policies: Vec<Box<dyn Policy>>,
 ) -> ExitCode
     requires policies { length policies.items ≡ 3 }
-    ensures ends { EndsAs S.Disk.view S.Disk.may_leave S.Disk.left_at
-        (record { log = C.log; store = C.store; later = C.later; faults = C.dial_faults; chosen = C.chosen })
-        (record { pick = pick_after; retired = retired_after }) policies.items
+    ensures ends { EndsAs S.Disk.seen (dialing C.log C.store C.later C.dial_faults C.chosen) (meant pick_after retired_after) policies.items
         (option_map (λ list. map string_bytes list.items) (result_ok words))
-        (record {
-          input = record { told = I.left input.old; faults = I.faults input.old };
-          dial = record { log = C.log dial.old; faults = C.dial_faults dial.old; chosen = C.chosen dial.old };
-          tracks = record { held = T.held tracks.old; faults = T.faults tracks.old };
-        })
-        (record {
-          input = record { told = I.left input.new; faults = I.faults input.new };
-          dial = record { log = C.log dial.new; faults = C.dial_faults dial.new; chosen = C.chosen dial.new };
-          tracks = record { held = T.held tracks.new; faults = T.faults tracks.new };
-        })
-        (record { told = O.held output.old; faults = O.faults output.old })
-        (record { told = O.held output.new; faults = O.faults output.new }) site.old site.new dial.old dial.new
-        (record {
-          faults = P.spawn_faults crew.old;
-          started = P.started crew.old;
-          running = P.running crew.old;
-          chosen = P.chosen crew.old;
-          counted = P.counted crew.old;
-        })
-        (record {
-          faults = P.spawn_faults crew.new;
-          started = P.started crew.new;
-          running = P.running crew.new;
-          chosen = P.chosen crew.new;
-          counted = P.counted crew.new;
-        }) (exit_status result) }
+        (around (end_of I.left I.faults input.old) (line_of C.log C.dial_faults C.chosen dial.old) (tape_of T.held T.faults tracks.old))
+        (around (end_of I.left I.faults input.new) (line_of C.log C.dial_faults C.chosen dial.new) (tape_of T.held T.faults tracks.new))
+        (end_of O.held O.faults output.old) (end_of O.held O.faults output.new) site.old site.new dial.old dial.new
+        (staff_of P.spawn_faults P.started P.running P.chosen P.counted crew.old)
+        (staff_of P.spawn_faults P.started P.running P.chosen P.counted crew.new) (exit_status result) }
     ensures goes_on { C.later dial.old dial.new }
 {
     match words {
@@ -112,8 +95,7 @@ fn run_words<R: Wait, I: Source, O: Sink, S: Site, C: Dial, T: Tracks, P: Spawne
 
 // Ends where there is no memory to begin with.
 fn end_starved<O: Sink>(output: &mut O) -> ExitCode
-    ensures { Prints Starved (record { told = O.held output.old; faults = O.faults output.old })
-        (record { told = O.held output.new; faults = O.faults output.new }) (exit_status result) }
+    ensures { Prints Starved (end_of O.held O.faults output.old) (end_of O.held O.faults output.new) (exit_status result) }
 {
     ExitCode::from(starved(output))
 }

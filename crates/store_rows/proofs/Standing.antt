@@ -1,5 +1,5 @@
 -- What the logs of the rows stand for behind a call.
-use Rattle.std.proofs.Common.{◌≡◌, ℕ, true, List, [], ◌∷◌, ◌++◌, length, Option, None, Some, is_some}
+use Rattle.std.proofs.Common.{◌≡◌, ◌∙◌, ℕ, false, true, List, [], ◌∷◌, ◌++◌, length, Option, None, Some, is_some}
 use Rattle.sm_site.specs.Image.{Image}
 use Rattle.sm_gatelog.specs.Logs.{Log, Stands, IsLog, AfterAppend, AfterSettle}
 use Rattle.sm_gatelog.specs.declared.answer.Appended.{Appended}
@@ -7,9 +7,9 @@ use Rattle.sm_gatelog.specs.declared.answer.Appended.TheVariants as appended
 use Rattle.sm_gatelog.specs.declared.answer.Settled.{Settled}
 use Rattle.sm_gatelog.specs.declared.answer.Settled.TheVariants as settled
 use Rattle.sm_gatelog.proofs.Settling.{stands_reserved}
-use Rattle.sm_seglog.specs.Segments.{Segments, SegStands, IsSegLog, AfterSegAppend, AfterSegSettle, OnlyReserved}
-use Rattle.sm_seglog.proofs.Images.{seg_reserved}
-use Rattle.sm_seglog.proofs.Opening.{each_fewer}
+use Rattle.sm_seglog.specs.Segments.{Segments, OnlyReserved}
+use Rattle.sm_seglog.specs.Standing as seg
+use Rattle.sm_seglog.proofs.Standing.{fewer_outcomes, reserved_stands}
 
 -- ---- one file
 
@@ -43,40 +43,24 @@ log_reserved old new outcomes is h = (h.0, h.1, stands_reserved h.0 h.1 old new 
 
 -- ---- many files
 
-pub seg_appended : (bodies : List (List ℕ)) (body : List ℕ) (r : Appended) (log : Segments) (outcomes : Image → Type 0) → AfterSegAppend bodies body r log outcomes → IsSegLog log outcomes
+pub seg_appended : (bodies : List (List ℕ)) (body : List ℕ) (r : Appended) (log : Segments) (outcomes : Image → Type 0) → seg.AfterAppend bodies body r log outcomes → seg.IsSegLog log outcomes
 seg_appended bodies body (appended.Stored place) log outcomes a = (bodies ++ body ∷ [], None, a.1)
 seg_appended bodies body appended.Clean log outcomes a = (bodies, None, a)
 seg_appended bodies body appended.Doubt log outcomes a = (bodies, Some body, a)
 
-pub seg_settled : (bodies : List (List ℕ)) (body : List ℕ) (r : Settled) (log : Segments) (outcomes : Image → Type 0) → AfterSegSettle bodies body r log outcomes → IsSegLog log outcomes
+pub seg_settled : (bodies : List (List ℕ)) (body : List ℕ) (r : Settled) (log : Segments) (outcomes : Image → Type 0) → seg.AfterSettle bodies body r log outcomes → seg.IsSegLog log outcomes
 seg_settled bodies body (settled.Stored place) log outcomes a = (bodies ++ body ∷ [], None, a.1)
 seg_settled bodies body settled.Gone log outcomes a = (bodies, None, a)
 seg_settled bodies body settled.DiskFault log outcomes a = (bodies, Some body, a)
 
 -- a doubt was settled
 pub seg_after_settle : (log new : Segments) (r : Settled) (outcomes after : Image → Type 0) → is_some log.last.doubt ≡ true
-    → ((bodies : List (List ℕ)) (body : List ℕ) → SegStands bodies (Some body) log outcomes → AfterSegSettle bodies body r new after) → IsSegLog log outcomes → IsSegLog new after
-seg_after_settle log new r outcomes after some settles (bodies, None, s) = let none : log.last.doubt ≡ None = s.last.doubt_is in absurd (cc)
+    → ((bodies : List (List ℕ)) (body : List ℕ) → seg.Stands log bodies (Some body) outcomes → seg.AfterSettle bodies body r new after) → seg.IsSegLog log outcomes → seg.IsSegLog new after
+seg_after_settle log new r outcomes after some settles (bodies, None, s) = let none : false ≡ true = s.doubts ∙ some in absurd (cc)
 seg_after_settle log new r outcomes after some settles (bodies, Some body, s) = seg_settled bodies body r new after (settles bodies body s)
 
-pub seg_fewer : (log : Segments) (old new : Image → Type 0) → ((c : Image) → new c → old c) → IsSegLog log old → IsSegLog log new
-seg_fewer log old new fewer h =
-    let s = h.2 in (
-      h.0,
-      h.1,
-      record {
-        parts = s.parts;
-        here = s.here;
-        bodies_are = s.bodies_are;
-        before = s.before;
-        full = each_fewer 0 log.full s.parts old new fewer s.full;
-        last = record { made = s.last.made; slots = s.last.slots; end = s.last.end; doubt_is = s.last.doubt_is; held = λ c left. s.last.held c (fewer c left) };
-        file = s.file;
-        few = s.few;
-        next = λ c left. s.next c (fewer c left);
-        rest = λ c left. s.rest c (fewer c left);
-      },
-    )
+pub seg_fewer : (log : Segments) (old new : Image → Type 0) → ((c : Image) → new c → old c) → seg.IsSegLog log old → seg.IsSegLog log new
+seg_fewer log old new fewer h = (h.0, h.1, fewer_outcomes log h.0 h.1 old new fewer h.2)
 
-pub seg_kept : (old new : Segments) (outcomes : Image → Type 0) → OnlyReserved old new → IsSegLog old outcomes → IsSegLog new outcomes
-seg_kept old new outcomes is h = (h.0, h.1, seg_reserved h.0 h.1 old new outcomes is h.2)
+pub seg_kept : (old new : Segments) (outcomes : Image → Type 0) → OnlyReserved old new → seg.IsSegLog old outcomes → seg.IsSegLog new outcomes
+seg_kept old new outcomes is h = (h.0, h.1, reserved_stands old new h.0 h.1 outcomes is h.2)

@@ -1,7 +1,8 @@
 //! Steps on the log over many files.
-ghost use Rattle.std.specs.Prelude.{◌≡◌, ◌⊎◌, ◌<◌, ◌≤◌, ◌^◌, length, None, IfOk};
+ghost use Rattle.std.specs.Prelude.{◌≡◌, ◌<◌, ◌≤◌, ◌^◌, length, None, IfOk};
 ghost use Rattle.sm_site.specs.Memory.{site_may_leave};
-ghost use Rattle.sm_seglog.specs.Segments.{GoesOn, IsReady, IsSegLog};
+ghost use Rattle.sm_seglog.specs.Segments.{IsReady};
+ghost use Rattle.sm_seglog.specs.Standing.{Fits, IsSegLog};
 
 use crate::answers::{appended, settled};
 use anyhow::{Result, bail};
@@ -30,7 +31,7 @@ fn append_ready(log: &mut SegLog, site: &mut MemorySite, body: &[u8]) -> Appende
     requires some { 1 ≤ length body.now }
     requires short { length body.now < 2 ^ 32 }
     requires ready { IsReady log.old (length body.now) }
-    requires fits { GoesOn log.old (length body.now) ⊎ (length log.old.full < 1023) }
+    requires fits { Fits log.old (length body.now) }
     requires stands { IsSegLog log.old (site_may_leave site.old) }
     ensures stands { IsSegLog log.new (site_may_leave site.new) }
 {

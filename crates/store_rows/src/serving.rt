@@ -1,6 +1,6 @@
 //! The loop over what a site brings.
 ghost use Rattle.std.specs.Prelude.{◌≡◌};
-ghost use Rattle.sm_site.specs.Memory.{site_view, site_may_leave, site_left_at};
+ghost use Rattle.sm_site.specs.Memory.{site_seen};
 ghost use Rattle.sm_origin.specs.Machine.{Machine};
 ghost use Rattle.sm_serve.specs.Standing.{StandsOn};
 ghost use Rattle.sm_serve.specs.Serving.{Known};
@@ -38,10 +38,10 @@ fn declare(
     site: &mut MemorySite,
     ladder: &Option<Channel>,
 ) -> Result<Option<Declared>>
-    requires stands { (m : Machine) × StandsOn site_view site_may_leave m state.old.origin site.old }
-    requires known { Known site_view site_may_leave site_left_at state.old site.old }
-    ensures stands { (m : Machine) × StandsOn site_view site_may_leave m state.new.origin site.new }
-    ensures known { Known site_view site_may_leave site_left_at state.new site.new }
+    requires stands { (m : Machine) × StandsOn site_seen m state.old.origin site.old }
+    requires known { Known site_seen state.old site.old }
+    ensures stands { (m : Machine) × StandsOn site_seen m state.new.origin site.new }
+    ensures known { Known site_seen state.new site.new }
 {
     match ladder {
         None => Ok(None),
@@ -86,8 +86,8 @@ fn run(
     words: &Words,
     tale: &mut Tale,
 ) -> Result<()>
-    requires stands { (m : Machine) × StandsOn site_view site_may_leave m state.old.origin site.old }
-    requires known { Known site_view site_may_leave site_left_at state.old site.old }
+    requires stands { (m : Machine) × StandsOn site_seen m state.old.origin site.old }
+    requires known { Known site_seen state.old site.old }
 {
     let asked = chosen(words, "turns")?;
     let turns = asked.unwrap_or(100_000_000);

@@ -6,6 +6,6 @@ use Rattle.smooth.proofs.run_words.Goals as goal
 
 pub returns-in-Ok-clause-ends : goal.returns-in-Ok-clause-ends
 returns-in-Ok-clause-ends g c =
-    ended _ _ _ _ _ _ _ _ _ _ _ _ _ _ _ _ _ _ _ _
+    ended _ _ _ _ _ _ _ _ _ _ _ _ _ _ _ _ _ _
     (ap (λ r. option_map (λ (list : Vec (String Global) Global). map string_bytes list.items) (result_ok r)) c.in-Ok.is ∙ ap (λ (l : List (String Global)). Some (map string_bytes l)) (sym c.deref.ensures.value))
     c.from.ensures c.run-status.ensures.run

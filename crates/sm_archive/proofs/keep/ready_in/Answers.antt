@@ -1,4 +1,4 @@
-use Rattle.std.proofs.Common.{◌≡◌, ◌∙◌, sym, ap, subst, arith, List, Some, true, inr}
+use Rattle.std.proofs.Common.{◌≡◌, ◌∙◌, sym, ap, subst, ℕ, List, Some, true, inr}
 use Rattle.sm_model.specs.declared.track.Track.{Track}
 use Rattle.sm_model.specs.declared.address.Address.{Address}
 use Rattle.sm_model.specs.declared.entry.Entry.TheVariants.{Keep}
@@ -6,6 +6,7 @@ use Rattle.sm_model.specs.Entries.{address_of}
 use Rattle.sm_log.specs.Adds.{is_declared}
 use Rattle.sm_record.specs.Bodies.{IsBody, IsSealedBody}
 use Rattle.sm_record.specs.Metas.{meta_of}
+use Rattle.sm_seglog.specs.Segments.{HasRoom}
 use Rattle.sm_archive.proofs.Places.{place_in}
 use Rattle.sm_archive.proofs.Readying.{meta_is}
 use Rattle.sm_archive.proofs.keep.ready_in.Goals as goal
@@ -31,7 +32,7 @@ returns-clause-ready c =
       meta = meta_is ch f c.in_ok-body.body c.in-Some.meta told (c.front_of_a_fragment.ensures ch f c.in_ok-body.body body);
       len = c.in_ok-body.ensures.len;
       short = c.in_ok-body.ensures.short;
-      room = omega (arith, c.in_ok-reserve-2.ensures.reserved.1, c.len.ensures);
-      spare = c.in_ok-reserve-2.ensures.reserved.0;
+      room = subst (λ (n : ℕ). HasRoom c.reserve-2.new.self n) c.len.ensures c.in_ok-reserve-2.ensures.ready.room;
+      spare = c.in_ok-reserve-2.ensures.two;
       space = c.in_ok-reserve.ensures.space (sym c.has_track.ensures ∙ c.if-not-has_track.false);
     }

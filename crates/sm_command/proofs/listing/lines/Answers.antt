@@ -1,4 +1,5 @@
 use Rattle.std.proofs.Common.{ℕ, List, None, ◌++◌, string_bytes, ap, ◌∙◌, arith}
+use Rattle.sm_site.proofs.Moments.{alone_then}
 use Rattle.sm_command.proofs.Lasting.{no_other}
 use Rattle.sm_command.proofs.Lines.{all_lines, text_next}
 use Rattle.sm_command.proofs.listing.lines.Goals as goal
@@ -6,24 +7,14 @@ use Rattle.sm_command.proofs.listing.lines.Goals as goal
 pub loop-place-preserved : goal.loop-place-preserved
 loop-place-preserved g c =
     let inv = c.loop-place.invariant in
-    let fewer = inv.no_fewer in
-    let fewer_yet = c.line_of.ensures.disk_alone.no_fewer in
-    let same = inv.link in
-    let same_yet = c.line_of.ensures.disk_alone.link in
     record {
       some = (inv.some.0, c.line_of.ensures.stands inv.some.0 inv.some.1);
       stands = λ log s. c.line_of.ensures.stands log (inv.stands log s);
       told = c.line_of.ensures.told ∙ inv.told;
-      no_fewer = omega (arith, fewer, fewer_yet);
-      any_moment = no_other g.D.Disk.view g.D.Disk.may_leave g.D.Disk.left_at g.met.D.Disk.at_now g.met.D.Disk.now_at c.args.disk.now c.loop-place.disk c.line_of.new.disk inv.any_moment
+      any_moment = no_other g.D.Disk.seen g.met.D.Disk.at_now g.met.D.Disk.now_at c.args.disk.now c.loop-place.disk c.line_of.new.disk inv.any_moment
           c.line_of.ensures.any_moment;
-      link = record {
-        transcript = same_yet.transcript ∙ same.transcript;
-        script = same_yet.script ∙ same.script;
-        link_faults = same_yet.link_faults ∙ same.link_faults;
-        send_faults = same_yet.send_faults ∙ same.send_faults;
-        chosen = same_yet.chosen ∙ same.chosen;
-      };
+      disk_alone = alone_then (g.D.Disk.seen.view c.args.disk.now) (g.D.Disk.seen.view c.loop-place.disk) (g.D.Disk.seen.view c.line_of.new.disk)
+          inv.disk_alone c.line_of.ensures.disk_alone;
       text = λ log s told.
           let count = c.len-place-end.ensures s.bodies s.body log None s.keeps in
           let inside = c.loop-place-test.true in
@@ -42,10 +33,10 @@ returns-clause-lines g c log s told =
 
 pub returns-in_err-line-clause-any_moment : goal.returns-in_err-line-clause-any_moment
 returns-in_err-line-clause-any_moment g c =
-    no_other g.D.Disk.view g.D.Disk.may_leave g.D.Disk.left_at g.met.D.Disk.at_now g.met.D.Disk.now_at c.args.disk.now c.loop-place.disk c.line_of.new.disk c.loop-place.invariant.any_moment
+    no_other g.D.Disk.seen g.met.D.Disk.at_now g.met.D.Disk.now_at c.args.disk.now c.loop-place.disk c.line_of.new.disk c.loop-place.invariant.any_moment
     c.line_of.ensures.any_moment
 
 pub returns-in-Err-clause-any_moment : goal.returns-in-Err-clause-any_moment
 returns-in-Err-clause-any_moment g c =
-    no_other g.D.Disk.view g.D.Disk.may_leave g.D.Disk.left_at g.met.D.Disk.at_now g.met.D.Disk.now_at c.args.disk.now c.loop-place.disk c.line_of.new.disk c.loop-place.invariant.any_moment
+    no_other g.D.Disk.seen g.met.D.Disk.at_now g.met.D.Disk.now_at c.args.disk.now c.loop-place.disk c.line_of.new.disk c.loop-place.invariant.any_moment
     c.line_of.ensures.any_moment

@@ -10,4 +10,4 @@ pub returns-in-Err-clause-means : goal.returns-in-Err-clause-means
 returns-in-Err-clause-means g c log stands = inr (c.in-Err.ensures.why, refl)
 
 pub returns-in-Err-clause-any_moment : goal.returns-in-Err-clause-any_moment
-returns-in-Err-clause-any_moment g c log stands some = no_call g.D.Disk.view g.D.Disk.left_at c.args.disk.now (λ t x. BeginsWith log x) (g.met.D.Disk.no_later c.args.disk.now)
+returns-in-Err-clause-any_moment g c log stands some = no_call g.D.Disk.seen c.args.disk.now (λ t x. BeginsWith log x) (g.met.D.Disk.no_later c.args.disk.now)

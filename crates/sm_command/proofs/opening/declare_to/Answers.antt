@@ -22,5 +22,5 @@ returns-clause-stands g c =
 
 pub returns-clause-any_moment : goal.returns-clause-any_moment
 returns-clause-any_moment g c log stands some =
-    weakened g.D.Disk.view g.D.Disk.left_at c.args.disk.now c.declare-answer.new.disk _ (λ t x. BeginsWith log x) (c.declare-answer.ensures.any_moment log None stands some)
+    weakened g.D.Disk.seen c.args.disk.now c.declare-answer.new.disk _ (λ t x. BeginsWith log x) (c.declare-answer.ensures.any_moment log None stands some)
     (λ t x left. begins_with log (Declare c.args.channel.now) x left)

@@ -6,35 +6,35 @@ use Rattle.sm_command.proofs.serving.serve_store.Goals as goal
 
 pub returns-in-Ok-clause-run : goal.returns-in-Ok-clause-run
 returns-in-Ok-clause-run g c =
-    has_run g.S.Disk.view g.S.Disk.may_leave g.S.Disk.left_at g.met.S.Disk.contents_pass g.met.S.Disk.at_now g.met.S.Disk.now_at c.stores_have_one_reading.ensures.one_list c.bodies_have_one_log.ensures
+    has_run g.S.Disk.seen g.met.S.Disk.contents_pass g.met.S.Disk.at_now g.met.S.Disk.now_at c.stores_have_one_reading.ensures.one_list c.bodies_have_one_log.ensures
     c.args.ladder _ _ c.args.turns c.in-Ok.state c.args.site.now c.open_state.new.site c.serve_state.new.site c.serve_state.result
     c.in-Ok.ensures.found c.in-Ok.ensures.begins c.in-Ok.ensures.any_moment c.in-Ok.ensures.transcript (record { disk = c.in-Ok.ensures.disk_faults; link = c.in-Ok.ensures.link_faults }) c.serve_state.ensures.run
 
 pub returns-in-Ok-clause-why : goal.returns-in-Ok-clause-why
 returns-in-Ok-clause-why g c =
-    why_stopped g.S.Disk.view g.S.Disk.may_leave g.S.Disk.left_at c.args.ladder _ _ c.in-Ok.state c.args.site.now c.open_state.new.site c.serve_state.new.site c.serve_state.result
+    why_stopped g.S.Disk.seen c.args.ladder _ _ c.in-Ok.state c.args.site.now c.open_state.new.site c.serve_state.new.site c.serve_state.result
     c.in-Ok.ensures.found (record { disk = c.in-Ok.ensures.disk_faults; link = c.in-Ok.ensures.link_faults }) c.in-Ok.ensures.transcript c.in-Ok.ensures.begins
     c.serve_state.ensures.why c.serve_state.ensures.silent c.serve_state.ensures.no_fewer c.serve_state.ensures.counted
 
 pub returns-in-Err-clause-why : goal.returns-in-Err-clause-why
 returns-in-Err-clause-why g c =
-    why_unopened g.S.Disk.view g.S.Disk.may_leave g.S.Disk.left_at c.args.ladder _ c.args.site.now c.open_state.new.site c.in-Err.fault
+    why_unopened g.S.Disk.seen c.args.ladder _ c.args.site.now c.open_state.new.site c.in-Err.fault
     c.in-Err.ensures.why c.in-Err.ensures.transcript (record { disk = c.in-Err.ensures.disk_faults; link = c.in-Err.ensures.link_faults }) c.in-Err.ensures.untouched
 
 pub returns-in-Ok-clause-any_moment : goal.returns-in-Ok-clause-any_moment
 returns-in-Ok-clause-any_moment g c =
-    opened_lasts g.S.Disk.view g.S.Disk.may_leave g.S.Disk.left_at g.met.S.Disk.contents_pass g.met.S.Disk.at_now g.met.S.Disk.now_at c.stores_have_one_reading.ensures.one_list c.bodies_have_one_log.ensures
+    opened_lasts g.S.Disk.seen g.met.S.Disk.contents_pass g.met.S.Disk.at_now g.met.S.Disk.now_at c.stores_have_one_reading.ensures.one_list c.bodies_have_one_log.ensures
     c.in-Ok.state c.args.site.now c.open_state.new.site c.serve_state.new.site c.in-Ok.ensures.found c.in-Ok.ensures.transcript c.in-Ok.ensures.begins c.in-Ok.ensures.any_moment c.serve_state.ensures.lasts
 
 pub returns-in-Err-clause-any_moment : goal.returns-in-Err-clause-any_moment
 returns-in-Err-clause-any_moment g c some log one base told =
-    silent_lasts g.S.Disk.view g.S.Disk.may_leave g.S.Disk.left_at g.met.S.Disk.at_now log base c.args.site.now c.open_state.new.site one (c.in-Err.ensures.any_moment log one) (c.in-Err.ensures.transcript ∙ told)
+    silent_lasts g.S.Disk.seen g.met.S.Disk.at_now log base c.args.site.now c.open_state.new.site one (c.in-Err.ensures.any_moment log one) (c.in-Err.ensures.transcript ∙ told)
 
 pub returns-in-Ok-clause-chosen : goal.returns-in-Ok-clause-chosen
 returns-in-Ok-clause-chosen g c =
-    chosen_still c.serve_state.result c.args.selection (g.S.Disk.view c.open_state.new.site) (g.S.Disk.view c.serve_state.new.site) c.in-Ok.ensures.chosen c.serve_state.ensures.chosen
+    chosen_still c.serve_state.result c.args.selection (g.S.Disk.seen.view c.open_state.new.site) (g.S.Disk.seen.view c.serve_state.new.site) c.in-Ok.ensures.chosen c.serve_state.ensures.chosen
 
 pub returns-in-Ok-clause-spared : goal.returns-in-Ok-clause-spared
 returns-in-Ok-clause-spared g c =
     let f = c.in-Ok.ensures.found in
-    found_spared g.S.Disk.view g.S.Disk.may_leave g.S.Disk.left_at f.machine.log c.args.site.now c.serve_state.new.site f.store
+    found_spared g.S.Disk.seen f.machine.log c.args.site.now c.serve_state.new.site f.store

@@ -1,9 +1,7 @@
 use Rattle.std.proofs.Common.{◌∙◌, ◌≡◌, ℕ, List, Option, arith, subst}
 use Rattle.sm_model.specs.declared.entry.Entry.{Entry}
 use Rattle.sm_model.specs.declared.track.Track.{Track}
-use Rattle.sm_site.specs.Image.{Image}
-use Rattle.sm_site.specs.Meanings.{Chosen, View}
-use Rattle.sm_command.specs.Serving.{Input}
+use Rattle.sm_site.specs.Meanings.{Chosen, Seen}
 use Rattle.sm_fetch.specs.declared.dial.Exchange.{Exchange}
 use Rattle.sm_fetch.specs.Exchanges.{Peer}
 use Rattle.sm_pull.specs.declared.plan.PullPlan.{PullPlan}
@@ -14,16 +12,17 @@ use Rattle.sm_command.proofs.Chosen.{chosen_still}
 use Rattle.sm_command.proofs.Lasting.{counts_then}
 use Rattle.sm_edge.proofs.Outlasting.{added_lasts, edge_spared, fits_alone, silent_grows}
 use Rattle.sm_edge.proofs.relaying.relay_store.Goals as goal
+use Rattle.sm_ends.specs.Ended.{End}
 
 -- the channel by its other name
-of_channel : {S C : Type 0} {view : S → View} {left_at : S → ℕ → Image → Type 0} {leave : S → Image → Type 0} {told : C → Option (List Exchange)} {store : C → List Entry → Type 0}
-    {later : C → C → Type 0} {faults : C → ℕ} {chosen : C → Option Peer} {input input' : Input} {selection : Chosen} {host : List ℕ} {plan : PullPlan} {old new : S} {dial dial' : C}
+of_channel : {S C : Type 0} {site : Seen S} {told : C → Option (List Exchange)} {store : C → List Entry → Type 0}
+    {later : C → C → Type 0} {faults : C → ℕ} {chosen : C → Option Peer} {input input' : End} {selection : Chosen} {host : List ℕ} {plan : PullPlan} {old new : S} {dial dial' : C}
     {report : RelayReport} (own channel : List Track) → own ≡ channel
-    → HasRelayed view left_at leave told store later faults chosen input input' selection host plan old new dial dial' own report
-    → HasRelayed view left_at leave told store later faults chosen input input' selection host plan old new dial dial' channel report
-of_channel {view = view} {left_at = left_at} {leave = leave} {told = told} {store = store} {later = later} {faults = faults} {chosen = chosen} {input = input} {input' = input'} {selection = selection}
+    → HasRelayed site told store later faults chosen input input' selection host plan old new dial dial' own report
+    → HasRelayed site told store later faults chosen input input' selection host plan old new dial dial' channel report
+of_channel {site = site} {told = told} {store = store} {later = later} {faults = faults} {chosen = chosen} {input = input} {input' = input'} {selection = selection}
     {host = host} {plan = plan} {old = old} {new = new} {dial = dial} {dial' = dial'} {report = report} own channel same h =
-    subst (λ (c : List Track). HasRelayed view left_at leave told store later faults chosen input input' selection host plan old new dial dial' c report) same h
+    subst (λ (c : List Track). HasRelayed site told store later faults chosen input input' selection host plan old new dial dial' c report) same h
 
 pub relay-report-requires : goal.relay-report-requires
 relay-report-requires g c =
@@ -58,7 +57,7 @@ returns-in-Ok-clause-chosen g c =
     let e = o.opened in
     let l = e.store in
     let r = c.relay-report.ensures.relayed l.log c.in-Ok.field-0.channel l.stands l.channel_is in
-    r.0.adds.link.chosen ∙ o.chosen
+    r.0.adds.disk_alone.link.chosen ∙ o.chosen
 
 pub returns-in-Ok-clause-later : goal.returns-in-Ok-clause-later
 returns-in-Ok-clause-later g c =
@@ -90,14 +89,14 @@ returns-in-Ok-clause-lasts g c some log one base told =
     let e = o.opened in
     let l = e.store in
     let r = c.relay-report.ensures.relayed l.log c.in-Ok.field-0.channel l.stands l.channel_is in
-    added_lasts g.S.Disk.view g.S.Disk.may_leave g.S.Disk.left_at g.met.S.Disk.contents_pass g.met.S.Disk.told g.met.S.Disk.at_now g.met.S.Disk.now_at
+    added_lasts g.S.Disk.seen g.met.S.Disk.contents_pass g.met.S.Disk.told g.met.S.Disk.at_now g.met.S.Disk.now_at
     c.stores_have_one_reading.ensures.one_list c.bodies_have_one_log.ensures log base c.args.site.now c.open_edge.new.site c.relay-report.new.disk one
     (c.open_edge.ensures.any_moment some log one) (λ image left. fits_alone l.log image (c.an_image_fits.ensures c.in-Ok.field-0.archive l.log _ c.open_edge.new.site image l.stands left))
     r.0.adds (c.open_edge.ensures.transcript ∙ told)
 
 pub returns-in-Err-clause-lasts : goal.returns-in-Err-clause-lasts
 returns-in-Err-clause-lasts g c some log one base told =
-    silent_grows g.S.Disk.view g.S.Disk.may_leave g.S.Disk.left_at g.met.S.Disk.at_now log base c.args.site.now c.open_edge.new.site one (λ t image left. c.open_edge.ensures.any_moment some log one)
+    silent_grows g.S.Disk.seen g.met.S.Disk.at_now log base c.args.site.now c.open_edge.new.site one (λ t image left. c.open_edge.ensures.any_moment some log one)
     (c.open_edge.ensures.transcript ∙ told)
 
 pub returns-in-Ok-clause-no_fewer : goal.returns-in-Ok-clause-no_fewer
@@ -106,7 +105,7 @@ returns-in-Ok-clause-no_fewer g c =
     let e = o.opened in
     let l = e.store in
     let r = c.relay-report.ensures.relayed l.log c.in-Ok.field-0.channel l.stands l.channel_is in
-    counts_then (g.S.Disk.view c.args.site.now) (g.S.Disk.view c.open_edge.new.site) (g.S.Disk.view c.relay-report.new.disk) c.open_edge.ensures.no_fewer r.0.adds.no_fewer r.0.adds.link.link_faults
+    counts_then (g.S.Disk.seen.view c.args.site.now) (g.S.Disk.seen.view c.open_edge.new.site) (g.S.Disk.seen.view c.relay-report.new.disk) c.open_edge.ensures.no_fewer r.0.adds.disk_alone.no_fewer r.0.adds.disk_alone.link.link_faults
 
 pub returns-in-Ok-clause-transcript : goal.returns-in-Ok-clause-transcript
 returns-in-Ok-clause-transcript g c =
@@ -114,7 +113,7 @@ returns-in-Ok-clause-transcript g c =
     let e = o.opened in
     let l = e.store in
     let r = c.relay-report.ensures.relayed l.log c.in-Ok.field-0.channel l.stands l.channel_is in
-    r.0.adds.link.transcript ∙ c.open_edge.ensures.transcript
+    r.0.adds.disk_alone.link.transcript ∙ c.open_edge.ensures.transcript
 
 pub returns-in-Ok-clause-send_faults : goal.returns-in-Ok-clause-send_faults
 returns-in-Ok-clause-send_faults g c =
@@ -122,7 +121,7 @@ returns-in-Ok-clause-send_faults g c =
     let e = o.opened in
     let l = e.store in
     let r = c.relay-report.ensures.relayed l.log c.in-Ok.field-0.channel l.stands l.channel_is in
-    r.0.adds.link.send_faults ∙ c.open_edge.ensures.send_faults
+    r.0.adds.disk_alone.link.send_faults ∙ c.open_edge.ensures.send_faults
 
 pub returns-in-Ok-clause-spared : goal.returns-in-Ok-clause-spared
-returns-in-Ok-clause-spared g c = edge_spared g.S.Disk.view g.S.Disk.may_leave g.S.Disk.left_at c.args.site.now c.open_edge.new.site c.relay-report.new.disk c.in-Ok.ensures.opened
+returns-in-Ok-clause-spared g c = edge_spared g.S.Disk.seen c.args.site.now c.open_edge.new.site c.relay-report.new.disk c.in-Ok.ensures.opened

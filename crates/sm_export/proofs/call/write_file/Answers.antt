@@ -26,14 +26,14 @@ returns-in-Err-clause-err g c = λ log doubt s told. front_of_first (g.O.Sink.he
 
 pub returns-in-Ok-clause-cause : goal.returns-in-Ok-clause-cause
 returns-in-Ok-clause-cause g c =
-    cause_since (g.D.Disk.view c.args.disk.now) (g.D.Disk.view c.write_times.new.disk)
+    cause_since (g.D.Disk.seen.view c.args.disk.now) (g.D.Disk.seen.view c.write_times.new.disk)
     (g.O.Sink.faults c.args.out.now) (g.O.Sink.faults c.write_all.new.sink) (g.O.Sink.faults c.write_times.new.out)
     c.write_times.result c.in-Ok.ensures.cause.later c.write_times.ensures.cause
 
 pub returns-in-Err-clause-cause : goal.returns-in-Err-clause-cause
 returns-in-Err-clause-cause g c =
-    sink_broke (g.D.Disk.view c.args.disk.now) (g.D.Disk.view c.args.disk.now)
+    sink_broke (g.D.Disk.seen.view c.args.disk.now) (g.D.Disk.seen.view c.args.disk.now)
     (g.O.Sink.faults c.args.out.now) (g.O.Sink.faults c.write_all.new.sink) c.in-Err.ensures.cause.failed c.in-Err.ensures.cause.later
 
 pub returns-in-Err-clause-read : goal.returns-in-Err-clause-read
-returns-in-Err-clause-read g c = not_read g.D.Disk.view g.D.Disk.may_leave g.D.Disk.left_at g.met.D.Disk.no_later c.args.archive.now c.args.disk.now
+returns-in-Err-clause-read g c = not_read g.D.Disk.seen g.met.D.Disk.no_later c.args.archive.now c.args.disk.now

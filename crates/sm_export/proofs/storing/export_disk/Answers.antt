@@ -14,10 +14,8 @@ returns-in-Ok-clause-means g c =
 
 pub returns-in-Ok-clause-any_moment : goal.returns-in-Ok-clause-any_moment
 returns-in-Ok-clause-any_moment g c log one =
-    let V = g.D.Disk.view in
-    let L = g.D.Disk.left_at in
-    and_then V L c.args.disk.now c.open_archive.new.disk c.export_input.new.disk (λ t x. IsStore log x) (c.in-Ok.ensures.any_moment log one)
-    (weakened V L c.open_archive.new.disk c.export_input.new.disk _ (λ t x. IsStore log x) c.export_input.ensures.read.any_moment (λ t x left. one_here log _ (c.in-Ok.ensures.stays log one) x left))
+    and_then g.D.Disk.seen c.args.disk.now c.open_archive.new.disk c.export_input.new.disk (λ t x. IsStore log x) (c.in-Ok.ensures.any_moment log one)
+    (weakened g.D.Disk.seen c.open_archive.new.disk c.export_input.new.disk _ (λ t x. IsStore log x) c.export_input.ensures.read.any_moment (λ t x left. one_here log _ (c.in-Ok.ensures.stays log one) x left))
 
 pub returns-in-Ok-clause-untouched : goal.returns-in-Ok-clause-untouched
 returns-in-Ok-clause-untouched g c at is =
@@ -25,4 +23,4 @@ returns-in-Ok-clause-untouched g c at is =
     absurd (taken_is_opened _ o.log c.args.name.now c.args.bitrate _ _ _ _ _ _ c.export_input.result _ (c.export_input.ensures.means o.log o.stands) is)
 
 pub returns-in-Ok-clause-spared : goal.returns-in-Ok-clause-spared
-returns-in-Ok-clause-spared g c = found_spared g.D.Disk.view g.D.Disk.may_leave g.D.Disk.left_at c.in-Ok.ensures.opened.log c.args.disk.now c.export_input.new.disk c.in-Ok.ensures.opened.store
+returns-in-Ok-clause-spared g c = found_spared g.D.Disk.seen c.in-Ok.ensures.opened.log c.args.disk.now c.export_input.new.disk c.in-Ok.ensures.opened.store

@@ -42,7 +42,7 @@ loop-time-preserved g c =
     let one = e.few in
     record {
       some = (inv.some.0, inv.some.1, e.read.stands inv.some.0 inv.some.1 inv.some.2);
-      read = read_then g.D.Disk.view g.D.Disk.may_leave g.D.Disk.left_at g.met.D.Disk.at_now g.met.D.Disk.now_at c.args.archive.now c.args.disk.now c.loop-time.disk c.write_at.new.disk inv.read e.read;
+      read = read_then g.D.Disk.seen g.met.D.Disk.at_now g.met.D.Disk.now_at c.args.archive.now c.args.disk.now c.loop-time.disk c.write_at.new.disk inv.read e.read;
       told = e.told ∙ inv.told;
       later = omega (arith, later, later_yet);
       few = omega (arith, few, one);
@@ -74,23 +74,23 @@ returns-in_default-clause-err g c = λ log doubt s told.
     nothing_more (g.O.Sink.held c.args.out.now) c.args.gathered.now.items (texts_from 1 c.args.id (kept_among log c.args.name.now c.args.bitrate c.args.times.now))
 
 pub returns-in_default-clause-cause : goal.returns-in_default-clause-cause
-returns-in_default-clause-cause g c = no_memory (g.D.Disk.view c.args.disk.now) (g.D.Disk.view c.args.disk.now) (g.O.Sink.faults c.args.out.now)
+returns-in_default-clause-cause g c = no_memory (g.D.Disk.seen.view c.args.disk.now) (g.D.Disk.seen.view c.args.disk.now) (g.O.Sink.faults c.args.out.now)
 
 pub returns-in_default-clause-read : goal.returns-in_default-clause-read
-returns-in_default-clause-read g c = not_read g.D.Disk.view g.D.Disk.may_leave g.D.Disk.left_at g.met.D.Disk.no_later c.args.archive.now c.args.disk.now
+returns-in_default-clause-read g c = not_read g.D.Disk.seen g.met.D.Disk.no_later c.args.archive.now c.args.disk.now
 
 pub returns-in-Err-clause-cause : goal.returns-in-Err-clause-cause
 returns-in-Err-clause-cause g c =
     let inv = c.loop-time.invariant in
     let faults = g.O.Sink.faults in
-    let old = g.D.Disk.view c.args.disk.now in
-    let new = g.D.Disk.view c.write_at.new.disk in
+    let old = g.D.Disk.seen.view c.args.disk.now in
+    let new = g.D.Disk.seen.view c.write_at.new.disk in
     same_cause old new (faults c.args.out.now) (faults c.write_at.new.out) c.in-Err.broken
-    (cause_behind old (g.D.Disk.view c.loop-time.disk) new (faults c.args.out.now) (faults c.loop-time.out) (faults c.write_at.new.out) _ inv.told inv.read.disk_alone.no_fewer inv.later c.in-Err.ensures.cause)
+    (cause_behind old (g.D.Disk.seen.view c.loop-time.disk) new (faults c.args.out.now) (faults c.loop-time.out) (faults c.write_at.new.out) _ inv.told inv.read.disk_alone.no_fewer inv.later c.in-Err.ensures.cause)
 
 pub returns-in-Err-clause-read : goal.returns-in-Err-clause-read
 returns-in-Err-clause-read g c =
-    read_then g.D.Disk.view g.D.Disk.may_leave g.D.Disk.left_at g.met.D.Disk.at_now g.met.D.Disk.now_at c.args.archive.now
+    read_then g.D.Disk.seen g.met.D.Disk.at_now g.met.D.Disk.now_at c.args.archive.now
     c.args.disk.now c.loop-time.disk c.write_at.new.disk c.loop-time.invariant.read c.in-Err.ensures.read
 
 pub returns-clause-cause : goal.returns-clause-cause

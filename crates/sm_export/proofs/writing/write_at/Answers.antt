@@ -66,15 +66,15 @@ pub returns-in-Absent-clause-cause : goal.returns-in-Absent-clause-cause
 returns-in-Absent-clause-cause g c = well _ _ (g.O.Sink.faults c.args.out.now) (g.O.Sink.faults c.args.out.now) _ (le_refl (g.O.Sink.faults c.args.out.now))
 
 pub returns-in-DiskFault-clause-cause : goal.returns-in-DiskFault-clause-cause
-returns-in-DiskFault-clause-cause g c = disk_failed (g.D.Disk.view c.args.disk.now) (g.D.Disk.view c.fetch.new.disk) (g.O.Sink.faults c.args.out.now) (c.in-DiskFault.ensures.fault refl)
+returns-in-DiskFault-clause-cause g c = disk_failed (g.D.Disk.seen.view c.args.disk.now) (g.D.Disk.seen.view c.fetch.new.disk) (g.O.Sink.faults c.args.out.now) (c.in-DiskFault.ensures.fault refl)
 
 pub returns-in-Damaged-clause-cause : goal.returns-in-Damaged-clause-cause
 returns-in-Damaged-clause-cause g c =
-    was_damaged (g.D.Disk.view c.args.disk.now) (g.D.Disk.view c.fetch.new.disk) (g.O.Sink.faults c.args.out.now)
+    was_damaged (g.D.Disk.seen.view c.args.disk.now) (g.D.Disk.seen.view c.fetch.new.disk) (g.O.Sink.faults c.args.out.now)
     (λ told. c.in-Damaged.ensures.damaged refl c.requires.stands.0 c.requires.stands.1 c.requires.stands.2 told)
 
 pub returns-clause-cause : goal.returns-clause-cause
-returns-clause-cause g c = no_memory (g.D.Disk.view c.args.disk.now) (g.D.Disk.view c.fetch.new.disk) (g.O.Sink.faults c.args.out.now)
+returns-clause-cause g c = no_memory (g.D.Disk.seen.view c.args.disk.now) (g.D.Disk.seen.view c.fetch.new.disk) (g.O.Sink.faults c.args.out.now)
 
 pub returns-in-Ok-clause-read : goal.returns-in-Ok-clause-read
 returns-in-Ok-clause-read g c = let e = c.fetch.ensures in record { stands = e.stands; any_moment = e.any_moment; disk_alone = e.disk_alone }

@@ -48,21 +48,21 @@ returns-clause-err g c = λ log doubt s told.
 
 pub returns-in-Ok-write_gathered-clause-cause : goal.returns-in-Ok-write_gathered-clause-cause
 returns-in-Ok-write_gathered-clause-cause g c =
-    cause_then (g.D.Disk.view c.args.disk.now) (g.D.Disk.view c.gather_times-ended.new.disk)
+    cause_then (g.D.Disk.seen.view c.args.disk.now) (g.D.Disk.seen.view c.gather_times-ended.new.disk)
     (g.O.Sink.faults c.args.out.now) (g.O.Sink.faults c.gather_times-ended.new.out) (g.O.Sink.faults c.write_gathered.new.out)
     c.gather_times-ended.result c.gather_times-ended.ensures.cause c.in-Ok-write_gathered.ensures.wrote.later
 
 pub returns-clause-cause : goal.returns-clause-cause
 returns-clause-cause g c =
     let faults = g.O.Sink.faults in
-    let old = g.D.Disk.view c.args.disk.now in
-    let new = g.D.Disk.view c.gather_times-ended.new.disk in
+    let old = g.D.Disk.seen.view c.args.disk.now in
+    let new = g.D.Disk.seen.view c.gather_times-ended.new.disk in
     cause_since old new (faults c.args.out.now) (faults c.gather_times-ended.new.out) (faults c.write_gathered.new.out) _ c.gather_times-ended.ensures.cause.later
     (not_passed old new (g.O.Sink.held c.gather_times-ended.new.out) (g.O.Sink.held c.write_gathered.new.out) (faults c.gather_times-ended.new.out) (faults c.write_gathered.new.out)
     c.gather_times-ended.new.gathered.items c.write_gathered.new.gathered.items [] c.in-Err.broken c.in-Err.ensures.wrote)
 
 pub returns-in_default-clause-cause : goal.returns-in_default-clause-cause
-returns-in_default-clause-cause g c = no_memory (g.D.Disk.view c.args.disk.now) (g.D.Disk.view c.args.disk.now) (g.O.Sink.faults c.args.out.now)
+returns-in_default-clause-cause g c = no_memory (g.D.Disk.seen.view c.args.disk.now) (g.D.Disk.seen.view c.args.disk.now) (g.O.Sink.faults c.args.out.now)
 
 pub returns-in_default-clause-read : goal.returns-in_default-clause-read
-returns-in_default-clause-read g c = not_read g.D.Disk.view g.D.Disk.may_leave g.D.Disk.left_at g.met.D.Disk.no_later c.args.archive.now c.args.disk.now
+returns-in_default-clause-read g c = not_read g.D.Disk.seen g.met.D.Disk.no_later c.args.archive.now c.args.disk.now

@@ -10,13 +10,13 @@ use Rattle.sm_gatelog.proofs.walk.record_at.Goals.{then-size-at-lt5-via-then-siz
 
 pub returns-then-front-eq0-clause-found : goal.returns-then-front-eq0-clause-found
 returns-then-front-eq0-clause-found g c =
-    let bytes : IfSome (g.D.Disk.view c.args.disk.now).contents (λ x. c.in_ok-front.front ≡ read (bytes_of x c.args.file) c.args.at 5) = search rules in
+    let bytes : IfSome (g.D.Disk.seen.view c.args.disk.now).contents (λ x. c.in_ok-front.front ≡ read (bytes_of x c.args.file) c.args.at 5) = search rules in
     some_both _ (λ x. c.in_ok-front.front ≡ read (bytes_of x c.args.file) c.args.at 5) (λ x. c.args.size ≡ length (bytes_of x c.args.file)) (λ x. Begins found.Closed (drop c.args.at (bytes_of x c.args.file)))
     (λ x is long. begins_closed (drop c.args.at (bytes_of x c.args.file)) c.in_ok-front.front is (omega (arith, length-drop c.args.at (bytes_of x c.args.file))) c.if-front-eq0.true) bytes c.requires.size
 
 pub returns-then-size-at-lt5-clause-found : goal.returns-then-size-at-lt5-clause-found
 returns-then-size-at-lt5-clause-found g c =
-    let bytes : IfSome (g.D.Disk.view c.args.disk.now).contents (λ x. c.in_ok-front.front ≡ read (bytes_of x c.args.file) c.args.at 5) = search rules in
+    let bytes : IfSome (g.D.Disk.seen.view c.args.disk.now).contents (λ x. c.in_ok-front.front ≡ read (bytes_of x c.args.file) c.args.at 5) = search rules in
     some_both _ (λ x. c.in_ok-front.front ≡ read (bytes_of x c.args.file) c.args.at 5) (λ x. c.args.size ≡ length (bytes_of x c.args.file)) (λ x. Begins found.Bad (drop c.args.at (bytes_of x c.args.file)))
     (λ x is long.
     let rest : List ℕ = drop c.args.at (bytes_of x c.args.file) in
@@ -30,7 +30,7 @@ returns-then-size-at-lt5-clause-found g c =
 
 pub returns-clause-found : goal.returns-clause-found
 returns-clause-found g c =
-    let bytes : IfSome (g.D.Disk.view c.args.disk.now).contents (λ x. c.in_ok-front.front ≡ read (bytes_of x c.args.file) c.args.at 5) = search rules in
+    let bytes : IfSome (g.D.Disk.seen.view c.args.disk.now).contents (λ x. c.in_ok-front.front ≡ read (bytes_of x c.args.file) c.args.at 5) = search rules in
     some_both _ (λ x. c.in_ok-front.front ≡ read (bytes_of x c.args.file) c.args.at 5) (λ x. c.args.size ≡ length (bytes_of x c.args.file))
     (λ x. Begins (found.Open c.length_in-length.result) (drop c.args.at (bytes_of x c.args.file)))
     (λ x is long.

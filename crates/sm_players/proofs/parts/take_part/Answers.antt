@@ -8,7 +8,7 @@ use Rattle.sm_players.proofs.parts.take_part.Goals as goal
 
 pub returns-in-Continue-clause-handles : goal.returns-in-Continue-clause-handles
 returns-in-Continue-clause-handles g c =
-    ([], [], goes_nil (g.W.Link.view c.args.wire.now).transcript, behind_nil (g.F.Forward.asked c.args.forward.now), skips (ap items_of c.in-Continue.is) refl refl refl refl)
+    ([], [], goes_nil (g.W.Link.seen.view c.args.wire.now).transcript, behind_nil (g.F.Forward.asked c.args.forward.now), skips (ap items_of c.in-Continue.is) refl refl refl refl)
 
 pub returns-in-Continue-clause-others : goal.returns-in-Continue-clause-others
 returns-in-Continue-clause-others g c = λ m other live. live

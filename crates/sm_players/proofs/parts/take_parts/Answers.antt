@@ -16,12 +16,12 @@ loop-part-init g c = record {
   others = λ m other live. live;
   link_faults = refl;
   later = omega arith;
-  takes = taken_nothing c.args.number (standing c.args.reader.now.seen c.args.counts.now.answered) (g.W.Link.view c.args.wire.now).transcript (g.F.Forward.asked c.args.forward.now);
+  takes = taken_nothing c.args.number (standing c.args.reader.now.seen c.args.counts.now.answered) (g.W.Link.seen.view c.args.wire.now).transcript (g.F.Forward.asked c.args.forward.now);
 }
 
 pub loop-part-preserved : goal.loop-part-preserved
 loop-part-preserved g c =
-    let V = g.W.Link.view in
+    let V = g.W.Link.seen.view in
     let A = g.F.Forward.asked in
     let n = c.args.number in
     let parts = c.args.parts.items in
@@ -45,7 +45,7 @@ loop-part-preserved g c =
 
 pub returns-then-not-take_part-clause-takes : goal.returns-then-not-take_part-clause-takes
 returns-then-not-take_part-clause-takes g c =
-    let V = g.W.Link.view in
+    let V = g.W.Link.seen.view in
     let A = g.F.Forward.asked in
     let n = c.args.number in
     let parts = c.args.parts.items in
@@ -63,12 +63,12 @@ returns-then-not-take_part-clause-takes g c =
 
 pub returns-then-not-take_part-clause-others : goal.returns-then-not-take_part-clause-others
 returns-then-not-take_part-clause-others g c =
-    let V = g.W.Link.view in
+    let V = g.W.Link.seen.view in
     beside_then c.args.number (V c.args.wire.now).transcript (V c.loop-part.wire).transcript (V c.take_part.new.wire).transcript c.loop-part.invariant.others c.take_part.ensures.others
 
 pub returns-clause-takes : goal.returns-clause-takes
 returns-clause-takes g c =
-    let V = g.W.Link.view in
+    let V = g.W.Link.seen.view in
     let A = g.F.Forward.asked in
     let n = c.args.number in
     let parts = c.args.parts.items in

@@ -8,10 +8,10 @@ use Rattle.sm_players.proofs.parts.take_parts.Given as goal
 
 abbrev pub invariant-loop-part : goal.invariant-loop-part
 invariant-loop-part g l = record {
-  live : IfSome (g.W.Link.view l.wire).transcript (IsLive l.number);
-  others : StaysBeside l.number (g.W.Link.view l.fn.wire).transcript (g.W.Link.view l.wire).transcript;
-  link_faults : (g.W.Link.view l.wire).link_faults ≡ (g.W.Link.view l.fn.wire).link_faults;
+  live : IfSome (g.W.Link.seen.view l.wire).transcript (IsLive l.number);
+  others : StaysBeside l.number (g.W.Link.seen.view l.fn.wire).transcript (g.W.Link.seen.view l.wire).transcript;
+  link_faults : (g.W.Link.seen.view l.wire).link_faults ≡ (g.W.Link.seen.view l.fn.wire).link_faults;
   later : g.F.Forward.forward_faults l.fn.forward ≤ g.F.Forward.forward_faults l.forward;
-  takes : Taken l.number (standing l.fn.reader.seen l.fn.counts.answered) (g.W.Link.view l.fn.wire).transcript (g.W.Link.view l.wire).transcript (g.F.Forward.asked l.fn.forward) (g.F.Forward.asked l.forward)
+  takes : Taken l.number (standing l.fn.reader.seen l.fn.counts.answered) (g.W.Link.seen.view l.fn.wire).transcript (g.W.Link.seen.view l.wire).transcript (g.F.Forward.asked l.fn.forward) (g.F.Forward.asked l.forward)
       (joined (take (length l.yielded) l.fn.parts.items)) true (standing l.reader.seen l.counts.answered);
 }

@@ -9,7 +9,7 @@ use Rattle.sm_players.proofs.playing.begin.Goals as goal
 
 pub returns-then-len-ge-MOST-clause-turns : goal.returns-then-len-ge-MOST-clause-turns
 returns-then-len-ge-MOST-clause-turns g c ks p was known =
-    let V = g.W.Link.view in
+    let V = g.W.Link.seen.view in
     let t = c.crowd.ensures.goes in
     let ls = c.args.lives.now.items in
     let len : c.len.result ≡ length ls = search rules in
@@ -18,13 +18,13 @@ returns-then-len-ge-MOST-clause-turns g c ks p was known =
 
 pub returns-then-len-ge-MOST-clause-open : goal.returns-then-len-ge-MOST-clause-open
 returns-then-len-ge-MOST-clause-open g c =
-    let V = g.W.Link.view in
+    let V = g.W.Link.seen.view in
     let t = c.crowd.ensures.goes in
     open_apart c.args.number (V c.args.wire.now).transcript (V c.crowd.new.wire).transcript t.0 c.args.lives.now.items c.crowd.ensures.others t.1 c.requires.may
 
 pub returns-in-Ok-clause-turns : goal.returns-in-Ok-clause-turns
 returns-in-Ok-clause-turns g c ks p was known =
-    let T = (g.W.Link.view c.args.wire.now).transcript in
+    let T = (g.W.Link.seen.view c.args.wire.now).transcript in
     let n = c.args.number in
     let ls = c.args.lives.now.items in
     let new = c.in-Ok.ensures.admitted in
@@ -34,13 +34,13 @@ returns-in-Ok-clause-turns g c ks p was known =
 
 pub returns-in-Ok-clause-open : goal.returns-in-Ok-clause-open
 returns-in-Ok-clause-open g c =
-    let T = (g.W.Link.view c.args.wire.now).transcript in
+    let T = (g.W.Link.seen.view c.args.wire.now).transcript in
     let new = c.in-Ok.ensures.admitted in
     subst (λ (ms : List Live). IfSome T (λ items. AreOpen items ms)) (sym new.2) (open_push T c.args.number c.args.lives.now.items new.0 new.1.number_is c.requires.may)
 
 pub returns-in-Err-clause-turns : goal.returns-in-Err-clause-turns
 returns-in-Err-clause-turns g c ks p was known =
-    let V = g.W.Link.view in
+    let V = g.W.Link.seen.view in
     let n = c.args.number in
     let t = c.starve.ensures.goes in
     let a = (V c.args.wire.now).transcript in
@@ -49,7 +49,7 @@ returns-in-Err-clause-turns g c ks p was known =
 
 pub returns-in-Err-clause-open : goal.returns-in-Err-clause-open
 returns-in-Err-clause-open g c =
-    let V = g.W.Link.view in
+    let V = g.W.Link.seen.view in
     let t = c.starve.ensures.goes in
     let b = (V c.starve.new.wire).transcript in
     subst (λ (ms : List Live). IfSome b (λ items. AreOpen items ms)) (sym c.in-Err.ensures.refused)

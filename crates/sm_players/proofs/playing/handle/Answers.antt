@@ -16,14 +16,14 @@ abbrev goes_on : Event → Bool
 goes_on event = not (is_over (deal_of event))
 
 pub begin-requires : goal.begin-requires
-begin-requires g c = record { may = subst (λ (e : Event). IfSome (g.W.Link.view c.args.wire.now).transcript (MayHandle e c.args.lives.now.items)) c.in-Opened.is c.requires.may }
+begin-requires g c = record { may = subst (λ (e : Event). IfSome (g.W.Link.seen.view c.args.wire.now).transcript (MayHandle e c.args.lives.now.items)) c.in-Opened.is c.requires.may }
 
 pub take-requires : goal.take-requires
-take-requires g c = record { live = subst (λ (e : Event). IfSome (g.W.Link.view c.args.wire.now).transcript (MayHandle e c.args.lives.now.items)) c.in-Piece.is c.requires.may }
+take-requires g c = record { live = subst (λ (e : Event). IfSome (g.W.Link.seen.view c.args.wire.now).transcript (MayHandle e c.args.lives.now.items)) c.in-Piece.is c.requires.may }
 
 pub returns-in-Opened-clause-turns : goal.returns-in-Opened-clause-turns
 returns-in-Opened-clause-turns g c ks known =
-    let V = g.W.Link.view in
+    let V = g.W.Link.seen.view in
     let was = g.F.Forward.asked c.args.forward.now in
     let p = standing c.args.reader.now.seen c.args.counts.now.answered in
     subst (λ (e : Event). TurnGives (deal_of e) (V c.args.wire.now).transcript (V c.begin.new.wire).transcript was was ks p c.begin.new.lives.items p) (sym c.in-Opened.is) (c.begin.ensures.turns ks p was known)
@@ -33,7 +33,7 @@ returns-in-Opened-clause-over g c = sym (ap goes_on c.in-Opened.is)
 
 pub returns-in-Piece-clause-turns : goal.returns-in-Piece-clause-turns
 returns-in-Piece-clause-turns g c ks known =
-    let V = g.W.Link.view in
+    let V = g.W.Link.seen.view in
     let A = g.F.Forward.asked in
     let p = standing c.args.reader.now.seen c.args.counts.now.answered in
     let q = standing c.take.new.reader.seen c.take.new.counts.answered in
@@ -45,7 +45,7 @@ returns-in-Piece-clause-over g c = sym (ap goes_on c.in-Piece.is)
 
 pub returns-in-Closed-clause-turns : goal.returns-in-Closed-clause-turns
 returns-in-Closed-clause-turns g c ks known =
-    let T = (g.W.Link.view c.args.wire.now).transcript in
+    let T = (g.W.Link.seen.view c.args.wire.now).transcript in
     let was = g.F.Forward.asked c.args.forward.now in
     let p = standing c.args.reader.now.seen c.args.counts.now.answered in
     subst (λ (e : Event). TurnGives (deal_of e) T T was was ks p c.forget.new.lives.items p) (sym c.in-Closed.is)
@@ -56,14 +56,14 @@ returns-in-Closed-clause-over g c = sym (ap goes_on c.in-Closed.is)
 
 pub returns-in-Closed-clause-open : goal.returns-in-Closed-clause-open
 returns-in-Closed-clause-open g c =
-    let T = (g.W.Link.view c.args.wire.now).transcript in
+    let T = (g.W.Link.seen.view c.args.wire.now).transcript in
     let old = c.args.lives.now.items in
     if_then T (λ items. AreOpenBut c.in-Closed.number items old) (λ items. AreOpen items c.forget.new.lives.items) (λ items but. c.forget.ensures.open_ items but)
     (subst (λ (e : Event). IfSome T (MayHandle e old)) c.in-Closed.is c.requires.may)
 
 pub returns-in-Ended-clause-turns : goal.returns-in-Ended-clause-turns
 returns-in-Ended-clause-turns g c ks known =
-    let T = (g.W.Link.view c.args.wire.now).transcript in
+    let T = (g.W.Link.seen.view c.args.wire.now).transcript in
     let was = g.F.Forward.asked c.args.forward.now in
     let p = standing c.args.reader.now.seen c.args.counts.now.answered in
     subst (λ (e : Event). TurnGives (deal_of e) T T was was ks p c.args.lives.now.items p) (sym c.in-Ended.is) (over_gives T was ks p c.args.lives.now.items known)
@@ -72,4 +72,4 @@ pub returns-in-Ended-clause-over : goal.returns-in-Ended-clause-over
 returns-in-Ended-clause-over g c = sym (ap goes_on c.in-Ended.is)
 
 pub returns-in-Ended-clause-open : goal.returns-in-Ended-clause-open
-returns-in-Ended-clause-open g c = subst (λ (e : Event). IfSome (g.W.Link.view c.args.wire.now).transcript (MayHandle e c.args.lives.now.items)) c.in-Ended.is c.requires.may
+returns-in-Ended-clause-open g c = subst (λ (e : Event). IfSome (g.W.Link.seen.view c.args.wire.now).transcript (MayHandle e c.args.lives.now.items)) c.in-Ended.is c.requires.may

@@ -11,20 +11,20 @@ use Rattle.sm_players.proofs.playing.player.Goals as goal
 
 pub loop-init : goal.loop-init
 loop-init g c = record {
-  open_ = none_open (g.W.Link.view c.args.wire.now).transcript c.new-lives.result.items c.new-lives.ensures.items;
+  open_ = none_open (g.W.Link.seen.view c.args.wire.now).transcript c.new-lives.result.items c.new-lives.ensures.items;
   link_faults = omega arith;
   later = omega arith;
-  plays = subst (λ (ls : List Live). Played c.args.reader.now.seen (g.W.Link.view c.args.wire.now).transcript (g.W.Link.view c.args.wire.now).transcript (g.F.Forward.asked c.args.forward.now) (g.F.Forward.asked c.args.forward.now) 0 ls
-      false (standing c.args.reader.now.seen 0)) (sym c.new-lives.ensures.items) (played_nothing c.args.reader.now.seen (g.W.Link.view c.args.wire.now).transcript (g.F.Forward.asked c.args.forward.now));
+  plays = subst (λ (ls : List Live). Played c.args.reader.now.seen (g.W.Link.seen.view c.args.wire.now).transcript (g.W.Link.seen.view c.args.wire.now).transcript (g.F.Forward.asked c.args.forward.now) (g.F.Forward.asked c.args.forward.now) 0 ls
+      false (standing c.args.reader.now.seen 0)) (sym c.new-lives.ensures.items) (played_nothing c.args.reader.now.seen (g.W.Link.seen.view c.args.wire.now).transcript (g.F.Forward.asked c.args.forward.now));
 }
 
 pub handle-requires : goal.handle-requires
 handle-requires g c =
-    record { may = may_handle (g.W.Link.view c.loop.wire) (g.W.Link.view c.next.new.self) c.in-Ok.event c.loop.lives.items c.in-Ok.ensures.taken c.in-Ok.ensures.rising c.loop.invariant.open_ }
+    record { may = may_handle (g.W.Link.seen.view c.loop.wire) (g.W.Link.seen.view c.next.new.self) c.in-Ok.event c.loop.lives.items c.in-Ok.ensures.taken c.in-Ok.ensures.rising c.loop.invariant.open_ }
 
 pub loop-preserved : goal.loop-preserved
 loop-preserved g c =
-    let V = g.W.Link.view in
+    let V = g.W.Link.seen.view in
     let A = g.F.Forward.asked in
     let seen = c.args.reader.now.seen in
     let old = (V c.args.wire.now).transcript in
@@ -45,7 +45,7 @@ loop-preserved g c =
 
 pub returns-then-not-handle-clause-plays : goal.returns-then-not-handle-clause-plays
 returns-then-not-handle-clause-plays g c =
-    let V = g.W.Link.view in
+    let V = g.W.Link.seen.view in
     let A = g.F.Forward.asked in
     let seen = c.args.reader.now.seen in
     let old = (V c.args.wire.now).transcript in
@@ -63,7 +63,7 @@ returns-then-not-handle-clause-plays g c =
 
 pub returns-in-Err-Failed-clause-plays : goal.returns-in-Err-Failed-clause-plays
 returns-in-Err-Failed-clause-plays g c =
-    let V = g.W.Link.view in
+    let V = g.W.Link.seen.view in
     let A = g.F.Forward.asked in
     let seen = c.args.reader.now.seen in
     let old = (V c.args.wire.now).transcript in
@@ -74,7 +74,7 @@ returns-in-Err-Failed-clause-plays g c =
 
 pub returns-in-Err-NoMemory-clause-plays : goal.returns-in-Err-NoMemory-clause-plays
 returns-in-Err-NoMemory-clause-plays g c =
-    let V = g.W.Link.view in
+    let V = g.W.Link.seen.view in
     let A = g.F.Forward.asked in
     let seen = c.args.reader.now.seen in
     let old = (V c.args.wire.now).transcript in
@@ -85,7 +85,7 @@ returns-in-Err-NoMemory-clause-plays g c =
 
 pub returns-clause-plays : goal.returns-clause-plays
 returns-clause-plays g c =
-    let V = g.W.Link.view in
+    let V = g.W.Link.seen.view in
     let A = g.F.Forward.asked in
     let i = c.loop.counter in
     let turns = c.args.turns in

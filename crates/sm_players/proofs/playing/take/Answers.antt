@@ -13,7 +13,7 @@ use Rattle.sm_players.proofs.playing.take.Goals as goal
 
 pub take_piece-open-requires : goal.take_piece-open-requires
 take_piece-open-requires g c =
-    let T = (g.W.Link.view c.args.wire.now).transcript in
+    let T = (g.W.Link.seen.view c.args.wire.now).transcript in
     let old = c.args.lives.now.items in
     let i = c.in-Some.i in
     let n = c.args.number in
@@ -41,7 +41,7 @@ returns-else-not-open-clause-turns g c ks known =
 
 pub returns-else-not-open-clause-open : goal.returns-else-not-open-clause-open
 returns-else-not-open-clause-open g c =
-    let V = g.W.Link.view in
+    let V = g.W.Link.seen.view in
     let a = (V c.args.wire.now).transcript in
     let b = (V c.take_piece-open.new.wire).transcript in
     let old = c.args.lives.now.items in
@@ -83,7 +83,7 @@ returns-then-not-open-clause-turns g c ks known =
 
 pub returns-then-not-open-clause-open : goal.returns-then-not-open-clause-open
 returns-then-not-open-clause-open g c =
-    let V = g.W.Link.view in
+    let V = g.W.Link.seen.view in
     let a = (V c.args.wire.now).transcript in
     let b = (V c.take_piece-open.new.wire).transcript in
     let old = c.args.lives.now.items in
@@ -105,4 +105,4 @@ returns-in-None-clause-turns g c ks known =
     let n = c.args.number in
     let same : c.deref.result.now ≡ old = c.deref.ensures.value in
     let missing = subst (λ (ls : List Live). (k : ℕ) → k < length ls → get_or (numbers_of ls) k 0 ≡ n → ⊥) same c.in-None.ensures.missing in
-    passed_gives n c.args.piece.now (g.W.Link.view c.args.wire.now).transcript (g.F.Forward.asked c.args.forward.now) ks (standing c.args.reader.now.seen c.args.counts.now.answered) old (apart_none old n missing) known
+    passed_gives n c.args.piece.now (g.W.Link.seen.view c.args.wire.now).transcript (g.F.Forward.asked c.args.forward.now) ks (standing c.args.reader.now.seen c.args.counts.now.answered) old (apart_none old n missing) known

@@ -9,14 +9,14 @@ use Rattle.sm_players.proofs.telling.tell.Goals as goal
 
 pub close-requires : goal.close-requires
 close-requires g c =
-    let V = g.W.Link.view in
+    let V = g.W.Link.seen.view in
     let bytes = c.args.head.now ++ c.args.tail.now in
     let adds : Adds (Sent c.args.number bytes false) (V c.args.wire.now) (V c.send_both.new.self) = search rules in
     record { live = sent_live (V c.args.wire.now) (V c.send_both.new.self) c.args.number bytes false c.requires.live adds }
 
 pub close-requires-in-Err : goal.close-requires-in-Err
 close-requires-in-Err g c =
-    let V = g.W.Link.view in
+    let V = g.W.Link.seen.view in
     let n = c.args.number in
     let v = V c.args.wire.now in
     let w = V c.send_both.new.self in
@@ -29,7 +29,7 @@ close-requires-in-Err g c =
 
 pub returns-else-close-clause-goes : goal.returns-else-close-clause-goes
 returns-else-close-clause-goes g c =
-    let V = g.W.Link.view in
+    let V = g.W.Link.seen.view in
     let n = c.args.number in
     let bytes = c.args.head.now ++ c.args.tail.now in
     let adds : Adds (Sent n bytes false) (V c.args.wire.now) (V c.send_both.new.self) = search rules in
@@ -37,21 +37,21 @@ returns-else-close-clause-goes g c =
 
 pub returns-else-close-clause-open : goal.returns-else-close-clause-open
 returns-else-close-clause-open g c is =
-    let V = g.W.Link.view in
+    let V = g.W.Link.seen.view in
     let bytes = c.args.head.now ++ c.args.tail.now in
     let adds : Adds (Sent c.args.number bytes false) (V c.args.wire.now) (V c.send_both.new.self) = search rules in
     sent_live (V c.args.wire.now) (V c.send_both.new.self) c.args.number bytes false c.requires.live adds
 
 pub returns-else-close-clause-others : goal.returns-else-close-clause-others
 returns-else-close-clause-others g c =
-    let V = g.W.Link.view in
+    let V = g.W.Link.seen.view in
     let bytes = c.args.head.now ++ c.args.tail.now in
     let adds : Adds (Sent c.args.number bytes false) (V c.args.wire.now) (V c.send_both.new.self) = search rules in
     sent_beside (V c.args.wire.now) (V c.send_both.new.self) c.args.number bytes false adds
 
 pub returns-then-close-clause-goes : goal.returns-then-close-clause-goes
 returns-then-close-clause-goes g c =
-    let V = g.W.Link.view in
+    let V = g.W.Link.seen.view in
     let n = c.args.number in
     let v = V c.args.wire.now in
     let w = V c.send_both.new.self in
@@ -65,7 +65,7 @@ returns-then-close-clause-goes g c =
 
 pub returns-then-close-clause-others : goal.returns-then-close-clause-others
 returns-then-close-clause-others g c =
-    let V = g.W.Link.view in
+    let V = g.W.Link.seen.view in
     let n = c.args.number in
     let v = V c.args.wire.now in
     let w = V c.send_both.new.self in
@@ -90,7 +90,7 @@ told_failed v w x n bytes close part shut = ⊎_elim
 
 pub returns-in-Err-clause-goes : goal.returns-in-Err-clause-goes
 returns-in-Err-clause-goes g c =
-    let V = g.W.Link.view in
+    let V = g.W.Link.seen.view in
     let n = c.args.number in
     let v = V c.args.wire.now in
     let w = V c.send_both.new.self in
@@ -100,7 +100,7 @@ returns-in-Err-clause-goes g c =
 
 pub returns-in-Err-clause-others : goal.returns-in-Err-clause-others
 returns-in-Err-clause-others g c =
-    let V = g.W.Link.view in
+    let V = g.W.Link.seen.view in
     let n = c.args.number in
     let v = V c.args.wire.now in
     let w = V c.send_both.new.self in

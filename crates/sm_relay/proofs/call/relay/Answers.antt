@@ -11,7 +11,7 @@ pub returns-clause-relayed : goal.returns-clause-relayed
 returns-clause-relayed g c = λ log channel s is.
     let p = c.relay_all-end.ensures.relayed log channel s is in (
       p,
-      kept_count c.relay_all-end.new.archive log (kept_in p.rounds ++ p.added) p.tried (g.D.Disk.may_leave c.relay_all-end.new.disk) c.len-before.result c.len.result _
+      kept_count c.relay_all-end.new.archive log (kept_in p.rounds ++ p.added) p.tried (g.D.Disk.seen.may_leave c.relay_all-end.new.disk) c.len-before.result c.len.result _
           (c.len-before.ensures s.bodies s.body log None s.keeps) c.len.ensures p.adds.stands c.saturating_sub.ensures,
       rounds_keep c.args.plan.now channel log p.rounds p.added p.are,
     )
@@ -30,7 +30,7 @@ returns-clause-well g c = λ log channel up first last before made s is was told
 pub returns-clause-stands : goal.returns-clause-stands
 returns-clause-stands g c =
     let p = c.relay_all-end.ensures.relayed c.requires.stands.0 c.requires.stands.1 c.requires.stands.2 c.requires.stands.3 in
-    still_stands c.relay_all-end.new.archive _ p.tried (g.D.Disk.may_leave c.relay_all-end.new.disk) p.adds.stands
+    still_stands c.relay_all-end.new.archive _ p.tried (g.D.Disk.seen.may_leave c.relay_all-end.new.disk) p.adds.stands
 
 pub returns-clause-asks : goal.returns-clause-asks
 returns-clause-asks g c =
@@ -39,8 +39,7 @@ returns-clause-asks g c =
 
 pub returns-clause-disk_alone : goal.returns-clause-disk_alone
 returns-clause-disk_alone g c =
-    let adds = (c.relay_all-end.ensures.relayed c.requires.stands.0 c.requires.stands.1 c.requires.stands.2 c.requires.stands.3).adds in
-    record { link = adds.link; no_fewer = adds.no_fewer }
+    (c.relay_all-end.ensures.relayed c.requires.stands.0 c.requires.stands.1 c.requires.stands.2 c.requires.stands.3).adds.disk_alone
 
 pub returns-clause-lost : goal.returns-clause-lost
 returns-clause-lost g c = λ there.

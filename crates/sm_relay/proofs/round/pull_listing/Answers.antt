@@ -37,7 +37,7 @@ returns-in-Err-clause-err g c = λ log s.
 pub returns-in-Err-clause-fault : goal.returns-in-Err-clause-fault
 returns-in-Err-clause-fault g c = λ e.
     let p = c.loop-at.invariant c.requires.stands.0 c.requires.stands.1 in
-    rose_since (g.D.Disk.view c.args.disk.now).disk_faults (g.D.Disk.view c.loop-at.disk).disk_faults (g.D.Disk.view c.pull_name.new.disk).disk_faults p.adds.no_fewer (c.in-Err.ensures.fault e)
+    rose_since (g.D.Disk.seen.view c.args.disk.now).disk_faults (g.D.Disk.seen.view c.loop-at.disk).disk_faults (g.D.Disk.seen.view c.pull_name.new.disk).disk_faults p.adds.disk_alone.no_fewer (c.in-Err.ensures.fault e)
 
 pub returns-clause-ok : goal.returns-clause-ok
 returns-clause-ok g c = λ log s. pulls_as (front_wants c.args.channel.now c.args.listing.now (take c.loop-at.at c.args.channel.now)) (wants_of c.args.channel.now c.args.listing.now)

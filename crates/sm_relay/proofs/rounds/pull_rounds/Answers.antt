@@ -26,4 +26,4 @@ returns-in-Err-clause-err g c = λ log s.
 pub returns-in-Err-clause-fault : goal.returns-in-Err-clause-fault
 returns-in-Err-clause-fault g c = λ e.
     let p = c.loop-round.invariant c.requires.stands.0 c.requires.stands.1 in
-    rose_since (g.D.Disk.view c.args.disk.now).disk_faults (g.D.Disk.view c.loop-round.disk).disk_faults (g.D.Disk.view c.pull_turn.new.disk).disk_faults p.adds.no_fewer (c.in-Err.ensures.fault e)
+    rose_since (g.D.Disk.seen.view c.args.disk.now).disk_faults (g.D.Disk.seen.view c.loop-round.disk).disk_faults (g.D.Disk.seen.view c.pull_turn.new.disk).disk_faults p.adds.disk_alone.no_fewer (c.in-Err.ensures.fault e)

@@ -8,6 +8,6 @@ use Rattle.sm_relay.proofs.stream.pull_stream.Given as goal
 
 abbrev pub invariant-loop-time : goal.invariant-loop-time
 invariant-loop-time g l =
-    (log : List Entry) → Stands l.initial.archive log None (g.D.Disk.may_leave l.initial.disk)
-    → Pulls g.D.Disk.view g.D.Disk.left_at g.D.Disk.may_leave g.C.Dial.log g.C.Dial.store g.C.Dial.later g.C.Dial.dial_faults g.C.Dial.chosen l.plan l.initial.disk l.disk l.initial.dial l.dial l.initial.archive l.archive log
+    (log : List Entry) → Stands l.initial.archive log None (g.D.Disk.seen.may_leave l.initial.disk)
+    → Pulls g.D.Disk.seen g.C.Dial.log g.C.Dial.store g.C.Dial.later g.C.Dial.dial_faults g.C.Dial.chosen l.plan l.initial.disk l.disk l.initial.dial l.dial l.initial.archive l.archive log
     (wants_over l.stream.pattern (tracks_of l.stream.name l.channel) (take l.time-index l.stream.times))

@@ -6,7 +6,7 @@ use Rattle.sm_run.proofs.command.run.Goals as goal
 
 pub returns-in-Ok-Some-clause-run : goal.returns-in-Ok-Some-clause-run
 returns-in-Ok-Some-clause-run g c =
-    shown_runs g.S.Disk.view g.S.Disk.may_leave g.S.Disk.left_at _ _ _ _ _ (serving_of c.in-Ok-Some.order) c.in-Ok-Some.players _ _ _ _ _ _ _ _ _ _ _
+    shown_runs g.S.Disk.seen _ _ _ _ _ (serving_of c.in-Ok-Some.order) c.in-Ok-Some.players _ _ _ _ _ _ _ _ _ _ _
     (shown_of c.in-Ok-Some.field-0 (c.in-Ok-Some.order, c.in-Ok-Some.players) _ c.in-Ok-Some.field-0-is c.in-Ok-Some.ensures.is) (record {
       answer = c.show-answer.result;
       means = c.show-answer.ensures.means;
@@ -22,6 +22,6 @@ returns-in-Ok-Some-clause-run g c =
 
 pub returns-in-Err-clause-run : goal.returns-in-Err-clause-run
 returns-in-Err-clause-run g c =
-    starved_runs g.S.Disk.view g.S.Disk.may_leave g.S.Disk.left_at _ _ _ _ _ _ _ _ c.args.site.now _ _ _ c.starved.ensures
-    (idle_lasts g.S.Disk.view g.S.Disk.may_leave g.S.Disk.left_at g.met.S.Disk.no_later g.met.S.Disk.at_now c.args.site.now)
-    (idle_spared g.S.Disk.view g.S.Disk.may_leave g.S.Disk.left_at g.met.S.Disk.no_later c.args.site.now)
+    starved_runs g.S.Disk.seen _ _ _ _ _ _ _ _ c.args.site.now _ _ _ c.starved.ensures
+    (idle_lasts g.S.Disk.seen g.met.S.Disk.no_later g.met.S.Disk.at_now c.args.site.now)
+    (idle_spared g.S.Disk.seen g.met.S.Disk.no_later c.args.site.now)

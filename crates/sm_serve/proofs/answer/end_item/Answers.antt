@@ -5,45 +5,43 @@ use Rattle.sm_site.specs.Meanings.Deal.{Shut}
 use Rattle.sm_serve.proofs.Transcripts.{adds_told}
 use Rattle.sm_serve.proofs.Between.{none_of_link}
 use Rattle.sm_serve.proofs.Reaching.{reached, reached_here}
-use Rattle.sm_serve.proofs.Sending.{LinkCall, contents_here, shut_after}
+use Rattle.sm_serve.proofs.Sending.{contents_here, shut_after}
 use Rattle.sm_serve.proofs.answer.end_item.Goals as goal
 
 pub returns-then-close-clause-goes_on : goal.returns-then-close-clause-goes_on
 returns-then-close-clause-goes_on g c h more origin keeps stands phase =
-    let V = g.S.Disk.view in
-    let W = g.S.Link.view in
+    let V = g.S.Disk.seen.view in
+    let W = g.S.Link.seen.view in
     let d = c.args.site.now in
     let e = c.close.new.self in
     let n = c.args.number in
-    let call : LinkCall V W g.S.Disk.may_leave g.S.Link.may_leave g.S.Disk.left_at g.S.Link.left_at g.met.S.Site.one_view g.met.S.Site.one_disk g.met.S.Site.one_past g.met.S.Disk.told d e =
-    record { time = c.close.ensures.time; same = c.close.ensures.crash; disk = c.close.ensures.disk } in
-    let same = same_here V W g.S.Disk.may_leave g.S.Link.may_leave g.S.Disk.left_at g.S.Link.left_at g.met.S.Site.one_view g.met.S.Site.one_disk g.met.S.Site.one_past d e c.close.ensures.crash in
+    let call = c.close.ensures.link_alone in
+    let same = same_here g.S.Disk.seen g.S.Link.seen g.met.S.Site.one d e c.close.ensures.link_alone.crash in
     let shuts : h.point.phase ≡ shutting n = phase ∙ ap (λ (b : Bool). if b then shutting n else acting n more) c.if-close.true in
-    let s = shut_after V W g.S.Disk.may_leave g.S.Link.may_leave g.S.Disk.left_at g.S.Link.left_at g.met.S.Site.one_view g.met.S.Site.one_disk g.met.S.Site.one_past g.met.S.Disk.told h d e n keeps call shuts c.close.ensures.shut
+    let s = shut_after g.S.Disk.seen g.S.Link.seen g.met.S.Site.one g.met.S.Disk.told h d e n keeps call shuts c.close.ensures.shut
     c.close.ensures.send_faults in
-    reached V g.S.Disk.may_leave g.S.Disk.left_at h s.later n false e (in_phase h.point idle) origin s.keeps s.follows s.point_is refl refl
+    reached g.S.Disk.seen h s.later n false e (in_phase h.point idle) origin s.keeps s.follows s.point_is refl refl
     (c.fewer_images_stand.ensures h.point.machine origin d e stands
-    (contents_here V W g.S.Disk.may_leave g.S.Link.may_leave g.S.Disk.left_at g.S.Link.left_at g.met.S.Site.one_view g.met.S.Site.one_disk g.met.S.Site.one_past g.met.S.Disk.told d e call) (λ image left. (same image).0 left))
+    (contents_here g.S.Disk.seen g.S.Link.seen g.met.S.Site.one g.met.S.Disk.told d e call) (λ image left. (same image).0 left))
 
 pub returns-then-close-clause-link : goal.returns-then-close-clause-link
 returns-then-close-clause-link g c =
-    let W = g.S.Link.view in
+    let W = g.S.Link.seen.view in
     let d = c.args.site.now in
     let e = c.close.new.self in
-    none_of_link g.S.Disk.view W g.met.S.Site.one_view d e (adds_told (W d) (W e) (Shut c.args.number) c.close.ensures.shut) c.close.ensures.link_faults c.close.ensures.script c.close.ensures.disk
+    none_of_link g.S.Disk.seen g.S.Link.seen g.met.S.Site.one d e (adds_told (W d) (W e) (Shut c.args.number) c.close.ensures.shut) c.close.ensures.link_faults c.close.ensures.script c.close.ensures.link_alone.disk
 
 pub returns-then-close-clause-contents : goal.returns-then-close-clause-contents
 returns-then-close-clause-contents g c =
-    let V = g.S.Disk.view in
-    let W = g.S.Link.view in
+    let V = g.S.Disk.seen.view in
+    let W = g.S.Link.seen.view in
     let d = c.args.site.now in
     let e = c.close.new.self in
-    let call : LinkCall V W g.S.Disk.may_leave g.S.Link.may_leave g.S.Disk.left_at g.S.Link.left_at g.met.S.Site.one_view g.met.S.Site.one_disk g.met.S.Site.one_past g.met.S.Disk.told d e =
-    record { time = c.close.ensures.time; same = c.close.ensures.crash; disk = c.close.ensures.disk } in
-    contents_here V W g.S.Disk.may_leave g.S.Link.may_leave g.S.Disk.left_at g.S.Link.left_at g.met.S.Site.one_view g.met.S.Site.one_disk g.met.S.Site.one_past g.met.S.Disk.told d e call
+    let call = c.close.ensures.link_alone in
+    contents_here g.S.Disk.seen g.S.Link.seen g.met.S.Site.one g.met.S.Disk.told d e call
 
 pub returns-clause-goes_on : goal.returns-clause-goes_on
 returns-clause-goes_on g c h more origin keeps stands phase =
     let n = c.args.number in
-    reached_here g.S.Disk.view g.S.Disk.may_leave g.S.Disk.left_at h n (acting n more) (h.point.counts n) origin c.args.site.now keeps stands
+    reached_here g.S.Disk.seen h n (acting n more) (h.point.counts n) origin c.args.site.now keeps stands
     (phase ∙ ap (λ (b : Bool). if b then shutting n else acting n more) c.if-close.false) refl

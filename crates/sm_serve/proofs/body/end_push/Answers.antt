@@ -10,5 +10,5 @@ returns-in-Some-clause-goes_on g c h more keeps stands phase counts =
 
 pub returns-clause-goes_on : goal.returns-clause-goes_on
 returns-clause-goes_on g c h more keeps stands phase counts =
-    closed_counts g.S.Disk.view g.S.Disk.may_leave g.S.Disk.left_at h c.args.live.now.number _ _ _ c.answer.new.origin c.answer.new.site
+    closed_counts g.S.Disk.seen h c.args.live.now.number _ _ _ c.answer.new.origin c.answer.new.site
     (c.in-None.ensures.goes_on h (End c.args.close) more keeps stands phase (ap (λ (k : Counts). act_of k (End c.args.close)) counts) refl)

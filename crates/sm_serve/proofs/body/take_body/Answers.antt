@@ -22,19 +22,17 @@ loop-done-init g c = record {
   inside = omega arith;
   stands = c.requires.stands;
   live = c.requires.live;
-  link = none_taken (g.S.Disk.view c.args.site.now);
+  link = none_taken (g.S.Disk.seen.view c.args.site.now);
   open_ = c.requires.open;
   same = record { number = refl; conn = refl };
   goes_on = λ h b more items keeps stands is left phase counts.
-      open_here g.S.Disk.view g.S.Disk.may_leave g.S.Disk.left_at h c.args.live.now.number c.args.site.now c.args.live.now.push (counts_of c.args.live.now) (Some b)
+      open_here g.S.Disk.seen h c.args.live.now.number c.args.site.now c.args.live.now.push (counts_of c.args.live.now) (Some b)
       (map (λ x. byte x) c.args.bytes.now ++ more) items c.args.origin.now keeps stands is left phase counts;
 }
 
-pub returns-then-not-take_chunk-clause-goes_on : goal.returns-then-not-take_chunk-clause-goes_on
-returns-then-not-take_chunk-clause-goes_on g c h b more items keeps stands is left phase counts =
-    let V = g.S.Disk.view in
-    let A = g.S.Disk.may_leave in
-    let L = g.S.Disk.left_at in
+pub returns-in-Closed-clause-goes_on : goal.returns-in-Closed-clause-goes_on
+returns-in-Closed-clause-goes_on g c h b more items keeps stands is left phase counts =
+    let V = g.S.Disk.seen.view in
     let n = c.args.live.now.number in
     let bytes : List ℕ = c.args.bytes.now in
     let i = c.loop-done.done in
@@ -42,25 +40,23 @@ returns-then-not-take_chunk-clause-goes_on g c h b more items keeps stands is le
     let piece : List ℕ = take count (take (length bytes - i) (drop i bytes)) in
     let piece_is : piece ≡ take count (drop i bytes) = ap (λ (xs : List ℕ). take count xs) (take_rest bytes i) in
     let rest = map byte (drop (i + count) bytes) ++ more in
-    let one = subst (λ (qs : List PartItem). StaysOpen V A L h n c.loop-done.live.push (counts_of c.loop-done.live) (Some b) (map byte (take i bytes)) qs c.loop-done.origin c.loop-done.site)
+    let one = subst (λ (qs : List PartItem). StaysOpen g.S.Disk.seen h n c.loop-done.live.push (counts_of c.loop-done.live) (Some b) (map byte (take i bytes)) qs c.loop-done.origin c.loop-done.site)
     (bytes_split bytes piece i count more piece_is) (c.loop-done.invariant.goes_on h b more items keeps stands is left phase counts) in
     let place = place_some c.loop-done.live.push one.after c.loop-done.invariant.open_ one.after_is in
-    let T : ℕ → Type 0 = λ m. (k : History) → Keeps V A L k c.loop-done.site → StandsOn V A k.point.machine c.loop-done.origin c.loop-done.site → k.point.phase ≡ acting m one.left
+    let T : ℕ → Type 0 = λ m. (k : History) → Keeps g.S.Disk.seen k c.loop-done.site → StandsOn g.S.Disk.seen k.point.machine c.loop-done.origin c.loop-done.site → k.point.phase ≡ acting m one.left
     → k.point.counts m ≡ counts_of c.loop-done.live
-    → PartGives V A L k m false c.take_chunk.new.live.push (counts_of c.take_chunk.new.live) one.after (map byte piece) rest c.take_chunk.new.origin c.take_chunk.new.site in
+    → PartGives g.S.Disk.seen k m false c.take_chunk.new.live.push (counts_of c.take_chunk.new.live) one.after (map byte piece) rest c.take_chunk.new.origin c.take_chunk.new.site in
     let go : T c.loop-done.live.number = λ k kk ks kp kc.
-    subst (λ (o : Option (List ℕ)). PartGives V A L k c.loop-done.live.number false c.take_chunk.new.live.push (counts_of c.take_chunk.new.live) o (map byte piece) rest c.take_chunk.new.origin c.take_chunk.new.site) (sym place.1)
-    (c.if-not-take_chunk.ensures.goes_on k place.0 rest one.left kk ks (subst (λ (o : Option (List ℕ)). PlaceIs c.loop-done.live.push o) place.1 one.after_is)
+    subst (λ (o : Option (List ℕ)). PartGives g.S.Disk.seen k c.loop-done.live.number false c.take_chunk.new.live.push (counts_of c.take_chunk.new.live) o (map byte piece) rest c.take_chunk.new.origin c.take_chunk.new.site) (sym place.1)
+    (c.in-Closed.ensures.goes_on k place.0 rest one.left kk ks (subst (λ (o : Option (List ℕ)). PlaceIs c.loop-done.live.push o) place.1 one.after_is)
     (subst (λ (o : Option (List ℕ)). Left o (map byte piece ++ rest) one.left) place.1 one.left_is) kp kc) in
-    let all = then_gives V A L h n false c.loop-done.live.push c.take_chunk.new.live.push (counts_of c.loop-done.live) (counts_of c.take_chunk.new.live) (Some b) (map byte (take i bytes)) (map byte piece) rest
+    let all = then_gives g.S.Disk.seen h n false c.loop-done.live.push c.take_chunk.new.live.push (counts_of c.loop-done.live) (counts_of c.take_chunk.new.live) (Some b) (map byte (take i bytes)) (map byte piece) rest
     c.loop-done.origin c.take_chunk.new.origin c.loop-done.site c.take_chunk.new.site one (subst T c.loop-done.invariant.same.number go) in
     all
 
 pub loop-done-preserved : goal.loop-done-preserved
 loop-done-preserved g c =
-    let V = g.S.Disk.view in
-    let A = g.S.Disk.may_leave in
-    let L = g.S.Disk.left_at in
+    let V = g.S.Disk.seen.view in
     let n = c.args.live.now.number in
     let bytes : List ℕ = c.args.bytes.now in
     let i = c.loop-done.done in
@@ -70,37 +66,35 @@ loop-done-preserved g c =
     record {
       inside = omega (arith, c.loop-done.invariant.inside, c.due-count.ensures.most, ap length (take_rest bytes i), length-drop i bytes);
       stands = c.take_chunk.ensures.stands;
-      live = subst (λ (m : ℕ). IfSome (V c.take_chunk.new.site).transcript (IsLive m)) (sym c.take_chunk.ensures.same.number) (c.if-not-take_chunk.ensures.open refl);
+      live = subst (λ (m : ℕ). IfSome (V c.take_chunk.new.site).transcript (IsLive m)) (sym c.take_chunk.ensures.same.number) (c.in-Open.ensures.open refl);
       link = none_then (V c.args.site.now) (V c.loop-done.site) (V c.take_chunk.new.site) c.loop-done.invariant.link c.take_chunk.ensures.link;
-      open_ = c.if-not-take_chunk.ensures.push refl;
+      open_ = c.in-Open.ensures.push refl;
       same = same_then c.args.live.now c.loop-done.live c.take_chunk.new.live c.loop-done.invariant.same c.take_chunk.ensures.same;
       goes_on = λ h b more items keeps stands is left phase counts.
           let rest = map byte (drop (i + count) bytes) ++ more in
-          let one = subst (λ (qs : List PartItem). StaysOpen V A L h n c.loop-done.live.push (counts_of c.loop-done.live) (Some b) (map byte (take i bytes)) qs c.loop-done.origin c.loop-done.site)
+          let one = subst (λ (qs : List PartItem). StaysOpen g.S.Disk.seen h n c.loop-done.live.push (counts_of c.loop-done.live) (Some b) (map byte (take i bytes)) qs c.loop-done.origin c.loop-done.site)
           (bytes_split bytes piece i count more piece_is) (c.loop-done.invariant.goes_on h b more items keeps stands is left phase counts) in
           let place = place_some c.loop-done.live.push one.after c.loop-done.invariant.open_ one.after_is in
-          let T : ℕ → Type 0 = λ m. (k : History) → Keeps V A L k c.loop-done.site → StandsOn V A k.point.machine c.loop-done.origin c.loop-done.site → k.point.phase ≡ acting m one.left
+          let T : ℕ → Type 0 = λ m. (k : History) → Keeps g.S.Disk.seen k c.loop-done.site → StandsOn g.S.Disk.seen k.point.machine c.loop-done.origin c.loop-done.site → k.point.phase ≡ acting m one.left
           → k.point.counts m ≡ counts_of c.loop-done.live
-          → PartGives V A L k m true c.take_chunk.new.live.push (counts_of c.take_chunk.new.live) one.after (map byte piece) rest c.take_chunk.new.origin c.take_chunk.new.site in
+          → PartGives g.S.Disk.seen k m true c.take_chunk.new.live.push (counts_of c.take_chunk.new.live) one.after (map byte piece) rest c.take_chunk.new.origin c.take_chunk.new.site in
           let go : T c.loop-done.live.number = λ k kk ks kp kc.
-          subst (λ (o : Option (List ℕ)). PartGives V A L k c.loop-done.live.number true c.take_chunk.new.live.push (counts_of c.take_chunk.new.live) o (map byte piece) rest c.take_chunk.new.origin c.take_chunk.new.site) (sym place.1)
-          (c.if-not-take_chunk.ensures.goes_on k place.0 rest one.left kk ks (subst (λ (o : Option (List ℕ)). PlaceIs c.loop-done.live.push o) place.1 one.after_is)
+          subst (λ (o : Option (List ℕ)). PartGives g.S.Disk.seen k c.loop-done.live.number true c.take_chunk.new.live.push (counts_of c.take_chunk.new.live) o (map byte piece) rest c.take_chunk.new.origin c.take_chunk.new.site) (sym place.1)
+          (c.in-Open.ensures.goes_on k place.0 rest one.left kk ks (subst (λ (o : Option (List ℕ)). PlaceIs c.loop-done.live.push o) place.1 one.after_is)
           (subst (λ (o : Option (List ℕ)). Left o (map byte piece ++ rest) one.left) place.1 one.left_is) kp kc) in
-          let all = then_gives V A L h n true c.loop-done.live.push c.take_chunk.new.live.push (counts_of c.loop-done.live) (counts_of c.take_chunk.new.live) (Some b) (map byte (take i bytes)) (map byte piece) rest
+          let all = then_gives g.S.Disk.seen h n true c.loop-done.live.push c.take_chunk.new.live.push (counts_of c.loop-done.live) (counts_of c.take_chunk.new.live) (Some b) (map byte (take i bytes)) (map byte piece) rest
           c.loop-done.origin c.take_chunk.new.origin c.loop-done.site c.take_chunk.new.site one (subst T c.loop-done.invariant.same.number go) in
-          subst (λ (ps : List PartItem). StaysOpen V A L h n c.take_chunk.new.live.push (counts_of c.take_chunk.new.live) (Some b) ps rest c.take_chunk.new.origin c.take_chunk.new.site)
+          subst (λ (ps : List PartItem). StaysOpen g.S.Disk.seen h n c.take_chunk.new.live.push (counts_of c.take_chunk.new.live) (Some b) ps rest c.take_chunk.new.origin c.take_chunk.new.site)
           (sym (bytes_more bytes piece i count piece_is)) all;
     }
 
 pub returns-clause-goes_on : goal.returns-clause-goes_on
 returns-clause-goes_on g c h b more items keeps stands is left phase counts =
-    let V = g.S.Disk.view in
-    let A = g.S.Disk.may_leave in
-    let L = g.S.Disk.left_at in
+    let V = g.S.Disk.seen.view in
     let n = c.args.live.now.number in
     let bytes : List ℕ = c.args.bytes.now in
     let i = c.loop-done.done in
     let long : length bytes ≤ i = omega arith in
-    subst (λ (xs : List ℕ). StaysOpen V A L h n c.loop-done.live.push (counts_of c.loop-done.live) (Some b) (map byte xs) more c.loop-done.origin c.loop-done.site) (take_all i bytes long)
-    (subst (λ (xs : List ℕ). StaysOpen V A L h n c.loop-done.live.push (counts_of c.loop-done.live) (Some b) (map byte (take i bytes)) (map byte xs ++ more) c.loop-done.origin c.loop-done.site) (drop_all i bytes long)
+    subst (λ (xs : List ℕ). StaysOpen g.S.Disk.seen h n c.loop-done.live.push (counts_of c.loop-done.live) (Some b) (map byte xs) more c.loop-done.origin c.loop-done.site) (take_all i bytes long)
+    (subst (λ (xs : List ℕ). StaysOpen g.S.Disk.seen h n c.loop-done.live.push (counts_of c.loop-done.live) (Some b) (map byte (take i bytes)) (map byte xs ++ more) c.loop-done.origin c.loop-done.site) (drop_all i bytes long)
     (c.loop-done.invariant.goes_on h b more items keeps stands is left phase counts))

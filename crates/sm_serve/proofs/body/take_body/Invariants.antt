@@ -14,15 +14,15 @@ use Rattle.sm_serve.proofs.body.take_body.Given as goal
 abbrev pub invariant-loop-done : goal.invariant-loop-done
 invariant-loop-done g l = record {
   inside : l.done ≤ length l.bytes;
-  stands : StandsForSome g.S.Disk.view g.S.Disk.may_leave l.origin l.site;
-  live : IfSome (g.S.Disk.view l.site).transcript (IsLive l.live.number);
-  link : TakesNone (g.S.Disk.view l.fn.site) (g.S.Disk.view l.site);
+  stands : StandsForSome g.S.Disk.seen l.origin l.site;
+  live : IfSome (g.S.Disk.seen.view l.site).transcript (IsLive l.live.number);
+  link : TakesNone (g.S.Disk.seen.view l.fn.site) (g.S.Disk.seen.view l.site);
   open_ : is_some l.live.push ≡ true;
   same : SameConn l.fn.live l.live;
-  goes_on : (h : History) (b : List ℕ) (more : List PartItem) (items : List WireItem) → Keeps g.S.Disk.view g.S.Disk.may_leave g.S.Disk.left_at h l.fn.site
-      → StandsOn g.S.Disk.view g.S.Disk.may_leave h.point.machine l.fn.origin l.fn.site → PlaceIs l.fn.live.push (Some b) → Left (Some b) (map (λ x. byte x) l.bytes ++ more) items
+  goes_on : (h : History) (b : List ℕ) (more : List PartItem) (items : List WireItem) → Keeps g.S.Disk.seen h l.fn.site
+      → StandsOn g.S.Disk.seen h.point.machine l.fn.origin l.fn.site → PlaceIs l.fn.live.push (Some b) → Left (Some b) (map (λ x. byte x) l.bytes ++ more) items
       → h.point.phase ≡ acting l.fn.live.number items → h.point.counts l.fn.live.number ≡ counts_of l.fn.live
-      → StaysOpen g.S.Disk.view g.S.Disk.may_leave g.S.Disk.left_at h l.fn.live.number l.live.push (counts_of l.live) (Some b) (map (λ x. byte x) (take l.done l.bytes))
+      → StaysOpen g.S.Disk.seen h l.fn.live.number l.live.push (counts_of l.live) (Some b) (map (λ x. byte x) (take l.done l.bytes))
       (map (λ x. byte x) (drop l.done l.bytes) ++ more) l.origin l.site;
 }
 

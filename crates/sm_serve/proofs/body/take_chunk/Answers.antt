@@ -8,6 +8,7 @@ use Rattle.sm_wire.specs.Wire.{Left, shown}
 use Rattle.sm_wire.proofs.WireLaw.{left_unique, bytes_left}
 use Rattle.sm_serve.specs.Run.{idle, acting}
 use Rattle.sm_serve.specs.Resting.{PlaceIs, counts_of}
+use Rattle.sm_serve.specs.Standing.{stays_open}
 use Rattle.sm_serve.proofs.Giving.{starved_gives, fed_place, fed_refused, shown_vec, valid_vec, open_gives, closed_gives}
 use Rattle.sm_serve.proofs.Reaching.{goes_then, go_from}
 use Rattle.sm_serve.proofs.body.take_chunk.Goals as goal
@@ -21,12 +22,12 @@ returns-in-Ok-clause-goes_on g c h b more items keeps stands place left phase co
     let on = λ (qs : List PartItem) (ws : List WireItem) (l : Left (Some (b ++ bytes)) qs ws). bytes_left b bytes c.in-Ok.items qs ws fed.1 l in
     let is : items ≡ map shown c.in-Ok.items ++ rest.0 = left_unique (Some b) _ items _ left (on more rest.0 rest.1) in
     let at = phase ∙ ap (acting n) (is ∙ sym (shown_vec c.into_vec.result.items c.in-Ok.items rest.0 c.into_vec.ensures)) in
-    open_gives g.S.Disk.view g.S.Disk.may_leave g.S.Disk.left_at h n c.take_items.result c.take_items.new.live.push (counts_of c.take_items.new.live) (Some b) (Some (b ++ bytes)) (map byte bytes) more (map shown c.in-Ok.items) rest.0
+    open_gives g.S.Disk.seen h n c.take_items.result c.take_items.new.live.push (counts_of c.take_items.new.live) (Some b) (Some (b ++ bytes)) (map byte bytes) more (map shown c.in-Ok.items) rest.0
     c.take_items.new.origin c.take_items.new.site (c.take_items.ensures.goes_on h rest.0 keeps stands at counts)
     (subst (λ (p : Option Standing). PlaceIs p (Some (b ++ bytes))) (sym c.take_items.ensures.same.push) fed.0) rest.1 on
 
-pub returns-then-not-take_items-clause-goes_on : goal.returns-then-not-take_items-clause-goes_on
-returns-then-not-take_items-clause-goes_on g c h b more items keeps stands place left phase counts =
+pub returns-in-Closed-clause-goes_on : goal.returns-in-Closed-clause-goes_on
+returns-in-Closed-clause-goes_on g c h b more items keeps stands place left phase counts =
     let n = c.args.live.now.number in
     let bytes = c.args.bytes.now in
     let r = c.in-Err-Refused.refusal in
@@ -34,13 +35,10 @@ returns-then-not-take_items-clause-goes_on g c h b more items keeps stands place
     let body = fed_refused b bytes c.feed.new.push c.in-Err-Refused.before r fed in
     let is : items ≡ map shown c.in-Err-Refused.before ++ Refuse r ∷ [] = left_unique (Some b) _ items _ left (c.wire_of_front.ensures.ends b bytes c.in-Err-Refused.before body.0 r more body.1) in
     let at = phase ∙ ap (acting n) (is ∙ sym (shown_vec c.into_vec-in-Err-Refused.result.items c.in-Err-Refused.before (Refuse r ∷ []) c.into_vec-in-Err-Refused.ensures)) in
-    c.if-not-take_items.ensures.goes_on h (Refuse r ∷ []) keeps stands at counts
+    c.in-Closed.ensures.goes_on h (Refuse r ∷ []) keeps stands at counts
 
-pub returns-else-not-take_items-clause-goes_on : goal.returns-else-not-take_items-clause-goes_on
-returns-else-not-take_items-clause-goes_on g c h b more items keeps stands place left phase counts =
-    let V = g.S.Disk.view in
-    let A = g.S.Disk.may_leave in
-    let L = g.S.Disk.left_at in
+pub returns-in-Open-clause-goes_on : goal.returns-in-Open-clause-goes_on
+returns-in-Open-clause-goes_on g c h b more items keeps stands place left phase counts =
     let n = c.args.live.now.number in
     let bytes = c.args.bytes.now in
     let r = c.in-Err-Refused.refusal in
@@ -48,16 +46,16 @@ returns-else-not-take_items-clause-goes_on g c h b more items keeps stands place
     let body = fed_refused b bytes c.feed.new.push c.in-Err-Refused.before r fed in
     let is : items ≡ map shown c.in-Err-Refused.before ++ Refuse r ∷ [] = left_unique (Some b) _ items _ left (c.wire_of_front.ensures.ends b bytes c.in-Err-Refused.before body.0 r more body.1) in
     let at = phase ∙ ap (acting n) (is ∙ sym (shown_vec c.into_vec-in-Err-Refused.result.items c.in-Err-Refused.before (Refuse r ∷ []) c.into_vec-in-Err-Refused.ensures)) in
-    let was = c.if-not-take_items.ensures.goes_on h (Refuse r ∷ []) keeps stands at counts in
+    let was = c.in-Open.ensures.goes_on h (Refuse r ∷ []) keeps stands at counts in
     let same = c.take_items-in-Err-Refused.ensures.same.number in
-    let res = c.act_on.result in
+    let res = stays_open c.act_on.result in
     let d = c.take_items-in-Err-Refused.new.site in
     let o = c.take_items-in-Err-Refused.new.origin in
     let one = c.take_items-in-Err-Refused.new.live in
-    let go = go_from V A L one.number n d c.act_on.new.site o c.act_on.new.origin (λ m. acting m (Refuse r ∷ [])) (λ m. if res then acting m [] else idle) (counts_of one) (counts_of c.act_on.new.live) res same
+    let go = go_from g.S.Disk.seen one.number n d c.act_on.new.site o c.act_on.new.origin (λ m. acting m (Refuse r ∷ [])) (λ m. if res then acting m [] else idle) (counts_of one) (counts_of c.act_on.new.live) res same
     (λ k kk ks kp kc. c.act_on.ensures.goes_on k (Refuse r) [] kk ks kp kc refl refl (λ counted all. refl)) in
-    let reaches = goes_then V A L h n (acting n (Refuse r ∷ [])) (if res then acting n [] else idle) (counts_of one) (counts_of c.act_on.new.live) o c.act_on.new.origin d c.act_on.new.site res was go in
-    closed_gives V A L h n res c.act_on.new.live.push (counts_of c.act_on.new.live) (Some b) (map byte bytes) more [] c.act_on.new.origin c.act_on.new.site (c.act_on.ensures.closed refl) reaches
+    let reaches = goes_then g.S.Disk.seen h n (acting n (Refuse r ∷ [])) (if res then acting n [] else idle) (counts_of one) (counts_of c.act_on.new.live) o c.act_on.new.origin d c.act_on.new.site res was go in
+    closed_gives g.S.Disk.seen h n c.act_on.result c.act_on.new.live.push (counts_of c.act_on.new.live) (Some b) (map byte bytes) more [] c.act_on.new.origin c.act_on.new.site (c.act_on.ensures.closed refl) reaches
 
 pub take_items-requires-clause-valid : goal.take_items-requires-clause-valid
 take_items-requires-clause-valid g c = valid_vec c.into_vec.result.items c.in-Ok.items c.into_vec.ensures c.in-Ok.ensures.valid
@@ -78,6 +76,6 @@ returns-in-Err-NoMemory-clause-stands g c =
 
 pub returns-in-Err-NoMemory-clause-goes_on : goal.returns-in-Err-NoMemory-clause-goes_on
 returns-in-Err-NoMemory-clause-goes_on g c h b more items keeps stands place left phase counts =
-    starved_gives g.S.Disk.view g.S.Disk.may_leave g.S.Disk.left_at h c.args.live.now.number c.starve-in-Err-NoMemory.result c.feed.new.push (counts_of c.args.live.now) (Some b) (map byte c.args.bytes.now) more
+    starved_gives g.S.Disk.seen h c.args.live.now.number c.starve-in-Err-NoMemory.result c.feed.new.push (counts_of c.args.live.now) (Some b) (map byte c.args.bytes.now) more
     c.args.origin.now c.starve-in-Err-NoMemory.new.site
     c.starve-in-Err-NoMemory.ensures.closed (c.starve-in-Err-NoMemory.ensures.goes_on h items (counts_of c.args.live.now) c.args.origin.now keeps stands phase)

@@ -13,8 +13,8 @@ pub returns-in-Ok-clause-goes_on : goal.returns-in-Ok-clause-goes_on
 returns-in-Ok-clause-goes_on g c h b more items keeps stands place left phase counts =
     let n = c.args.live.now.number in
     let clear : body_end false b ≡ None = c.in-Ok.ensures b place in
-    let is = end_items g.S.Disk.view g.S.Disk.may_leave g.S.Disk.left_at b c.args.close more items clear left in
-    end_gives g.S.Disk.view g.S.Disk.may_leave g.S.Disk.left_at h n c.args.close c.end_push.result c.end_push.new.live.push (counts_of c.end_push.new.live) b more c.end_push.new.origin c.end_push.new.site clear
+    let is = end_items g.S.Disk.seen b c.args.close more items clear left in
+    end_gives g.S.Disk.seen h n c.args.close c.end_push.result c.end_push.new.live.push (counts_of c.end_push.new.live) b more c.end_push.new.origin c.end_push.new.site clear
     c.end_push.ensures.closed c.end_push.ensures.push (c.end_push.ensures.goes_on h (if c.args.close then [] else wire None more) keeps stands (phase ∙ ap (acting n) is) counts)
 
 pub returns-in-Err-Refused-clause-goes_on : goal.returns-in-Err-Refused-clause-goes_on
@@ -23,7 +23,7 @@ returns-in-Err-Refused-clause-goes_on g c h b more items keeps stands place left
     let r = c.in-Err-Refused.refusal in
     let ends = rw c.in-Err-Refused.field-0-is at (c.in-Err-Refused.ensures b place) in
     let is : items ≡ Refuse r ∷ [] = left_unique (Some b) (ended c.args.close ∷ more) items _ left (ended_refused b more c.args.close r ends.1) in
-    closed_gives g.S.Disk.view g.S.Disk.may_leave g.S.Disk.left_at h n c.act_on.result c.act_on.new.live.push (counts_of c.act_on.new.live) (Some b) (ended c.args.close ∷ []) more [] c.act_on.new.origin c.act_on.new.site
+    closed_gives g.S.Disk.seen h n c.act_on.result c.act_on.new.live.push (counts_of c.act_on.new.live) (Some b) (ended c.args.close ∷ []) more [] c.act_on.new.origin c.act_on.new.site
     (c.act_on.ensures.closed refl)
     (c.act_on.ensures.goes_on h (Refuse r) [] keeps stands (phase ∙ ap (acting n) is) counts refl refl (λ counted all. refl))
 

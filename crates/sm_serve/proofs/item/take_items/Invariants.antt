@@ -11,11 +11,11 @@ use Rattle.sm_serve.proofs.item.take_items.Given as goal
 
 abbrev pub invariant-loop-item : goal.invariant-loop-item
 invariant-loop-item g l = record {
-  stands : StandsForSome g.S.Disk.view g.S.Disk.may_leave l.origin l.site;
-  live : IfSome (g.S.Disk.view l.site).transcript (IsLive l.live.number);
-  link : TakesNone (g.S.Disk.view l.fn.site) (g.S.Disk.view l.site);
+  stands : StandsForSome g.S.Disk.seen l.origin l.site;
+  live : IfSome (g.S.Disk.seen.view l.site).transcript (IsLive l.live.number);
+  link : TakesNone (g.S.Disk.seen.view l.fn.site) (g.S.Disk.seen.view l.site);
   same : SameBut l.fn.live l.live;
-  goes_on : (h : History) (more : List WireItem) → Keeps g.S.Disk.view g.S.Disk.may_leave g.S.Disk.left_at h l.fn.site
-      → StandsOn g.S.Disk.view g.S.Disk.may_leave h.point.machine l.fn.origin l.fn.site → h.point.phase ≡ acting l.fn.live.number (map shown_item l.fn.items.items ++ more) → h.point.counts l.fn.live.number ≡ counts_of l.fn.live
-      → Reaches g.S.Disk.view g.S.Disk.may_leave g.S.Disk.left_at h l.fn.live.number true (acting l.fn.live.number (map shown_item (drop (length l.yielded) l.fn.items.items) ++ more)) (counts_of l.live) l.origin l.site;
+  goes_on : (h : History) (more : List WireItem) → Keeps g.S.Disk.seen h l.fn.site
+      → StandsOn g.S.Disk.seen h.point.machine l.fn.origin l.fn.site → h.point.phase ≡ acting l.fn.live.number (map shown_item l.fn.items.items ++ more) → h.point.counts l.fn.live.number ≡ counts_of l.fn.live
+      → Reaches g.S.Disk.seen h l.fn.live.number true (acting l.fn.live.number (map shown_item (drop (length l.yielded) l.fn.items.items) ++ more)) (counts_of l.live) l.origin l.site;
 }

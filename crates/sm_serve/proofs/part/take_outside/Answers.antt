@@ -11,6 +11,7 @@ use Rattle.sm_head.specs.declared.reply.TheConstants.{CONTINUE}
 use Rattle.sm_serve.specs.Run.{idle, acting, sending, in_phase, continues}
 use Rattle.sm_serve.specs.Resting.{PlaceIs, counts_of}
 use Rattle.sm_serve.specs.Giving.{PartGives, StaysOpen}
+use Rattle.sm_serve.specs.Standing.{stays_open}
 use Rattle.sm_serve.proofs.Going.{paused}
 use Rattle.sm_serve.proofs.Reaching.{reach_then, reaches_here, continuing, paused_follows}
 use Rattle.sm_serve.proofs.Giving.{starved_gives, get_gives, get_items, continue_gives, closed_gives}
@@ -18,60 +19,51 @@ use Rattle.sm_serve.proofs.part.take_outside.Goals as goal
 
 pub returns-in-Get-clause-goes_on : goal.returns-in-Get-clause-goes_on
 returns-in-Get-clause-goes_on g c h more items keeps stands place left phase counts =
-    let V = g.S.Disk.view in
-    let A = g.S.Disk.may_leave in
-    let L = g.S.Disk.left_at in
     let n = c.args.live.now.number in
     let t = c.in-Get.target in
     let close = c.in-Get.close in
     let here = subst (λ (p : Part). Left None (items_of p ++ more) items) c.in-Get.is left in
-    let is = get_items V A L t close more items here in
+    let is = get_items g.S.Disk.seen t close more items here in
     let none = subst (λ (p : Option Standing). PlaceIs p None) (sym c.act_on.ensures.same.push) place in
-    let gives = get_gives V A L h n t close c.act_on.result c.act_on.new.live.push (counts_of c.act_on.new.live) more c.act_on.new.origin c.act_on.new.site c.act_on.ensures.closed none
+    let gives = get_gives g.S.Disk.seen h n t close c.act_on.result c.act_on.new.live.push (counts_of c.act_on.new.live) more c.act_on.new.origin c.act_on.new.site c.act_on.ensures.closed none
     (c.act_on.ensures.goes_on h (Get t close) (if close then [] else wire None more) keeps stands (phase ∙ ap (acting n) is) counts (ap (λ (a : Act). Some a) (sym c.act_for-act.ensures.is)) refl (λ counted all. refl)) in
-    subst (λ (p : Part). PartGives V A L h n c.act_on.result c.act_on.new.live.push (counts_of c.act_on.new.live) None (items_of p) more c.act_on.new.origin c.act_on.new.site) (sym c.in-Get.is) gives
+    subst (λ (p : Part). PartGives g.S.Disk.seen h n (stays_open c.act_on.result) c.act_on.new.live.push (counts_of c.act_on.new.live) None (items_of p) more c.act_on.new.origin c.act_on.new.site) (sym c.in-Get.is) gives
 
 pub returns-in-Continue-clause-goes_on : goal.returns-in-Continue-clause-goes_on
 returns-in-Continue-clause-goes_on g c h more items keeps stands place left phase counts =
-    let V = g.S.Disk.view in
-    let A = g.S.Disk.may_leave in
-    let L = g.S.Disk.left_at in
     let n = c.args.live.now.number in
     let r = c.tell.result in
     let here = subst (λ (p : Part). Left None (items_of p ++ more) items) c.in-Continue.is left in
     let is : items ≡ Continue ∷ wire None more = left_unique None (continued ∷ more) items _ here (continue_left more) in
     let at = phase ∙ ap (acting n) is in
-    let k = paused V A L h (in_phase h.point (sending n CONTINUE.now false (wire None more))) in
-    let told = c.tell.ensures.goes_on k (wire None more) c.args.origin.now (continuing V A L h c.args.site.now n (wire None more) keeps at) stands refl in
-    let reaches = reach_then V A L h k n r (if r then acting n (wire None more) else idle) (h.point.counts n) (counts_of c.args.live.now) c.args.origin.now c.tell.new.site
-    (paused_follows V A L h n (sending n CONTINUE.now false (wire None more)) (continues n (wire None more) at refl refl refl)) told (λ t. counts) in
-    let gives = continue_gives V A L h n r c.args.live.now.push (counts_of c.args.live.now) more c.args.origin.now c.tell.new.site place reaches in
-    subst (λ (p : Part). PartGives V A L h n r c.args.live.now.push (counts_of c.args.live.now) None (items_of p) more c.args.origin.now c.tell.new.site) (sym c.in-Continue.is) gives
+    let k = paused g.S.Disk.seen h (in_phase h.point (sending n CONTINUE.now false (wire None more))) in
+    let told = c.tell.ensures.goes_on k (wire None more) c.args.origin.now (continuing g.S.Disk.seen h c.args.site.now n (wire None more) keeps at) stands refl in
+    let reaches = reach_then g.S.Disk.seen h k n (stays_open r) (if stays_open r then acting n (wire None more) else idle) (h.point.counts n) (counts_of c.args.live.now) c.args.origin.now c.tell.new.site
+    (paused_follows g.S.Disk.seen h n (sending n CONTINUE.now false (wire None more)) (continues n (wire None more) at refl refl refl)) told (λ t. counts) in
+    let gives = continue_gives g.S.Disk.seen h n r c.args.live.now.push (counts_of c.args.live.now) more c.args.origin.now c.tell.new.site place reaches in
+    subst (λ (p : Part). PartGives g.S.Disk.seen h n (stays_open r) c.args.live.now.push (counts_of c.args.live.now) None (items_of p) more c.args.origin.now c.tell.new.site) (sym c.in-Continue.is) gives
 
 pub returns-in-Post-clause-goes_on : goal.returns-in-Post-clause-goes_on
 returns-in-Post-clause-goes_on g c h more items keeps stands place left phase counts =
-    let V = g.S.Disk.view in
-    let A = g.S.Disk.may_leave in
-    let L = g.S.Disk.left_at in
     let n = c.args.live.now.number in
     let here = subst (λ (p : Part). Left None (items_of p ++ more) items) c.in-Post.is left in
-    let gives : StaysOpen V A L h n (Some c.new.result) (counts_of c.args.live.now) None (posted ∷ []) more c.args.origin.now c.args.site.now = record {
+    let gives : StaysOpen g.S.Disk.seen h n (Some c.new.result) (counts_of c.args.live.now) None (posted ∷ []) more c.args.origin.now c.args.site.now = record {
       after = Some [];
       after_is = c.new.ensures;
       given = [];
       on = λ qs ws l. posted_left qs ws l;
       left = items;
       left_is = posted_back more items here;
-      reaches = reaches_here V A L h n c.args.site.now (acting n items) (counts_of c.args.live.now) c.args.origin.now keeps stands phase counts;
+      reaches = reaches_here g.S.Disk.seen h n c.args.site.now (acting n items) (counts_of c.args.live.now) c.args.origin.now keeps stands phase counts;
     } in
-    subst (λ (p : Part). StaysOpen V A L h n (Some c.new.result) (counts_of c.args.live.now) None (items_of p) more c.args.origin.now c.args.site.now) (sym c.in-Post.is) gives
+    subst (λ (p : Part). StaysOpen g.S.Disk.seen h n (Some c.new.result) (counts_of c.args.live.now) None (items_of p) more c.args.origin.now c.args.site.now) (sym c.in-Post.is) gives
 
 pub returns-in-Bad-clause-goes_on : goal.returns-in-Bad-clause-goes_on
 returns-in-Bad-clause-goes_on g c h more items keeps stands place left phase counts =
     let here = subst (λ (p : Part). Left None (items_of p ++ more) items) c.in-Bad.is left in
     let r = unplaced c.in-Bad.cause in
     let is : items ≡ Refuse r ∷ [] = left_unique None (bad c.in-Bad.cause ∷ more) items _ here (bad_left c.in-Bad.cause more) in
-    closed_gives g.S.Disk.view g.S.Disk.may_leave g.S.Disk.left_at h c.args.live.now.number c.act_on-in-Bad.result c.act_on-in-Bad.new.live.push (counts_of c.act_on-in-Bad.new.live) None
+    closed_gives g.S.Disk.seen h c.args.live.now.number c.act_on-in-Bad.result c.act_on-in-Bad.new.live.push (counts_of c.act_on-in-Bad.new.live) None
     (items_of c.args.part) more [] c.act_on-in-Bad.new.origin c.act_on-in-Bad.new.site (c.act_on-in-Bad.ensures.closed refl)
     (c.act_on-in-Bad.ensures.goes_on h (Refuse r) [] keeps stands (phase ∙ ap (acting c.args.live.now.number) is) counts refl refl (λ counted all. refl))
 
@@ -87,5 +79,5 @@ returns-clause-stands g c =
 
 pub returns-clause-goes_on : goal.returns-clause-goes_on
 returns-clause-goes_on g c h more items keeps stands place left phase counts =
-    starved_gives g.S.Disk.view g.S.Disk.may_leave g.S.Disk.left_at h c.args.live.now.number c.starve.result c.args.live.now.push (counts_of c.args.live.now) None (items_of c.args.part) more c.args.origin.now c.starve.new.site
+    starved_gives g.S.Disk.seen h c.args.live.now.number c.starve.result c.args.live.now.push (counts_of c.args.live.now) None (items_of c.args.part) more c.args.origin.now c.starve.new.site
     c.starve.ensures.closed (c.starve.ensures.goes_on h items (counts_of c.args.live.now) c.args.origin.now keeps stands phase)

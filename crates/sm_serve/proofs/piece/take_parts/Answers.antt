@@ -24,18 +24,16 @@ pub loop-part-init : goal.loop-part-init
 loop-part-init g c = record {
   stands = c.requires.stands;
   live = c.requires.live;
-  link = none_taken (g.S.Disk.view c.args.site.now);
+  link = none_taken (g.S.Disk.seen.view c.args.site.now);
   same = record { number = refl; conn = refl };
   goes_on = λ h place more items keeps stands is left phase counts.
-      open_here g.S.Disk.view g.S.Disk.may_leave g.S.Disk.left_at h c.args.live.now.number c.args.site.now c.args.live.now.push (counts_of c.args.live.now) place
+      open_here g.S.Disk.seen h c.args.live.now.number c.args.site.now c.args.live.now.push (counts_of c.args.live.now) place
       (joined c.args.parts.items ++ more) items c.args.origin.now keeps stands is left phase counts;
 }
 
-pub returns-then-not-take_part-clause-goes_on : goal.returns-then-not-take_part-clause-goes_on
-returns-then-not-take_part-clause-goes_on g c h place more items keeps stands is left phase counts =
-    let V = g.S.Disk.view in
-    let A = g.S.Disk.may_leave in
-    let L = g.S.Disk.left_at in
+pub returns-in-Closed-clause-goes_on : goal.returns-in-Closed-clause-goes_on
+returns-in-Closed-clause-goes_on g c h place more items keeps stands is left phase counts =
+    let V = g.S.Disk.seen.view in
     let n = c.args.live.now.number in
     let parts = c.args.parts.items in
     let gives = c.into_iter-part-iterator.ensures.into_iter_gives in
@@ -43,21 +41,19 @@ returns-then-not-take_part-clause-goes_on g c h place more items keeps stands is
     let i = length c.loop-part.yielded in
     let x = c.in-Some.part in
     let rest = joined (drop (i + 1) parts) ++ more in
-    let one = subst (λ (qs : List PartItem). StaysOpen V A L h n c.loop-part.live.push (counts_of c.loop-part.live) place (joined (take i parts)) qs c.loop-part.origin c.loop-part.site) (joined_drop parts i x more t.0 t.1)
+    let one = subst (λ (qs : List PartItem). StaysOpen g.S.Disk.seen h n c.loop-part.live.push (counts_of c.loop-part.live) place (joined (take i parts)) qs c.loop-part.origin c.loop-part.site) (joined_drop parts i x more t.0 t.1)
     (c.loop-part.invariant.goes_on h place more items keeps stands is left phase counts) in
-    let T : ℕ → Type 0 = λ m. (k : History) → Keeps V A L k c.loop-part.site → StandsOn V A k.point.machine c.loop-part.origin c.loop-part.site → k.point.phase ≡ acting m one.left
+    let T : ℕ → Type 0 = λ m. (k : History) → Keeps g.S.Disk.seen k c.loop-part.site → StandsOn g.S.Disk.seen k.point.machine c.loop-part.origin c.loop-part.site → k.point.phase ≡ acting m one.left
     → k.point.counts m ≡ counts_of c.loop-part.live
-    → PartGives V A L k m false c.take_part.new.live.push (counts_of c.take_part.new.live) one.after (items_of x) rest c.take_part.new.origin c.take_part.new.site in
-    let go : T c.loop-part.live.number = λ k kk ks kp kc. c.if-not-take_part.ensures.goes_on k one.after rest one.left kk ks one.after_is one.left_is kp kc in
-    then_gives V A L h n false c.loop-part.live.push c.take_part.new.live.push (counts_of c.loop-part.live) (counts_of c.take_part.new.live) place (joined (take i parts))
+    → PartGives g.S.Disk.seen k m false c.take_part.new.live.push (counts_of c.take_part.new.live) one.after (items_of x) rest c.take_part.new.origin c.take_part.new.site in
+    let go : T c.loop-part.live.number = λ k kk ks kp kc. c.in-Closed.ensures.goes_on k one.after rest one.left kk ks one.after_is one.left_is kp kc in
+    then_gives g.S.Disk.seen h n false c.loop-part.live.push c.take_part.new.live.push (counts_of c.loop-part.live) (counts_of c.take_part.new.live) place (joined (take i parts))
     (items_of x) rest c.loop-part.origin c.take_part.new.origin c.loop-part.site c.take_part.new.site one
     (subst T c.loop-part.invariant.same.number go)
 
 pub loop-part-preserved : goal.loop-part-preserved
 loop-part-preserved g c =
-    let V = g.S.Disk.view in
-    let A = g.S.Disk.may_leave in
-    let L = g.S.Disk.left_at in
+    let V = g.S.Disk.seen.view in
     let n = c.args.live.now.number in
     let parts = c.args.parts.items in
     let gives = c.into_iter-part-iterator.ensures.into_iter_gives in
@@ -66,36 +62,34 @@ loop-part-preserved g c =
     let x = c.in-Some.part in
     record {
       stands = c.take_part.ensures.stands;
-      live = subst (λ (m : ℕ). IfSome (V c.take_part.new.site).transcript (IsLive m)) (sym c.take_part.ensures.same.number) (c.if-not-take_part.ensures.open refl);
+      live = subst (λ (m : ℕ). IfSome (V c.take_part.new.site).transcript (IsLive m)) (sym c.take_part.ensures.same.number) (c.in-Open.ensures.open refl);
       link = none_then (V c.args.site.now) (V c.loop-part.site) (V c.take_part.new.site) c.loop-part.invariant.link c.take_part.ensures.link;
       same = same_then c.args.live.now c.loop-part.live c.take_part.new.live c.loop-part.invariant.same c.take_part.ensures.same;
       goes_on = λ h place more items keeps stands is left phase counts.
           let rest = joined (drop (i + 1) parts) ++ more in
-          let one = subst (λ (qs : List PartItem). StaysOpen V A L h n c.loop-part.live.push (counts_of c.loop-part.live) place (joined (take i parts)) qs c.loop-part.origin c.loop-part.site) (joined_drop parts i x more t.0 t.1)
+          let one = subst (λ (qs : List PartItem). StaysOpen g.S.Disk.seen h n c.loop-part.live.push (counts_of c.loop-part.live) place (joined (take i parts)) qs c.loop-part.origin c.loop-part.site) (joined_drop parts i x more t.0 t.1)
           (c.loop-part.invariant.goes_on h place more items keeps stands is left phase counts) in
-          let T : ℕ → Type 0 = λ m. (k : History) → Keeps V A L k c.loop-part.site → StandsOn V A k.point.machine c.loop-part.origin c.loop-part.site → k.point.phase ≡ acting m one.left
+          let T : ℕ → Type 0 = λ m. (k : History) → Keeps g.S.Disk.seen k c.loop-part.site → StandsOn g.S.Disk.seen k.point.machine c.loop-part.origin c.loop-part.site → k.point.phase ≡ acting m one.left
           → k.point.counts m ≡ counts_of c.loop-part.live
-          → PartGives V A L k m true c.take_part.new.live.push (counts_of c.take_part.new.live) one.after (items_of x) rest c.take_part.new.origin c.take_part.new.site in
-          let go : T c.loop-part.live.number = λ k kk ks kp kc. c.if-not-take_part.ensures.goes_on k one.after rest one.left kk ks one.after_is one.left_is kp kc in
-          let all = then_gives V A L h n true c.loop-part.live.push c.take_part.new.live.push (counts_of c.loop-part.live) (counts_of c.take_part.new.live) place (joined (take i parts))
+          → PartGives g.S.Disk.seen k m true c.take_part.new.live.push (counts_of c.take_part.new.live) one.after (items_of x) rest c.take_part.new.origin c.take_part.new.site in
+          let go : T c.loop-part.live.number = λ k kk ks kp kc. c.in-Open.ensures.goes_on k one.after rest one.left kk ks one.after_is one.left_is kp kc in
+          let all = then_gives g.S.Disk.seen h n true c.loop-part.live.push c.take_part.new.live.push (counts_of c.loop-part.live) (counts_of c.take_part.new.live) place (joined (take i parts))
           (items_of x) rest c.loop-part.origin c.take_part.new.origin c.loop-part.site c.take_part.new.site one
           (subst T c.loop-part.invariant.same.number go) in
           let at : length (c.loop-part.yielded ++ x ∷ []) ≡ i + 1 = length_push c.loop-part.yielded x in
-          subst (λ (j : ℕ). StaysOpen V A L h n c.take_part.new.live.push (counts_of c.take_part.new.live) place (joined (take j parts)) (joined (drop j parts) ++ more) c.take_part.new.origin c.take_part.new.site) (sym at)
-          (subst (λ (ps : List PartItem). StaysOpen V A L h n c.take_part.new.live.push (counts_of c.take_part.new.live) place ps rest c.take_part.new.origin c.take_part.new.site) (sym (joined_take parts i x t.0 t.1)) all);
+          subst (λ (j : ℕ). StaysOpen g.S.Disk.seen h n c.take_part.new.live.push (counts_of c.take_part.new.live) place (joined (take j parts)) (joined (drop j parts) ++ more) c.take_part.new.origin c.take_part.new.site) (sym at)
+          (subst (λ (ps : List PartItem). StaysOpen g.S.Disk.seen h n c.take_part.new.live.push (counts_of c.take_part.new.live) place ps rest c.take_part.new.origin c.take_part.new.site) (sym (joined_take parts i x t.0 t.1)) all);
     }
 
 pub returns-clause-goes_on : goal.returns-clause-goes_on
 returns-clause-goes_on g c h place more items keeps stands is left phase counts =
-    let V = g.S.Disk.view in
-    let A = g.S.Disk.may_leave in
-    let L = g.S.Disk.left_at in
+    let V = g.S.Disk.seen.view in
     let n = c.args.live.now.number in
     let parts = c.args.parts.items in
     let gives = c.into_iter-part-iterator.ensures.into_iter_gives in
     let t = YieldsList-end (YieldsList-from_vec parts gives.0 (gives.1 ∙ search rules)) c.loop-part.yielded c.loop-part.part-iterator c.loop-part.yielded_by _ c.next.new.self c.in-None.is c.next.ensures.steps in
     let i = length c.loop-part.yielded in
     let long : length parts ≤ i = omega (arith, t.1) in
-    subst (λ (ps : List Part). StaysOpen V A L h n c.loop-part.live.push (counts_of c.loop-part.live) place (joined ps) more c.loop-part.origin c.loop-part.site) (take_all i parts long)
-    (subst (λ (ps : List Part). StaysOpen V A L h n c.loop-part.live.push (counts_of c.loop-part.live) place (joined (take i parts)) (joined ps ++ more) c.loop-part.origin c.loop-part.site) (drop_all i parts long)
+    subst (λ (ps : List Part). StaysOpen g.S.Disk.seen h n c.loop-part.live.push (counts_of c.loop-part.live) place (joined ps) more c.loop-part.origin c.loop-part.site) (take_all i parts long)
+    (subst (λ (ps : List Part). StaysOpen g.S.Disk.seen h n c.loop-part.live.push (counts_of c.loop-part.live) place (joined (take i parts)) (joined ps ++ more) c.loop-part.origin c.loop-part.site) (drop_all i parts long)
     (c.loop-part.invariant.goes_on h place more items keeps stands is left phase counts))

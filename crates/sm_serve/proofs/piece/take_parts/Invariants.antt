@@ -13,13 +13,13 @@ use Rattle.sm_serve.proofs.piece.take_parts.Given as goal
 
 abbrev pub invariant-loop-part : goal.invariant-loop-part
 invariant-loop-part g l = record {
-  stands : StandsForSome g.S.Disk.view g.S.Disk.may_leave l.origin l.site;
-  live : IfSome (g.S.Disk.view l.site).transcript (IsLive l.live.number);
-  link : TakesNone (g.S.Disk.view l.fn.site) (g.S.Disk.view l.site);
+  stands : StandsForSome g.S.Disk.seen l.origin l.site;
+  live : IfSome (g.S.Disk.seen.view l.site).transcript (IsLive l.live.number);
+  link : TakesNone (g.S.Disk.seen.view l.fn.site) (g.S.Disk.seen.view l.site);
   same : SameConn l.fn.live l.live;
-  goes_on : (h : History) (place : Option (List ℕ)) (more : List PartItem) (items : List WireItem) → Keeps g.S.Disk.view g.S.Disk.may_leave g.S.Disk.left_at h l.fn.site
-      → StandsOn g.S.Disk.view g.S.Disk.may_leave h.point.machine l.fn.origin l.fn.site → PlaceIs l.fn.live.push place → Left place (joined l.fn.parts.items ++ more) items
+  goes_on : (h : History) (place : Option (List ℕ)) (more : List PartItem) (items : List WireItem) → Keeps g.S.Disk.seen h l.fn.site
+      → StandsOn g.S.Disk.seen h.point.machine l.fn.origin l.fn.site → PlaceIs l.fn.live.push place → Left place (joined l.fn.parts.items ++ more) items
       → h.point.phase ≡ acting l.fn.live.number items → h.point.counts l.fn.live.number ≡ counts_of l.fn.live
-      → StaysOpen g.S.Disk.view g.S.Disk.may_leave g.S.Disk.left_at h l.fn.live.number l.live.push (counts_of l.live) place (joined (take (length l.yielded) l.fn.parts.items))
+      → StaysOpen g.S.Disk.seen h l.fn.live.number l.live.push (counts_of l.live) place (joined (take (length l.yielded) l.fn.parts.items))
       (joined (drop (length l.yielded) l.fn.parts.items) ++ more) l.origin l.site;
 }

@@ -1,4 +1,4 @@
-use Rattle.std.proofs.Common.{◌≡◌, Bool, true, false, if◌then◌else◌, List, [], ◌++◌, refl, sym, ◌∙◌, subst}
+use Rattle.std.proofs.Common.{◌≡◌, true, false, if◌then◌else◌, List, [], ◌++◌, refl, sym, ◌∙◌, ap, subst}
 use Rattle.sm_site.specs.Meanings.Deal.{Came}
 use Rattle.sm_conn.specs.declared.conn.Conn.{Conn}
 use Rattle.sm_conn.specs.declared.part.Part.{Part}
@@ -7,7 +7,8 @@ use Rattle.sm_conn.specs.Stands.{joined}
 use Rattle.sm_head.specs.declared.reply.TheConstants.{NO_MEMORY}
 use Rattle.sm_serve.specs.Connections.{received}
 use Rattle.sm_serve.specs.Run.{idle, acting, sending, at, at_event, unread}
-use Rattle.sm_serve.specs.Standing.{moved, Reaches}
+use Rattle.sm_serve.specs.declared.still.Still.{Still}
+use Rattle.sm_serve.specs.Standing.{moved, Reaches, stays_open}
 use Rattle.sm_serve.specs.Resting.{counts_of}
 use Rattle.sm_serve.proofs.Reaching.{closed_counts}
 use Rattle.sm_serve.proofs.Pieces.{came_move, read_move, unread_move, piece_gives}
@@ -15,40 +16,34 @@ use Rattle.sm_serve.proofs.piece.take_piece.Goals as goal
 
 pub returns-in-Ok-clause-goes_on : goal.returns-in-Ok-clause-goes_on
 returns-in-Ok-clause-goes_on g c h m pending stands phase is_live counts rests =
-    let V = g.S.Disk.view in
-    let A = g.S.Disk.may_leave in
-    let L = g.S.Disk.left_at in
     let n = c.args.live.now.number in
     let piece = c.args.piece.now in
     let ps = joined c.into_vec.result.items in
     let gave = subst (λ (qs : List Part). Gave c.feed.new.self (received n h.items ++ piece) (rests.parts ++ joined qs)) (sym c.into_vec.ensures)
     (c.in-Ok.ensures.stands (received n h.items) rests.parts rests.stands) in
     let items = c.wire_of_front.ensures.left rests.place (ps ++ []) in
-    let keeps = read_move V A L h m n piece c.args.live.now c.feed.new.self ps c.args.site.now pending phase is_live rests gave items.0 items.1 in
+    let keeps = read_move g.S.Disk.seen h m n piece c.args.live.now c.feed.new.self ps c.args.site.now pending phase is_live rests gave items.0 items.1 in
     let gives = c.take_parts.ensures.goes_on (moved h (at m (Came n piece)) (at_event h.point (acting n items.0) m)) rests.place [] items.0 keeps stands rests.place_is items.1 refl counts in
-    piece_gives V A L h m n piece c.args.live.now c.take_parts.new.live c.take_parts.result ps items.0 c.take_parts.new.origin c.take_parts.new.site rests
+    piece_gives g.S.Disk.seen h m n piece c.args.live.now c.take_parts.new.live (stays_open c.take_parts.result) ps items.0 c.take_parts.new.origin c.take_parts.new.site rests
     (subst (λ (k : Conn). Gave k (received n h.items ++ piece) (rests.parts ++ ps)) (sym c.take_parts.ensures.same.conn) gave)
-    (came_move V A L false h m n piece c.args.live.now c.feed.new.self ps phase is_live rests gave items.0 items.1) gives
+    (came_move g.S.Disk.seen false h m n piece c.args.live.now c.feed.new.self ps phase is_live rests gave items.0 items.1) gives
 
 pub returns-in-Err-clause-goes_on : goal.returns-in-Err-clause-goes_on
 returns-in-Err-clause-goes_on g c h m pending stands phase is_live counts rests =
-    let V = g.S.Disk.view in
-    let A = g.S.Disk.may_leave in
-    let L = g.S.Disk.left_at in
     let n = c.args.live.now.number in
     let piece = c.args.piece.now in
     let k = moved h (at m (Came n piece)) (at_event h.point (sending n NO_MEMORY.now true []) m) in
-    let keeps = unread_move V A L h m n piece c.args.site.now pending phase is_live in
-    let shut : c.tell.result ≡ false = c.tell.ensures.closed refl in
+    let keeps = unread_move g.S.Disk.seen h m n piece c.args.site.now pending phase is_live in
+    let shut = c.tell.ensures.closed refl in
     let told = c.tell.ensures.goes_on k [] c.args.origin.now keeps stands refl in
     record {
       from = at_event h.point (sending n NO_MEMORY.now true []) m;
       from_counts = refl;
       move = unread m n piece phase is_live refl refl refl;
-      reaches = subst (λ (b : Bool). Reaches V A L k n b idle (counts_of c.args.live.now) c.args.origin.now c.tell.new.site) (sym shut)
-          (closed_counts V A L k n idle _ (counts_of c.args.live.now) c.args.origin.now c.tell.new.site
-          (subst (λ (b : Bool). Reaches V A L k n b (if b then acting n [] else idle) (k.point.counts n) c.args.origin.now c.tell.new.site) shut told));
-      rests = λ t. absurd (let both : false ≡ true = sym shut ∙ t in cc);
+      reaches = subst (λ (s : Still). Reaches g.S.Disk.seen k n (stays_open s) idle (counts_of c.args.live.now) c.args.origin.now c.tell.new.site) (sym shut)
+          (closed_counts g.S.Disk.seen k n idle _ (counts_of c.args.live.now) c.args.origin.now c.tell.new.site
+          (subst (λ (s : Still). Reaches g.S.Disk.seen k n (stays_open s) (if stays_open s then acting n [] else idle) (k.point.counts n) c.args.origin.now c.tell.new.site) shut told));
+      rests = λ t. absurd (let both : false ≡ true = sym (ap stays_open shut) ∙ t in cc);
     }
 
 pub returns-in-Err-clause-stands : goal.returns-in-Err-clause-stands

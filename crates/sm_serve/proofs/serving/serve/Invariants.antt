@@ -5,10 +5,10 @@ use Rattle.sm_serve.proofs.serving.serve.Given as goal
 
 abbrev pub invariant-loop-taken : goal.invariant-loop-taken
 invariant-loop-taken g l = record {
-  stands : StandsForSome g.S.Disk.view g.S.Disk.may_leave l.state.origin l.site;
-  told : is_some (g.S.Disk.view l.site).transcript ≡ is_some (g.S.Disk.view l.fn.site).transcript;
-  chosen : (g.S.Disk.view l.site).chosen ≡ (g.S.Disk.view l.fn.site).chosen;
-  link_faults : (g.S.Disk.view l.fn.site).link_faults ≤ (g.S.Disk.view l.site).link_faults;
-  goes_on : (h : History) → Serves g.S.Disk.view g.S.Disk.may_leave g.S.Disk.left_at h l.fn.state l.fn.site
-      → (turns : TurnsBy g.S.Disk.view g.S.Disk.may_leave g.S.Disk.left_at h l.taken (g.S.Disk.view l.fn.site).script l.state l.site) × NoneIsOver turns.deals;
+  stands : StandsForSome g.S.Disk.seen l.state.origin l.site;
+  told : is_some (g.S.Disk.seen.view l.site).transcript ≡ is_some (g.S.Disk.seen.view l.fn.site).transcript;
+  chosen : (g.S.Disk.seen.view l.site).chosen ≡ (g.S.Disk.seen.view l.fn.site).chosen;
+  link_faults : (g.S.Disk.seen.view l.fn.site).link_faults ≤ (g.S.Disk.seen.view l.site).link_faults;
+  goes_on : (h : History) → Serves g.S.Disk.seen h l.fn.state l.fn.site
+      → (turns : TurnsBy g.S.Disk.seen h l.taken (g.S.Disk.seen.view l.fn.site).script l.state l.site) × NoneIsOver turns.deals;
 }

@@ -9,7 +9,7 @@ use Rattle.sm_show.proofs.catching.catch_up.Goals as goal
 pub loop-init : goal.loop-init
 loop-init g c = record {
   stands = c.requires.stands;
-  recalls = recalls_here g.S.Disk.view g.S.Disk.may_leave g.S.Disk.left_at c.args.state.now c.args.site.now;
+  recalls = recalls_here g.S.Disk.seen c.args.state.now c.args.site.now;
   belongs = λ h serves told belongs. belongs;
 }
 
@@ -18,8 +18,8 @@ loop-preserved g c =
     let was = c.loop.invariant in
     record {
       stands = c.step.ensures.stands;
-      recalls = recalls_then g.S.Disk.view g.S.Disk.may_leave g.S.Disk.left_at c.args.state.now c.args.site.now c.loop.site c.step.new.site was.recalls c.step.ensures.recalls;
-      belongs = belongs_then g.S.Disk.view g.S.Disk.may_leave g.S.Disk.left_at c.args.state.now c.args.site.now c.loop.site c.args.writer.now c.loop.writer c.step.new.writer was.recalls was.belongs
+      recalls = recalls_then g.S.Disk.seen c.args.state.now c.args.site.now c.loop.site c.step.new.site was.recalls c.step.ensures.recalls;
+      belongs = belongs_then g.S.Disk.seen c.args.state.now c.args.site.now c.loop.site c.args.writer.now c.loop.writer c.step.new.writer was.recalls was.belongs
           c.step.ensures.belongs;
     }
 
@@ -55,20 +55,20 @@ returns-else-height-len-2-clause-whole g c h serves told belongs =
 
 pub returns-in-Behind-clause-recalls : goal.returns-in-Behind-clause-recalls
 returns-in-Behind-clause-recalls g c =
-    recalls_then g.S.Disk.view g.S.Disk.may_leave g.S.Disk.left_at c.args.state.now c.args.site.now c.loop.site c.step.new.site c.loop.invariant.recalls c.step.ensures.recalls
+    recalls_then g.S.Disk.seen c.args.state.now c.args.site.now c.loop.site c.step.new.site c.loop.invariant.recalls c.step.ensures.recalls
 
 pub returns-in-Short-clause-recalls : goal.returns-in-Short-clause-recalls
 returns-in-Short-clause-recalls g c =
-    recalls_then g.S.Disk.view g.S.Disk.may_leave g.S.Disk.left_at c.args.state.now c.args.site.now c.loop.site c.step.new.site c.loop.invariant.recalls c.step.ensures.recalls
+    recalls_then g.S.Disk.seen c.args.state.now c.args.site.now c.loop.site c.step.new.site c.loop.invariant.recalls c.step.ensures.recalls
 
 pub returns-in-Behind-clause-belongs : goal.returns-in-Behind-clause-belongs
 returns-in-Behind-clause-belongs g c =
-    belongs_then g.S.Disk.view g.S.Disk.may_leave g.S.Disk.left_at c.args.state.now c.args.site.now c.loop.site c.args.writer.now c.loop.writer c.step.new.writer c.loop.invariant.recalls
+    belongs_then g.S.Disk.seen c.args.state.now c.args.site.now c.loop.site c.args.writer.now c.loop.writer c.step.new.writer c.loop.invariant.recalls
     c.loop.invariant.belongs c.step.ensures.belongs
 
 pub returns-in-Short-clause-belongs : goal.returns-in-Short-clause-belongs
 returns-in-Short-clause-belongs g c =
-    belongs_then g.S.Disk.view g.S.Disk.may_leave g.S.Disk.left_at c.args.state.now c.args.site.now c.loop.site c.args.writer.now c.loop.writer c.step.new.writer c.loop.invariant.recalls
+    belongs_then g.S.Disk.seen c.args.state.now c.args.site.now c.loop.site c.args.writer.now c.loop.writer c.step.new.writer c.loop.invariant.recalls
     c.loop.invariant.belongs c.step.ensures.belongs
 
 pub returns-in-Behind-clause-whole : goal.returns-in-Behind-clause-whole

@@ -7,8 +7,8 @@ use Rattle.sm_show.proofs.catching.catch_up.Given as goal
 
 abbrev pub invariant-loop : goal.invariant-loop
 invariant-loop g l = record {
-  stands : StandsForSome g.S.Disk.view g.S.Disk.may_leave l.state.origin l.site;
-  recalls : Recalls g.S.Disk.view g.S.Disk.may_leave g.S.Disk.left_at l.state l.initial.site l.site;
-  belongs : (h : History) → Serves g.S.Disk.view g.S.Disk.may_leave g.S.Disk.left_at h l.state l.initial.site → IsSome (g.S.Disk.view l.initial.site).contents
+  stands : StandsForSome g.S.Disk.seen l.state.origin l.site;
+  recalls : Recalls g.S.Disk.seen l.state l.initial.site l.site;
+  belongs : (h : History) → Serves g.S.Disk.seen h l.state l.initial.site → IsSome (g.S.Disk.seen.view l.initial.site).contents
       → Belongs h.point.machine.log l.initial.writer → Belongs h.point.machine.log l.writer;
 }

@@ -7,7 +7,7 @@ use Rattle.sm_show.proofs.Resting.{recalls_here}
 use Rattle.sm_show.proofs.catching.step.Goals as goal
 
 pub returns-in_default-clause-recalls : goal.returns-in_default-clause-recalls
-returns-in_default-clause-recalls g c = recalls_here g.S.Disk.view g.S.Disk.may_leave g.S.Disk.left_at c.args.state.now c.args.site.now
+returns-in_default-clause-recalls g c = recalls_here g.S.Disk.seen c.args.state.now c.args.site.now
 
 pub returns-in-Ok-clause-belongs : goal.returns-in-Ok-clause-belongs
 returns-in-Ok-clause-belongs g c h serves told belongs =

@@ -18,10 +18,10 @@ loop-site-init g c =
     let whole : c.len-left.result ≡ length adds = omega (arith, c.len-left.ensures, few, same) in
     record {
       stands = c.requires.stands;
-      recalls = recalls_here g.S.Disk.view g.S.Disk.may_leave g.S.Disk.left_at c.args.state.now c.args.site.now;
-      gathered = subst (λ (l : List Fragment). Gathered g.S.Disk.view g.S.Disk.may_leave g.S.Disk.left_at c.args.state.now adds c.args.site.now c.len-left.result 0 l)
+      recalls = recalls_here g.S.Disk.seen c.args.state.now c.args.site.now;
+      gathered = subst (λ (l : List Fragment). Gathered g.S.Disk.seen c.args.state.now adds c.args.site.now c.len-left.result 0 l)
           (sym (ap (λ (l : List Fragment). reverse l) c.new-read.ensures.items))
-          (gathers g.S.Disk.view g.S.Disk.may_leave g.S.Disk.left_at c.args.state.now c.args.catalog.now c.args.site.now c.len-left.result
+          (gathers g.S.Disk.seen c.args.state.now c.args.catalog.now c.args.site.now c.len-left.result
           (record { places = law.places; kept = law.kept; many = law.many }) c.requires.of whole);
       short = omega arith;
     }
@@ -40,10 +40,10 @@ loop-site-preserved g c =
     let valid = got.3.valid.short in
     record {
       stands = c.read_next.ensures.stands;
-      recalls = recalls_then g.S.Disk.view g.S.Disk.may_leave g.S.Disk.left_at c.args.state.now c.args.site.now c.loop-site.site c.read_next.new.site was.recalls c.read_next.ensures.recalls;
-      gathered = subst (λ (l : List Fragment). Gathered g.S.Disk.view g.S.Disk.may_leave g.S.Disk.left_at c.args.state.now adds c.args.site.now (left - 1) (c.loop-site.bytes + c.in-Ok.count) l)
+      recalls = recalls_then g.S.Disk.seen c.args.state.now c.args.site.now c.loop-site.site c.read_next.new.site was.recalls c.read_next.ensures.recalls;
+      gathered = subst (λ (l : List Fragment). Gathered g.S.Disk.seen c.args.state.now adds c.args.site.now (left - 1) (c.loop-site.bytes + c.in-Ok.count) l)
           (sym (reverse_push c.loop-site.read.items c.read_next.new.read.items got.0 got.1))
-          (gathered g.S.Disk.view g.S.Disk.may_leave g.S.Disk.left_at c.args.state.now c.args.catalog.now c.args.site.now c.loop-site.site left (left - 1) c.loop-site.bytes (c.loop-site.bytes + c.in-Ok.count) (left - 1)
+          (gathered g.S.Disk.seen c.args.state.now c.args.catalog.now c.args.site.now c.loop-site.site left (left - 1) c.loop-site.bytes (c.loop-site.bytes + c.in-Ok.count) (left - 1)
           (reverse c.loop-site.read.items) got.0 (record { places = law.places; kept = law.kept; many = law.many }) c.requires.of was.recalls was.gathered got.3
           (omega (arith, some)) refl (ap (λ (n : ℕ). c.loop-site.bytes + n) size));
       short = omega (arith, few, size, valid);
@@ -51,10 +51,10 @@ loop-site-preserved g c =
 
 pub returns-in-Err-clause-recalls : goal.returns-in-Err-clause-recalls
 returns-in-Err-clause-recalls g c =
-    recalls_then g.S.Disk.view g.S.Disk.may_leave g.S.Disk.left_at c.args.state.now c.args.site.now c.loop-site.site c.read_next.new.site c.loop-site.invariant.recalls c.read_next.ensures.recalls
+    recalls_then g.S.Disk.seen c.args.state.now c.args.site.now c.loop-site.site c.read_next.new.site c.loop-site.invariant.recalls c.read_next.ensures.recalls
 
 pub returns-clause-last : goal.returns-clause-last
 returns-clause-last g c =
-    subst (λ (l : List Fragment). IsEndOf g.S.Disk.view g.S.Disk.may_leave g.S.Disk.left_at c.args.state.now c.args.catalog.now.adds c.args.site.now l) (sym c.reverse.ensures.items)
-    (end_gathered g.S.Disk.view g.S.Disk.may_leave g.S.Disk.left_at c.args.state.now c.args.catalog.now.adds c.args.site.now c.loop-site.left c.loop-site.bytes (reverse c.loop-site.read.items)
+    subst (λ (l : List Fragment). IsEndOf g.S.Disk.seen c.args.state.now c.args.catalog.now.adds c.args.site.now l) (sym c.reverse.ensures.items)
+    (end_gathered g.S.Disk.seen c.args.state.now c.args.catalog.now.adds c.args.site.now c.loop-site.left c.loop-site.bytes (reverse c.loop-site.read.items)
     c.loop-site.invariant.gathered (c.is_short.ensures.enough c.loop-site-test.false))

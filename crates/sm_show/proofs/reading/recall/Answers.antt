@@ -8,15 +8,14 @@ pub returns-clause-recalls : goal.returns-clause-recalls
 returns-clause-recalls g c =
     let r = c.recall-fetched.ensures in
     record {
-      rests = λ h serves. rests_by g.S.Disk.view g.S.Disk.may_leave g.S.Disk.left_at h c.args.address.now c.recall-fetched.result c.args.state.now c.recall-fetched.new.site (r.runs h serves);
+      rests = λ h serves. rests_by g.S.Disk.seen h c.args.address.now c.recall-fetched.result c.args.state.now c.recall-fetched.new.site (r.runs h serves);
       told = r.told;
-      no_fewer = r.disk_alone.no_fewer;
-      link = r.disk_alone.link;
+      disk_alone = r.disk_alone;
     }
 
 pub returns-clause-reads : goal.returns-clause-reads
 returns-clause-reads g c =
-    if_ok c.fragment_in.result (Reads g.S.Disk.view g.S.Disk.may_leave g.S.Disk.left_at c.args.state.now c.args.catalog.now.adds c.args.index c.args.site.now) (λ f is.
+    if_ok c.fragment_in.result (Reads g.S.Disk.seen c.args.state.now c.args.catalog.now.adds c.args.index c.args.site.now) (λ f is.
     let r = c.recall-fetched.ensures in
     let was = c.fragment_in.ensures.found f is in
     let x = c.requires.at in

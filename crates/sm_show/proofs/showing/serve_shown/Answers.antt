@@ -16,7 +16,7 @@ pub loop-taken-init : goal.loop-taken-init
 unfolding turns_rest
 loop-taken-init g c =
     let up = c.catch_up.ensures in
-    let link = up.recalls.link in
+    let link = up.recalls.disk_alone.link in
     record {
       stands = up.stands;
       told = ap (λ o. is_some o) link.transcript;
@@ -25,7 +25,7 @@ loop-taken-init g c =
       few = omega arith;
       goes_on = λ h serves.
           let rests = up.recalls.rests h serves in (
-            turns_rest g.S.Disk.view g.S.Disk.may_leave g.S.Disk.left_at h (g.S.Disk.view c.args.site.now).script c.args.state.now c.catch_up.new.site link.script rests,
+            turns_rest g.S.Disk.seen h (g.S.Disk.seen.view c.args.site.now).script c.args.state.now c.catch_up.new.site link.script rests,
             tt,
             λ told belongs. shows_none h rests.later c.catch_up.new.writer rests.since rests.same (rests.log (up.recalls.told ∙ told)) (up.belongs h serves told belongs),
           );
@@ -36,7 +36,7 @@ unfolding turns_then turns_rest turns_next
 loop-taken-preserved g c =
     let up = c.catch_up-up.ensures in
     let was = c.loop-taken.invariant in
-    let link = up.recalls.link in
+    let link = up.recalls.disk_alone.link in
     record {
       stands = up.stands;
       told = ap (λ o. is_some o) link.transcript ∙ c.turn.ensures.told ∙ was.told;
@@ -47,11 +47,11 @@ loop-taken-preserved g c =
           let one = was.goes_on h serves in
           let i = c.loop-taken.taken in
           let two = c.in-Went.ensures.runs one.0.turns.later one.0.turns.serves in (
-            turns_next g.S.Disk.view g.S.Disk.may_leave g.S.Disk.left_at h i (g.S.Disk.view c.args.site.now).script c.loop-taken.state c.turn.new.state c.loop-taken.site c.turn.new.site
+            turns_next g.S.Disk.seen h i (g.S.Disk.seen.view c.args.site.now).script c.loop-taken.state c.turn.new.state c.loop-taken.site c.turn.new.site
                 c.catch_up-up.new.site one.0 two.0 up.recalls,
             none_both (one.0.deals ++ two.0.deals) [] (none_both one.0.deals two.0.deals one.1 (none_went two.0.deals two.1)) tt,
             λ told belongs.
-                turn_shows g.S.Disk.view g.S.Disk.may_leave g.S.Disk.left_at c.turns_grow.ensures h one.0.turns.later two.0.turns.later c.args.state.now c.loop-taken.state c.turn.new.state
+                turn_shows g.S.Disk.seen c.turns_grow.ensures h one.0.turns.later two.0.turns.later c.args.state.now c.loop-taken.state c.turn.new.state
                 c.args.site.now
                 c.loop-taken.site c.turn.new.site c.catch_up-up.new.site c.loop-taken.writer c.catch_up-up.new.writer c.catch_up-up.result i c.loop-taken.behind
                 (c.loop-taken.behind + c.behind_by-behind.result) c.loop-taken.short (c.loop-taken.short + c.short_by-short.result) serves one.0.turns.serves one.0.turns.since two.0.turns.serves
@@ -71,7 +71,7 @@ returns-in-Ended-clause-goes_on g c h serves =
     let one = c.loop-taken.invariant.goes_on h serves in
     let i = c.loop-taken.taken in (
       i + 1,
-      turns_then g.S.Disk.view g.S.Disk.may_leave g.S.Disk.left_at h i 1 (i + 1) (g.S.Disk.view c.args.site.now).script c.turn.new.state c.turn.new.site
+      turns_then g.S.Disk.seen h i 1 (i + 1) (g.S.Disk.seen.view c.args.site.now).script c.turn.new.state c.turn.new.site
           c.loop-taken.state c.loop-taken.site (omega arith) one.0 (c.in-Ended.ensures.runs one.0.turns.later one.0.turns.serves).0,
     )
 
@@ -81,12 +81,12 @@ returns-in-Ended-clause-runs g c h serves =
     let all = returns-in-Ended-clause-goes_on g c h serves in
     let one = c.loop-taken.invariant.goes_on h serves in
     let two = c.in-Ended.ensures.runs one.0.turns.later one.0.turns.serves in
-    has_served g.S.Disk.view g.S.Disk.may_leave g.S.Disk.left_at g.met.S.Disk.told c.crashes_hold_what_was_shown.ensures h all.1.deals c.args.turns
+    has_served g.S.Disk.seen g.met.S.Disk.told c.crashes_hold_what_was_shown.ensures h all.1.deals c.args.turns
     (served.Done c.loop-taken.taken c.loop-taken.behind c.loop-taken.short) c.turn.new.state c.turn.new.site all.1.turns
-    (ended_as g.S.Disk.view g.S.Disk.may_leave g.S.Disk.left_at h c.loop-taken.taken c.args.turns c.loop-taken.behind c.loop-taken.short (g.S.Disk.view c.args.site.now).script
+    (ended_as g.S.Disk.seen h c.loop-taken.taken c.args.turns c.loop-taken.behind c.loop-taken.short (g.S.Disk.seen.view c.args.site.now).script
     c.loop-taken.state c.turn.new.state c.loop-taken.site c.turn.new.site one.0 two.0 c.loop-taken-test.true
-    (subst (λ (v : View). IsOver v.transcript) (sym (g.met.S.Site.one_view c.turn.new.site))
-    (is_over (g.S.Link.view c.loop-taken.site) (g.S.Link.view c.turn.new.site) (c.in-Ended.ensures.ended refl))) one.1 two.1)
+    (subst (λ (v : View). IsOver v.transcript) (sym (g.met.S.Site.one.view c.turn.new.site))
+    (is_over (g.S.Link.seen.view c.loop-taken.site) (g.S.Link.seen.view c.turn.new.site) (c.in-Ended.ensures.ended refl))) one.1 two.1)
 
 pub returns-in-Ended-clause-shown : goal.returns-in-Ended-clause-shown
 unfolding returns-in-Ended-clause-goes_on turns_then
@@ -95,15 +95,15 @@ returns-in-Ended-clause-shown g c h serves told belonged =
     let one = c.loop-taken.invariant.goes_on h serves in
     let two = c.in-Ended.ensures.runs one.0.turns.later one.0.turns.serves in
     let shows = one.2 told belonged in
-    let belongs = belongs_on g.S.Disk.view g.S.Disk.may_leave g.S.Disk.left_at c.turns_grow.ensures h one.0.turns.later two.0.turns.later c.args.state.now c.loop-taken.state c.turn.new.state
+    let belongs = belongs_on g.S.Disk.seen c.turns_grow.ensures h one.0.turns.later two.0.turns.later c.args.state.now c.loop-taken.state c.turn.new.state
     c.args.site.now
     c.loop-taken.site c.turn.new.site c.loop-taken.writer serves one.0.turns.serves one.0.turns.since two.0.turns.serves two.0.turns.since told shows.belongs in
-    served_shown g.S.Disk.view g.S.Disk.may_leave g.S.Disk.left_at g.met.S.Disk.told c.crashes_hold_what_was_shown.ensures h all.1.deals c.args.turns
+    served_shown g.S.Disk.seen g.met.S.Disk.told c.crashes_hold_what_was_shown.ensures h all.1.deals c.args.turns
     (served.Done c.loop-taken.taken c.loop-taken.behind c.loop-taken.short) c.loop-taken.writer c.turn.new.state c.turn.new.site all.1.turns
-    (ended_as g.S.Disk.view g.S.Disk.may_leave g.S.Disk.left_at h c.loop-taken.taken c.args.turns c.loop-taken.behind c.loop-taken.short (g.S.Disk.view c.args.site.now).script
+    (ended_as g.S.Disk.seen h c.loop-taken.taken c.args.turns c.loop-taken.behind c.loop-taken.short (g.S.Disk.seen.view c.args.site.now).script
     c.loop-taken.state c.turn.new.state c.loop-taken.site c.turn.new.site one.0 two.0 c.loop-taken-test.true
-    (subst (λ (v : View). IsOver v.transcript) (sym (g.met.S.Site.one_view c.turn.new.site))
-    (is_over (g.S.Link.view c.loop-taken.site) (g.S.Link.view c.turn.new.site) (c.in-Ended.ensures.ended refl))) one.1 two.1)
+    (subst (λ (v : View). IsOver v.transcript) (sym (g.met.S.Site.one.view c.turn.new.site))
+    (is_over (g.S.Link.seen.view c.loop-taken.site) (g.S.Link.seen.view c.turn.new.site) (c.in-Ended.ensures.ended refl))) one.1 two.1)
     (one.0.turns.later, shows, two.0.turns.since, belongs)
 
 pub returns-in-LinkFault-clause-goes_on : goal.returns-in-LinkFault-clause-goes_on
@@ -111,7 +111,7 @@ returns-in-LinkFault-clause-goes_on g c h serves =
     let one = c.loop-taken.invariant.goes_on h serves in
     let i = c.loop-taken.taken in (
       i + 0,
-      turns_then g.S.Disk.view g.S.Disk.may_leave g.S.Disk.left_at h i 0 (i + 0) (g.S.Disk.view c.args.site.now).script c.turn.new.state c.turn.new.site
+      turns_then g.S.Disk.seen h i 0 (i + 0) (g.S.Disk.seen.view c.args.site.now).script c.turn.new.state c.turn.new.site
           c.loop-taken.state c.loop-taken.site (omega arith) one.0 (c.in-LinkFault.ensures.runs one.0.turns.later one.0.turns.serves).0,
     )
 
@@ -121,9 +121,9 @@ returns-in-LinkFault-clause-runs g c h serves =
     let all = returns-in-LinkFault-clause-goes_on g c h serves in
     let one = c.loop-taken.invariant.goes_on h serves in
     let two = c.in-LinkFault.ensures.runs one.0.turns.later one.0.turns.serves in
-    has_served g.S.Disk.view g.S.Disk.may_leave g.S.Disk.left_at g.met.S.Disk.told c.crashes_hold_what_was_shown.ensures h all.1.deals c.args.turns served.LinkFault c.turn.new.state
+    has_served g.S.Disk.seen g.met.S.Disk.told c.crashes_hold_what_was_shown.ensures h all.1.deals c.args.turns served.LinkFault c.turn.new.state
     c.turn.new.site all.1.turns
-    (stopped_as g.S.Disk.view g.S.Disk.may_leave g.S.Disk.left_at h c.loop-taken.taken c.args.turns (g.S.Disk.view c.args.site.now).script c.loop-taken.state c.turn.new.state
+    (stopped_as g.S.Disk.seen h c.loop-taken.taken c.args.turns (g.S.Disk.seen.view c.args.site.now).script c.loop-taken.state c.turn.new.state
     c.loop-taken.site c.turn.new.site one.0 two.0 c.loop-taken-test.true one.1 two.1)
 
 pub returns-in-LinkFault-clause-shown : goal.returns-in-LinkFault-clause-shown
@@ -133,12 +133,12 @@ returns-in-LinkFault-clause-shown g c h serves told belonged =
     let one = c.loop-taken.invariant.goes_on h serves in
     let two = c.in-LinkFault.ensures.runs one.0.turns.later one.0.turns.serves in
     let shows = one.2 told belonged in
-    let belongs = belongs_on g.S.Disk.view g.S.Disk.may_leave g.S.Disk.left_at c.turns_grow.ensures h one.0.turns.later two.0.turns.later c.args.state.now c.loop-taken.state c.turn.new.state
+    let belongs = belongs_on g.S.Disk.seen c.turns_grow.ensures h one.0.turns.later two.0.turns.later c.args.state.now c.loop-taken.state c.turn.new.state
     c.args.site.now
     c.loop-taken.site c.turn.new.site c.loop-taken.writer serves one.0.turns.serves one.0.turns.since two.0.turns.serves two.0.turns.since told shows.belongs in
-    served_shown g.S.Disk.view g.S.Disk.may_leave g.S.Disk.left_at g.met.S.Disk.told c.crashes_hold_what_was_shown.ensures h all.1.deals c.args.turns served.LinkFault c.loop-taken.writer
+    served_shown g.S.Disk.seen g.met.S.Disk.told c.crashes_hold_what_was_shown.ensures h all.1.deals c.args.turns served.LinkFault c.loop-taken.writer
     c.turn.new.state c.turn.new.site all.1.turns
-    (stopped_as g.S.Disk.view g.S.Disk.may_leave g.S.Disk.left_at h c.loop-taken.taken c.args.turns (g.S.Disk.view c.args.site.now).script c.loop-taken.state c.turn.new.state
+    (stopped_as g.S.Disk.seen h c.loop-taken.taken c.args.turns (g.S.Disk.seen.view c.args.site.now).script c.loop-taken.state c.turn.new.state
     c.loop-taken.site c.turn.new.site one.0 two.0 c.loop-taken-test.true one.1 two.1)
     belongs
 
@@ -147,7 +147,7 @@ returns-in-NoMemory-clause-goes_on g c h serves =
     let one = c.loop-taken.invariant.goes_on h serves in
     let i = c.loop-taken.taken in (
       i + 0,
-      turns_then g.S.Disk.view g.S.Disk.may_leave g.S.Disk.left_at h i 0 (i + 0) (g.S.Disk.view c.args.site.now).script c.turn.new.state c.turn.new.site
+      turns_then g.S.Disk.seen h i 0 (i + 0) (g.S.Disk.seen.view c.args.site.now).script c.turn.new.state c.turn.new.site
           c.loop-taken.state c.loop-taken.site (omega arith) one.0 (c.in-NoMemory.ensures.runs one.0.turns.later one.0.turns.serves).0,
     )
 
@@ -157,9 +157,9 @@ returns-in-NoMemory-clause-runs g c h serves =
     let all = returns-in-NoMemory-clause-goes_on g c h serves in
     let one = c.loop-taken.invariant.goes_on h serves in
     let two = c.in-NoMemory.ensures.runs one.0.turns.later one.0.turns.serves in
-    has_served g.S.Disk.view g.S.Disk.may_leave g.S.Disk.left_at g.met.S.Disk.told c.crashes_hold_what_was_shown.ensures h all.1.deals c.args.turns served.NoMemory c.turn.new.state
+    has_served g.S.Disk.seen g.met.S.Disk.told c.crashes_hold_what_was_shown.ensures h all.1.deals c.args.turns served.NoMemory c.turn.new.state
     c.turn.new.site all.1.turns
-    (stopped_as g.S.Disk.view g.S.Disk.may_leave g.S.Disk.left_at h c.loop-taken.taken c.args.turns (g.S.Disk.view c.args.site.now).script c.loop-taken.state c.turn.new.state
+    (stopped_as g.S.Disk.seen h c.loop-taken.taken c.args.turns (g.S.Disk.seen.view c.args.site.now).script c.loop-taken.state c.turn.new.state
     c.loop-taken.site c.turn.new.site one.0 two.0 c.loop-taken-test.true one.1 two.1)
 
 pub returns-in-NoMemory-clause-shown : goal.returns-in-NoMemory-clause-shown
@@ -169,12 +169,12 @@ returns-in-NoMemory-clause-shown g c h serves told belonged =
     let one = c.loop-taken.invariant.goes_on h serves in
     let two = c.in-NoMemory.ensures.runs one.0.turns.later one.0.turns.serves in
     let shows = one.2 told belonged in
-    let belongs = belongs_on g.S.Disk.view g.S.Disk.may_leave g.S.Disk.left_at c.turns_grow.ensures h one.0.turns.later two.0.turns.later c.args.state.now c.loop-taken.state c.turn.new.state
+    let belongs = belongs_on g.S.Disk.seen c.turns_grow.ensures h one.0.turns.later two.0.turns.later c.args.state.now c.loop-taken.state c.turn.new.state
     c.args.site.now
     c.loop-taken.site c.turn.new.site c.loop-taken.writer serves one.0.turns.serves one.0.turns.since two.0.turns.serves two.0.turns.since told shows.belongs in
-    served_shown g.S.Disk.view g.S.Disk.may_leave g.S.Disk.left_at g.met.S.Disk.told c.crashes_hold_what_was_shown.ensures h all.1.deals c.args.turns served.NoMemory c.loop-taken.writer
+    served_shown g.S.Disk.seen g.met.S.Disk.told c.crashes_hold_what_was_shown.ensures h all.1.deals c.args.turns served.NoMemory c.loop-taken.writer
     c.turn.new.state c.turn.new.site all.1.turns
-    (stopped_as g.S.Disk.view g.S.Disk.may_leave g.S.Disk.left_at h c.loop-taken.taken c.args.turns (g.S.Disk.view c.args.site.now).script c.loop-taken.state c.turn.new.state
+    (stopped_as g.S.Disk.seen h c.loop-taken.taken c.args.turns (g.S.Disk.seen.view c.args.site.now).script c.loop-taken.state c.turn.new.state
     c.loop-taken.site c.turn.new.site one.0 two.0 c.loop-taken-test.true one.1 two.1)
     belongs
 
@@ -188,13 +188,13 @@ returns-clause-runs g c h serves =
     let i = c.loop-taken.taken in
     let turns = c.args.turns in
     let is : i ≡ turns = search rules in
-    has_served g.S.Disk.view g.S.Disk.may_leave g.S.Disk.left_at g.met.S.Disk.told c.crashes_hold_what_was_shown.ensures h all.deals turns
+    has_served g.S.Disk.seen g.met.S.Disk.told c.crashes_hold_what_was_shown.ensures h all.deals turns
     (served.Done turns c.loop-taken.behind c.loop-taken.short)
     c.loop-taken.state c.loop-taken.site all.turns (
     inl (
       refl,
       subst (λ (k : ℕ). events_in all.turns.later.items ≡ k + events_in h.items) is
-          (counted g.S.Disk.view g.S.Disk.may_leave g.S.Disk.left_at h i (g.S.Disk.view c.args.site.now).script c.loop-taken.state c.loop-taken.site all),
+          (counted g.S.Disk.seen h i (g.S.Disk.seen.view c.args.site.now).script c.loop-taken.state c.loop-taken.site all),
       one.1,
     )
     )
@@ -207,13 +207,13 @@ returns-clause-shown g c h serves told belonged =
     let turns = c.args.turns in
     let is : i ≡ turns = search rules in
     let shows = one.2 told belonged in
-    served_shown g.S.Disk.view g.S.Disk.may_leave g.S.Disk.left_at g.met.S.Disk.told c.crashes_hold_what_was_shown.ensures h all.deals turns
+    served_shown g.S.Disk.seen g.met.S.Disk.told c.crashes_hold_what_was_shown.ensures h all.deals turns
     (served.Done turns c.loop-taken.behind c.loop-taken.short)
     c.loop-taken.writer c.loop-taken.state c.loop-taken.site all.turns (
     inl (
       refl,
       subst (λ (k : ℕ). events_in all.turns.later.items ≡ k + events_in h.items) is
-          (counted g.S.Disk.view g.S.Disk.may_leave g.S.Disk.left_at h i (g.S.Disk.view c.args.site.now).script c.loop-taken.state c.loop-taken.site all),
+          (counted g.S.Disk.seen h i (g.S.Disk.seen.view c.args.site.now).script c.loop-taken.state c.loop-taken.site all),
       one.1,
     )
     ) (

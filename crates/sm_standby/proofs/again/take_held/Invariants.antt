@@ -8,9 +8,9 @@ use Rattle.sm_standby.proofs.again.take_held.Given as goal
 
 abbrev pub invariant-loop-end : goal.invariant-loop-end
 invariant-loop-end g l = record {
-  some : (log : List Entry) × Stands l.archive log None (g.D.Disk.may_leave l.disk) × AreOpen log l.held;
-  follows : (log : List Entry) (rest : List Address) → Stands l.initial.archive log None (g.D.Disk.may_leave l.initial.disk) → AreOpen log l.initial.held
-      → Follows g.D.Disk.view g.D.Disk.left_at g.D.Disk.may_leave g.C.Dial.log g.C.Dial.store g.C.Dial.later g.C.Dial.dial_faults l.initial.disk l.disk l.initial.dial l.dial l.plan l.channel l.listing
+  some : (log : List Entry) × Stands l.archive log None (g.D.Disk.seen.may_leave l.disk) × AreOpen log l.held;
+  follows : (log : List Entry) (rest : List Address) → Stands l.initial.archive log None (g.D.Disk.seen.may_leave l.initial.disk) → AreOpen log l.initial.held
+      → Follows g.D.Disk.seen g.C.Dial.log g.C.Dial.store g.C.Dial.later g.C.Dial.dial_faults l.initial.disk l.disk l.initial.dial l.dial l.plan l.channel l.listing
       l.initial.archive l.archive (at log l.initial.held rest) l.held rest;
 }
 

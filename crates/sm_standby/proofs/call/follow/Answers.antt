@@ -12,7 +12,7 @@ returns g c = record {
       let p = c.follow_store-end.ensures log channel s is in
       record {
         called = p;
-        kept = kept_count c.follow_store-end.new.archive log (kept_by p.rounds ++ kept_in p.part.turns) (kept_in p.part.tried) (g.D.Disk.may_leave c.follow_store-end.new.disk) c.len-before.result c.len.result _
+        kept = kept_count c.follow_store-end.new.archive log (kept_by p.rounds ++ kept_in p.part.turns) (kept_in p.part.tried) (g.D.Disk.seen.may_leave c.follow_store-end.new.disk) c.len-before.result c.len.result _
             (c.len-before.ensures s.bodies s.body log None s.keeps) c.len.ensures p.adds.stands c.saturating_sub.ensures;
         placed = stays_placed log c.follow_store-end.result p;
         stays = λ up first last made served places some. stays log c.follow_store-end.result p up first last made served places some;

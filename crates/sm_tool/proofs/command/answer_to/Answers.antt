@@ -25,31 +25,31 @@ rehearse-requires-clause-size g c =
     (sym (ap (λ (o : Option Order). option_map wanted_of o) (at.field-0-is ∙ ap (λ (o : Order). Some o) at.field-0-0-is)) ∙ at.ensures)).size_fits
 
 pub returns-in-Ok-Some-Pick-clause-lasts : goal.returns-in-Ok-Some-Pick-clause-lasts
-returns-in-Ok-Some-Pick-clause-lasts g c = idle_lasts g.S.Disk.view g.S.Disk.may_leave g.S.Disk.left_at g.met.S.Disk.no_later g.met.S.Disk.at_now c.args.site.now
+returns-in-Ok-Some-Pick-clause-lasts g c = idle_lasts g.S.Disk.seen g.met.S.Disk.no_later g.met.S.Disk.at_now c.args.site.now
 
 pub returns-in-Ok-Some-Push-clause-lasts : goal.returns-in-Ok-Some-Push-clause-lasts
-returns-in-Ok-Some-Push-clause-lasts g c = idle_lasts g.S.Disk.view g.S.Disk.may_leave g.S.Disk.left_at g.met.S.Disk.no_later g.met.S.Disk.at_now c.args.site.now
+returns-in-Ok-Some-Push-clause-lasts g c = idle_lasts g.S.Disk.seen g.met.S.Disk.no_later g.met.S.Disk.at_now c.args.site.now
 
 pub returns-in-Ok-Some-Play-clause-lasts : goal.returns-in-Ok-Some-Play-clause-lasts
-returns-in-Ok-Some-Play-clause-lasts g c = idle_lasts g.S.Disk.view g.S.Disk.may_leave g.S.Disk.left_at g.met.S.Disk.no_later g.met.S.Disk.at_now c.args.site.now
+returns-in-Ok-Some-Play-clause-lasts g c = idle_lasts g.S.Disk.seen g.met.S.Disk.no_later g.met.S.Disk.at_now c.args.site.now
 
 pub returns-in-Ok-Some-Rehearse-clause-lasts : goal.returns-in-Ok-Some-Rehearse-clause-lasts
-returns-in-Ok-Some-Rehearse-clause-lasts g c = idle_lasts g.S.Disk.view g.S.Disk.may_leave g.S.Disk.left_at g.met.S.Disk.no_later g.met.S.Disk.at_now c.args.site.now
+returns-in-Ok-Some-Rehearse-clause-lasts g c = idle_lasts g.S.Disk.seen g.met.S.Disk.no_later g.met.S.Disk.at_now c.args.site.now
 
 pub returns-in-Ok-Some-ServeShown-clause-lasts : goal.returns-in-Ok-Some-ServeShown-clause-lasts
-returns-in-Ok-Some-ServeShown-clause-lasts g c = idle_lasts g.S.Disk.view g.S.Disk.may_leave g.S.Disk.left_at g.met.S.Disk.no_later g.met.S.Disk.at_now c.args.site.now
+returns-in-Ok-Some-ServeShown-clause-lasts g c = idle_lasts g.S.Disk.seen g.met.S.Disk.no_later g.met.S.Disk.at_now c.args.site.now
 
 pub returns-in-Ok-None-clause-lasts : goal.returns-in-Ok-None-clause-lasts
-returns-in-Ok-None-clause-lasts g c = idle_lasts g.S.Disk.view g.S.Disk.may_leave g.S.Disk.left_at g.met.S.Disk.no_later g.met.S.Disk.at_now c.args.site.now
+returns-in-Ok-None-clause-lasts g c = idle_lasts g.S.Disk.seen g.met.S.Disk.no_later g.met.S.Disk.at_now c.args.site.now
 
 pub returns-in-Err-clause-lasts : goal.returns-in-Err-clause-lasts
-returns-in-Err-clause-lasts g c = idle_lasts g.S.Disk.view g.S.Disk.may_leave g.S.Disk.left_at g.met.S.Disk.no_later g.met.S.Disk.at_now c.args.site.now
+returns-in-Err-clause-lasts g c = idle_lasts g.S.Disk.seen g.met.S.Disk.no_later g.met.S.Disk.at_now c.args.site.now
 
 pub returns-in-Ok-Some-Help-clause-lasts : goal.returns-in-Ok-Some-Help-clause-lasts
-returns-in-Ok-Some-Help-clause-lasts g c = idle_lasts g.S.Disk.view g.S.Disk.may_leave g.S.Disk.left_at g.met.S.Disk.no_later g.met.S.Disk.at_now c.args.site.now
+returns-in-Ok-Some-Help-clause-lasts g c = idle_lasts g.S.Disk.seen g.met.S.Disk.no_later g.met.S.Disk.at_now c.args.site.now
 
 pub returns-in-Ok-Some-Version-clause-lasts : goal.returns-in-Ok-Some-Version-clause-lasts
-returns-in-Ok-Some-Version-clause-lasts g c = idle_lasts g.S.Disk.view g.S.Disk.may_leave g.S.Disk.left_at g.met.S.Disk.no_later g.met.S.Disk.at_now c.args.site.now
+returns-in-Ok-Some-Version-clause-lasts g c = idle_lasts g.S.Disk.seen g.met.S.Disk.no_later g.met.S.Disk.at_now c.args.site.now
 
 pub relay-requires : goal.relay-requires
 relay-requires g c =
@@ -68,28 +68,28 @@ standby-requires g c =
     }
 
 pub returns-in-Ok-Some-Pick-clause-spared : goal.returns-in-Ok-Some-Pick-clause-spared
-returns-in-Ok-Some-Pick-clause-spared g c = idle_spared g.S.Disk.view g.S.Disk.may_leave g.S.Disk.left_at g.met.S.Disk.no_later c.args.site.now
+returns-in-Ok-Some-Pick-clause-spared g c = idle_spared g.S.Disk.seen g.met.S.Disk.no_later c.args.site.now
 
 pub returns-in-Ok-Some-Push-clause-spared : goal.returns-in-Ok-Some-Push-clause-spared
-returns-in-Ok-Some-Push-clause-spared g c = idle_spared g.S.Disk.view g.S.Disk.may_leave g.S.Disk.left_at g.met.S.Disk.no_later c.args.site.now
+returns-in-Ok-Some-Push-clause-spared g c = idle_spared g.S.Disk.seen g.met.S.Disk.no_later c.args.site.now
 
 pub returns-in-Ok-Some-Play-clause-spared : goal.returns-in-Ok-Some-Play-clause-spared
-returns-in-Ok-Some-Play-clause-spared g c = idle_spared g.S.Disk.view g.S.Disk.may_leave g.S.Disk.left_at g.met.S.Disk.no_later c.args.site.now
+returns-in-Ok-Some-Play-clause-spared g c = idle_spared g.S.Disk.seen g.met.S.Disk.no_later c.args.site.now
 
 pub returns-in-Ok-Some-Rehearse-clause-spared : goal.returns-in-Ok-Some-Rehearse-clause-spared
-returns-in-Ok-Some-Rehearse-clause-spared g c = idle_spared g.S.Disk.view g.S.Disk.may_leave g.S.Disk.left_at g.met.S.Disk.no_later c.args.site.now
+returns-in-Ok-Some-Rehearse-clause-spared g c = idle_spared g.S.Disk.seen g.met.S.Disk.no_later c.args.site.now
 
 pub returns-in-Ok-Some-ServeShown-clause-spared : goal.returns-in-Ok-Some-ServeShown-clause-spared
-returns-in-Ok-Some-ServeShown-clause-spared g c = idle_spared g.S.Disk.view g.S.Disk.may_leave g.S.Disk.left_at g.met.S.Disk.no_later c.args.site.now
+returns-in-Ok-Some-ServeShown-clause-spared g c = idle_spared g.S.Disk.seen g.met.S.Disk.no_later c.args.site.now
 
 pub returns-in-Ok-None-clause-spared : goal.returns-in-Ok-None-clause-spared
-returns-in-Ok-None-clause-spared g c = idle_spared g.S.Disk.view g.S.Disk.may_leave g.S.Disk.left_at g.met.S.Disk.no_later c.args.site.now
+returns-in-Ok-None-clause-spared g c = idle_spared g.S.Disk.seen g.met.S.Disk.no_later c.args.site.now
 
 pub returns-in-Err-clause-spared : goal.returns-in-Err-clause-spared
-returns-in-Err-clause-spared g c = idle_spared g.S.Disk.view g.S.Disk.may_leave g.S.Disk.left_at g.met.S.Disk.no_later c.args.site.now
+returns-in-Err-clause-spared g c = idle_spared g.S.Disk.seen g.met.S.Disk.no_later c.args.site.now
 
 pub returns-in-Ok-Some-Help-clause-spared : goal.returns-in-Ok-Some-Help-clause-spared
-returns-in-Ok-Some-Help-clause-spared g c = idle_spared g.S.Disk.view g.S.Disk.may_leave g.S.Disk.left_at g.met.S.Disk.no_later c.args.site.now
+returns-in-Ok-Some-Help-clause-spared g c = idle_spared g.S.Disk.seen g.met.S.Disk.no_later c.args.site.now
 
 pub returns-in-Ok-Some-Version-clause-spared : goal.returns-in-Ok-Some-Version-clause-spared
-returns-in-Ok-Some-Version-clause-spared g c = idle_spared g.S.Disk.view g.S.Disk.may_leave g.S.Disk.left_at g.met.S.Disk.no_later c.args.site.now
+returns-in-Ok-Some-Version-clause-spared g c = idle_spared g.S.Disk.seen g.met.S.Disk.no_later c.args.site.now

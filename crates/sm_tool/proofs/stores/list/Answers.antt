@@ -5,14 +5,14 @@ use Rattle.sm_tool.proofs.stores.list.Goals as goal
 
 pub returns-in-Err-clause-selected : goal.returns-in-Err-clause-selected
 returns-in-Err-clause-selected g c =
-    unselected c.in-Err.fault c.refused.result c.or_starved.result (at_folder (string_bytes c.args.store)) (g.S.Disk.view c.list_store.new.site) c.refused.ensures c.or_starved.ensures c.in-Err.ensures.chosen
+    unselected c.in-Err.fault c.refused.result c.or_starved.result (at_folder (string_bytes c.args.store)) (g.S.Disk.seen.view c.list_store.new.site) c.refused.ensures c.or_starved.ensures c.in-Err.ensures.chosen
 
 pub returns-in-Err-clause-means : goal.returns-in-Err-clause-means
 returns-in-Err-clause-means g c =
-    unlisted g.S.Disk.view g.S.Disk.may_leave g.S.Disk.left_at c.args.site.now c.list_store.new.site c.in-Err.fault c.refused.result c.or_starved.result c.in-Err.ensures.why
+    unlisted g.S.Disk.seen c.args.site.now c.list_store.new.site c.in-Err.fault c.refused.result c.or_starved.result c.in-Err.ensures.why
     c.refused.ensures c.or_starved.ensures
 
 pub returns-in-Err-clause-untouched : goal.returns-in-Err-clause-untouched
 returns-in-Err-clause-untouched g c line is =
-    unwritten_listed g.S.Disk.view g.S.Disk.may_leave g.S.Disk.left_at c.args.site.now c.list_store.new.site c.in-Err.fault c.refused.result c.or_starved.result line c.in-Err.ensures.why
+    unwritten_listed g.S.Disk.seen c.args.site.now c.list_store.new.site c.in-Err.fault c.refused.result c.or_starved.result line c.in-Err.ensures.why
     c.refused.ensures c.or_starved.ensures is

@@ -2,4 +2,4 @@ use Rattle.sm_world.proofs.Standing.{comes_now}
 use Rattle.sm_world.proofs.law.what_is_kept_was_pushed.Goals as goal
 
 pub returns : goal.returns
-returns g c w state site = comes_now g.S.Disk.view g.S.Disk.may_leave g.S.Disk.left_at w state site (g.met.S.Crashing.tells site).contents
+returns g c w state site = comes_now g.S.Disk.seen w state site (g.met.S.Crashing.tells site).contents

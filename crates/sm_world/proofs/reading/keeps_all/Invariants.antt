@@ -7,8 +7,8 @@ use Rattle.sm_world.proofs.reading.keeps_all.Given as goal
 
 abbrev pub invariant-loop-i : goal.invariant-loop-i
 invariant-loop-i g l = record {
-  stands : (log : List Entry) → Holds l.archive log None (g.S.Disk.may_leave l.fn.site) → Holds l.archive log None (g.S.Disk.may_leave l.site);
-  kept : (log : List Entry) → Holds l.archive log None (g.S.Disk.may_leave l.fn.site) → (j : ℕ) → j < l.i → KeepsRound log j;
-  no_fewer : (g.S.Disk.view l.fn.site).disk_faults ≤ (g.S.Disk.view l.site).disk_faults;
-  link : SameLink (g.S.Disk.view l.fn.site) (g.S.Disk.view l.site);
+  stands : (log : List Entry) → Holds l.archive log None (g.S.Disk.seen.may_leave l.fn.site) → Holds l.archive log None (g.S.Disk.seen.may_leave l.site);
+  kept : (log : List Entry) → Holds l.archive log None (g.S.Disk.seen.may_leave l.fn.site) → (j : ℕ) → j < l.i → KeepsRound log j;
+  no_fewer : (g.S.Disk.seen.view l.fn.site).disk_faults ≤ (g.S.Disk.seen.view l.site).disk_faults;
+  link : SameLink (g.S.Disk.seen.view l.fn.site) (g.S.Disk.seen.view l.site);
 }

@@ -3,7 +3,7 @@ use Rattle.std.specs.Prelude.{IfSome}
 use Rattle.std.specs.FinMap as map
 use Rattle.sm_model.specs.declared.entry.Entry.{Entry}
 use Rattle.sm_site.specs.Meanings.{View}
-use Rattle.sm_site.specs.Memory.{site_view, site_may_leave, site_left_at, site_openings}
+use Rattle.sm_site.specs.Memory.{site_seen, site_view, site_openings}
 use Rattle.sm_archive.specs.Store.{IsStore}
 use Rattle.sm_world.specs.Dialing.{Dialing}
 use Rattle.sm_world.specs.Worlds.{World, Stands}
@@ -25,7 +25,7 @@ returns c =
     in
     record {
       world = w;
-      stands = subst (λ (d : Dialing). Stands site_view site_may_leave site_left_at w d.state c.new-dial.result.0) (sym is) (c.new-dial.ensures.stands [] store);
+      stands = subst (λ (d : Dialing). Stands site_seen w d.state c.new-dial.result.0) (sym is) (c.new-dial.ensures.stands [] store);
       first = refl;
       log = refl;
       place = c.in_ok-place.ensures;

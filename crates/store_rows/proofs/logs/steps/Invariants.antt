@@ -1,5 +1,5 @@
 use Rattle.sm_site.specs.Memory.{site_may_leave}
-use Rattle.sm_seglog.specs.Segments.{IsSegLog}
+use Rattle.sm_seglog.specs.Standing.{IsSegLog}
 use Rattle.store_rows.proofs.logs.steps.Given as goal
 
 abbrev pub invariant-loop-line : goal.invariant-loop-line

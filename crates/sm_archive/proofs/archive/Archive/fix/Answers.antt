@@ -35,4 +35,4 @@ returns-in-None-clause-any_moment g c = λ channel s h valid told.
     c.append.ensures.any_moment [] (Declare channel) s (header_can c.args.self.now c.args.header channel h valid (c.is_full_for.ensures.within channel h.len c.if-is_full_for.false)) told
 
 pub returns-then-is_full_for-clause-recorded : goal.returns-then-is_full_for-clause-recorded
-returns-then-is_full_for-clause-recorded g c = recorded_none (g.D.Disk.view c.args.disk.now)
+returns-then-is_full_for-clause-recorded g c = recorded_none (g.D.Disk.seen.view c.args.disk.now)

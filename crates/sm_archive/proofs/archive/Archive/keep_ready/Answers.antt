@@ -17,25 +17,25 @@ pub append_keep-requires : goal.append_keep-requires
 append_keep-requires g c =
     let h = c.requires.can in
     let new = sym (c.in-New.ensures h.0 h.1 h.2.keeps.index h.3.ready.address h.3.ready.duration) in
-    let within = c.is_full.ensures.within h.0 h.1 h.2.keeps.index (log_len c.args.self.now h.0 _ (g.D.Disk.may_leave c.args.disk.now) h.2) h.3.ready.address h.3.ready.len c.if-is_full.false in
+    let within = c.is_full.ensures.within h.0 h.1 h.2.keeps.index (log_len c.args.self.now h.0 _ (g.D.Disk.seen.may_leave c.args.disk.now) h.2) h.3.ready.address h.3.ready.len c.if-is_full.false in
     record { can = (h.0, h.1, h.2, h.3, h.4, new, within) }
 
 pub returns-then-is_full-clause-step : goal.returns-then-is_full-clause-step
 returns-then-is_full-clause-step g c = λ log f s p valid.
     let new = sym (c.in-New.ensures log f s.keeps.index p.ready.address p.ready.duration) in
-    let full = c.is_full.ensures.full log f s.keeps.index (log_len c.args.self.now log _ (g.D.Disk.may_leave c.args.disk.now) s) p.ready.address p.ready.len c.if-is_full.true in
+    let full = c.is_full.ensures.full log f s.keeps.index (log_len c.args.self.now log _ (g.D.Disk.seen.may_leave c.args.disk.now) s) p.ready.address p.ready.len c.if-is_full.true in
     (new, full, s)
 
 pub returns-else-is_full-clause-step : goal.returns-else-is_full-clause-step
 returns-else-is_full-clause-step g c = λ log f s p valid.
     let new = sym (c.in-New.ensures log f s.keeps.index p.ready.address p.ready.duration) in
-    let within = c.is_full.ensures.within log f s.keeps.index (log_len c.args.self.now log _ (g.D.Disk.may_leave c.args.disk.now) s) p.ready.address p.ready.len c.if-is_full.false in
+    let within = c.is_full.ensures.within log f s.keeps.index (log_len c.args.self.now log _ (g.D.Disk.seen.may_leave c.args.disk.now) s) p.ready.address p.ready.len c.if-is_full.false in
     c.append_keep.ensures.step log f s p valid new within
 
 pub returns-else-is_full-clause-any_moment : goal.returns-else-is_full-clause-any_moment
 returns-else-is_full-clause-any_moment g c = λ log f s p valid told.
     let new = sym (c.in-New.ensures log f s.keeps.index p.ready.address p.ready.duration) in
-    let within = c.is_full.ensures.within log f s.keeps.index (log_len c.args.self.now log _ (g.D.Disk.may_leave c.args.disk.now) s) p.ready.address p.ready.len c.if-is_full.false in
+    let within = c.is_full.ensures.within log f s.keeps.index (log_len c.args.self.now log _ (g.D.Disk.seen.may_leave c.args.disk.now) s) p.ready.address p.ready.len c.if-is_full.false in
     c.append_keep.ensures.any_moment log f s p valid new within told
 
 pub returns-in-NotDeclared-clause-step : goal.returns-in-NotDeclared-clause-step
@@ -54,16 +54,16 @@ returns-in-Overlap-clause-step g c = λ log f s p valid.
     (refused_overlap (verdict_on log f) f c.in-Overlap.end (sym (c.in-Overlap.ensures log f s.keeps.index p.ready.address p.ready.duration)), s)
 
 pub returns-then-is_full-clause-recorded : goal.returns-then-is_full-clause-recorded
-returns-then-is_full-clause-recorded g c = recorded_none (g.D.Disk.view c.args.disk.now)
+returns-then-is_full-clause-recorded g c = recorded_none (g.D.Disk.seen.view c.args.disk.now)
 
 pub returns-in-NotDeclared-clause-recorded : goal.returns-in-NotDeclared-clause-recorded
-returns-in-NotDeclared-clause-recorded g c = recorded_none (g.D.Disk.view c.args.disk.now)
+returns-in-NotDeclared-clause-recorded g c = recorded_none (g.D.Disk.seen.view c.args.disk.now)
 
 pub returns-in-Clash-clause-recorded : goal.returns-in-Clash-clause-recorded
-returns-in-Clash-clause-recorded g c = recorded_none (g.D.Disk.view c.args.disk.now)
+returns-in-Clash-clause-recorded g c = recorded_none (g.D.Disk.seen.view c.args.disk.now)
 
 pub returns-in-Overlap-clause-recorded : goal.returns-in-Overlap-clause-recorded
-returns-in-Overlap-clause-recorded g c = recorded_none (g.D.Disk.view c.args.disk.now)
+returns-in-Overlap-clause-recorded g c = recorded_none (g.D.Disk.seen.view c.args.disk.now)
 
 pub returns-in-Known-clause-recorded : goal.returns-in-Known-clause-recorded
-returns-in-Known-clause-recorded g c = recorded_none (g.D.Disk.view c.args.disk.now)
+returns-in-Known-clause-recorded g c = recorded_none (g.D.Disk.seen.view c.args.disk.now)

@@ -11,16 +11,16 @@ returns-in_err-check_head-clause-looks g c =
     let d2 = c.size.new.self in
     let d3 = c.is_fresh.new.disk in
     let d4 = c.check_head.new.disk in
-    let sync_is : Recorded (g.D.Disk.view d0) (g.D.Disk.view d1) = search rules in
-    let size_is : Recorded (g.D.Disk.view d1) (g.D.Disk.view d2) = search rules in
-    let synced : Looks g.D.Disk.view g.D.Disk.may_leave g.D.Disk.left_at d0 d1 =
-    looks_call g.D.Disk.view g.D.Disk.may_leave g.D.Disk.left_at d0 d1 c.sync.ensures.contents c.sync.ensures.crash c.sync.ensures.time
+    let sync_is : Recorded (g.D.Disk.seen.view d0) (g.D.Disk.seen.view d1) = search rules in
+    let size_is : Recorded (g.D.Disk.seen.view d1) (g.D.Disk.seen.view d2) = search rules in
+    let synced : Looks g.D.Disk.seen d0 d1 =
+    looks_call g.D.Disk.seen d0 d1 c.sync.ensures.contents c.sync.ensures.crash c.sync.ensures.time
     sync_is (omega (arith, c.sync.ensures.reads)) c.sync.ensures.link in
-    let sized : Looks g.D.Disk.view g.D.Disk.may_leave g.D.Disk.left_at d1 d2 =
-    looks_call g.D.Disk.view g.D.Disk.may_leave g.D.Disk.left_at d1 d2 c.size.ensures.contents c.size.ensures.crash c.size.ensures.time
+    let sized : Looks g.D.Disk.seen d1 d2 =
+    looks_call g.D.Disk.seen d1 d2 c.size.ensures.contents c.size.ensures.crash c.size.ensures.time
     size_is (omega (arith, c.size.ensures.reads)) c.size.ensures.link in
-    let fresh = looks_then g.D.Disk.view g.D.Disk.may_leave g.D.Disk.left_at d0 d2 d3 (looks_then g.D.Disk.view g.D.Disk.may_leave g.D.Disk.left_at d0 d1 d2 synced sized) c.is_fresh.ensures.looks in
-    let headed = looks_then g.D.Disk.view g.D.Disk.may_leave g.D.Disk.left_at d0 d3 d4 fresh c.check_head.ensures.looks in
+    let fresh = looks_then g.D.Disk.seen d0 d2 d3 (looks_then g.D.Disk.seen d0 d1 d2 synced sized) c.is_fresh.ensures.looks in
+    let headed = looks_then g.D.Disk.seen d0 d3 d4 fresh c.check_head.ensures.looks in
     headed
 
 pub returns-in_err-ended-clause-looks : goal.returns-in_err-ended-clause-looks
@@ -30,17 +30,17 @@ returns-in_err-ended-clause-looks g c =
     let d2 = c.size.new.self in
     let d3 = c.is_fresh.new.disk in
     let d4 = c.check_head.new.disk in
-    let sync_is : Recorded (g.D.Disk.view d0) (g.D.Disk.view d1) = search rules in
-    let size_is : Recorded (g.D.Disk.view d1) (g.D.Disk.view d2) = search rules in
-    let synced : Looks g.D.Disk.view g.D.Disk.may_leave g.D.Disk.left_at d0 d1 =
-    looks_call g.D.Disk.view g.D.Disk.may_leave g.D.Disk.left_at d0 d1 c.sync.ensures.contents c.sync.ensures.crash c.sync.ensures.time
+    let sync_is : Recorded (g.D.Disk.seen.view d0) (g.D.Disk.seen.view d1) = search rules in
+    let size_is : Recorded (g.D.Disk.seen.view d1) (g.D.Disk.seen.view d2) = search rules in
+    let synced : Looks g.D.Disk.seen d0 d1 =
+    looks_call g.D.Disk.seen d0 d1 c.sync.ensures.contents c.sync.ensures.crash c.sync.ensures.time
     sync_is (omega (arith, c.sync.ensures.reads)) c.sync.ensures.link in
-    let sized : Looks g.D.Disk.view g.D.Disk.may_leave g.D.Disk.left_at d1 d2 =
-    looks_call g.D.Disk.view g.D.Disk.may_leave g.D.Disk.left_at d1 d2 c.size.ensures.contents c.size.ensures.crash c.size.ensures.time
+    let sized : Looks g.D.Disk.seen d1 d2 =
+    looks_call g.D.Disk.seen d1 d2 c.size.ensures.contents c.size.ensures.crash c.size.ensures.time
     size_is (omega (arith, c.size.ensures.reads)) c.size.ensures.link in
-    let fresh = looks_then g.D.Disk.view g.D.Disk.may_leave g.D.Disk.left_at d0 d2 d3 (looks_then g.D.Disk.view g.D.Disk.may_leave g.D.Disk.left_at d0 d1 d2 synced sized) c.is_fresh.ensures.looks in
-    let headed = looks_then g.D.Disk.view g.D.Disk.may_leave g.D.Disk.left_at d0 d3 d4 fresh c.check_head.ensures.looks in
-    looks_then g.D.Disk.view g.D.Disk.may_leave g.D.Disk.left_at d0 d4 c.walk.new.disk headed c.walk.ensures.looks
+    let fresh = looks_then g.D.Disk.seen d0 d2 d3 (looks_then g.D.Disk.seen d0 d1 d2 synced sized) c.is_fresh.ensures.looks in
+    let headed = looks_then g.D.Disk.seen d0 d3 d4 fresh c.check_head.ensures.looks in
+    looks_then g.D.Disk.seen d0 d4 c.walk.new.disk headed c.walk.ensures.looks
 
 pub returns-clause-looks : goal.returns-clause-looks
 returns-clause-looks g c =
@@ -49,14 +49,14 @@ returns-clause-looks g c =
     let d2 = c.size.new.self in
     let d3 = c.is_fresh.new.disk in
     let d4 = c.check_head.new.disk in
-    let sync_is : Recorded (g.D.Disk.view d0) (g.D.Disk.view d1) = search rules in
-    let size_is : Recorded (g.D.Disk.view d1) (g.D.Disk.view d2) = search rules in
-    let synced : Looks g.D.Disk.view g.D.Disk.may_leave g.D.Disk.left_at d0 d1 =
-    looks_call g.D.Disk.view g.D.Disk.may_leave g.D.Disk.left_at d0 d1 c.sync.ensures.contents c.sync.ensures.crash c.sync.ensures.time
+    let sync_is : Recorded (g.D.Disk.seen.view d0) (g.D.Disk.seen.view d1) = search rules in
+    let size_is : Recorded (g.D.Disk.seen.view d1) (g.D.Disk.seen.view d2) = search rules in
+    let synced : Looks g.D.Disk.seen d0 d1 =
+    looks_call g.D.Disk.seen d0 d1 c.sync.ensures.contents c.sync.ensures.crash c.sync.ensures.time
     sync_is (omega (arith, c.sync.ensures.reads)) c.sync.ensures.link in
-    let sized : Looks g.D.Disk.view g.D.Disk.may_leave g.D.Disk.left_at d1 d2 =
-    looks_call g.D.Disk.view g.D.Disk.may_leave g.D.Disk.left_at d1 d2 c.size.ensures.contents c.size.ensures.crash c.size.ensures.time
+    let sized : Looks g.D.Disk.seen d1 d2 =
+    looks_call g.D.Disk.seen d1 d2 c.size.ensures.contents c.size.ensures.crash c.size.ensures.time
     size_is (omega (arith, c.size.ensures.reads)) c.size.ensures.link in
-    let fresh = looks_then g.D.Disk.view g.D.Disk.may_leave g.D.Disk.left_at d0 d2 d3 (looks_then g.D.Disk.view g.D.Disk.may_leave g.D.Disk.left_at d0 d1 d2 synced sized) c.is_fresh.ensures.looks in
-    let headed = looks_then g.D.Disk.view g.D.Disk.may_leave g.D.Disk.left_at d0 d3 d4 fresh c.check_head.ensures.looks in
-    looks_then g.D.Disk.view g.D.Disk.may_leave g.D.Disk.left_at d0 d4 c.walk.new.disk headed c.walk.ensures.looks
+    let fresh = looks_then g.D.Disk.seen d0 d2 d3 (looks_then g.D.Disk.seen d0 d1 d2 synced sized) c.is_fresh.ensures.looks in
+    let headed = looks_then g.D.Disk.seen d0 d3 d4 fresh c.check_head.ensures.looks in
+    looks_then g.D.Disk.seen d0 d4 c.walk.new.disk headed c.walk.ensures.looks

@@ -24,7 +24,7 @@ give_read-requires-clause-place g c =
 
 pub returns-in-Found-clause-stands : goal.returns-in-Found-clause-stands
 returns-in-Found-clause-stands g c =
-    let v = g.D.Disk.view in
+    let v = g.D.Disk.seen.view in
     let old = c.args.disk.now in
     let new = c.fetch.new.disk in
     let m = c.requires.stands.0 in
@@ -36,7 +36,7 @@ returns-in-Found-clause-stands g c =
       m,
       record {
         archive = s.archive ∙ sym c.give_read.ensures.archive;
-        stands = subst (λ (a : Archive). Stands a m.log m.doubt (g.D.Disk.may_leave new)) (sym c.give_read.ensures.archive) (c.in-Found.ensures.stands m.log m.doubt s.stands);
+        stands = subst (λ (a : Archive). Stands a m.log m.doubt (g.D.Disk.seen.may_leave new)) (sym c.give_read.ensures.archive) (c.in-Found.ensures.stands m.log m.doubt s.stands);
         cached = held_read c.args.self.now.cache c.give_read.new.self.cache c.in-Found.place f c.give_read.result c.give_read.ensures.put c.give_read.ensures.none (IsSome (v new).contents) m.log
             (c.in-Found.ensures.valid c.in-Found.place f refl) c.args.address.now found.0 log.0 (λ t. log.1 (told t))
             (held_told _ _ m.log c.args.self.now.cache.entries told s.cached);
@@ -45,7 +45,7 @@ returns-in-Found-clause-stands g c =
 
 pub returns-in-Found-clause-step : goal.returns-in-Found-clause-step
 returns-in-Found-clause-step g c = λ has_told m s.
-    let v = g.D.Disk.view in
+    let v = g.D.Disk.seen.view in
     let old = c.args.disk.now in
     let new = c.fetch.new.disk in
     let a = c.args.address.now in
@@ -57,7 +57,7 @@ returns-in-Found-clause-step g c = λ has_told m s.
     let channel = has_channel m.log a place s.stands.keeps.sound log.0 in
     let is = asked_is m.log channel.0 a place f channel.1 (kept_there c.kept_is_added.ensures.one m.log a place f s.stands.keeps.sound (log.1 has_told) found.0) in
     let given = c.give_read.ensures.gives s.stands.bodies s.stands.body m.log m.doubt s.stands.keeps channel.0 channel.1 in
-    read_gives v g.D.Disk.may_leave g.D.Disk.left_at old new m c.args.self.now c.give_read.new.self (Ask a) c.or_starved.result has_told
+    read_gives g.D.Disk.seen old new m c.args.self.now c.give_read.new.self (Ask a) c.or_starved.result has_told
     (g.met.D.Disk.calls_told old) (g.met.D.Disk.calls_told new) (λ t x left. g.met.D.Disk.no_later new t x left) (λ x left. g.met.D.Disk.at_now new x left)
     c.an_image_fits.ensures s
     (made_step _ m m (Ask a) c.give_read.result c.or_starved.result refl (record { log = refl; doubt = refl })
@@ -65,7 +65,7 @@ returns-in-Found-clause-step g c = λ has_told m s.
     c.in-Found.ensures.any_moment
     (record {
       archive = s.archive ∙ sym c.give_read.ensures.archive;
-      stands = subst (λ (x : Archive). Stands x m.log m.doubt (g.D.Disk.may_leave new)) (sym c.give_read.ensures.archive) (c.in-Found.ensures.stands m.log m.doubt s.stands);
+      stands = subst (λ (x : Archive). Stands x m.log m.doubt (g.D.Disk.seen.may_leave new)) (sym c.give_read.ensures.archive) (c.in-Found.ensures.stands m.log m.doubt s.stands);
       cached = held_read c.args.self.now.cache c.give_read.new.self.cache place f c.give_read.result c.give_read.ensures.put c.give_read.ensures.none (IsSome (v new).contents) m.log
           (c.in-Found.ensures.valid place f refl) a found.0 log.0 (λ t. log.1 (told t))
           (held_told _ _ m.log c.args.self.now.cache.entries told s.cached);
@@ -73,7 +73,7 @@ returns-in-Found-clause-step g c = λ has_told m s.
 
 pub returns-in-Found-clause-replied : goal.returns-in-Found-clause-replied
 returns-in-Found-clause-replied g c = λ m s.
-    let v = g.D.Disk.view in
+    let v = g.D.Disk.seen.view in
     let old = c.args.disk.now in
     let new = c.fetch.new.disk in
     let a = c.args.address.now in
@@ -92,7 +92,7 @@ returns-in-Found-clause-replied g c = λ m s.
       );
       stands = record {
         archive = s.archive ∙ sym c.give_read.ensures.archive;
-        stands = subst (λ (x : Archive). Stands x m.log m.doubt (g.D.Disk.may_leave new)) (sym c.give_read.ensures.archive) (c.in-Found.ensures.stands m.log m.doubt s.stands);
+        stands = subst (λ (x : Archive). Stands x m.log m.doubt (g.D.Disk.seen.may_leave new)) (sym c.give_read.ensures.archive) (c.in-Found.ensures.stands m.log m.doubt s.stands);
         cached = held_read c.args.self.now.cache c.give_read.new.self.cache place f c.give_read.result c.give_read.ensures.put c.give_read.ensures.none (IsSome (v new).contents) m.log
             (c.in-Found.ensures.valid place f refl) a found.0 log.0 (λ t. log.1 (told t))
             (held_told _ _ m.log c.args.self.now.cache.entries told s.cached);
@@ -117,7 +117,7 @@ returns-in-Found-clause-remembers g c =
 
 pub returns-in-Absent-clause-stands : goal.returns-in-Absent-clause-stands
 returns-in-Absent-clause-stands g c =
-    let v = g.D.Disk.view in
+    let v = g.D.Disk.seen.view in
     let old = c.args.disk.now in
     let new = c.fetch.new.disk in
     let m = c.requires.stands.0 in
@@ -133,14 +133,14 @@ returns-in-Absent-clause-stands g c =
 
 pub returns-in-Absent-clause-step : goal.returns-in-Absent-clause-step
 returns-in-Absent-clause-step g c = λ has_told m s.
-    let v = g.D.Disk.view in
+    let v = g.D.Disk.seen.view in
     let old = c.args.disk.now in
     let new = c.fetch.new.disk in
     let a = c.args.address.now in
     let told = told_before (v old) (v new) (g.met.D.Disk.calls_told old) (g.met.D.Disk.calls_told new) c.fetch.ensures.recorded in
     let none = not_kept c.kept_is_added.ensures.place m.log a ((c.in-Absent.ensures.absent m.log m.doubt s.stands).0 refl) in
     let given = c.tell_missing.ensures s.stands.bodies s.stands.body m.log m.doubt s.stands.keeps in
-    read_gives v g.D.Disk.may_leave g.D.Disk.left_at old new m c.args.self.now _ (Ask a) c.or_starved-in-Absent.result has_told
+    read_gives g.D.Disk.seen old new m c.args.self.now _ (Ask a) c.or_starved-in-Absent.result has_told
     (g.met.D.Disk.calls_told old) (g.met.D.Disk.calls_told new) (λ t x left. g.met.D.Disk.no_later new t x left) (λ x left. g.met.D.Disk.at_now new x left)
     c.an_image_fits.ensures s
     (made_step _ m m (Ask a) c.tell_missing.result c.or_starved-in-Absent.result refl (record { log = refl; doubt = refl })
@@ -154,7 +154,7 @@ returns-in-Absent-clause-step g c = λ has_told m s.
 
 pub returns-in-Absent-clause-replied : goal.returns-in-Absent-clause-replied
 returns-in-Absent-clause-replied g c = λ m s.
-    let v = g.D.Disk.view in
+    let v = g.D.Disk.seen.view in
     let old = c.args.disk.now in
     let new = c.fetch.new.disk in
     let told = told_before (v old) (v new) (g.met.D.Disk.calls_told old) (g.met.D.Disk.calls_told new) c.fetch.ensures.recorded in
@@ -185,7 +185,7 @@ returns-in-Absent-clause-remembers g c =
 
 pub returns-in-DiskFault-clause-stands : goal.returns-in-DiskFault-clause-stands
 returns-in-DiskFault-clause-stands g c =
-    let v = g.D.Disk.view in
+    let v = g.D.Disk.seen.view in
     let old = c.args.disk.now in
     let new = c.fetch.new.disk in
     let m = c.requires.stands.0 in
@@ -201,13 +201,13 @@ returns-in-DiskFault-clause-stands g c =
 
 pub returns-in-DiskFault-clause-step : goal.returns-in-DiskFault-clause-step
 returns-in-DiskFault-clause-step g c = λ has_told m s.
-    let v = g.D.Disk.view in
+    let v = g.D.Disk.seen.view in
     let old = c.args.disk.now in
     let new = c.fetch.new.disk in
     let a = c.args.address.now in
     let told = told_before (v old) (v new) (g.met.D.Disk.calls_told old) (g.met.D.Disk.calls_told new) c.fetch.ensures.recorded in
     let kept = kept_if m.log a c.kept_is_added.ensures.place (λ none. absurd (not_absent ((c.in-DiskFault.ensures.absent m.log m.doubt s.stands).1 none))) in
-    read_gives v g.D.Disk.may_leave g.D.Disk.left_at old new m c.args.self.now _ (Ask a) c.refuse.result has_told
+    read_gives g.D.Disk.seen old new m c.args.self.now _ (Ask a) c.refuse.result has_told
     (g.met.D.Disk.calls_told old) (g.met.D.Disk.calls_told new) (λ t x left. g.met.D.Disk.no_later new t x left) (λ x left. g.met.D.Disk.at_now new x left)
     c.an_image_fits.ensures s
     (told_row _ m m (Ask a) cause.DiskFault c.refuse.result refl
@@ -224,7 +224,7 @@ returns-in-DiskFault-clause-step g c = λ has_told m s.
 
 pub returns-in-DiskFault-clause-replied : goal.returns-in-DiskFault-clause-replied
 returns-in-DiskFault-clause-replied g c = λ m s.
-    let v = g.D.Disk.view in
+    let v = g.D.Disk.seen.view in
     let old = c.args.disk.now in
     let new = c.fetch.new.disk in
     let told = told_before (v old) (v new) (g.met.D.Disk.calls_told old) (g.met.D.Disk.calls_told new) c.fetch.ensures.recorded in
@@ -250,7 +250,7 @@ returns-in-DiskFault-clause-replied g c = λ m s.
 
 pub returns-in-Damaged-clause-stands : goal.returns-in-Damaged-clause-stands
 returns-in-Damaged-clause-stands g c =
-    let v = g.D.Disk.view in
+    let v = g.D.Disk.seen.view in
     let old = c.args.disk.now in
     let new = c.fetch.new.disk in
     let m = c.requires.stands.0 in
@@ -269,7 +269,7 @@ returns-in-Damaged-clause-step g c = λ has_told m s. absurd (c.in-Damaged.ensur
 
 pub returns-in-Damaged-clause-replied : goal.returns-in-Damaged-clause-replied
 returns-in-Damaged-clause-replied g c = λ m s.
-    let v = g.D.Disk.view in
+    let v = g.D.Disk.seen.view in
     let old = c.args.disk.now in
     let new = c.fetch.new.disk in
     let told = told_before (v old) (v new) (g.met.D.Disk.calls_told old) (g.met.D.Disk.calls_told new) c.fetch.ensures.recorded in
@@ -295,7 +295,7 @@ returns-in-Damaged-clause-replied g c = λ m s.
 
 pub returns-in-NoMemory-clause-stands : goal.returns-in-NoMemory-clause-stands
 returns-in-NoMemory-clause-stands g c =
-    let v = g.D.Disk.view in
+    let v = g.D.Disk.seen.view in
     let old = c.args.disk.now in
     let new = c.fetch.new.disk in
     let m = c.requires.stands.0 in
@@ -311,11 +311,11 @@ returns-in-NoMemory-clause-stands g c =
 
 pub returns-in-NoMemory-clause-step : goal.returns-in-NoMemory-clause-step
 returns-in-NoMemory-clause-step g c = λ has_told m s.
-    let v = g.D.Disk.view in
+    let v = g.D.Disk.seen.view in
     let old = c.args.disk.now in
     let new = c.fetch.new.disk in
     let told = told_before (v old) (v new) (g.met.D.Disk.calls_told old) (g.met.D.Disk.calls_told new) c.fetch.ensures.recorded in
-    read_gives v g.D.Disk.may_leave g.D.Disk.left_at old new m c.args.self.now _ (Ask c.args.address.now) c.starved.result has_told
+    read_gives g.D.Disk.seen old new m c.args.self.now _ (Ask c.args.address.now) c.starved.result has_told
     (g.met.D.Disk.calls_told old) (g.met.D.Disk.calls_told new) (λ t x left. g.met.D.Disk.no_later new t x left) (λ x left. g.met.D.Disk.at_now new x left)
     c.an_image_fits.ensures s
     (wants (record { log = refl; doubt = refl }) c.starved.ensures)
@@ -328,7 +328,7 @@ returns-in-NoMemory-clause-step g c = λ has_told m s.
 
 pub returns-in-NoMemory-clause-replied : goal.returns-in-NoMemory-clause-replied
 returns-in-NoMemory-clause-replied g c = λ m s.
-    let v = g.D.Disk.view in
+    let v = g.D.Disk.seen.view in
     let old = c.args.disk.now in
     let new = c.fetch.new.disk in
     let told = told_before (v old) (v new) (g.met.D.Disk.calls_told old) (g.met.D.Disk.calls_told new) c.fetch.ensures.recorded in

@@ -83,7 +83,7 @@ returns-in-Some-clause-stands g c =
 
 pub returns-in-Some-clause-step : goal.returns-in-Some-clause-step
 returns-in-Some-clause-step g c = λ has_told m s.
-    let v = g.D.Disk.view in
+    let v = g.D.Disk.seen.view in
     let d = c.args.disk.now in
     let a = c.args.address.now in
     let kept = c.in-Some.kept.now in
@@ -92,12 +92,12 @@ returns-in-Some-clause-step g c = λ has_told m s.
     let is = asked_is m.log channel.0 a kept.place kept.fragment channel.1
     (kept_there c.kept_is_added.ensures.one m.log a kept.place kept.fragment s.stands.keeps.sound (h.same has_told) h.address) in
     let given = c.give_kept.ensures s.stands.bodies s.stands.body m.log m.doubt s.stands.keeps channel.0 channel.1 in
-    read_gives v g.D.Disk.may_leave g.D.Disk.left_at d d m c.args.self.now _ (Ask a) c.or_starved.result has_told
+    read_gives g.D.Disk.seen d d m c.args.self.now _ (Ask a) c.or_starved.result has_told
     (g.met.D.Disk.calls_told d) (g.met.D.Disk.calls_told d) (λ t x left. g.met.D.Disk.no_later d t x left) (λ x left. g.met.D.Disk.at_now d x left)
     c.an_image_fits.ensures s
     (made_step _ m m (Ask a) c.give_kept.result c.or_starved.result refl (record { log = refl; doubt = refl })
     (subst (λ x. IfOk c.give_kept.result (λ r. r ≡ x)) (sym is) given) c.or_starved.ensures)
-    (no_call v g.D.Disk.left_at d _ (λ t x left. g.met.D.Disk.no_later d t x left))
+    (no_call g.D.Disk.seen d _ (λ t x left. g.met.D.Disk.no_later d t x left))
     (record {
       archive = s.archive;
       stands = s.stands;

@@ -13,16 +13,16 @@ use Rattle.sm_origin.proofs.origin.Origin.recall.Goals as goal
 
 pub returns-in-Some-clause-step : goal.returns-in-Some-clause-step
 returns-in-Some-clause-step g c = λ has_told m s.
-    let v = g.D.Disk.view in
+    let v = g.D.Disk.seen.view in
     let d = c.args.disk.now in
     let a = c.args.address.now in
     let kept = c.in-Some.kept.now in
     let r = c.again.result in
-    read_gives v g.D.Disk.may_leave g.D.Disk.left_at d d m c.args.self.now c.args.self.now (Ask a) (reply_to_fetched m.log a r) has_told
+    read_gives g.D.Disk.seen d d m c.args.self.now c.args.self.now (Ask a) (reply_to_fetched m.log a r) has_told
     (g.met.D.Disk.calls_told d) (g.met.D.Disk.calls_told d) (λ t x left. g.met.D.Disk.no_later d t x left) (λ x left. g.met.D.Disk.at_now d x left)
     c.an_image_fits.ensures s
     (recall_step _ m a r (again_undamaged kept r c.again.ensures) (λ bad. absurd (again_unfailed kept r c.again.ensures bad)))
-    (no_call v g.D.Disk.left_at d _ (λ t x left. g.met.D.Disk.no_later d t x left))
+    (no_call g.D.Disk.seen d _ (λ t x left. g.met.D.Disk.no_later d t x left))
     s
 
 pub returns-in-Some-clause-found : goal.returns-in-Some-clause-found
@@ -54,7 +54,7 @@ returns-in-Some-clause-fault g c bad = absurd (again_unfailed c.in-Some.kept.now
 
 pub returns-in-None-clause-stands : goal.returns-in-None-clause-stands
 returns-in-None-clause-stands g c =
-    let v = g.D.Disk.view in
+    let v = g.D.Disk.seen.view in
     let old = c.args.disk.now in
     let new = c.fetch.new.disk in
     let m = c.requires.stands.0 in
@@ -70,14 +70,14 @@ returns-in-None-clause-stands g c =
 
 pub returns-in-None-clause-step : goal.returns-in-None-clause-step
 returns-in-None-clause-step g c = λ has_told m s.
-    let v = g.D.Disk.view in
+    let v = g.D.Disk.seen.view in
     let old = c.args.disk.now in
     let new = c.fetch.new.disk in
     let a = c.args.address.now in
     let r = c.fetch.result in
     let told = told_before (v old) (v new) (g.met.D.Disk.calls_told old) (g.met.D.Disk.calls_told new) c.fetch.ensures.recorded in
     let there = c.fetch.ensures.absent m.log m.doubt s.stands in
-    read_gives v g.D.Disk.may_leave g.D.Disk.left_at old new m c.args.self.now c.args.self.now (Ask a) (reply_to_fetched m.log a r) has_told
+    read_gives g.D.Disk.seen old new m c.args.self.now c.args.self.now (Ask a) (reply_to_fetched m.log a r) has_told
     (g.met.D.Disk.calls_told old) (g.met.D.Disk.calls_told new) (λ t x left. g.met.D.Disk.no_later new t x left) (λ x left. g.met.D.Disk.at_now new x left)
     c.an_image_fits.ensures s
     (recall_step _ m a r (λ bad. c.fetch.ensures.damaged bad m.log m.doubt s.stands has_told)

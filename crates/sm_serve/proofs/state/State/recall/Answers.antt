@@ -7,11 +7,8 @@ use Rattle.sm_serve.proofs.state.State.recall.Goals as goal
 
 pub returns-clause-runs : goal.returns-clause-runs
 returns-clause-runs g c h serves =
-    let V = g.S.Disk.view in
-    let A = g.S.Disk.may_leave in
-    let L = g.S.Disk.left_at in
     let d = c.args.site.now in
     let e = c.recall.new.disk in
-    let a = acted V A L g.met.S.Disk.told h d e c.args.self.now.origin (Ask c.args.address.now) (reply_to_fetched h.point.machine.log c.args.address.now c.recall.result) None serves.keeps
+    let a = acted g.S.Disk.seen g.met.S.Disk.told h d e c.args.self.now.origin (Ask c.args.address.now) (reply_to_fetched h.point.machine.log c.args.address.now c.recall.result) None serves.keeps
     c.recall.ensures.told g.met.S.Disk.now_at g.met.S.Disk.calls_told (λ has. c.recall.ensures.step has h.point.machine serves.rest.stands) c.recall.ensures.stands c.recall.ensures.disk_alone.link c.recall.ensures.disk_alone.no_fewer in
-    recalls V A L h c.args.address.now c.recall.result c.args.self.now d e serves a
+    recalls g.S.Disk.seen h c.args.address.now c.recall.result c.args.self.now d e serves a

@@ -5,7 +5,7 @@ use Rattle.sm_site.proofs.Connections.{tracks_shut}
 use Rattle.sm_site.proofs.Given.{script_quiet}
 use Rattle.sm_site.proofs.Ordered.{ordered_step}
 use Rattle.sm_site.proofs.Opens.{live_open}
-use Rattle.sm_site.proofs.Steps.{adds_item}
+use Rattle.sm_site.proofs.Steps.{adds_item, link_step}
 use Rattle.sm_site.proofs.memory_link.MemorySiteLink.close.Goals as goal
 
 pub returns-clause-shut : goal.returns-clause-shut
@@ -23,3 +23,6 @@ invariant_of-self-clause-scripted c = script_quiet c.args.self.now.past.items c.
 
 pub invariant_of-self-clause-ordered : goal.invariant_of-self-clause-ordered
 invariant_of-self-clause-ordered c = ordered_step c.args.self.now.past.items c.note_shut.new.past.items (Shut c.args.conn) c.note_shut.ensures.past refl c.args.self.now.ordered
+
+pub returns-clause-link_alone : goal.returns-clause-link_alone
+returns-clause-link_alone c = link_step _ _ (Shut c.args.conn) refl c.note_shut.ensures.past (λ s. refl) refl (λ m. refl) refl refl refl

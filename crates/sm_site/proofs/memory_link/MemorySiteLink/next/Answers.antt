@@ -8,7 +8,7 @@ use Rattle.sm_site.specs.Past.{Agrees, State, after, numbers_of, start}
 use Rattle.sm_site.specs.Scripts.{IsTaken, is_script, number_after}
 use Rattle.sm_site.proofs.Given.{numbers_push, taken_good, rising}
 use Rattle.sm_site.proofs.Ordered.{new_event, ordered_step}
-use Rattle.sm_site.proofs.Steps.{adds_item, after_push}
+use Rattle.sm_site.proofs.Steps.{adds_item, after_push, link_step}
 use Rattle.sm_site.proofs.memory_link.MemorySiteLink.next.Goals as goal
 
 pub returns-in-Ok-clause-taken : goal.returns-in-Ok-clause-taken
@@ -51,3 +51,6 @@ invariant_of-self-in-Ok-1 c =
       scripted = subst (λ (m : ℕ). IsTrue (is_script m (drop taken self.script.items))) (sym given) good.script;
       ordered = ordered_step self.past.items later (Took event) c.in-Ok.ensures.past (new_event n (number_after n (deal_of event)) event good.gives) self.ordered;
     }
+
+pub returns-in-Ok-clause-link_alone : goal.returns-in-Ok-clause-link_alone
+returns-in-Ok-clause-link_alone c = link_step _ _ (Took c.in-Ok.event) refl c.in-Ok.ensures.past (λ s. refl) refl (λ m. refl) refl refl refl

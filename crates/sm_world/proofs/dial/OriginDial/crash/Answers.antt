@@ -10,8 +10,8 @@ invariant_of-self g c =
     let d = c.self.inside.site in
     let e = c.crash_here.new.self in
     let tells = g.met.S.Crashing.tells e in
-    let x = crashes g.S.Disk.view g.S.Disk.may_leave g.S.Disk.left_at i.2.0 c.self.inside.state d e (g.met.S.Crashing.tells d).contents tells.contents
-    c.crash_here.ensures.image c.crash_here.ensures.settled (empty_told (g.S.Disk.view e).transcript tells.transcript c.crash_here.ensures.transcript) i.2.1 in
+    let x = crashes g.S.Disk.seen i.2.0 c.self.inside.state d e (g.met.S.Crashing.tells d).contents tells.contents
+    c.crash_here.ensures.image c.crash_here.ensures.settled (empty_told (g.S.Disk.seen.view e).transcript tells.transcript c.crash_here.ensures.transcript) i.2.1 in
     (i.0, i.1, (x.0, x.1), i.3)
 
 pub returns-clause-crashes : goal.returns-clause-crashes
@@ -19,7 +19,7 @@ returns-clause-crashes g c =
     let d = c.self.inside.site in
     let e = c.crash_here.new.self in
     let tells = g.met.S.Crashing.tells e in
-    subst (λ (v : _). (w : World) → Stands g.S.Disk.view g.S.Disk.may_leave g.S.Disk.left_at w v.1.state v.0
-    → (now : World) × IsClosed g.S.Disk.view g.S.Disk.may_leave now e × Crashes (g.S.Disk.view v.0).transcript w now) c.self.view_is
-    (λ w stands. crashes g.S.Disk.view g.S.Disk.may_leave g.S.Disk.left_at w c.self.inside.state d e (g.met.S.Crashing.tells d).contents tells.contents
-    c.crash_here.ensures.image c.crash_here.ensures.settled (empty_told (g.S.Disk.view e).transcript tells.transcript c.crash_here.ensures.transcript) stands)
+    subst (λ (v : _). (w : World) → Stands g.S.Disk.seen w v.1.state v.0
+    → (now : World) × IsClosed g.S.Disk.seen now e × Crashes (g.S.Disk.seen.view v.0).transcript w now) c.self.view_is
+    (λ w stands. crashes g.S.Disk.seen w c.self.inside.state d e (g.met.S.Crashing.tells d).contents tells.contents
+    c.crash_here.ensures.image c.crash_here.ensures.settled (empty_told (g.S.Disk.seen.view e).transcript tells.transcript c.crash_here.ensures.transcript) stands)

@@ -7,12 +7,12 @@ invariant_of-result g c =
     let tells = g.met.S.Crashing.tells c.args.site in (
       c.requires.bytes,
       c.requires.entries,
-      some_world g.S.Disk.view g.S.Disk.may_leave g.S.Disk.left_at c.args.site [] tells.contents tells.transcript c.requires.settled c.requires.store,
+      some_world g.S.Disk.seen c.args.site [] tells.contents tells.transcript c.requires.settled c.requires.store,
       omega arith,
     )
 
 pub returns-clause-stands : goal.returns-clause-stands
 returns-clause-stands g c log store =
     let tells = g.met.S.Crashing.tells c.args.site in
-    begins_closed g.S.Disk.view g.S.Disk.may_leave g.S.Disk.left_at c.args.site log (g.S.Crashing.openings c.args.site) tells.contents tells.transcript
+    begins_closed g.S.Disk.seen c.args.site log (g.S.Crashing.openings c.args.site) tells.contents tells.transcript
     c.requires.settled store

@@ -13,8 +13,8 @@ invariant_of-self g c =
       i.1,
       (
         i.2.0,
-        stays g.S.Disk.view g.S.Disk.may_leave g.S.Disk.left_at c.fewer_images_stand.ensures i.2.0 d e
-            (same_view (g.S.Disk.view d) (g.S.Disk.view e) c.stop_after.ensures.view) c.stop_after.ensures.crash c.stop_after.ensures.past c.self.inside.state i.2.1,
+        stays g.S.Disk.seen c.fewer_images_stand.ensures i.2.0 d e
+            (same_view (g.S.Disk.seen.view d) (g.S.Disk.seen.view e) c.stop_after.ensures.view) c.stop_after.ensures.crash c.stop_after.ensures.past c.self.inside.state i.2.1,
       ),
       i.3,
     )
@@ -23,7 +23,7 @@ pub returns-clause-stands : goal.returns-clause-stands
 returns-clause-stands g c =
     let d = c.self.inside.site in
     let e = c.stop_after.new.self in
-    subst (λ (v : _). (w : World) → Stands g.S.Disk.view g.S.Disk.may_leave g.S.Disk.left_at w v.1.state v.0
-    → Stands g.S.Disk.view g.S.Disk.may_leave g.S.Disk.left_at w c.self.inside.state e) c.self.view_is
-    (λ w stands. stays g.S.Disk.view g.S.Disk.may_leave g.S.Disk.left_at c.fewer_images_stand.ensures w d e
-    (same_view (g.S.Disk.view d) (g.S.Disk.view e) c.stop_after.ensures.view) c.stop_after.ensures.crash c.stop_after.ensures.past c.self.inside.state stands)
+    subst (λ (v : _). (w : World) → Stands g.S.Disk.seen w v.1.state v.0
+    → Stands g.S.Disk.seen w c.self.inside.state e) c.self.view_is
+    (λ w stands. stays g.S.Disk.seen c.fewer_images_stand.ensures w d e
+    (same_view (g.S.Disk.seen.view d) (g.S.Disk.seen.view e) c.stop_after.ensures.view) c.stop_after.ensures.crash c.stop_after.ensures.past c.self.inside.state stands)

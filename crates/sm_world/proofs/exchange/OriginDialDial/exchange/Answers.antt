@@ -25,17 +25,14 @@ returns-clause-answers g c =
     let cut : c.contains-cut.result ≡ is_listed (next_number v) v.cut =
     c.contains-cut.ensures ∙ ap (λ (v : _). is_listed number v.1.cut) c.self.view_is ∙ ap (λ (n : ℕ). is_listed n v.cut) is
     in
-    let V = g.S.Disk.view in
-    let A = g.S.Disk.may_leave in
-    let L = g.S.Disk.left_at in
     let e = c.ask-state.new.site in
-    let says : SaysOn V A L c.self.inside.state c.self.inside.site c.args.request.now came c.ask-state.result.state e =
-    subst (λ (o : Option State). SaysOn V A L o c.self.inside.site c.args.request.now came c.ask-state.result.state e) c.take-state.ensures.value c.ask-state.ensures.says
+    let says : SaysOn g.S.Disk.seen c.self.inside.state c.self.inside.site c.args.request.now came c.ask-state.result.state e =
+    subst (λ (o : Option State). SaysOn g.S.Disk.seen o c.self.inside.site c.args.request.now came c.ask-state.result.state e) c.take-state.ensures.value c.ask-state.ensures.says
     in (
       came,
-      subst (λ (v : _). HasCause V v.1.state v.0 c.ask-state.result.state e c.args.request.now came) c.self.view_is
-          (subst (λ (o : Option State). HasCause V o c.self.inside.site c.ask-state.result.state e c.args.request.now came) c.take-state.ensures.value c.ask-state.ensures.cause),
-      subst (λ (v : _). SaysOn V A L v.1.state v.0 c.args.request.now came c.ask-state.result.state e) c.self.view_is says,
+      subst (λ (v : _). HasCause g.S.Disk.seen.view v.1.state v.0 c.ask-state.result.state e c.args.request.now came) c.self.view_is
+          (subst (λ (o : Option State). HasCause g.S.Disk.seen.view o c.self.inside.site c.ask-state.result.state e c.args.request.now came) c.take-state.ensures.value c.ask-state.ensures.cause),
+      subst (λ (v : _). SaysOn g.S.Disk.seen v.1.state v.0 c.args.request.now came c.ask-state.result.state e) c.self.view_is says,
       ⊎_elim
           (λ wants. inl wants)
           (λ same. inr (same ∙ c.answer_for-answer.ensures ∙ ap (λ (b : Bool). answer_for b c.contains-cut.result c.args.limit came) lost
@@ -45,18 +42,15 @@ returns-clause-answers g c =
 
 pub returns-clause-store : goal.returns-clause-store
 returns-clause-store g c =
-    let V = g.S.Disk.view in
-    let A = g.S.Disk.may_leave in
-    let L = g.S.Disk.left_at in
     let e = c.ask-state.new.site in
     let state = c.ask-state.result.state in
     let answer = c.told.result in
     let came = c.ask-state.result.acted in
-    let says : SaysOn V A L c.self.inside.state c.self.inside.site c.args.request.now came state e =
-    subst (λ (o : Option State). SaysOn V A L o c.self.inside.site c.args.request.now came state e) c.take-state.ensures.value c.ask-state.ensures.says
+    let says : SaysOn g.S.Disk.seen c.self.inside.state c.self.inside.site c.args.request.now came state e =
+    subst (λ (o : Option State). SaysOn g.S.Disk.seen o c.self.inside.site c.args.request.now came state e) c.take-state.ensures.value c.ask-state.ensures.says
     in
-    subst (λ (v : _). AnswersFrom (StandsAt V A L v.1.state v.0) (StandsAt V A L state e) c.args.request.now answer) c.self.view_is
-    (answers_on V A L c.self.inside.state state c.self.inside.site e c.args.request.now c.contains-lost.result c.contains-cut.result c.args.limit came answer says
+    subst (λ (v : _). AnswersFrom (StandsAt g.S.Disk.seen v.1.state v.0) (StandsAt g.S.Disk.seen state e) c.args.request.now answer) c.self.view_is
+    (answers_on g.S.Disk.seen c.self.inside.state state c.self.inside.site e c.args.request.now c.contains-lost.result c.contains-cut.result c.args.limit came answer says
     (⊎_elim (λ (wants : answer ≡ answers.NoMemory). inl wants) (λ (same : answer ≡ c.answer_for-answer.result). inr (same ∙ c.answer_for-answer.ensures)) c.told.ensures.same))
 
 pub returns-clause-within : goal.returns-clause-within
@@ -69,21 +63,18 @@ returns-clause-within g c = ⊎_elim
 pub returns-clause-goes_on : goal.returns-clause-goes_on
 returns-clause-goes_on g c =
     let s = c.self.inside in
-    let V = g.S.Disk.view in
-    let A = g.S.Disk.may_leave in
-    let L = g.S.Disk.left_at in
     let e = c.ask-state.new.site in
     let state = c.ask-state.result.state in
     let came = c.ask-state.result.acted in
     let n = length s.made.items - s.since + 1 in
-    let goes : GoesOn V A L s.state s.site state e = subst (λ (o : Option State). GoesOn V A L o s.site state e) c.take-state.ensures.value c.ask-state.ensures.goes_on in
-    let says : SaysOn V A L s.state s.site c.args.request.now came state e =
-    subst (λ (o : Option State). SaysOn V A L o s.site c.args.request.now came state e) c.take-state.ensures.value c.ask-state.ensures.says
+    let goes : GoesOn g.S.Disk.seen s.state s.site state e = subst (λ (o : Option State). GoesOn g.S.Disk.seen o s.site state e) c.take-state.ensures.value c.ask-state.ensures.goes_on in
+    let says : SaysOn g.S.Disk.seen s.state s.site c.args.request.now came state e =
+    subst (λ (o : Option State). SaysOn g.S.Disk.seen o s.site c.args.request.now came state e) c.take-state.ensures.value c.ask-state.ensures.says
     in
     let number : c.number-number.result ≡ n = c.number-number.ensures ∙ sym (ap (λ (v : _). next_number v.1) c.self.view_is) in
     let lost : c.contains-lost.result ≡ is_listed n s.lost = c.contains-lost.ensures ∙ ap (λ (k : ℕ). is_listed k s.lost) number in
     let cut : c.contains-cut.result ≡ is_listed n s.cut = c.contains-cut.ensures ∙ ap (λ (k : ℕ). is_listed k s.cut) number in
-    subst (λ (v : _). IsLater V A L v (
+    subst (λ (v : _). IsLater g.S.Disk.seen v (
       e,
       record {
         state = state;
@@ -96,7 +87,7 @@ returns-clause-goes_on g c =
         crashes = s.crashes;
       },
     )) c.self.view_is
-    (later_exchange V A L _ _ c.args.request.now c.args.limit came says c.told.result c.told.ensures.made
+    (later_exchange g.S.Disk.seen _ _ c.args.request.now c.args.limit came says c.told.result c.told.ensures.made
     (⊎_elim (λ (wants : c.told.result ≡ answers.NoMemory). inl wants)
     (λ (same : c.told.result ≡ c.answer_for-answer.result). inr (same ∙ c.answer_for-answer.ensures ∙ ap (λ (b : Bool). answer_for b c.contains-cut.result c.args.limit came) lost
     ∙ ap (λ (b : Bool). answer_for (is_listed n s.lost) b c.args.limit came) cut))
@@ -107,11 +98,8 @@ pub invariant_of-self : goal.invariant_of-self
 invariant_of-self g c =
     let i = c.self.invariant in
     let s = c.self.inside in
-    let V = g.S.Disk.view in
-    let A = g.S.Disk.may_leave in
-    let L = g.S.Disk.left_at in
-    let goes : GoesOn V A L s.state s.site c.ask-state.result.state c.ask-state.new.site =
-    subst (λ (o : Option State). GoesOn V A L o s.site c.ask-state.result.state c.ask-state.new.site) c.take-state.ensures.value c.ask-state.ensures.goes_on
+    let goes : GoesOn g.S.Disk.seen s.state s.site c.ask-state.result.state c.ask-state.new.site =
+    subst (λ (o : Option State). GoesOn g.S.Disk.seen o s.site c.ask-state.result.state c.ask-state.new.site) c.take-state.ensures.value c.ask-state.ensures.goes_on
     in
     let w = goes i.2.0 i.2.1 in
     (i.0, i.1, (w.0, w.1), since_within s.since s.made.items c.told.new.made.items c.args.request.now c.args.limit c.told.result i.3 c.told.ensures.made)

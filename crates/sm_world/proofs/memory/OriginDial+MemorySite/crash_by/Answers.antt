@@ -1,5 +1,5 @@
 use Rattle.std.proofs.Common.{refl, subst}
-use Rattle.sm_site.specs.Memory.{site_left_at, site_may_leave, site_view}
+use Rattle.sm_site.specs.Memory.{site_seen, site_view}
 use Rattle.sm_world.specs.Worlds.{World, Stands, IsClosed, Crashes}
 use Rattle.sm_world.proofs.Calls.{empty_told}
 use Rattle.sm_world.proofs.Standing.{crashes}
@@ -10,7 +10,7 @@ invariant_of-self c =
     let i = c.self.invariant in
     let d = c.self.inside.site in
     let e = c.crash_here.new.self in
-    let x = crashes site_view site_may_leave site_left_at i.2.0 c.self.inside.state d e refl refl
+    let x = crashes site_seen i.2.0 c.self.inside.state d e refl refl
     c.crash_here.ensures.image c.crash_here.ensures.settled (empty_told (site_view e).transcript refl c.crash_here.ensures.transcript) i.2.1 in
     (i.0, i.1, (x.0, x.1), i.3)
 
@@ -18,7 +18,7 @@ pub returns-clause-crashes : goal.returns-clause-crashes
 returns-clause-crashes c =
     let d = c.self.inside.site in
     let e = c.crash_here.new.self in
-    subst (λ (v : _). (w : World) → Stands site_view site_may_leave site_left_at w v.1.state v.0
-    → (now : World) × IsClosed site_view site_may_leave now e × Crashes (site_view v.0).transcript w now) c.self.view_is
-    (λ w stands. crashes site_view site_may_leave site_left_at w c.self.inside.state d e refl refl
+    subst (λ (v : _). (w : World) → Stands site_seen w v.1.state v.0
+    → (now : World) × IsClosed site_seen now e × Crashes (site_view v.0).transcript w now) c.self.view_is
+    (λ w stands. crashes site_seen w c.self.inside.state d e refl refl
     c.crash_here.ensures.image c.crash_here.ensures.settled (empty_told (site_view e).transcript refl c.crash_here.ensures.transcript) stands)

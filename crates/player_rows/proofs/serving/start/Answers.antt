@@ -1,5 +1,5 @@
 use Rattle.std.proofs.Common.{refl}
-use Rattle.shelf_rows.proofs.serving.start.Goals as goal
+use Rattle.player_rows.proofs.serving.start.Goals as goal
 
 pub run-requires-clause-known : goal.run-requires-clause-known
 run-requires-clause-known g c some =

@@ -3,8 +3,8 @@ use Rattle.std.proofs.lemmas.List.Elements.{All-push}
 use Rattle.sm_model.specs.Fragments.{IsValid}
 use Rattle.sm_log.specs.Adds.{Add}
 use Rattle.sm_shelf.proofs.Places.{listing_grows}
-use Rattle.shelf_rows.proofs.Filled.{same_grows}
-use Rattle.shelf_rows.proofs.filling.Filling.add.Goals as goal
+use Rattle.player_rows.proofs.Filled.{same_grows}
+use Rattle.player_rows.proofs.filling.Filling.add.Goals as goal
 
 pub invariant_of-self-2-clause-listing : goal.invariant_of-self-2-clause-listing
 invariant_of-self-2-clause-listing c =

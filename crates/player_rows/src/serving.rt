@@ -1,6 +1,6 @@
 //! The loop with a shelf beside it, over what a site brings.
 ghost use Rattle.std.specs.Prelude.{◌≡◌};
-ghost use Rattle.sm_site.specs.Memory.{site_view, site_may_leave, site_left_at};
+ghost use Rattle.sm_site.specs.Memory.{site_seen};
 ghost use Rattle.sm_origin.specs.Machine.{Machine};
 ghost use Rattle.sm_serve.specs.Standing.{StandsOn};
 ghost use Rattle.sm_serve.specs.Serving.{Known};
@@ -46,8 +46,8 @@ fn run<R: Wait>(
     is_shown: bool,
     tale: &mut Tale,
 ) -> Result<()>
-    requires stands { (m : Machine) × StandsOn site_view site_may_leave m state.old.origin site.old }
-    requires known { Known site_view site_may_leave site_left_at state.old site.old }
+    requires stands { (m : Machine) × StandsOn site_seen m state.old.origin site.old }
+    requires known { Known site_seen state.old site.old }
 {
     let served = if is_shown {
         serve_shown(rt, site, state, writer, TURNS)
