@@ -6,27 +6,15 @@ use anyhow::{Result, bail};
 use sm_ends::{Calls, MemorySource};
 use sm_fetch::{Place, Pushed, push_body};
 use sm_model::{Bytes, Name};
-use sm_rows::scripts::{Cut, is_quiet, site};
+use sm_rows::scripts::{Cut, is_quiet, numbers, site};
 use sm_rows::tales::Tale;
 use sm_rows::{Case, Line, Words, disks};
-use sm_site::{Crashing, Disk, Failed, MemorySite, Numbers};
+use sm_site::{Crashing, Disk, Failed, MemorySite};
 use sm_world::OriginDial;
 use std::alloc::Global;
 
 // The most numbers of writes and syncs behind which a disk is stopped.
 const STOPS: u64 = 1_000;
-
-// The numbers of the first line with this key, if there is one.
-fn numbers(alloc: Global, case: &Case<'_>, key: &str) -> Result<Numbers> {
-    let mut all = Vec::new(alloc);
-    if case.has(key) {
-        let words = case.words_of(alloc, key)?;
-        for at in 0..words.len() {
-            all.push(words.number(at)?)?;
-        }
-    }
-    Ok(Numbers::from_vec(all))
-}
 
 // Pushes a body, all of which has to be taken.
 fn push(alloc: Global, dial: &mut OriginDial<MemorySite>, body: &[u8]) -> Result<()> {

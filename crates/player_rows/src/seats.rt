@@ -1,9 +1,9 @@
 //! The readers of a row.
 use crate::asking::{Answered, ask_fragment, ask_manifest};
-use crate::values::address;
 use crate::watching::{Sight, Watched, start};
 use anyhow::{Result, bail};
 use sm_model::Text;
+use sm_rows::stored::address;
 use sm_rows::tales::Tale;
 use sm_rows::{Line, Words};
 use sm_shelf::{Readers, ShelfReader, Shown, Told};

@@ -5,10 +5,11 @@ ghost use Rattle.sm_shelf.specs.Laying.{IsValidEntry};
 
 use crate::filling::Filling;
 use crate::seats::{Seats, is_of_reader};
-use crate::values::{add_to, channel, fragment};
+use crate::values::{channel, fragment};
 use anyhow::{Result, bail};
 use sm_model::{Channel, Entry, Fragment, Track};
 use sm_rows::scripts::is_quiet;
+use sm_rows::stored::add_to;
 use sm_rows::tales::Tale;
 use sm_rows::{Case, Line, Words};
 use sm_shelf::{Readers, ShelfWriter, Told, make};

@@ -17,7 +17,7 @@ pub fn before<'t>(text: &'t [u8], end: &[u8]) -> Option<&'t [u8]>
     text.strip_suffix(end)
 }
 
-/// Where that byte first stands, or the length.
+// Where that byte first stands, or the length.
 fn first(text: &[u8], byte: u8) -> usize
     ensures is { result ≡ position_or_len (λ b. b == byte) text.now }
     ensures within { result ≤ length text.now }

@@ -1,10 +1,10 @@
 //! Targets written.
-ghost use Rattle.std.specs.Prelude.{◌≡◌, ◌++◌, decimal, OnOk, IfOk};
+ghost use Rattle.std.specs.Prelude.{◌≡◌, ◌++◌, OnOk, IfOk};
 ghost use Rattle.percent_encoding.specs.Percent.{percent_encode};
 ghost use Rattle.sm_addr.specs.Written.{escaped, is_plain, is_plain_in_path, level_text, place_text, form_text, target_written};
 
 use percent_encoding::{AsciiSet, NON_ALPHANUMERIC, ascii_set, percent_encode};
-use sm_model::{Bytes, NoMemory, Target};
+use sm_model::{Bytes, NoMemory, Target, put, put_number};
 use std::alloc::Global;
 
 /// What is escaped in a name: all but ASCII letters, digits, `_`, `-` and `.`.
@@ -20,13 +20,6 @@ pub const PATH_ESCAPES: AsciiSet = ascii_set!(
         .remove(b'.')
         .remove(b'/')
 );
-
-fn put(out: &mut Vec<u8>, piece: &[u8]) -> Result<(), NoMemory>
-    ensures { OnOk result (out.new.items ≡ out.old.items ++ piece.now) }
-{
-    out.extend_from_slice(piece)?;
-    Ok(())
-}
 
 fn put_escaped(
     alloc: Global,
@@ -53,13 +46,6 @@ fn put_path(alloc: Global, out: &mut Vec<u8>, path: &[u8]) -> Result<(), NoMemor
     ensures { OnOk result (out.new.items ≡ out.old.items ++ escaped is_plain_in_path path.now) }
 {
     put_escaped(alloc, out, path, PATH_ESCAPES)
-}
-
-fn put_number(alloc: Global, out: &mut Vec<u8>, number: u64) -> Result<(), NoMemory>
-    ensures { OnOk result (out.new.items ≡ out.old.items ++ decimal number) }
-{
-    let text = format!(in alloc; "{number}")?;
-    put(out, text.as_bytes())
 }
 
 fn put_level(alloc: Global, out: &mut Vec<u8>, bitrate: u32) -> Result<(), NoMemory>

@@ -10,7 +10,7 @@ use percent_encoding::percent_decode;
 use sm_model::{Address, Name, NameFault, NoMemory, Target, number_of};
 use std::alloc::Global;
 
-/// The text that a target stands for: all before a `?`, with the escapes read.
+// The text that a target stands for: all before a `?`, with the escapes read.
 fn unescaped(alloc: Global, bytes: &[u8]) -> Result<Vec<u8>, NoMemory>
     ensures { IfOk result (λ text. text.items ≡ target_text bytes.now) }
 {
@@ -20,7 +20,7 @@ fn unescaped(alloc: Global, bytes: &[u8]) -> Result<Vec<u8>, NoMemory>
     Ok(text)
 }
 
-/// A push under the name that the bytes are, if they are one.
+// A push under the name that the bytes are, if they are one.
 fn streams(alloc: Global, id: &[u8]) -> Result<Target, NoMemory>
     ensures { IfOk result (λ target. target ≡ spec.streams id.now) }
 {
@@ -31,7 +31,7 @@ fn streams(alloc: Global, id: &[u8]) -> Result<Target, NoMemory>
     }
 }
 
-/// A fragment of the stream that the bytes name, if they do.
+// A fragment of the stream that the bytes name, if they do.
 fn fragment(alloc: Global, bitrate: u32, stream: &[u8], time: u64) -> Result<Target, NoMemory>
     ensures { IfOk result (λ target. target ≡ spec.fragment bitrate stream.now time) }
 {
@@ -46,7 +46,7 @@ fn fragment(alloc: Global, bitrate: u32, stream: &[u8], time: u64) -> Result<Tar
     }
 }
 
-/// The number in `=T)`.
+// The number in `=T)`.
 fn time_in(text: &[u8]) -> Option<u64>
     ensures { result ≡ spec.time_in text.now }
 {
@@ -59,7 +59,7 @@ fn time_in(text: &[u8]) -> Option<u64>
     }
 }
 
-/// What `NAME=T)` names, at this bitrate.
+// What `NAME=T)` names, at this bitrate.
 fn fragment_at(alloc: Global, bitrate: u32, text: &[u8]) -> Result<Target, NoMemory>
     ensures { IfOk result (λ target. target ≡ spec.fragment_at bitrate text.now) }
 {
@@ -70,7 +70,7 @@ fn fragment_at(alloc: Global, bitrate: u32, text: &[u8]) -> Result<Target, NoMem
     }
 }
 
-/// What `B)/Fragments(NAME=T)` names.
+// What `B)/Fragments(NAME=T)` names.
 fn level_at(alloc: Global, text: &[u8]) -> Result<Target, NoMemory>
     ensures { IfOk result (λ target. target ≡ spec.level_at text.now) }
 {
@@ -84,7 +84,7 @@ fn level_at(alloc: Global, text: &[u8]) -> Result<Target, NoMemory>
     }
 }
 
-/// What the text behind `.isml/` names.
+// What the text behind `.isml/` names.
 fn target_behind(alloc: Global, rest: &[u8]) -> Result<Target, NoMemory>
     ensures { IfOk result (λ target. target ≡ spec.target_behind rest.now) }
 {
@@ -103,7 +103,7 @@ fn target_behind(alloc: Global, rest: &[u8]) -> Result<Target, NoMemory>
     Ok(Target::Unknown)
 }
 
-/// What the unescaped text of a target names.
+// What the unescaped text of a target names.
 fn target_in(alloc: Global, text: &[u8]) -> Result<Target, NoMemory>
     ensures { IfOk result (λ target. target ≡ target_in text.now) }
 {

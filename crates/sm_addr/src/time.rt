@@ -1,16 +1,11 @@
 //! Times in a target.
 ghost use Rattle.std.specs.Prelude.{◌≡◌, ◌≤◌, length};
-ghost use Rattle.std.specs.List.{list_all};
-ghost use Rattle.sm_model.specs.Digits.{is_digit, decimal_from};
+ghost use Rattle.sm_model.specs.Digits.{decimal_from};
 ghost use Rattle.sm_addr.specs.Times as spec;
 
-fn are_digits(text: &[u8]) -> bool
-    ensures { result ≡ list_all is_digit text.now }
-{
-    text.iter().all(|c| 48 <= *c && *c <= 57)
-}
+use sm_model::are_digits;
 
-/// The number that at most 20 digits write.
+// The number that at most 20 digits write.
 fn number_in(digits: &[u8]) -> u128
     requires { length digits.now ≤ 20 }
     ensures { result ≡ decimal_from 0 digits.now }

@@ -144,7 +144,7 @@ fn admit_entry_of(
     }
 }
 
-/// Takes in the body of a place, where its entry may stand behind those before it. It is damaged where it may not.
+// Takes in the body of a place, where its entry may stand behind those before it. It is damaged where it may not.
 pub(crate) fn admit(
     alloc: Global,
     index: &mut Option<Index>,

@@ -23,19 +23,19 @@ use sm_record::Meta;
 use sm_seglog::SegLog;
 use sm_site::Disk;
 
-/// What is kept of an entry in doubt, so that it can be taken in without memory.
+// What is kept of an entry in doubt, so that it can be taken in without memory.
 #[derive(Debug, Drop)]
 pub(crate) enum Pending {
     Declare(Index),
-    /// The fragment's address, track and span, and the check of its body.
+    // The fragment's address, track and span, and the check of its body.
     Keep(Address, Meta, u64),
 }
 
-/// An entry that a crash may leave or not.
+// An entry that a crash may leave or not.
 #[derive(Debug, Drop)]
 pub(crate) struct Doubt {
     pub(crate) entry: Pending,
-    /// What its record uses.
+    // What its record uses.
     pub(crate) bytes: u64,
 }
 
@@ -44,7 +44,7 @@ pub(crate) struct Doubt {
 pub struct Archive {
     pub(crate) log: SegLog,
     pub(crate) limits: Limits,
-    /// In bytes of records; it stands still at its type's end.
+    // In bytes of records; it stands still at its type's end.
     pub(crate) used: u64,
     pub(crate) index: Option<Index>,
     pub(crate) doubt: Option<Doubt>,
@@ -116,7 +116,8 @@ impl Archive {
         ensures used { (place : ℕ) → result ≡ Some place → self.new.used ≡ self.old.used + (5 + length body) }
         ensures ends { (place : ℕ) → result ≡ Some place → EndsWithin self.new.log }
         ensures acts { (place : ℕ) → result ≡ Some place → Acted (D.seen.view disk.old) (D.seen.view disk.new) }
-        ensures failed { result ≡ None → (log : List Entry) (e : Entry) → Stands self.old log None (D.seen.may_leave disk.old) → CanAppend self.old entry body log e
+        ensures failed { result ≡ None → (log : List Entry) (e : Entry) → Stands self.old log None (D.seen.may_leave disk.old)
+            → CanAppend self.old entry body log e
             → IsUnused self.old self.new × (Stands self.new log None (D.seen.may_leave disk.new)
             ⊎ (Acted (D.seen.view disk.old) (D.seen.view disk.new) × Stands self.new log (Some e) (D.seen.may_leave disk.new))) }
         ensures any_moment { (log : List Entry) (e : Entry) → Stands self.old log None (D.seen.may_leave disk.old) → CanAppend self.old entry body log e

@@ -25,8 +25,8 @@ fn word_at(bytes: &[u8; 32], at: usize) -> u64
     ])
 }
 
-/// 64 bits of all bytes of a body. A body that was hashed with its digest, or was made here, is known by it when it is read again, at
-/// a small part of the digest's time: four words are taken at once, each into a number of its own, so that none waits for another.
+// 64 bits of all bytes of a body. A body that was hashed with its digest, or was made here, is known by it when it is read again, at
+// a small part of the digest's time: four words are taken at once, each into a number of its own, so that none waits for another.
 pub(crate) fn check_of(body: &[u8]) -> u64 {
     let (mut a, mut b, mut c, mut d) = (body.len() as u64, 1, 2, 3);
     for part in body.chunks(32) {

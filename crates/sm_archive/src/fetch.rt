@@ -1,5 +1,5 @@
 //! Reading a fragment back.
-ghost use Rattle.std.specs.Prelude.{◌≡◌, ℕ, ◌+◌, ◌<◌, ◌↔◌, List, Option, None, Some, Err, IfOk, OnErr, IsTrue, IsSome, IfSome, slice_get};
+ghost use Rattle.std.specs.Prelude.{◌≡◌, ℕ, ◌<◌, ◌↔◌, List, Option, None, Some, Err, IfOk, OnErr, IsSome, slice_get};
 ghost use Rattle.sm_model.specs.declared.fragment.Fragment.{Fragment};
 ghost use Rattle.sm_model.specs.declared.entry.Entry.{Entry};
 ghost use Rattle.sm_model.specs.declared.entry.Entry.TheVariants.{Keep};
@@ -14,7 +14,6 @@ ghost use Rattle.sm_archive.specs.declared.fetch.Fetched.TheVariants.{Found, Abs
 ghost use Rattle.sm_record.specs.Bodies.{IsBody};
 ghost use Rattle.sm_record.specs.Reads.{Knows};
 ghost use Rattle.sm_record.specs.declared.fault.RecordFault.TheVariants as record_fault;
-ghost use Rattle.sm_archive.specs.Store.{IsStore};
 ghost use Rattle.sm_archive.specs.Stands.{Stands};
 
 use crate::archive::Archive;
@@ -39,14 +38,6 @@ pub enum Fetched {
     NoMemory,
 }
 
-fn is_at(fragment: &Fragment, address: &Address) -> bool
-    ensures { IsTrue result ↔ (address_of fragment.now ≡ address.now) }
-{
-    fragment.time == address.time
-        && fragment.bitrate == address.bitrate
-        && fragment.stream.as_bytes() == address.stream.as_bytes()
-}
-
 // The valid fragment of this address that an entry is.
 fn fragment_of(entry: Entry, address: &Address) -> Result<Fragment, RecordFault>
     ensures kept { IfOk result (λ f. (entry ≡ Keep f) × (address_of f ≡ address.now) × IsValid f) }
@@ -55,7 +46,7 @@ fn fragment_of(entry: Entry, address: &Address) -> Result<Fragment, RecordFault>
     match entry {
         Entry::Declare(_) => Err(RecordFault::Damaged),
         Entry::Keep(fragment) => {
-            if is_at(&fragment, address) && fragment.is_valid() {
+            if fragment.is_at(address) && fragment.is_valid() {
                 Ok(fragment)
             } else {
                 Err(RecordFault::Damaged)

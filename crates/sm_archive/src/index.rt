@@ -11,17 +11,17 @@ use sm_model::{Address, Channel, NoMemory};
 use sm_record::Meta;
 use std::alloc::Global;
 
-/// The catalog, and of each fragment in order of place, the first one's place being 1, its track and span and the check of its body.
+// The catalog, and of each fragment in order of place, the first one's place being 1, its track and span and the check of its body.
 #[derive(Debug, Drop)]
 pub(crate) struct Index {
     pub(crate) catalog: Catalog,
     pub(crate) metas: Vec<Meta>,
-    /// No clause speaks of them: a body whose check is another one is read by its digest.
+    // No clause speaks of them: a body whose check is another one is read by its digest.
     pub(crate) checks: Vec<u64>,
 }
 
 impl Index {
-    /// The index of a log that has a header alone.
+    // The index of a log that has a header alone.
     pub(crate) fn of_header(alloc: Global, channel: &Channel) -> Result<Index, NoMemory>
         requires { IsChannel channel.now }
         ensures { IfOk result (λ index. (index.catalog.channel ≡ channel.now) × (index.catalog.adds ≡ []) × (index.metas.items ≡ [])) }
@@ -34,7 +34,7 @@ impl Index {
         })
     }
 
-    /// Whether the channel has the address's track.
+    // Whether the channel has the address's track.
     pub(crate) fn has_track(&self, address: &Address) -> bool
         ensures { result ≡ is_declared self.now.catalog.channel address.now }
     {
@@ -47,7 +47,7 @@ impl Index {
         }
     }
 
-    /// Makes space for two entries of the address's stream, where the channel has its track.
+    // Makes space for two entries of the address's stream, where the channel has its track.
     pub(crate) fn reserve(&mut self, address: &Address) -> Result<(), NoMemory>
         ensures reserved { Reserved self.old self.new }
         ensures space { OnOk result (IsTrue (is_declared self.old.catalog.channel address.now) → HasSpace self.new 2 address.now.stream) }
@@ -58,7 +58,7 @@ impl Index {
         Ok(())
     }
 
-    /// Adds a fragment that is new, without memory.
+    // Adds a fragment that is new, without memory.
     pub(crate) fn add(&mut self, address: &Address, meta: Meta, check: u64, place: u64)
         requires space { HasSpace self.old 1 address.now.stream }
         requires verdict { verdict self.old.catalog.channel self.old.catalog.adds address.now meta.duration ≡ New }
@@ -71,7 +71,7 @@ impl Index {
         let _ = self.checks.push(check);
     }
 
-    /// Whether a body has the check of the one that was taken in for this place.
+    // Whether a body has the check of the one that was taken in for this place.
     pub(crate) fn is_known(&self, place: u64, body: &[u8]) -> bool {
         match self.checks.get((place as usize).saturating_sub(1)) {
             Some(check) => *check == check_of(body),

@@ -46,7 +46,8 @@ fn walk<D: Disk>(
     log: &SegLog,
 ) -> Result<(Option<Index>, u64), OpenFault>
     ensures read { IfOk result (λ r. IsRead (IsSome (D.seen.view disk.old).contents) log.now (D.seen.may_leave disk.old) r.0 r.1 (count_of log.now)) }
-    ensures refused { (at : ℕ) → IsErrOf result (open_fault.NotAStore at) → (bodies : List (List ℕ)) → seg.Stands log.now bodies None (D.seen.may_leave disk.old)
+    ensures refused { (at : ℕ) → IsErrOf result (open_fault.NotAStore at) → (bodies : List (List ℕ))
+        → seg.Stands log.now bodies None (D.seen.may_leave disk.old)
         → IsSome (D.seen.view disk.old).contents
         → (place : ℕ) × (slot : Slot) × (slice_get (slots_of log.now.full ++ log.now.last.slots) place ≡ Some slot) × (at ≡ slot.gate)
         × FailsAt bodies place }
@@ -89,7 +90,8 @@ pub fn open_store<D: Disk>(
     ensures opened { IfOk result (λ a. (log : List Entry) × Stands a log None (D.seen.may_leave disk.new)) }
     // At Ok the contents are a store, and the archive stands for its log.
     ensures has { IfOk result (λ a. IfSome (D.seen.view disk.old).contents (λ c. (log : List Entry) × IsStore log c)) }
-    ensures store { IfOk result (λ a. IfSome (D.seen.view disk.old).contents (λ c. (log : List Entry) → IsStore log c → Stands a log None (D.seen.may_leave disk.new))) }
+    ensures store { IfOk result (λ a. IfSome (D.seen.view disk.old).contents
+        (λ c. (log : List Entry) → IsStore log c → Stands a log None (D.seen.may_leave disk.new))) }
     ensures refused { (at : ℕ) → IsErrOf result (open_fault.NotAStore at) → IfSome (D.seen.view disk.old).contents (NotAStore at) }
     // A store that is refused isn't written: the contents stay, and at no moment a crash leaves what it couldn't leave before.
     ensures untouched { (at : ℕ) → IsErrOf result (open_fault.NotAStore at) → ((D.seen.view disk.new).contents ≡ (D.seen.view disk.old).contents)

@@ -5,7 +5,7 @@ ghost use Rattle.sm_body.specs.Places as spec;
 
 use crate::Place;
 
-/// The value of a hexadecimal digit.
+// The value of a hexadecimal digit.
 fn hex_value(byte: u8) -> Option<u8>
     ensures { result ≡ (if is_digit byte 16 then Some (digit_value byte) else None) }
 {
@@ -17,7 +17,7 @@ fn hex_value(byte: u8) -> Option<u8>
     }
 }
 
-/// Behind a byte that follows the digits.
+// Behind a byte that follows the digits.
 fn behind_digits(line: u8, size: u64, byte: u8) -> Place
     requires { line < 255 }
     ensures { result ≡ spec.behind_digits line size byte }

@@ -16,14 +16,14 @@ pub struct PlainBody {
     pub body: Bytes,
 }
 
-/// Whether the byte that comes there is of the body.
+// Whether the byte that comes there is of the body.
 fn is_data(place: Place) -> bool
     ensures { result ≡ is_data place }
 {
     matches!(place, Place::Counted(_) | Place::Data(_))
 }
 
-/// The place behind a byte.
+// The place behind a byte.
 fn next_place(place: Place, byte: u8) -> Place
     ensures { result ≡ next_place place byte }
 {

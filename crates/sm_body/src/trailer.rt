@@ -5,7 +5,7 @@ ghost use Rattle.sm_body.specs.declared.place.Place.TheVariants.{TrailerLine, Tr
 
 use crate::Place;
 
-/// Behind a byte of a line that doesn't end it.
+// Behind a byte of a line that doesn't end it.
 fn within_line(count: u16, byte: u8) -> Place
     requires { count < 8191 }
     ensures { result ≡ (if byte == 13 then TrailerLineReturn (count + 1) else TrailerLine (count + 1)) }

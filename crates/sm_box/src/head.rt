@@ -27,7 +27,7 @@ pub enum Head {
 /// The reader of heads.
 pub struct BoxHead;
 
-/// The type of the box that the bytes begin.
+// The type of the box that the bytes begin.
 #[tactic(auto, using(crate::proofs::FourBytes::four_are))]
 pub(crate) fn kind_of(bytes: &[u8]) -> [u8; 4]
     requires { 8 ≤ length bytes.now }

@@ -10,4 +10,5 @@ mod stream;
 
 pub use added::Added;
 pub use catalog::Catalog;
+pub use lookup::track_place;
 pub use sm_log::{Checked, Judged};

@@ -1,14 +1,13 @@
 //! The parts of a catalog, made, copied and given room.
-ghost use Rattle.std.specs.Prelude.{◌≡◌, ◌≤◌, ◌<◌, ℕ, [], true, All, map, length, IfOk, OnOk, OnErr, slice_index_or};
-ghost use Rattle.std.specs.List.{count_by};
-ghost use Rattle.sm_model.specs.Channels.{IsChannel};
+ghost use Rattle.std.specs.Prelude.{◌≡◌, ◌≤◌, ◌<◌, ℕ, [], true, All, map, length, IfOk, OnOk, slice_index_or};
 ghost use Rattle.sm_model.specs.Same.{is_same};
-ghost use Rattle.sm_log.specs.Adds.{names_of, tracks_of};
+ghost use Rattle.sm_log.specs.Adds.{names_of};
 ghost use Rattle.sm_timeline.specs.Lines.{Entries};
 ghost use Rattle.sm_catalog.specs.Content.{IsFresh, AreCopies, HaveMoreRoom};
 
 use crate::lookup::stream_place;
 use crate::stream::Stream;
+use sm_log::count_tracks;
 use sm_model::{Name, NoMemory, Track};
 use sm_timeline::ByTime;
 use std::alloc::Global;
@@ -23,16 +22,6 @@ pub fn empty_places(alloc: Global, count: usize) -> Result<Vec<ByTime>, NoMemory
         kept.push(ByTime::new(alloc))?;
     }
     Ok(kept)
-}
-
-// How many tracks are of that stream.
-fn count_tracks(channel: &[Track], name: &[u8]) -> usize
-    ensures { result ≡ length (tracks_of name.now channel.now) }
-{
-    channel
-        .iter()
-        .filter(|track| track.name.as_bytes() == name)
-        .count()
 }
 
 // A stream of a channel, without times.

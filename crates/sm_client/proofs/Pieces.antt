@@ -44,16 +44,16 @@ pub record PieceCame {P : Type 0} (m : Meaning P) (plan : Plan) (name : List ℕ
   pub made : PieceMade m plan name s start ahead who old new g level
   pub len : bytes ≡ answer_len made.exchange.answer
 
-pub chosen-address : {P : Type 0} {m : Meaning P} {name : List ℕ} {s : StreamListing} {start ahead : ℕ} {who : P} {ladder : List ℕ} {level : ℕ} {address : Address}
-    → Chosen m name s start ahead who ladder level address → address ≡ address_at name s start level
-chosen-address {name = name} {start = start} {level = level} k = k.address_is ∙ ap (λ l. record { stream = name; bitrate = slice_index l level; time = start }) k.ladder_is
+pub chosen-address : {name : List ℕ} (s : StreamListing) {start : ℕ} {ladder : List ℕ} (level : ℕ) {address : Address}
+    → address ≡ record { stream = name; bitrate = slice_index ladder level; time = start } → ladder ≡ ladder_of s.levels → address ≡ address_at name s start level
+chosen-address {name = name} s {start = start} level is ladder_is = is ∙ ap (λ l. record { stream = name; bitrate = slice_index l level; time = start }) ladder_is
 
 came : {P : Type 0} {m : Meaning P} {name : List ℕ} {s : StreamListing} {start ahead : ℕ} {who : P} {ladder : List ℕ} {level : ℕ} {address : Address} (plan : Plan)
     {old new : Option (List Exchange)} {g : Got} {bytes : ℕ} → Chosen m name s start ahead who ladder level address → (answer : Answer)
     → new ≡ with_one old (record { request = fragment_request plan.place s.pattern address; limit = fragment_limit; answer = answer })
     → SpellsFragment address.time answer g → bytes ≡ answer_len answer → PieceCame m plan name s start ahead who old new g level bytes
 came {m = m} {name = name} {s = s} {start = start} {ahead = ahead} {who = who} {ladder = ladder} {level = level} {address = address} plan k answer log spells len =
-    let same : address ≡ address_at name s start level = chosen-address k in
+    let same : address ≡ address_at name s start level = chosen-address s level k.address_is k.ladder_is in
     let few : length ladder ≡ length s.levels = ap length k.ladder_is ∙ length-ladder s.levels in
     let time : address.time ≡ start = ap (λ a. a.time) k.address_is in
     record {

@@ -1,8 +1,8 @@
 -- What a play leaves of the dial: its exchanges, its count of faults, and the store behind it.
-use Rattle.std.specs.Prelude.{◌≤◌, ℕ, List, [], ◌∷◌, Option, Some, None, Contains}
+use Rattle.std.specs.Prelude.{◌≡◌, ◌≤◌, ℕ, List, [], ◌∷◌, Option, Some, None, Contains}
 use Rattle.sm_model.specs.declared.entry.Entry.{Entry}
 use Rattle.sm_fetch.specs.declared.dial.Exchange.{Exchange}
-use Rattle.sm_fetch.specs.Exchanges.{Rose}
+use Rattle.sm_fetch.specs.Exchanges.{Peer, Rose}
 use Rattle.sm_fetch.specs.Origins.{Grows, Answered}
 use Rattle.sm_client.specs.declared.report.Miss.{Miss}
 use Rattle.sm_client.specs.declared.report.Miss.TheVariants as miss
@@ -26,6 +26,13 @@ pub record Dialed (log log' : Option (List Exchange)) (faults faults' : ℕ) (st
   pub lost : Contains outcomes miss.Lost → Rose faults faults'
   pub grows : Grows store store'
   pub answered : Answered log log' store store'
+
+-- what a call of a play leaves of a dial: a later one, turned to the same host
+pub record LeavesDial {C : Type 0} (log : C → Option (List Exchange)) (store : C → List Entry → Type 0) (later : C → C → Type 0)
+    (faults : C → ℕ) (chosen : C → Option Peer) (old new : C) (outcomes : List Miss) : Type 0 where
+  pub goes_on : later old new
+  pub turned : chosen new ≡ chosen old
+  pub dialed : Dialed (log old) (log new) (faults old) (faults new) (store old) (store new) outcomes
 
 -- ---- what came in place of what was asked, as an answer carries it
 

@@ -1,5 +1,6 @@
 -- How the play of one stream ends, by where it stands.
-use Rattle.std.specs.Prelude.{◌≡◌, ◌<◌, ◌≤◌, ◌+◌, ℕ, true, false, List, [], ◌∷◌, ◌++◌, length, take}
+use Rattle.std.specs.Prelude.{◌≡◌, ◌<◌, ◌≤◌, ◌+◌, ℕ, true, false, List, [], ◌∷◌, ◌++◌, length, take, Option, Some}
+use Rattle.sm_ends.specs.Faults.{Rose}
 use Rattle.sm_model.specs.FragText.{frag_text}
 use Rattle.sm_client.specs.declared.plan.Plan.{Plan}
 use Rattle.sm_client.specs.declared.report.Miss.{Miss}
@@ -8,6 +9,11 @@ use Rattle.sm_client.specs.declared.report.End.TheVariants as ends
 use Rattle.sm_client.specs.Starts.{has}
 use Rattle.sm_client.specs.Stands.{Item, Piece, Standing, absent, standing, State, listed_starts, state_after, written_at}
 use Rattle.sm_client.specs.Asks.{MayList}
+
+-- the count of faults of the tracks doesn't fall, and one of them ends the play only where it rose
+pub record HasCause (before now : ℕ) (end : Option End) : Type 0 where
+  pub later : before ≤ now
+  pub failed : end ≡ Some ends.WriteFault → Rose before now
 
 -- as many fragments as were wanted
 pub record IsDone (plan : Plan) (s : State) : Type 0 where

@@ -1,9 +1,9 @@
 //! Streams, played one after another.
-ghost use Rattle.std.specs.Prelude.{◌≡◌, ◌≤◌, ◌<◌, ◌-◌, ◌^◌, ℕ, length};
-ghost use Rattle.sm_ends.specs.Faults.{Rose};
-ghost use Rattle.sm_client.specs.Turns.{fresh, settle, meant};
+ghost use Rattle.std.specs.Prelude.{◌≤◌, ◌<◌, ◌-◌, ◌^◌, Some, length};
+ghost use Rattle.sm_client.specs.Turns.{fresh, meant};
+ghost use Rattle.sm_client.specs.Ends.{HasCause};
 ghost use Rattle.sm_client.specs.Plays.{Played, PlaysKept, PlayedKept};
-ghost use Rattle.sm_client.specs.Dials.{Dialed, carried};
+ghost use Rattle.sm_client.specs.Dials.{LeavesDial, carried};
 ghost use Rattle.sm_client.specs.Served.{PlayedServed};
 
 use crate::policies::Policies;
@@ -30,11 +30,8 @@ fn play_all<C: Dial, T: Tracks>(
     requires few { length names.now ≤ 16 }
     ensures plays { PlaysKept (meant pick_after retired_after) plan.now (fresh policies.old.acting policies.old.rest.items) 0 names.now
         (C.log dial.old) (C.log dial.new) (C.store dial.old) (C.store dial.new) (T.held tracks.old) (T.held tracks.new) result }
-    ensures later { T.faults tracks.old ≤ T.faults tracks.new }
-    ensures fault { result.end ≡ End.WriteFault → Rose (T.faults tracks.old) (T.faults tracks.new) }
-    ensures goes_on { C.later dial.old dial.new }
-    ensures chosen { C.chosen dial.new ≡ C.chosen dial.old }
-    ensures dial { Dialed (C.log dial.old) (C.log dial.new) (C.dial_faults dial.old) (C.dial_faults dial.new) (C.store dial.old) (C.store dial.new) (carried result.end) }
+    ensures cause { HasCause (T.faults tracks.old) (T.faults tracks.new) (Some result.end) }
+    ensures dial { LeavesDial C.log C.store C.later C.dial_faults C.chosen dial.old dial.new (carried result.end) }
 {
     let mut played: u64 = 0;
     let mut number: u32 = 0;
@@ -73,11 +70,8 @@ pub fn play<C: Dial, T: Tracks>(
         (C.log dial.old) (C.log dial.new) (T.held tracks.old) (T.held tracks.new) result }
     ensures kept { PlayedKept (meant pick_after retired_after) plan.now policies.items
         (C.log dial.old) (C.log dial.new) (C.store dial.old) (C.store dial.new) (T.held tracks.old) (T.held tracks.new) result }
-    ensures later { T.faults tracks.old ≤ T.faults tracks.new }
-    ensures fault { result.end ≡ End.WriteFault → Rose (T.faults tracks.old) (T.faults tracks.new) }
-    ensures goes_on { C.later dial.old dial.new }
-    ensures chosen { C.chosen dial.new ≡ C.chosen dial.old }
-    ensures dial { Dialed (C.log dial.old) (C.log dial.new) (C.dial_faults dial.old) (C.dial_faults dial.new) (C.store dial.old) (C.store dial.new) (carried result.end) }
+    ensures cause { HasCause (T.faults tracks.old) (T.faults tracks.new) (Some result.end) }
+    ensures dial { LeavesDial C.log C.store C.later C.dial_faults C.chosen dial.old dial.new (carried result.end) }
     ensures served { PlayedServed (meant pick_after retired_after) plan.now policies.items
         (C.log dial.old) (C.log dial.new) (T.held tracks.old) (T.held tracks.new) result }
 {

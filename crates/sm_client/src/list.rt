@@ -1,9 +1,9 @@
 //! Manifests, asked for.
-ghost use Rattle.std.specs.Prelude.{◌≡◌, ◌≤◌, ℕ};
+ghost use Rattle.std.specs.Prelude.{◌≡◌};
 ghost use Rattle.sm_client.specs.Stands.{Stand, listed};
 ghost use Rattle.sm_client.specs.Asks.{MayList};
 ghost use Rattle.sm_client.specs.Calls.{ListedOnce, ListedBy, IsListedOf};
-ghost use Rattle.sm_client.specs.Dials.{Dialed, carried_listed, carried_manifest};
+ghost use Rattle.sm_client.specs.Dials.{LeavesDial, carried_listed, carried_manifest};
 
 use crate::rest::rest;
 use crate::{Miss, Outcomes, Plan, miss_of};
@@ -55,44 +55,27 @@ fn listed_of(got: Got, name: &Name) -> Listed
     }
 }
 
-// One request.
-fn list_once<C: Dial>(alloc: Global, dial: &mut C, plan: &Plan, name: &Name) -> Listed
-    ensures listed { ListedOnce plan.now name.now (C.log dial.old) (C.log dial.new) result }
-    ensures goes_on { C.later dial.old dial.new }
-    ensures chosen { C.chosen dial.new ≡ C.chosen dial.old }
-    ensures dial { Dialed (C.log dial.old) (C.log dial.new) (C.dial_faults dial.old) (C.dial_faults dial.new) (C.store dial.old) (C.store dial.new)
-        (carried_listed result) }
-{
-    let got = get_manifest(alloc, dial, &plan.place);
-    listed_of(got, name)
-}
-
 // One request, after a while where one was made already.
-fn list_again<C: Dial>(alloc: Global, dial: &mut C, plan: &Plan, name: &Name, again: bool) -> Listed
+fn list_once<C: Dial>(alloc: Global, dial: &mut C, plan: &Plan, name: &Name, again: bool) -> Listed
     ensures listed { ListedOnce plan.now name.now (C.log dial.old) (C.log dial.new) result }
-    ensures goes_on { C.later dial.old dial.new }
-    ensures chosen { C.chosen dial.new ≡ C.chosen dial.old }
-    ensures dial { Dialed (C.log dial.old) (C.log dial.new) (C.dial_faults dial.old) (C.dial_faults dial.new) (C.store dial.old) (C.store dial.new)
-        (carried_listed result) }
+    ensures dial { LeavesDial C.log C.store C.later C.dial_faults C.chosen dial.old dial.new (carried_listed result) }
 {
     rest(dial, again);
-    list_once(alloc, dial, plan, name)
+    let got = get_manifest(alloc, dial, &plan.place);
+    listed_of(got, name)
 }
 
 /// As many requests as there are tries, a while between them, until a manifest is read.
 pub fn list<C: Dial>(alloc: Global, dial: &mut C, plan: &Plan, name: &Name) -> Manifest
     ensures listed { (stand : Stand) → MayList plan.now stand → ListedBy plan.now name.now stand (C.log dial.old) (C.log dial.new) result }
-    ensures goes_on { C.later dial.old dial.new }
-    ensures chosen { C.chosen dial.new ≡ C.chosen dial.old }
-    ensures dial { Dialed (C.log dial.old) (C.log dial.new) (C.dial_faults dial.old) (C.dial_faults dial.new) (C.store dial.old) (C.store dial.new)
-        (carried_manifest result) }
+    ensures dial { LeavesDial C.log C.store C.later C.dial_faults C.chosen dial.old dial.new (carried_manifest result) }
 {
     let mut outcomes = Outcomes::new(alloc);
     for done in 0..plan.tries {
-        match list_again(alloc, dial, plan, name, done > 0) {
+        match list_once(alloc, dial, plan, name, done > 0) {
             Listed::Found(found) => return Manifest::Read(found),
             Listed::Missed(miss) => {
-                let Ok(()) = outcomes.add(miss) else {
+                let Ok(()) = outcomes.push(miss) else {
                     return Manifest::NoMemory;
                 };
             }

@@ -1,14 +1,13 @@
 //! Fragments, asked for.
-ghost use Rattle.std.specs.Prelude.{◌≡◌, ◌≤◌, ◌<◌, ℕ, length, IfOk, Some};
+ghost use Rattle.std.specs.Prelude.{◌≡◌, ◌<◌, length, IfOk, Some};
 ghost use Rattle.sm_manin.specs.declared.listing.StreamListing.{StreamListing};
 ghost use Rattle.sm_client.specs.Turns.{fresh, meant};
-ghost use Rattle.sm_client.specs.Starts.{has, AreAfter};
-ghost use Rattle.sm_client.specs.Stands.{Standing, address_at, ladder_of, miss_of};
+ghost use Rattle.sm_client.specs.Stands.{Standing, ladder_of, miss_of};
 ghost use Rattle.sm_client.specs.Asks.{outcome_of};
 ghost use Rattle.sm_fetch.specs.declared.dial.Exchange.{Exchange};
 ghost use Rattle.sm_fetch.specs.Exchanges.{answer_len};
 ghost use Rattle.sm_client.specs.Calls.{PieceOnce, PiecesBy, MayPiece, IsAskedOf, TookValid, AskedKept, PiecesKept};
-ghost use Rattle.sm_client.specs.Dials.{Dialed, carried_asked, carried_pieces};
+ghost use Rattle.sm_client.specs.Dials.{LeavesDial, carried_asked, carried_pieces};
 
 use crate::policies::Policies;
 use crate::rest::rest;
@@ -71,7 +70,8 @@ fn asked_of(got: Got, level: usize) -> Asked
     }
 }
 
-// One request for that start, at the place of the ladder that the policy chooses, which hears what came of it.
+// One request for that start, after a while where one was made already, at the place of the ladder that the policy chooses, which hears
+// what came of it.
 fn ask_once<C: Dial>(
     alloc: Global,
     dial: &mut C,
@@ -81,17 +81,16 @@ fn ask_once<C: Dial>(
     stream: &StreamListing,
     start: u64,
     ahead: u64,
+    again: bool,
 ) -> Asked
     requires { 0 < length stream.now.levels }
     ensures once { PieceOnce (meant pick_after retired_after) plan.now name.now stream.now start ahead
         policies.old.acting policies.new.acting (C.log dial.old) (C.log dial.new) result }
     ensures rest { policies.new.rest.items ≡ policies.old.rest.items }
-    ensures goes_on { C.later dial.old dial.new }
-    ensures chosen { C.chosen dial.new ≡ C.chosen dial.old }
-    ensures dial { Dialed (C.log dial.old) (C.log dial.new) (C.dial_faults dial.old) (C.dial_faults dial.new) (C.store dial.old) (C.store dial.new)
-        (carried_asked result) }
+    ensures dial { LeavesDial C.log C.store C.later C.dial_faults C.chosen dial.old dial.new (carried_asked result) }
     ensures kept { AskedKept plan.now name.now stream.now (C.store dial.old) (C.store dial.new) result }
 {
+    rest(dial, again);
     let Ok(ladder) = ladder_of(alloc, stream.levels.as_slice()) else {
         return Asked::NoMemory;
     };
@@ -119,32 +118,6 @@ fn ask_once<C: Dial>(
     asked_of(got, level)
 }
 
-// One request, after a while where one was made already.
-fn ask_again<C: Dial>(
-    alloc: Global,
-    dial: &mut C,
-    policies: &mut Policies,
-    plan: &Plan,
-    name: &Name,
-    stream: &StreamListing,
-    start: u64,
-    ahead: u64,
-    again: bool,
-) -> Asked
-    requires { 0 < length stream.now.levels }
-    ensures once { PieceOnce (meant pick_after retired_after) plan.now name.now stream.now start ahead
-        policies.old.acting policies.new.acting (C.log dial.old) (C.log dial.new) result }
-    ensures rest { policies.new.rest.items ≡ policies.old.rest.items }
-    ensures goes_on { C.later dial.old dial.new }
-    ensures chosen { C.chosen dial.new ≡ C.chosen dial.old }
-    ensures dial { Dialed (C.log dial.old) (C.log dial.new) (C.dial_faults dial.old) (C.dial_faults dial.new) (C.store dial.old) (C.store dial.new)
-        (carried_asked result) }
-    ensures kept { AskedKept plan.now name.now stream.now (C.store dial.old) (C.store dial.new) result }
-{
-    rest(dial, again);
-    ask_once(alloc, dial, policies, plan, name, stream, start, ahead)
-}
-
 /// As many requests for that start as there are tries, a while between them, until the fragment is read. Between them a policy that
 /// has retired makes room for the next one.
 pub fn ask<C: Dial>(
@@ -163,15 +136,12 @@ pub fn ask<C: Dial>(
         PiecesBy (meant pick_after retired_after) plan.now name.now p stream.now
         (fresh policies.old.acting policies.old.rest.items) (fresh policies.new.acting policies.new.rest.items)
         (C.log dial.old) (C.log dial.new) result }
-    ensures goes_on { C.later dial.old dial.new }
-    ensures chosen { C.chosen dial.new ≡ C.chosen dial.old }
-    ensures dial { Dialed (C.log dial.old) (C.log dial.new) (C.dial_faults dial.old) (C.dial_faults dial.new) (C.store dial.old) (C.store dial.new)
-        (carried_pieces result) }
+    ensures dial { LeavesDial C.log C.store C.later C.dial_faults C.chosen dial.old dial.new (carried_pieces result) }
     ensures kept { PiecesKept plan.now name.now stream.now (C.store dial.old) (C.store dial.new) result }
 {
     let mut outcomes = Outcomes::new(alloc);
     for done in 0..plan.tries {
-        match ask_again(
+        match ask_once(
             alloc,
             dial,
             policies,
@@ -188,7 +158,7 @@ pub fn ask<C: Dial>(
             }
             Asked::Missed(miss) => {
                 policies.settle();
-                let Ok(()) = outcomes.add(miss) else {
+                let Ok(()) = outcomes.push(miss) else {
                     return Pieces::NoMemory;
                 };
             }

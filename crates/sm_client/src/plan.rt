@@ -1,53 +1,10 @@
 //! What is to be played.
-ghost use Rattle.std.specs.Prelude.{◌≡◌, length};
 
 use sm_fetch::Place;
-use sm_model::Name;
-use std::marker::Model;
+use sm_model::{Name, Sequence};
 
 /// Names of streams, which contracts see as a list of lists of bytes.
-#[derive(Debug, Drop)]
-pub struct Names {
-    items: Vec<Name>,
-}
-
-impl Model for Names {
-    ghost use Rattle.std.specs.Prelude.{List, ℕ};
-
-    ghost Value = { List (List ℕ) };
-
-    ghost view = { λ n. n.items.items };
-}
-
-impl Names {
-    /// These names, without a copy.
-    pub fn from_vec(items: Vec<Name>) -> Names
-        ensures { result ≡ items.items }
-    {
-        Names { items }
-    }
-
-    /// The names back, without a copy.
-    pub fn into_vec(self) -> Vec<Name>
-        ensures { result.items ≡ self }
-    {
-        self.items
-    }
-
-    /// The names, lent.
-    pub fn as_slice(&self) -> &[Name]
-        ensures { result.now ≡ self.now }
-    {
-        &self.items
-    }
-
-    /// How many names there are.
-    pub fn len(&self) -> u64
-        ensures { result ≡ length self.now }
-    {
-        self.items.len() as u64
-    }
-}
+pub type Names = Sequence<Name>;
 
 /// What is to be played, and how patiently.
 #[derive(Debug, Drop)]

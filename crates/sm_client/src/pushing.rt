@@ -1,6 +1,6 @@
 //! Pushing an input.
-ghost use Rattle.std.specs.Prelude.{◌≡◌, ◌≤◌, IfOk, IfErr};
-ghost use Rattle.sm_fetch.specs.Origins.{Answered};
+ghost use Rattle.std.specs.Prelude.{IfOk, IfErr};
+ghost use Rattle.sm_fetch.specs.Origins.{Answered, DialGoesOn};
 ghost use Rattle.sm_client.specs.Pushing.{HasPushed, WhyUnpushed, line_of};
 ghost use Rattle.sm_ends.specs.Ended.{end_of};
 
@@ -31,8 +31,7 @@ pub fn push_input<I: Source, C: Dial>(
         (end_of I.left I.faults input.old) (end_of I.left I.faults input.new)
         (line_of C.log C.dial_faults C.chosen dial.old)
         (line_of C.log C.dial_faults C.chosen dial.new) why) }
-    ensures later { C.dial_faults dial.old ≤ C.dial_faults dial.new }
-    ensures goes_on { C.later dial.old dial.new }
+    ensures dial { DialGoesOn C.store C.later C.dial_faults dial.old dial.new }
     ensures answered { Answered (C.log dial.old) (C.log dial.new) (C.store dial.old) (C.store dial.new) }
 {
     dial.select(host, place.port)?;

@@ -1,11 +1,11 @@
 //! Manifests are read until the expected start is known.
-ghost use Rattle.std.specs.Prelude.{◌≡◌, ◌≢◌, ◌≤◌, ◌<◌, ◌^◌, ◌+◌, ◌-◌, ℕ, ◌⊎◌, List, [], length, false, Some, IfSome, IfNone};
+ghost use Rattle.std.specs.Prelude.{◌≡◌, ◌≢◌, ◌<◌, ◌^◌, ◌+◌, ◌-◌, ℕ, ◌⊎◌, List, [], length, false, Some, IfSome, IfNone};
 ghost use Rattle.sm_client.specs.Starts.{has};
 ghost use Rattle.sm_client.specs.Stands as stand;
 ghost use Rattle.sm_client.specs.Asks.{Relists};
 ghost use Rattle.sm_client.specs.Ends.{EndsAt, IsTail};
 ghost use Rattle.sm_client.specs.Calls.{Holds, HasLevels, Sought, Began, Relisted, at};
-ghost use Rattle.sm_client.specs.Dials.{Dialed, carried_begun, carried_if};
+ghost use Rattle.sm_client.specs.Dials.{LeavesDial, carried_begun, carried_if};
 
 use crate::list::{Manifest, list};
 use crate::standing::Standing;
@@ -25,10 +25,7 @@ pub enum Begun {
 pub fn begin<C: Dial>(alloc: Global, dial: &mut C, plan: &Plan, name: &Name, number: u32) -> Begun
     ensures began { Began plan.now name.now number (C.log dial.old) (C.log dial.new) result }
     ensures whole { result ≢ Begun.Ended End.WriteFault }
-    ensures goes_on { C.later dial.old dial.new }
-    ensures chosen { C.chosen dial.new ≡ C.chosen dial.old }
-    ensures dial { Dialed (C.log dial.old) (C.log dial.new) (C.dial_faults dial.old) (C.dial_faults dial.new) (C.store dial.old) (C.store dial.new)
-        (carried_begun result) }
+    ensures dial { LeavesDial C.log C.store C.later C.dial_faults C.chosen dial.old dial.new (carried_begun result) }
 {
     match list(alloc, dial, plan, name) {
         Manifest::Read(None) => Begun::Ended(End::NoStream { index: number }),
@@ -83,9 +80,7 @@ fn relist<C: Dial>(
     ensures manifests { IfNone result (standing.new.manifests ≡ standing.old.manifests + 1) }
     ensures levels { IfNone result (HasLevels standing.new.listing) }
     ensures whole { result ≢ Some End.WriteFault }
-    ensures goes_on { C.later dial.old dial.new }
-    ensures chosen { C.chosen dial.new ≡ C.chosen dial.old }
-    ensures dial { Dialed (C.log dial.old) (C.log dial.new) (C.dial_faults dial.old) (C.dial_faults dial.new) (C.store dial.old) (C.store dial.new) (carried_if result) }
+    ensures dial { LeavesDial C.log C.store C.later C.dial_faults C.chosen dial.old dial.new (carried_if result) }
 {
     dial.pause();
     match list(alloc, dial, plan, name) {
@@ -112,9 +107,7 @@ pub fn seek<C: Dial>(
     ensures written { standing.new.written ≡ standing.old.written }
     ensures levels { IfNone result (HasLevels standing.new.listing) }
     ensures whole { result ≢ Some End.WriteFault }
-    ensures goes_on { C.later dial.old dial.new }
-    ensures chosen { C.chosen dial.new ≡ C.chosen dial.old }
-    ensures dial { Dialed (C.log dial.old) (C.log dial.new) (C.dial_faults dial.old) (C.dial_faults dial.new) (C.store dial.old) (C.store dial.new) (carried_if result) }
+    ensures dial { LeavesDial C.log C.store C.later C.dial_faults C.chosen dial.old dial.new (carried_if result) }
 {
     while !standing.is_known() {
         if let Some(end) = settled(plan, standing) {

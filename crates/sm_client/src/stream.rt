@@ -1,15 +1,13 @@
 //! One stream, played.
-ghost use Rattle.std.specs.Prelude.{◌≡◌, ◌≢◌, ◌≤◌, ◌<◌, ◌-◌, ◌+◌, ◌^◌, ℕ, [], length, true, Some, IfOk, IfSome, IfNone};
+ghost use Rattle.std.specs.Prelude.{◌≡◌, ◌≢◌, ◌≤◌, ◌<◌, ◌-◌, ◌+◌, ◌^◌, ℕ, length, true, Some, IfOk, IfNone};
 ghost use Rattle.std.specs.Io.KnownBytes.{Keeps};
-ghost use Rattle.sm_ends.specs.Faults.{Rose};
-ghost use Rattle.sm_model.specs.Fragments.{IsValid};
-ghost use Rattle.sm_fetch.specs.Spelt.{given};
 ghost use Rattle.sm_client.specs.Turns.{fresh, meant};
 ghost use Rattle.sm_client.specs.Starts.{has};
+ghost use Rattle.sm_client.specs.Ends.{HasCause};
 ghost use Rattle.sm_client.specs.Stands as stand;
 ghost use Rattle.sm_client.specs.Stands.{piece_of};
 ghost use Rattle.sm_client.specs.Calls.{Holds, HasLevels, StreamsBy, Streamed};
-ghost use Rattle.sm_client.specs.Dials.{Dialed, carried, carried_if};
+ghost use Rattle.sm_client.specs.Dials.{LeavesDial, carried, carried_if};
 
 use crate::piece::{Pieces, ask};
 use crate::policies::Policies;
@@ -72,14 +70,11 @@ fn add_piece<C: Dial, T: Tracks>(
         (fresh policies.old.acting policies.old.rest.items) (fresh policies.new.acting policies.new.rest.items)
         standing.new (C.log dial.old) (C.log dial.new) (C.store dial.old) (C.store dial.new) (T.held tracks.old number) (T.held tracks.new number) result }
     ensures others { (k : ℕ) → k ≢ number → Keeps (T.held tracks.old k) (T.held tracks.new k) }
-    ensures later { T.faults tracks.old ≤ T.faults tracks.new }
-    ensures fault { result ≡ Some End.WriteFault → Rose (T.faults tracks.old) (T.faults tracks.new) }
+    ensures cause { HasCause (T.faults tracks.old) (T.faults tracks.new) result }
     ensures levels { standing.new.listing ≡ standing.old.listing }
     ensures written { IfNone result (standing.new.written ≡ standing.old.written + 1) }
     ensures upto { standing.new.written ≤ standing.old.written + 1 }
-    ensures goes_on { C.later dial.old dial.new }
-    ensures chosen { C.chosen dial.new ≡ C.chosen dial.old }
-    ensures dial { Dialed (C.log dial.old) (C.log dial.new) (C.dial_faults dial.old) (C.dial_faults dial.new) (C.store dial.old) (C.store dial.new) (carried_if result) }
+    ensures dial { LeavesDial C.log C.store C.later C.dial_faults C.chosen dial.old dial.new (carried_if result) }
 {
     let Some(stream) = &standing.listing else {
         return Some(End::NoMemory);
@@ -134,14 +129,11 @@ fn play_one<C: Dial, T: Tracks>(
         (fresh policies.old.acting policies.old.rest.items) (fresh policies.new.acting policies.new.rest.items)
         standing.new (C.log dial.old) (C.log dial.new) (C.store dial.old) (C.store dial.new) (T.held tracks.old number) (T.held tracks.new number) result }
     ensures others { (k : ℕ) → k ≢ number → Keeps (T.held tracks.old k) (T.held tracks.new k) }
-    ensures later { T.faults tracks.old ≤ T.faults tracks.new }
-    ensures fault { result ≡ Some End.WriteFault → Rose (T.faults tracks.old) (T.faults tracks.new) }
+    ensures cause { HasCause (T.faults tracks.old) (T.faults tracks.new) result }
     ensures levels { IfNone result (HasLevels standing.new.listing) }
     ensures written { IfNone result (standing.new.written ≡ standing.old.written + 1) }
     ensures upto { standing.new.written ≤ standing.old.written + 1 }
-    ensures goes_on { C.later dial.old dial.new }
-    ensures chosen { C.chosen dial.new ≡ C.chosen dial.old }
-    ensures dial { Dialed (C.log dial.old) (C.log dial.new) (C.dial_faults dial.old) (C.dial_faults dial.new) (C.store dial.old) (C.store dial.new) (carried_if result) }
+    ensures dial { LeavesDial C.log C.store C.later C.dial_faults C.chosen dial.old dial.new (carried_if result) }
 {
     if let Some(end) = seek(alloc, dial, plan, name, standing) {
         return Some(end);
@@ -164,12 +156,9 @@ pub fn play_stream<C: Dial, T: Tracks>(
         (fresh policies.old.acting policies.old.rest.items) (fresh policies.new.acting policies.new.rest.items)
         result.written result.end (C.log dial.old) (C.log dial.new) (C.store dial.old) (C.store dial.new) (T.held tracks.old number) (T.held tracks.new number) }
     ensures others { (k : ℕ) → k ≢ number → Keeps (T.held tracks.old k) (T.held tracks.new k) }
-    ensures later { T.faults tracks.old ≤ T.faults tracks.new }
-    ensures fault { result.end ≡ End.WriteFault → Rose (T.faults tracks.old) (T.faults tracks.new) }
+    ensures cause { HasCause (T.faults tracks.old) (T.faults tracks.new) (Some result.end) }
     ensures few { result.written ≤ plan.now.count }
-    ensures goes_on { C.later dial.old dial.new }
-    ensures chosen { C.chosen dial.new ≡ C.chosen dial.old }
-    ensures dial { Dialed (C.log dial.old) (C.log dial.new) (C.dial_faults dial.old) (C.dial_faults dial.new) (C.store dial.old) (C.store dial.new) (carried result.end) }
+    ensures dial { LeavesDial C.log C.store C.later C.dial_faults C.chosen dial.old dial.new (carried result.end) }
 {
     let mut standing = match begin(alloc, dial, plan, name, number) {
         Begun::Stands(standing) => standing,

@@ -1,9 +1,9 @@
 //! Fragments, written.
-ghost use Rattle.std.specs.Prelude.{◌≡◌, ◌≢◌, ◌≤◌, ℕ, [], IfSome, IfNone};
+ghost use Rattle.std.specs.Prelude.{◌≡◌, ◌≢◌, ℕ, [], IfSome, IfNone};
 ghost use Rattle.std.specs.Io.KnownBytes.{Appends, Keeps};
-ghost use Rattle.sm_ends.specs.Faults.{Rose};
 ghost use Rattle.sm_model.specs.Fragments.{IsValid};
 ghost use Rattle.sm_model.specs.FragText.{frag_text};
+ghost use Rattle.sm_client.specs.Ends.{HasCause};
 ghost use Rattle.sm_client.specs.Calls.{WritesFront};
 ghost use Rattle.sm_client.specs.Dials.{carried_if};
 
@@ -26,8 +26,7 @@ pub fn write<T: Tracks>(
     ensures ok { IfNone result (Appends (T.held tracks.old track) (T.held tracks.new track) (frag_text seq id fragment.now [])) }
     ensures bad { IfSome result (λ end. WritesFront (T.held tracks.old track) (T.held tracks.new track) (frag_text seq id fragment.now []) end) }
     ensures others { (k : ℕ) → k ≢ track → Keeps (T.held tracks.old k) (T.held tracks.new k) }
-    ensures later { T.faults tracks.old ≤ T.faults tracks.new }
-    ensures fault { IfSome result (λ end. end ≡ End.WriteFault → Rose (T.faults tracks.old) (T.faults tracks.new)) }
+    ensures cause { HasCause (T.faults tracks.old) (T.faults tracks.new) result }
     ensures quiet { carried_if result ≡ [] }
 {
     let Ok(text) = put_fragment(alloc, seq, id, fragment, &[]) else {

@@ -6,7 +6,7 @@ use Rattle.std.proofs.lemmas.Bool.{cases_lt}
 use Rattle.sm_model.specs.declared.entry.Entry.{Entry}
 use Rattle.sm_site.specs.Clauses.{Elapses, NoMore, SameOutcomes, Throughout}
 use Rattle.sm_site.specs.Image.{Image}
-use Rattle.sm_site.specs.Meanings.{View, Item, Seen}
+use Rattle.sm_site.specs.Meanings.{DiskAlone, View, Item, Seen}
 use Rattle.sm_site.proofs.Moments.{and_then, weakened}
 use Rattle.sm_seglog.specs.Stores.{HasStore}
 use Rattle.sm_archive.specs.Store.{IsNoStore, IsStore, Spell}
@@ -16,7 +16,7 @@ use Rattle.sm_origin.specs.Shown.{Claim}
 use Rattle.sm_origin.specs.Stores.{Fits}
 use Rattle.sm_origin.proofs.Acts.{if_some, some_of}
 use Rattle.sm_serve.specs.Shown.{Shown, replies}
-use Rattle.sm_command.specs.Lasting.{AtEachMoment, NoFewer, Outlasts, Spared, Untouched}
+use Rattle.sm_command.specs.Lasting.{AtEachMoment, IsSilent, KeepsStores, Lasts, NoFewer, OnlyChosen, Outlasts, Spared, Untouched}
 
 -- ---- one part, and then another
 
@@ -44,6 +44,17 @@ module _ {D : Type 0} (site : Seen D) where
     later = time.later;
     keeps = time.keeps;
     each = λ t c after left. ⊎_elim (λ o. o) (λ n. (same c).0 n) (time.within t c after left);
+  }
+
+  pub selected_only : (old new : D) → (site.view new).contents ≡ (site.view old).contents → (site.view new).transcript ≡ (site.view old).transcript
+      → (site.view new).send_faults ≡ (site.view old).send_faults → (site.view old).disk_faults ≤ (site.view new).disk_faults → (site.view old).link_faults ≤ (site.view new).link_faults
+      → Elapses (site.view old) (site.view new) (site.left_at old) (site.left_at new) (site.may_leave old) (site.may_leave new) → SameOutcomes (site.may_leave old) (site.may_leave new)
+      → OnlyChosen site old new
+  selected_only old new contents transcript send_faults disk link time same = record {
+    contents = contents;
+    crash = same;
+    any_moment = chosen old new (site.may_leave old) (site.may_leave new) time same;
+    silent = record { transcript = transcript; send_faults = send_faults; no_fewer = record { disk = disk; link = link } };
   }
 
 -- a call of the disk alone behind another call
@@ -169,4 +180,67 @@ module _ {D : Type 0} (site : Seen D) (at_now : (d : D) (c : Image) → site.lef
       extends = sym (append-nil log);
       holds = λ claim shown. absurd (nothing_shown t claim shown);
     };
+  }
+
+-- ---- a site was chosen, and then the disk alone was touched
+
+pub alone_silent : (a b : View) → DiskAlone a b → IsSilent a b
+alone_silent a b alone = record {
+  transcript = alone.link.transcript;
+  send_faults = alone.link.send_faults;
+  no_fewer = (let is = alone.link.link_faults in record { disk = alone.no_fewer; link = omega (arith, is) });
+}
+
+pub silent_then : (a b c : View) → IsSilent a b → DiskAlone b c → IsSilent a c
+silent_then a b c first alone = record {
+  transcript = alone.link.transcript ∙ first.transcript;
+  send_faults = alone.link.send_faults ∙ first.send_faults;
+  no_fewer = counts_then a b c first.no_fewer alone.no_fewer alone.link.link_faults;
+}
+
+module _ {D : Type 0} (site : Seen D) where
+  -- nothing was written by a choice
+  pub only_untouched : (old new : D) → OnlyChosen site old new → Untouched site old new
+  only_untouched old new only = record { contents = only.contents; each = only.any_moment }
+
+  -- nor by a call that leaves nothing else behind it
+  pub chosen_untouched : (old mid new : D) → OnlyChosen site old mid
+      → ((site.view new).contents ≡ (site.view mid).contents) × NoMore (site.may_leave mid) (site.may_leave new) × Throughout site mid new (λ t c. site.may_leave mid c)
+      → Untouched site old new
+  chosen_untouched old mid new only u = record {
+    contents = u.0 ∙ only.contents;
+    each = one_by_one site old mid new (site.may_leave old) only.any_moment
+        (at_each site mid new (λ t c. site.may_leave mid c) (site.may_leave old) u.2 (λ t c left. (only.crash c).0 left));
+  }
+
+  -- one store stays at each moment of both
+  pub chosen_one : (log : List Entry) (old mid new : D) → OnlyChosen site old mid → HasOneStore log (site.may_leave old)
+      → ((log : List Entry) → HasOneStore log (site.may_leave mid) → Throughout site mid new (λ t c. IsStore log c)) → AtEachMoment site old new (IsStore log)
+  chosen_one log old mid new only one all =
+      one_by_one site old mid new (IsStore log)
+      (weaker site old mid (site.may_leave old) (IsStore log) only.any_moment (one_here log (site.may_leave old) one))
+      (at_each site mid new (λ t c. IsStore log c) (IsStore log) (all log (one_still log (site.may_leave old) (site.may_leave mid) only.crash one)) (λ t c is. is))
+
+  pub only_one : (log : List Entry) (old new : D) → OnlyChosen site old new → HasOneStore log (site.may_leave old) → AtEachMoment site old new (IsStore log)
+  only_one log old new only one = weaker site old new (site.may_leave old) (IsStore log) only.any_moment (one_here log (site.may_leave old) one)
+
+module _ {D : Type 0} (site : Seen D) (at_now : (d : D) (c : Image) → site.left_at d (site.view d).moment c → site.may_leave d c) where
+  -- a choice hurts no store
+  pub only_keeps : (old new : D) (R : Type 0) → OnlyChosen site old new → KeepsStores site old new R
+  only_keeps old new R only = record {
+    lasts = λ some log one base told. silent_lasts site at_now log base old new one (only_one site log old new only one) (only.silent.transcript ∙ told);
+    untouched = λ r. only_untouched site old new only;
+    spared = unwritten_spared site old new (only_untouched site old new only);
+  }
+
+  -- nor does a call of the disk behind it that leaves one store one store
+  pub chosen_keeps : (old mid new : D) (R : Type 0) → OnlyChosen site old mid
+      → ((log : List Entry) → HasOneStore log (site.may_leave mid) → Throughout site mid new (λ t c. IsStore log c))
+      → (R → ((site.view new).contents ≡ (site.view mid).contents) × NoMore (site.may_leave mid) (site.may_leave new) × Throughout site mid new (λ t c. site.may_leave mid c))
+      → Spared site mid new → DiskAlone (site.view mid) (site.view new) → KeepsStores site old new R
+  chosen_keeps old mid new R only all u spared alone = record {
+    lasts = λ some log one base told.
+        silent_lasts site at_now log base old new one (chosen_one site log old mid new only one all) (alone.link.transcript ∙ only.silent.transcript ∙ told);
+    untouched = λ r. chosen_untouched site old mid new only (u r);
+    spared = chosen_spared site old mid new only.contents only.any_moment only.crash spared;
   }

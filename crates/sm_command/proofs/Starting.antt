@@ -73,6 +73,10 @@ later_rose a b c le rose =
 pub stated_is : (why other : StoreFault) → (let r : Result State StoreFault = Err why in r) ≡ Err other → why ≡ other
 stated_is why other e = cc
 
+-- the same fault of another call
+pub stated_again : {T U : Type 0} (why other : StoreFault) → (let r : Result T StoreFault = Err why in r) ≡ Err other → (let r : Result U StoreFault = Err why in r) ≡ Err other
+stated_again {T = T} {U = U} why other e = let same : why ≡ other = cc in ap (λ (w : StoreFault). let r : Result U StoreFault = Err w in r) same
+
 pub unopened_chosen : (a b : View) (why : StoreFault) → WhyUnchosen a b why → WhyUnopened a b why
 unopened_chosen a b fault.DiskFault h = h
 unopened_chosen a b fault.LinkFault h = h

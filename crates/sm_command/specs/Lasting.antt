@@ -1,6 +1,7 @@
 -- What a crash leaves at the moments of a command on a store.
 use Rattle.std.specs.Prelude.{◌≡◌, ◌≤◌, ◌<◌, ◌↔◌, ◌++◌, ℕ, List, Some, IfSome, IsSome}
 use Rattle.sm_model.specs.declared.entry.Entry.{Entry}
+use Rattle.sm_site.specs.Clauses.{SameOutcomes}
 use Rattle.sm_site.specs.Image.{Image}
 use Rattle.sm_site.specs.Meanings.{View, Item, Seen}
 use Rattle.sm_archive.specs.Store.{IsNoStore, IsStore}
@@ -28,6 +29,19 @@ pub record NoFewer (old new : View) : Type 0 where
   pub disk : old.disk_faults ≤ new.disk_faults
   pub link : old.link_faults ≤ new.link_faults
 
+-- nothing was taken from the link and nothing was sent, and no count of faults fell
+pub record IsSilent (old new : View) : Type 0 where
+  pub transcript : new.transcript ≡ old.transcript
+  pub send_faults : new.send_faults ≡ old.send_faults
+  pub no_fewer : NoFewer old new
+
+-- A call chose a site, or failed to, and did nothing else: the files weren't written, and a crash leaves of them what it might have left.
+pub record OnlyChosen {D : Type 0} (site : Seen D) (old new : D) : Type 0 where
+  pub contents : (site.view new).contents ≡ (site.view old).contents
+  pub crash : SameOutcomes (site.may_leave old) (site.may_leave new)
+  pub any_moment : AtEachMoment site old new (site.may_leave old)
+  pub silent : IsSilent (site.view old) (site.view new)
+
 -- The image is a store. Its log begins with this one, and holds whatever the entries had shown by the moment.
 pub record Outlives (log : List Entry) (items : List Item) (t : ℕ) (image : Image) : Type 0 where
   pub now : List Entry
@@ -47,3 +61,13 @@ abbrev pub Lasts : {D : Type 0} → Seen D → D → D → Type 0
 Lasts site old new =
     IsSome (site.view old).contents → (log : List Entry) → HasOneStore log (site.may_leave old) → (base : List Item) → (site.view old).transcript ≡ Some base
     → Outlasts site log base old new
+
+-- No store is hurt, however a call ends.
+pub record KeepsStores {D : Type 0} (site : Seen D) (old new : D) (IsRefused : Type 0) : Type 0 where
+  -- what a crash may leave at each moment of the call is a store whose log begins with the one that was there, and holds what the call had
+  -- shown by then
+  pub lasts : Lasts site old new
+  -- files that are refused as no store weren't written
+  pub untouched : IsRefused → Untouched site old new
+  -- and none that are no store were, whatever the answer
+  pub spared : Spared site old new

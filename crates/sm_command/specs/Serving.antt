@@ -230,6 +230,7 @@ pub record HasRun {D : Type 0} (site : Seen D) (ladder : Bool) (told told' : Opt
       → (h : History) × (h.begin ≡ (site.view opened).moment) × IsBegun (site.view old).disk_faults found.machine channel base h
       × ((state : State) × Served site h end turns state new)
   -- Where each image that a crash might leave was one store, it is a run of the whole call: its moments begin with the call's.
-  pub whole : IsSome (site.view old).contents → (log : List Entry) → HasOneStore log (site.may_leave old) → (base : List Item) → (site.view old).transcript ≡ Some base
+  pub whole : IsSome (site.view old).contents → (log : List Entry) → HasOneStore log (site.may_leave old)
+      → (base : List Item) → (site.view old).transcript ≡ Some base
       → (h : History) × (h.begin ≡ (site.view old).moment) × IsBegun (site.view old).disk_faults found.machine channel base h
       × ((state : State) × Served site h end turns state new)

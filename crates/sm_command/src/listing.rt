@@ -8,7 +8,7 @@ ghost use Rattle.sm_archive.specs.Store.{IsStore};
 ghost use Rattle.sm_origin.specs.Opening.{HasOneStore};
 ghost use Rattle.sm_command.specs.declared.fault.StoreFault.TheVariants as fault;
 ghost use Rattle.sm_command.specs.Choosing.{IsChosen};
-ghost use Rattle.sm_command.specs.Lasting.{AtEachMoment, Lasts, NoFewer, Spared};
+ghost use Rattle.sm_command.specs.Lasting.{AtEachMoment, IsSilent, KeepsStores, Spared};
 ghost use Rattle.sm_command.specs.Listing.{kept_line, line_in, place_text, span_text, lines_of, AddressIs, UnlistedBy, WhyUnlisted, WhyUnput};
 
 use crate::StoreFault;
@@ -164,17 +164,13 @@ pub fn list_store<S: Site>(alloc: Global, site: &mut S, store: String) -> Result
     ensures chosen { IsChosen result (record { store = string_bytes store; make = false; port = 0; bind = None; journal = None }) (S.Disk.seen.view site.new) }
     ensures listed { IfOk result (λ text. IfSome (S.Disk.seen.view site.old).contents (λ c. (log : List Entry) × IsStore log c × (text ≡ lines_of log))) }
     ensures why { IfErr result (λ why. WhyUnlisted S.Disk.seen site.old site.new why) }
-    ensures no_fewer { NoFewer (S.Disk.seen.view site.old) (S.Disk.seen.view site.new) }
     // Where each image that a crash might have left was one store, a crash leaves that store at each moment.
     ensures any_moment { (log : List Entry) → HasOneStore log (S.Disk.seen.may_leave site.old)
         → AtEachMoment S.Disk.seen site.old site.new (IsStore log) }
-    // So the store that was there outlasts the call.
-    ensures lasts { Lasts S.Disk.seen site.old site.new }
-    // Files that are no store aren't written, whatever the answer.
-    ensures spared { Spared S.Disk.seen site.old site.new }
+    // So the store that was there outlasts the call, and files that are no store aren't written, whatever the answer.
+    ensures stores { KeepsStores S.Disk.seen site.old site.new ((at : ℕ) × IsErrOf result (fault.NotAStore at)) }
     // Nothing is taken from the link, and nothing is sent.
-    ensures transcript { (S.Disk.seen.view site.new).transcript ≡ (S.Disk.seen.view site.old).transcript }
-    ensures send_faults { (S.Disk.seen.view site.new).send_faults ≡ (S.Disk.seen.view site.old).send_faults }
+    ensures silent { IsSilent (S.Disk.seen.view site.old) (S.Disk.seen.view site.new) }
 {
     let folder = Selection {
         store,

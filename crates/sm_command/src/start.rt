@@ -3,13 +3,14 @@ ghost use Rattle.std.specs.Prelude.{◌≡◌, ◌≤◌, ℕ, List, Option, Ok,
 ghost use Rattle.sm_model.specs.Channels.{IsChannel};
 ghost use Rattle.sm_model.specs.declared.entry.Entry.{Entry};
 ghost use Rattle.sm_site.specs.Clauses.{NoMore, Throughout};
+ghost use Rattle.sm_site.specs.Meanings.{DiskAlone};
 ghost use Rattle.sm_archive.specs.Store.{IsStore};
 ghost use Rattle.sm_origin.specs.Opening.{HasOneStore};
 ghost use Rattle.sm_serve.specs.Serving.{Begins, Serves};
 ghost use Rattle.sm_serve.specs.Standing.{History, StandsForSome};
 ghost use Rattle.sm_command.specs.declared.fault.StoreFault.TheVariants as fault;
 ghost use Rattle.sm_command.specs.Choosing.{IsChosen};
-ghost use Rattle.sm_command.specs.Lasting.{AtEachMoment, Spared, Untouched};
+ghost use Rattle.sm_command.specs.Lasting.{AtEachMoment, IsSilent, Spared, Untouched};
 ghost use Rattle.sm_command.specs.Serving.{Found, IsLadderInput, DeclaresTo, GoesUnseen, LadderMeans, PrepareMeans, WhyUnopened, WhyUnread, outcome_of};
 ghost use Rattle.sm_ends.specs.Ended.{end_of};
 
@@ -36,11 +37,8 @@ fn start<S: Site>(alloc: Global, site: &mut S) -> Result<State, StoreFault>
         × NoMore (S.Disk.seen.may_leave site.old) (S.Disk.seen.may_leave site.new)
         × Throughout S.Disk.seen site.old site.new (λ t c. S.Disk.seen.may_leave site.old c) }
     ensures spared { Spared S.Disk.seen site.old site.new }
-    ensures transcript { (S.Disk.seen.view site.new).transcript ≡ (S.Disk.seen.view site.old).transcript }
     ensures why { IfErr result (λ why. WhyUnopened (S.Disk.seen.view site.old) (S.Disk.seen.view site.new) why) }
-    ensures disk_faults { (S.Disk.seen.view site.old).disk_faults ≤ (S.Disk.seen.view site.new).disk_faults }
-    ensures link_faults { (S.Disk.seen.view site.old).link_faults ≤ (S.Disk.seen.view site.new).link_faults }
-    ensures chosen { (S.Disk.seen.view site.new).chosen ≡ (S.Disk.seen.view site.old).chosen }
+    ensures disk_alone { DiskAlone (S.Disk.seen.view site.old) (S.Disk.seen.view site.new) }
 {
     match State::start(alloc, site, Limits::standard()) {
         Ok(state) => Ok(state),
@@ -64,10 +62,8 @@ pub fn open_state<S: Site>(
         → AtEachMoment S.Disk.seen site.old site.new (IsStore log) }
     ensures untouched { (at : ℕ) → IsErrOf result (fault.NotAStore at) → Untouched S.Disk.seen site.old site.new }
     ensures spared { Spared S.Disk.seen site.old site.new }
-    ensures transcript { (S.Disk.seen.view site.new).transcript ≡ (S.Disk.seen.view site.old).transcript }
     ensures why { IfErr result (λ why. WhyUnopened (S.Disk.seen.view site.old) (S.Disk.seen.view site.new) why) }
-    ensures disk_faults { (S.Disk.seen.view site.old).disk_faults ≤ (S.Disk.seen.view site.new).disk_faults }
-    ensures link_faults { (S.Disk.seen.view site.old).link_faults ≤ (S.Disk.seen.view site.new).link_faults }
+    ensures silent { IsSilent (S.Disk.seen.view site.old) (S.Disk.seen.view site.new) }
 {
     match choose(site, selection) {
         Ok(()) => start(alloc, site),
@@ -75,7 +71,7 @@ pub fn open_state<S: Site>(
     }
 }
 
-/// The channel of the ladder that the input is.
+// The channel of the ladder that the input is.
 pub(crate) fn ladder_of<I: Source>(alloc: Global, input: &mut I) -> Result<Channel, StoreFault>
     ensures read { IfOk result (λ channel. IsLadderInput (I.left input.old) (I.left input.new) (Ok channel)) }
     ensures valid { IfOk result IsChannel }
@@ -95,7 +91,7 @@ pub(crate) fn ladder_of<I: Source>(alloc: Global, input: &mut I) -> Result<Chann
     }
 }
 
-/// What an answer to a ladder comes to.
+// What an answer to a ladder comes to.
 pub(crate) fn outcome_of(answer: Declared) -> Result<(), StoreFault>
     ensures { result ≡ outcome_of answer }
 {
@@ -116,10 +112,7 @@ fn declare<S: Site>(site: &mut S, state: &mut State, channel: &Channel) -> Resul
         → DeclaresTo S.Disk.seen told told' state.old site.old state.new site.new result }
     ensures unseen { (h : History) → Serves S.Disk.seen h state.old site.old → GoesUnseen S.Disk.seen h state.new site.new }
     ensures stands { StandsForSome S.Disk.seen state.new.origin site.new }
-    ensures transcript { (S.Disk.seen.view site.new).transcript ≡ (S.Disk.seen.view site.old).transcript }
-    ensures disk_faults { (S.Disk.seen.view site.old).disk_faults ≤ (S.Disk.seen.view site.new).disk_faults }
-    ensures link_faults { (S.Disk.seen.view site.new).link_faults ≡ (S.Disk.seen.view site.old).link_faults }
-    ensures chosen { (S.Disk.seen.view site.new).chosen ≡ (S.Disk.seen.view site.old).chosen }
+    ensures disk_alone { DiskAlone (S.Disk.seen.view site.old) (S.Disk.seen.view site.new) }
 {
     let answer = state.declare(site, channel);
     outcome_of(answer)
@@ -137,11 +130,8 @@ fn declare_ladder<I: Source, S: Site>(
         (end_of I.left I.faults input.new) state.old site.old state.new site.new result }
     ensures unseen { (h : History) → Serves S.Disk.seen h state.old site.old → GoesUnseen S.Disk.seen h state.new site.new }
     ensures stands { StandsForSome S.Disk.seen state.new.origin site.new }
-    ensures transcript { (S.Disk.seen.view site.new).transcript ≡ (S.Disk.seen.view site.old).transcript }
-    ensures disk_faults { (S.Disk.seen.view site.old).disk_faults ≤ (S.Disk.seen.view site.new).disk_faults }
-    ensures link_faults { (S.Disk.seen.view site.new).link_faults ≡ (S.Disk.seen.view site.old).link_faults }
+    ensures disk_alone { DiskAlone (S.Disk.seen.view site.old) (S.Disk.seen.view site.new) }
     ensures counted { I.faults input.old ≤ I.faults input.new }
-    ensures chosen { (S.Disk.seen.view site.new).chosen ≡ (S.Disk.seen.view site.old).chosen }
 {
     match ladder_of(alloc, input) {
         Ok(channel) => declare(site, state, &channel),
@@ -162,11 +152,8 @@ pub fn prepare<I: Source, S: Site>(
         (end_of I.left I.faults input.new) state.old site.old state.new site.new result }
     ensures unseen { (h : History) → Serves S.Disk.seen h state.old site.old → GoesUnseen S.Disk.seen h state.new site.new }
     ensures stands { StandsForSome S.Disk.seen state.new.origin site.new }
-    ensures transcript { (S.Disk.seen.view site.new).transcript ≡ (S.Disk.seen.view site.old).transcript }
-    ensures disk_faults { (S.Disk.seen.view site.old).disk_faults ≤ (S.Disk.seen.view site.new).disk_faults }
-    ensures link_faults { (S.Disk.seen.view site.new).link_faults ≡ (S.Disk.seen.view site.old).link_faults }
+    ensures disk_alone { DiskAlone (S.Disk.seen.view site.old) (S.Disk.seen.view site.new) }
     ensures counted { I.faults input.old ≤ I.faults input.new }
-    ensures chosen { (S.Disk.seen.view site.new).chosen ≡ (S.Disk.seen.view site.old).chosen }
 {
     if ladder {
         return declare_ladder(alloc, input, site, state);

@@ -52,7 +52,7 @@ impl Conn {
         })
     }
 
-    /// Where the connection stands behind an item that closes or not.
+    // Where the connection stands behind an item that closes or not.
     fn behind_item(close: bool) -> State
         ensures leads { mode_at result ≡ behind_item close }
         ensures low { rank result ≡ 0 }
@@ -61,7 +61,7 @@ impl Conn {
         if close { State::Closed } else { State::Head }
     }
 
-    /// Where the connection stands behind a head.
+    // Where the connection stands behind a head.
     fn behind_head(method: Verb, framing: Framing, close: bool) -> State
         ensures leads { (target : Target) (expects : Bool)
             → mode_at result ≡ behind_head (record { method = method; target = target; framing = framing; close = close; expects = expects }) }
@@ -74,7 +74,7 @@ impl Conn {
         }
     }
 
-    /// Gives the parts of a head by itself.
+    // Gives the parts of a head by itself.
     fn open(
         parts: &mut Vec<Part>,
         method: Verb,
@@ -147,7 +147,7 @@ impl Conn {
         }
     }
 
-    /// Reads a head, or some bytes of a body.
+    // Reads a head, or some bytes of a body.
     fn act(&mut self, parts: &mut Vec<Part>, bytes: &[u8]) -> Result<Option<usize>, NoMemory>
         ensures { IfOk result (λ used. ActGives self.old.state bytes.now (joined parts.old.items) used self.new (joined parts.new.items)) }
     {
@@ -179,7 +179,7 @@ impl Conn {
         }
     }
 
-    /// Reads bytes that begin where the connection stands, with none kept.
+    // Reads bytes that begin where the connection stands, with none kept.
     fn read_all(&mut self, bytes: &[u8]) -> Result<Parts, NoMemory>
         ensures { IfOk result (λ parts. Reads (mode_at self.old.state) bytes.now (joined parts) (mode_of self.new)) }
     {

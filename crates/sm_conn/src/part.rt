@@ -1,8 +1,6 @@
 //! Parts of what a connection sends.
-ghost use Rattle.std.specs.Prelude.{◌≡◌, length};
 
-use sm_model::{Bytes, Cause, Target};
-use std::marker::Model;
+use sm_model::{Bytes, Cause, Sequence, Target};
 
 /// A part of what a connection sends.
 #[derive(Debug, Drop)]
@@ -22,46 +20,4 @@ pub enum Part {
 }
 
 /// Parts in their order, which contracts see as a list.
-#[derive(Debug, Drop)]
-pub struct Parts {
-    items: Vec<Part>,
-}
-
-impl Model for Parts {
-    ghost use Rattle.std.specs.Prelude.{List};
-    ghost use Rattle.sm_conn.specs.declared.part.Part.{Part};
-
-    ghost Value = { List Part };
-
-    ghost view = { λ p. p.items.items };
-}
-
-impl Parts {
-    /// These parts, without a copy.
-    pub fn from_vec(items: Vec<Part>) -> Parts
-        ensures { result ≡ items.items }
-    {
-        Parts { items }
-    }
-
-    /// The parts back, without a copy.
-    pub fn into_vec(self) -> Vec<Part>
-        ensures { result.items ≡ self }
-    {
-        self.items
-    }
-
-    /// The parts, lent.
-    pub fn as_slice(&self) -> &[Part]
-        ensures { result.now ≡ self.now }
-    {
-        &self.items
-    }
-
-    /// How many parts there are.
-    pub fn len(&self) -> u64
-        ensures { result ≡ length self.now }
-    {
-        self.items.len() as u64
-    }
-}
+pub type Parts = Sequence<Part>;

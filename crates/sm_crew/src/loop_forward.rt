@@ -10,13 +10,13 @@ use std::alloc::Global;
 use std::net::{Net, TcpStream};
 use std::time::Clock;
 
-/// The most bytes of a reply that are taken: those of the longest fragment.
+// The most bytes of a reply that are taken: those of the longest fragment.
 const LIMIT: u64 = 70_254_592;
 
-/// The path that is asked for: any reaches the one channel of a store.
+// The path that is asked for: any reaches the one channel of a store.
 const PATH: &[u8] = b"live";
 
-/// The address at which a loop listens that listens at all.
+// The address at which a loop listens that listens at all.
 const HERE: &str = "127.0.0.1";
 
 /// A forward that asks the loop at its port, over a connection for each exchange. It tells nothing of what it asked.

@@ -13,10 +13,10 @@ use std::net::{Net, TcpListener, TcpStream};
 use std::thread::{JoinHandle, Threads};
 use std::time::Clock;
 
-/// The connections of one player.
+// The connections of one player.
 const MOST: usize = 16;
 
-/// The most events of a player: no run uses them up.
+// The most events of a player: no run uses them up.
 const TURNS: u64 = 9_223_372_036_854_775_807;
 
 /// A spawner whose players answer viewers at the port behind the loop's. All of them take connections of the same listener, each up to 16, and

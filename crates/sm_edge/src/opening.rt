@@ -1,5 +1,5 @@
 //! What a relay and a standby begin with.
-ghost use Rattle.std.specs.Prelude.{◌≡◌, ◌≤◌, ℕ, List, None, Some, IfOk, IfErr, IsErrOf, IsSome, OnErr, OnOk};
+ghost use Rattle.std.specs.Prelude.{◌≡◌, ℕ, List, None, Some, IfOk, IfErr, IsErrOf, IsSome, OnOk};
 ghost use Rattle.sm_model.specs.declared.entry.Entry.{Entry};
 ghost use Rattle.sm_model.specs.declared.track.Track.{Track};
 ghost use Rattle.sm_log.specs.Logs.{channel_of};
@@ -9,10 +9,10 @@ ghost use Rattle.sm_archive.specs.Stands.{Stands};
 ghost use Rattle.sm_origin.specs.Opening.{HasOneStore};
 ghost use Rattle.sm_command.specs.declared.fault.StoreFault.TheVariants as fault;
 ghost use Rattle.sm_command.specs.Choosing.{IsChosen};
-ghost use Rattle.sm_command.specs.Lasting.{AtEachMoment, NoFewer, Spared, Untouched};
+ghost use Rattle.sm_command.specs.Lasting.{AtEachMoment, IsSilent, Spared, Untouched};
 ghost use Rattle.sm_command.specs.Opening.{BeginsWith};
 ghost use Rattle.sm_fetch.specs.Exchanges.{IsTurnedTo};
-ghost use Rattle.sm_fetch.specs.Origins.{Grows};
+ghost use Rattle.sm_fetch.specs.Origins.{DialGoesOn};
 ghost use Rattle.sm_edge.specs.Opening.{IsEdge, IsEdgeStore, WhyNoStore, WhyUnturned, WhyNoEdge};
 ghost use Rattle.sm_ends.specs.Ended.{end_of};
 
@@ -37,9 +37,7 @@ fn turn<C: Dial>(dial: &mut C, host: &str, port: u16) -> Result<(), StoreFault>
     ensures turned { OnOk result (IsTurnedTo (C.chosen dial.new) host.now port) }
     ensures why { IfErr result (WhyUnturned (C.dial_faults dial.old) (C.dial_faults dial.new)) }
     ensures log { C.log dial.new ≡ C.log dial.old }
-    ensures later { C.dial_faults dial.old ≤ C.dial_faults dial.new }
-    ensures goes_on { C.later dial.old dial.new }
-    ensures store { Grows (C.store dial.old) (C.store dial.new) }
+    ensures dial { DialGoesOn C.store C.later C.dial_faults dial.old dial.new }
 {
     match dial.select(host, port) {
         Ok(()) => Ok(()),
@@ -105,9 +103,7 @@ pub fn open_edge<I: Source, S: Site, C: Dial>(
     ensures why { IfErr result (WhyNoEdge S.Disk.seen (end_of I.left I.faults input.old) (end_of I.left I.faults input.new)
         (C.dial_faults dial.old) (C.dial_faults dial.new) selection site.old site.new) }
     ensures log { C.log dial.new ≡ C.log dial.old }
-    ensures later { C.dial_faults dial.old ≤ C.dial_faults dial.new }
-    ensures goes_on { C.later dial.old dial.new }
-    ensures store { Grows (C.store dial.old) (C.store dial.new) }
+    ensures dial { DialGoesOn C.store C.later C.dial_faults dial.old dial.new }
     // Where each image that a crash might have left was one store, a crash leaves at each moment a store whose log begins with that one.
     ensures any_moment { IsSome (S.Disk.seen.view site.old).contents → (log : List Entry) → HasOneStore log (S.Disk.seen.may_leave site.old)
         → AtEachMoment S.Disk.seen site.old site.new (BeginsWith log) }
@@ -115,9 +111,7 @@ pub fn open_edge<I: Source, S: Site, C: Dial>(
     ensures untouched { (at : ℕ) → IsErrOf result (fault.NotAStore at) → Untouched S.Disk.seen site.old site.new }
     // Files that are no store aren't written, whatever the answer.
     ensures spared { Spared S.Disk.seen site.old site.new }
-    ensures no_fewer { NoFewer (S.Disk.seen.view site.old) (S.Disk.seen.view site.new) }
-    ensures transcript { (S.Disk.seen.view site.new).transcript ≡ (S.Disk.seen.view site.old).transcript }
-    ensures send_faults { (S.Disk.seen.view site.new).send_faults ≡ (S.Disk.seen.view site.old).send_faults }
+    ensures silent { IsSilent (S.Disk.seen.view site.old) (S.Disk.seen.view site.new) }
 {
     match choose(site, selection) {
         Ok(()) => match turn(dial, host, port) {

@@ -1,9 +1,9 @@
 //! A relay into a store.
-ghost use Rattle.std.specs.Prelude.{◌≡◌, ◌≤◌, ◌<◌, ℕ, IfOk, IfErr, IsErrOf, OnErr};
+ghost use Rattle.std.specs.Prelude.{◌≡◌, ◌<◌, ℕ, IfOk, IfErr, IsErrOf, OnErr};
 ghost use Rattle.sm_command.specs.declared.fault.StoreFault.TheVariants as fault;
 ghost use Rattle.sm_command.specs.Choosing.{IsChosen};
-ghost use Rattle.sm_command.specs.Lasting.{Lasts, NoFewer, Spared, Untouched};
-ghost use Rattle.sm_fetch.specs.Origins.{Grows};
+ghost use Rattle.sm_command.specs.Lasting.{IsSilent, KeepsStores};
+ghost use Rattle.sm_fetch.specs.Origins.{DialGoesOn};
 ghost use Rattle.sm_edge.specs.Opening.{WhyNoEdge};
 ghost use Rattle.sm_edge.specs.Relaying.{HasRelayed};
 ghost use Rattle.sm_ends.specs.Ended.{end_of};
@@ -49,18 +49,11 @@ pub fn relay_store<I: Source, S: Site, C: Dial>(
         (C.dial_faults dial.old) (C.dial_faults dial.new) selection site.old site.new) }
     // Where no store was opened, nothing was asked for.
     ensures unasked { OnErr result (C.log dial.new ≡ C.log dial.old) }
-    ensures later { C.dial_faults dial.old ≤ C.dial_faults dial.new }
-    ensures goes_on { C.later dial.old dial.new }
-    ensures store { Grows (C.store dial.old) (C.store dial.new) }
-    // The store that was there outlasts the call, and what is no store isn't written.
-    ensures lasts { Lasts S.Disk.seen site.old site.new }
-    ensures untouched { (at : ℕ) → IsErrOf result (fault.NotAStore at) → Untouched S.Disk.seen site.old site.new }
-    // Files that are no store aren't written, whatever the answer.
-    ensures spared { Spared S.Disk.seen site.old site.new }
-    ensures no_fewer { NoFewer (S.Disk.seen.view site.old) (S.Disk.seen.view site.new) }
+    ensures dial { DialGoesOn C.store C.later C.dial_faults dial.old dial.new }
+    // The store that was there outlasts the call, and what is no store isn't written, whatever the answer.
+    ensures stores { KeepsStores S.Disk.seen site.old site.new ((at : ℕ) × IsErrOf result (fault.NotAStore at)) }
     // Nothing is taken from the site's link, and nothing is sent.
-    ensures transcript { (S.Disk.seen.view site.new).transcript ≡ (S.Disk.seen.view site.old).transcript }
-    ensures send_faults { (S.Disk.seen.view site.new).send_faults ≡ (S.Disk.seen.view site.old).send_faults }
+    ensures silent { IsSilent (S.Disk.seen.view site.old) (S.Disk.seen.view site.new) }
 {
     an_image_fits::<S>();
     bodies_have_one_log();

@@ -43,7 +43,8 @@ fn write_file<D: Disk, O: Sink>(
         → IsSome (D.seen.view disk.old).contents
         → Appends (O.held out.old) (O.held out.new) (header.now ++ texts_from 1 id (kept_among log name.now bitrate times.now))
         × (written ≡ length (kept_among log name.now bitrate times.now))) }
-    ensures err { OnErr result ((log : List Entry) (doubt : Option Entry) → Stands archive.now log doubt (D.seen.may_leave disk.old) → IsSome (D.seen.view disk.old).contents
+    ensures err { OnErr result ((log : List Entry) (doubt : Option Entry) → Stands archive.now log doubt (D.seen.may_leave disk.old)
+        → IsSome (D.seen.view disk.old).contents
         → AppendsFront (O.held out.old) (O.held out.new) (header.now ++ texts_from 1 id (kept_among log name.now bitrate times.now))) }
     ensures cause { WhyBroken (D.seen.view disk.old) (D.seen.view disk.new) (O.faults out.old) (O.faults out.new) result }
     ensures read { IsOnlyRead D.seen archive.now disk.old disk.new }

@@ -10,7 +10,7 @@ use sm_log::Checked;
 use sm_model::{Cause, Channel, Name, NoMemory, Track};
 use std::alloc::Global;
 
-/// Why a header isn't that of a store.
+// Why a header isn't that of a store.
 #[derive(Drop)]
 pub(crate) enum Unfit {
     Refused(Cause),
@@ -26,7 +26,7 @@ fn track_at(tracks: Channel, place: u64) -> Track
     tracks.swap_remove(place as usize)
 }
 
-/// The track_ID of the quality in a header that agrees with the catalog's channel.
+// The track_ID of the quality in a header that agrees with the catalog's channel.
 pub(crate) fn id_in(
     alloc: Global,
     catalog: &Catalog,

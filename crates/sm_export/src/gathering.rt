@@ -4,7 +4,7 @@ ghost use Rattle.sm_export.specs.Gathering.{IsPassedOn};
 
 use sm_ends::{Failed, Sink, write_all};
 
-/// Why a file ends too early.
+// Why a file ends too early.
 #[derive(Clone, Copy, Debug, PartialEq, Eq)]
 pub(crate) enum Broken {
     DiskFault,
@@ -23,8 +23,8 @@ const SMALL: usize = 16_384;
 // The front of a text of 250 samples has no more bytes than this.
 const FRONT: usize = 4_096;
 
-/// How much room there is for what is gathered, in bytes, from the first: behind what isn't full yet one text more has room whose front and
-/// block are as small. A longer front makes the room grow, and it stays so.
+// How much room there is for what is gathered, in bytes, from the first: behind what isn't full yet one text more has room whose front and
+// block are as small. A longer front makes the room grow, and it stays so.
 pub(crate) const ROOM: usize = FULL + FRONT + SMALL;
 
 // Writes all that is gathered. Nothing is gathered then, also where the sink failed.
@@ -40,7 +40,7 @@ pub(crate) fn write_gathered<O: Sink>(gathered: &mut Vec<u8>, out: &mut O) -> Re
     }
 }
 
-/// Writes all that is gathered where it is full.
+// Writes all that is gathered where it is full.
 pub(crate) fn write_if_full<O: Sink>(gathered: &mut Vec<u8>, out: &mut O) -> Result<(), Broken>
     ensures { IsPassedOn (O.held out.old) (O.held out.new) (O.faults out.old) (O.faults out.new) gathered.old.items gathered.new.items [] result }
 {
@@ -64,7 +64,7 @@ fn write_behind<O: Sink>(bytes: &[u8], gathered: &mut Vec<u8>, out: &mut O) -> R
     }
 }
 
-/// Passes bytes on: a small piece is gathered, and a longer one written, behind all that is gathered.
+// Passes bytes on: a small piece is gathered, and a longer one written, behind all that is gathered.
 pub(crate) fn pass_on<O: Sink>(
     bytes: &[u8],
     gathered: &mut Vec<u8>,

@@ -16,17 +16,17 @@ use std::alloc::Global;
 // How many bytes are fed at once.
 const PIECE: usize = 65_536;
 
-/// The header of an input.
+// The header of an input.
 #[derive(Drop)]
 pub(crate) struct Head {
-    /// It ends behind so many bytes.
+    // It ends behind so many bytes.
     pub(crate) len: usize,
     pub(crate) channel: Channel,
-    /// The track_ID of the quality that is asked for, if it has that.
+    // The track_ID of the quality that is asked for, if it has that.
     pub(crate) id: Option<u32>,
 }
 
-/// Why an input has no header.
+// Why an input has no header.
 #[derive(Drop)]
 pub(crate) enum Unread {
     Refused(Refusal),
@@ -186,8 +186,8 @@ fn head_behind(
     }
 }
 
-/// The header of an input, which nothing refuses. The input is fed in pieces up to its end, and only the piece that has the header byte by
-/// byte.
+// The header of an input, which nothing refuses. The input is fed in pieces up to its end, and only the piece that has the header byte by
+// byte.
 pub(crate) fn read_head(
     alloc: Global,
     input: &[u8],

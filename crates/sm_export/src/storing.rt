@@ -7,7 +7,7 @@ ghost use Rattle.sm_archive.specs.Stands.{Stands};
 ghost use Rattle.sm_archive.specs.Store.{IsStore};
 ghost use Rattle.sm_origin.specs.Opening.{HasOneStore};
 ghost use Rattle.sm_command.specs.declared.fault.StoreFault.TheVariants as fault;
-ghost use Rattle.sm_command.specs.Lasting.{AtEachMoment, Lasts, NoFewer, Spared, Untouched};
+ghost use Rattle.sm_command.specs.Lasting.{AtEachMoment, IsSilent, KeepsStores, Spared};
 ghost use Rattle.sm_export.specs.declared.exported.StoreExport.TheVariants as ends;
 ghost use Rattle.sm_export.specs.Reading.{IsOnlyRead};
 ghost use Rattle.sm_export.specs.Storing.{ComesTo, IsChosenFor, TakesTo};
@@ -35,7 +35,8 @@ fn export_input<I: Source, O: Sink, D: Disk>(
     bitrate: u32,
 ) -> StoreExport
     requires stands { (log : List Entry) × Stands archive.now log None (D.seen.may_leave disk.old) }
-    ensures means { (log : List Entry) → Stands archive.now log None (D.seen.may_leave disk.old) → TakesTo (IsSome (D.seen.view disk.old).contents) log name.now bitrate
+    ensures means { (log : List Entry) → Stands archive.now log None (D.seen.may_leave disk.old)
+        → TakesTo (IsSome (D.seen.view disk.old).contents) log name.now bitrate
         (D.seen.view disk.old) (D.seen.view disk.new) (end_of I.left I.faults input.old) (end_of I.left I.faults input.new)
         (end_of O.held O.faults out.old) (end_of O.held O.faults out.new) result }
     ensures counted { I.faults input.old ≤ I.faults input.new }
@@ -97,19 +98,13 @@ pub fn export_store<I: Source, O: Sink, S: Site>(
         (end_of O.held O.faults out.old) (end_of O.held O.faults out.new) result }
     ensures counted { I.faults input.old ≤ I.faults input.new }
     ensures later { O.faults out.old ≤ O.faults out.new }
-    ensures no_fewer { NoFewer (S.Disk.seen.view site.old) (S.Disk.seen.view site.new) }
     // Where each image that a crash might have left was one store, a crash leaves that store at each moment.
     ensures any_moment { (log : List Entry) → HasOneStore log (S.Disk.seen.may_leave site.old)
         → AtEachMoment S.Disk.seen site.old site.new (IsStore log) }
-    // So the store that was there outlasts the call.
-    ensures lasts { Lasts S.Disk.seen site.old site.new }
-    // What is found to be no store isn't written.
-    ensures untouched { (at : ℕ) → result ≡ ends.Unopened (fault.NotAStore at) → Untouched S.Disk.seen site.old site.new }
-    // Files that are no store aren't written, whatever the answer.
-    ensures spared { Spared S.Disk.seen site.old site.new }
+    // So the store that was there outlasts the call; what is found to be no store isn't written, and what is none isn't, whatever the answer.
+    ensures stores { KeepsStores S.Disk.seen site.old site.new ((at : ℕ) × (result ≡ ends.Unopened (fault.NotAStore at))) }
     // Nothing is taken from the link, and nothing is sent.
-    ensures transcript { (S.Disk.seen.view site.new).transcript ≡ (S.Disk.seen.view site.old).transcript }
-    ensures send_faults { (S.Disk.seen.view site.new).send_faults ≡ (S.Disk.seen.view site.old).send_faults }
+    ensures silent { IsSilent (S.Disk.seen.view site.old) (S.Disk.seen.view site.new) }
 {
     let folder = Selection {
         store,

@@ -105,7 +105,8 @@ fn write_at<D: Disk, O: Sink>(
         → IsSome (D.seen.view disk.old).contents
         → Leaves (O.held out.old) (O.held out.new) (gathered.old.items ++ texts_from seq id (kept_list log address.now)) gathered.new.items
         × (length (kept_list log address.now) ≡ wrote)) }
-    ensures err { OnErr result ((log : List Entry) (doubt : Option Entry) → Stands archive.now log doubt (D.seen.may_leave disk.old) → IsSome (D.seen.view disk.old).contents
+    ensures err { OnErr result ((log : List Entry) (doubt : Option Entry) → Stands archive.now log doubt (D.seen.may_leave disk.old)
+        → IsSome (D.seen.view disk.old).contents
         → LeavesFront (O.held out.old) (O.held out.new) (gathered.old.items ++ texts_from seq id (kept_list log address.now)) gathered.new.items) }
     ensures cause { WhyBroken (D.seen.view disk.old) (D.seen.view disk.new) (O.faults out.old) (O.faults out.new) result }
     ensures read { IsOnlyRead D.seen archive.now disk.old disk.new }
@@ -144,7 +145,8 @@ fn gather_times<D: Disk, O: Sink>(
         → IsSome (D.seen.view disk.old).contents
         → Leaves (O.held out.old) (O.held out.new) (gathered.old.items ++ texts_from 1 id (kept_among log name.now bitrate times.now)) gathered.new.items
         × (written ≡ length (kept_among log name.now bitrate times.now))) }
-    ensures err { OnErr result ((log : List Entry) (doubt : Option Entry) → Stands archive.now log doubt (D.seen.may_leave disk.old) → IsSome (D.seen.view disk.old).contents
+    ensures err { OnErr result ((log : List Entry) (doubt : Option Entry) → Stands archive.now log doubt (D.seen.may_leave disk.old)
+        → IsSome (D.seen.view disk.old).contents
         → LeavesFront (O.held out.old) (O.held out.new) (gathered.old.items ++ texts_from 1 id (kept_among log name.now bitrate times.now)) gathered.new.items) }
     ensures cause { WhyBroken (D.seen.view disk.old) (D.seen.view disk.new) (O.faults out.old) (O.faults out.new) result }
     ensures read { IsOnlyRead D.seen archive.now disk.old disk.new }
@@ -177,8 +179,8 @@ fn gather_times<D: Disk, O: Sink>(
     Ok(written as u64)
 }
 
-/// What is kept of a quality at these times, in their order, numbered from 1: how many fragments there are. Whatever the answer, all that
-/// was gathered goes out, unless the sink fails.
+// What is kept of a quality at these times, in their order, numbered from 1: how many fragments there are. Whatever the answer, all that
+// was gathered goes out, unless the sink fails.
 pub(crate) fn write_times<D: Disk, O: Sink>(
     alloc: Global,
     disk: &mut D,
@@ -195,7 +197,8 @@ pub(crate) fn write_times<D: Disk, O: Sink>(
         → IsSome (D.seen.view disk.old).contents
         → Appends (O.held out.old) (O.held out.new) (texts_from 1 id (kept_among log name.now bitrate times.now))
         × (written ≡ length (kept_among log name.now bitrate times.now))) }
-    ensures err { OnErr result ((log : List Entry) (doubt : Option Entry) → Stands archive.now log doubt (D.seen.may_leave disk.old) → IsSome (D.seen.view disk.old).contents
+    ensures err { OnErr result ((log : List Entry) (doubt : Option Entry) → Stands archive.now log doubt (D.seen.may_leave disk.old)
+        → IsSome (D.seen.view disk.old).contents
         → AppendsFront (O.held out.old) (O.held out.new) (texts_from 1 id (kept_among log name.now bitrate times.now))) }
     ensures cause { WhyBroken (D.seen.view disk.old) (D.seen.view disk.new) (O.faults out.old) (O.faults out.new) result }
     ensures read { IsOnlyRead D.seen archive.now disk.old disk.new }

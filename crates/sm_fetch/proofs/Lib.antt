@@ -6,6 +6,7 @@ pub mod Pairs
 pub mod Fronts
 pub mod Origin
 pub mod Answering
+pub mod Alone
 pub mod OneReply
 pub mod OneGot
 pub mod Listed

@@ -18,7 +18,7 @@ use Rattle.sm_head.specs.Replies.{reply_text}
 use Rattle.sm_fetch.specs.declared.dial.Answer.{Answer}
 use Rattle.sm_fetch.specs.declared.dial.Answer.TheVariants as answers
 use Rattle.sm_fetch.specs.declared.dial.Exchange.{Exchange}
-use Rattle.sm_fetch.specs.Exchanges.{with_all}
+use Rattle.sm_fetch.specs.Exchanges.{Peer, with_all}
 use Rattle.sm_fetch.specs.Requests.{get_text}
 
 -- ---- what an origin replies
@@ -112,3 +112,18 @@ pub record Answered (told told' : Option (List Exchange)) (old now : List Entry 
   pub made : List Exchange
   pub told_is : told' ≡ with_all told made
   pub on : (log : List Entry) → old log → (more : List Entry) × now (log ++ more) × AnsweredFrom log made (log ++ more)
+
+-- ---- what calls leave of a dial
+
+-- It goes on: it is a later one, which has counted no fewer faults, and the logs that are told only grow.
+pub record DialGoesOn {C : Type 0} (store : C → List Entry → Type 0) (later : C → C → Type 0) (faults : C → ℕ) (old new : C) : Type 0 where
+  pub goes_on : later old new
+  pub no_fewer : faults old ≤ faults new
+  pub grows : Grows (store old) (store new)
+
+-- A call made exchanges and nothing else: the dial goes on, is turned to the same host, and its logs answered them on the way.
+pub record DialAlone {C : Type 0} (log : C → Option (List Exchange)) (store : C → List Entry → Type 0) (later : C → C → Type 0)
+    (faults : C → ℕ) (chosen : C → Option Peer) (old new : C) : Type 0 where
+  pub on : DialGoesOn store later faults old new
+  pub turned : chosen new ≡ chosen old
+  pub answered : Answered (log old) (log new) (store old) (store new)

@@ -27,7 +27,7 @@ impl<'a> Body<'a> {
     }
 }
 
-/// What stands behind a head.
+// What stands behind a head.
 pub(crate) enum Framed<'a> {
     Whole(Body<'a>),
     Cut,
@@ -54,7 +54,7 @@ fn with_piece<'a>(alloc: Global, body: Body<'a>, piece: &'a [u8]) -> Result<Body
     }
 }
 
-/// The body that the bytes behind a head of this framing begin with. A body of one piece isn't copied.
+// The body that the bytes behind a head of this framing begin with. A body of one piece isn't copied.
 pub(crate) fn read_body<'a>(
     alloc: Global,
     framing: Framing,

@@ -1,7 +1,7 @@
 //! Manifests and fragments, asked for.
-ghost use Rattle.std.specs.Prelude.{◌≡◌, ◌≤◌, ℕ};
+ghost use Rattle.std.specs.Prelude.{◌≡◌, ℕ};
 ghost use Rattle.sm_fetch.specs.Exchanges.{Rose};
-ghost use Rattle.sm_fetch.specs.Origins.{Grows, Answered};
+ghost use Rattle.sm_fetch.specs.Origins.{DialAlone};
 ghost use Rattle.sm_fetch.specs.Fetched.{FetchedManifest, FetchedFragment, GrowsWith, HasLevels};
 ghost use Rattle.sm_fetch.specs.Spelt.{SpellsListing, SpellsSamples};
 
@@ -64,12 +64,8 @@ fn read_fragment_reply(alloc: Global, time: u64, bytes: &[u8]) -> Got
 /// is `Cut`.
 pub fn get_manifest<C: Dial>(alloc: Global, dial: &mut C, place: &Place) -> Got
     ensures asked { FetchedManifest place.now (C.log dial.old) (C.log dial.new) result }
-    ensures later { C.dial_faults dial.old ≤ C.dial_faults dial.new }
-    ensures goes_on { C.later dial.old dial.new }
-    ensures chosen { C.chosen dial.new ≡ C.chosen dial.old }
+    ensures dial { DialAlone C.log C.store C.later C.dial_faults C.chosen dial.old dial.new }
     ensures lost { result ≡ Got.Lost → Rose (C.dial_faults dial.old) (C.dial_faults dial.new) }
-    ensures grows { Grows (C.store dial.old) (C.store dial.new) }
-    ensures answered { Answered (C.log dial.old) (C.log dial.new) (C.store dial.old) (C.store dial.new) }
     ensures levels { HasLevels result }
 {
     let Ok(request) = put_manifest_request(alloc, place) else {
@@ -93,12 +89,8 @@ pub fn fetch_fragment<C: Dial>(
     address: &Address,
 ) -> Fetched
     ensures asked { FetchedFragment place.now url.now address.now (C.log dial.old) (C.log dial.new) result.got result.bytes }
-    ensures later { C.dial_faults dial.old ≤ C.dial_faults dial.new }
-    ensures goes_on { C.later dial.old dial.new }
-    ensures chosen { C.chosen dial.new ≡ C.chosen dial.old }
+    ensures dial { DialAlone C.log C.store C.later C.dial_faults C.chosen dial.old dial.new }
     ensures lost { result.got ≡ Got.Lost → Rose (C.dial_faults dial.old) (C.dial_faults dial.new) }
-    ensures grows { Grows (C.store dial.old) (C.store dial.new) }
-    ensures answered { Answered (C.log dial.old) (C.log dial.new) (C.store dial.old) (C.store dial.new) }
     ensures kept { GrowsWith place.now url.now address.now (C.store dial.old) (C.store dial.new) result.got }
 {
     let Ok(request) = put_fragment_request(alloc, place, url, address) else {
@@ -132,12 +124,8 @@ pub fn get_fragment<C: Dial>(
     address: &Address,
 ) -> Got
     ensures asked { (bytes : ℕ) × FetchedFragment place.now url.now address.now (C.log dial.old) (C.log dial.new) result bytes }
-    ensures later { C.dial_faults dial.old ≤ C.dial_faults dial.new }
-    ensures goes_on { C.later dial.old dial.new }
-    ensures chosen { C.chosen dial.new ≡ C.chosen dial.old }
+    ensures dial { DialAlone C.log C.store C.later C.dial_faults C.chosen dial.old dial.new }
     ensures lost { result ≡ Got.Lost → Rose (C.dial_faults dial.old) (C.dial_faults dial.new) }
-    ensures grows { Grows (C.store dial.old) (C.store dial.new) }
-    ensures answered { Answered (C.log dial.old) (C.log dial.new) (C.store dial.old) (C.store dial.new) }
     ensures kept { GrowsWith place.now url.now address.now (C.store dial.old) (C.store dial.new) result }
 {
     fetch_fragment(alloc, dial, place, url, address).got

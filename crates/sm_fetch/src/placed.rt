@@ -1,8 +1,8 @@
 //! Fragments, asked for with the place that their sequence number tells.
-ghost use Rattle.std.specs.Prelude.{◌≡◌, ◌≤◌, ℕ, List, IfOk, MatchOption};
+ghost use Rattle.std.specs.Prelude.{◌≡◌, ℕ, List, IfOk, MatchOption};
 ghost use Rattle.sm_moof.specs.Sequence.{sequence_in};
 ghost use Rattle.sm_fetch.specs.Exchanges.{Rose};
-ghost use Rattle.sm_fetch.specs.Origins.{Grows, Answered};
+ghost use Rattle.sm_fetch.specs.Origins.{DialAlone};
 ghost use Rattle.sm_fetch.specs.Placing.{IsNumberedAt, HasNoNumbered, SpellsNumbered, FetchedPlaced, GrowsPlaced};
 ghost use Rattle.sm_fetch.specs.TwoBoxes.{IsPair};
 
@@ -92,12 +92,8 @@ pub fn get_placed<C: Dial>(
     address: &Address,
 ) -> Placed
     ensures asked { FetchedPlaced place.now url.now address.now (C.log dial.old) (C.log dial.new) result }
-    ensures later { C.dial_faults dial.old ≤ C.dial_faults dial.new }
-    ensures goes_on { C.later dial.old dial.new }
-    ensures chosen { C.chosen dial.new ≡ C.chosen dial.old }
+    ensures dial { DialAlone C.log C.store C.later C.dial_faults C.chosen dial.old dial.new }
     ensures lost { result ≡ Placed.Lost → Rose (C.dial_faults dial.old) (C.dial_faults dial.new) }
-    ensures grows { Grows (C.store dial.old) (C.store dial.new) }
-    ensures answered { Answered (C.log dial.old) (C.log dial.new) (C.store dial.old) (C.store dial.new) }
     ensures placed { GrowsPlaced place.now url.now address.now (C.store dial.old) (C.store dial.new) result }
 {
     let Ok(request) = put_fragment_request(alloc, place, url, address) else {

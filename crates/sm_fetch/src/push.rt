@@ -1,7 +1,7 @@
 //! Whole bodies, pushed.
-ghost use Rattle.std.specs.Prelude.{◌≡◌, ◌≤◌};
+ghost use Rattle.std.specs.Prelude.{◌≡◌};
 ghost use Rattle.sm_fetch.specs.Exchanges.{Rose};
-ghost use Rattle.sm_fetch.specs.Origins.{Grows, Answered};
+ghost use Rattle.sm_fetch.specs.Origins.{DialAlone};
 ghost use Rattle.sm_fetch.specs.Fetched.{PushedBody};
 ghost use Rattle.sm_fetch.specs.Spelt.{SpellsLine};
 
@@ -61,12 +61,8 @@ pub fn push_body<C: Dial>(
     body: &[u8],
 ) -> Pushed
     ensures asked { PushedBody place.now id.now body.now (C.log dial.old) (C.log dial.new) result }
-    ensures later { C.dial_faults dial.old ≤ C.dial_faults dial.new }
-    ensures goes_on { C.later dial.old dial.new }
-    ensures chosen { C.chosen dial.new ≡ C.chosen dial.old }
+    ensures dial { DialAlone C.log C.store C.later C.dial_faults C.chosen dial.old dial.new }
     ensures lost { result ≡ Pushed.Lost → Rose (C.dial_faults dial.old) (C.dial_faults dial.new) }
-    ensures grows { Grows (C.store dial.old) (C.store dial.new) }
-    ensures answered { Answered (C.log dial.old) (C.log dial.new) (C.store dial.old) (C.store dial.new) }
 {
     let Ok(request) = put_push_request(alloc, place, id, body) else {
         return Pushed::NoMemory;

@@ -1,5 +1,5 @@
 //! Requests, written.
-ghost use Rattle.std.specs.Prelude.{◌≡◌, ◌++◌, ◌<◌, decimal, drop, false, length, IfOk, OnOk};
+ghost use Rattle.std.specs.Prelude.{◌≡◌, ◌++◌, ◌<◌, drop, false, length, IfOk, OnOk};
 ghost use Rattle.std.specs.List.{flat_map};
 ghost use Rattle.std.specs.Fmt.{digits};
 ghost use Rattle.sm_fetch.specs.Patterns.{filled_behind, filled};
@@ -9,25 +9,11 @@ ghost use Rattle.sm_fetch.specs.Requests.{chunk, pieces, chunked, coding_line, p
 use crate::Place;
 use sm_addr::put_target;
 use sm_manin::{is_bitrate_field, is_start_field};
-use sm_model::{Address, Bytes, Name, NoMemory, Target};
+use sm_model::{Address, Bytes, Name, NoMemory, Target, put, put_number};
 use std::alloc::Global;
 
 // How many bytes of a body stand in one chunk.
 const CHUNK: usize = 65_536;
-
-fn put(out: &mut Vec<u8>, piece: &[u8]) -> Result<(), NoMemory>
-    ensures { OnOk result (out.new.items ≡ out.old.items ++ piece.now) }
-{
-    out.extend_from_slice(piece)?;
-    Ok(())
-}
-
-fn put_number(alloc: Global, out: &mut Vec<u8>, number: u64) -> Result<(), NoMemory>
-    ensures { OnOk result (out.new.items ≡ out.old.items ++ decimal number) }
-{
-    let text = format!(in alloc; "{number}")?;
-    put(out, text.as_bytes())
-}
 
 fn put_line(out: &mut Vec<u8>, method: &[u8], target: &[u8]) -> Result<(), NoMemory>
     ensures { OnOk result (out.new.items ≡ out.old.items ++ request_line method.now target.now) }
@@ -67,7 +53,7 @@ fn put_get(alloc: Global, place: &Place, target: &[u8]) -> Result<Bytes, NoMemor
     Ok(Bytes::from_vec(out))
 }
 
-/// The request for the manifest of a place.
+// The request for the manifest of a place.
 pub(crate) fn put_manifest_request(alloc: Global, place: &Place) -> Result<Bytes, NoMemory>
     ensures { IfOk result (λ text. text ≡ manifest_request place.now) }
 {
@@ -132,7 +118,7 @@ fn fragment_target(
     Ok(target)
 }
 
-/// The request for the fragment at an address of a place, by the Url of its stream in the manifest.
+// The request for the fragment at an address of a place, by the Url of its stream in the manifest.
 pub(crate) fn put_fragment_request(
     alloc: Global,
     place: &Place,
@@ -209,7 +195,7 @@ fn put_chunked(alloc: Global, out: &mut Vec<u8>, body: &[u8]) -> Result<(), NoMe
     put(out, b"\r\n")
 }
 
-/// The request that pushes a whole body under a name.
+// The request that pushes a whole body under a name.
 pub(crate) fn put_push_request(
     alloc: Global,
     place: &Place,

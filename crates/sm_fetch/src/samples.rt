@@ -31,7 +31,7 @@ fn is_moof(bytes: &[u8]) -> bool
     kind == b"moof".as_slice()
 }
 
-/// The `moof` and the box behind it, where the bytes are these two.
+// The `moof` and the box behind it, where the bytes are these two.
 pub(crate) fn two_boxes(body: &[u8]) -> Option<(&[u8], &[u8])>
     ensures { MatchOption result (HasNoPair body.now) (λ x. IsPair body.now x.0.now x.1.now) }
 {
@@ -67,8 +67,8 @@ fn are_short(samples: &[Sample]) -> bool
     true
 }
 
-/// The fragment that a body is: one `moof` and one `mdat`, a valid fragment that starts then, where no default holds for its
-/// samples. Their bytes are copied once.
+// The fragment that a body is: one `moof` and one `mdat`, a valid fragment that starts then, where no default holds for its
+// samples. Their bytes are copied once.
 pub(crate) fn read_samples(
     alloc: Global,
     time: u64,

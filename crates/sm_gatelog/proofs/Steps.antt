@@ -1,7 +1,7 @@
 -- How a run of calls goes on.
 use Rattle.std.proofs.Common.{◌≡◌, ℕ, ◌≤◌, List, refl, ◌∙◌, arith}
 use Rattle.sm_site.specs.Image.{Image, bytes_of}
-use Rattle.sm_site.specs.Meanings.{View, SameLink, Seen}
+use Rattle.sm_site.specs.Meanings.{SameLink, Seen}
 use Rattle.sm_site.specs.Clauses.{Passes, NoMore, Recorded, Throughout}
 use Rattle.sm_site.proofs.Moments.{one_call, no_call, weakened, and_then, link_here, link_then}
 use Rattle.sm_gatelog.specs.Moments.{InFile, Looks, EveryMoment}

@@ -1,5 +1,5 @@
 //! The value of a log, and what needs no disk.
-ghost use Rattle.std.specs.Prelude.{◌≡◌, ◌+◌, ◌<◌, ◌≤◌, ◌^◌, [], ℕ, length, get_or, false, true, None, map, slice_index, is_some, IfOk, OnOk};
+ghost use Rattle.std.specs.Prelude.{◌≡◌, ◌+◌, ◌<◌, ◌≤◌, ◌^◌, [], length, get_or, false, true, None, is_some, IfOk, OnOk};
 ghost use Rattle.std.specs.Prelude.{length as length_of};
 ghost use Rattle.sm_gatelog.specs.Logs.{Log, kept};
 

@@ -1,11 +1,11 @@
 //! Walking the records of a file.
-ghost use Rattle.std.specs.Prelude.{◌≡◌, ◌≢◌, ℕ, ◌+◌, ◌<◌, ◌≤◌, ◌^◌, length, take, drop, IfSome, IfOk, IsErrOf, OnOk, OnErr};
+ghost use Rattle.std.specs.Prelude.{◌≡◌, ◌≢◌, ℕ, ◌+◌, ◌<◌, ◌≤◌, ◌^◌, length, take, drop, IfSome, IfOk, IsErrOf, OnOk};
 ghost use Rattle.sm_model.specs.Numbers.{number32, number32_at};
 ghost use Rattle.sm_site.specs.Image.{bytes_of};
-ghost use Rattle.sm_site.specs.Clauses.{HasCause, Rose, read};
-ghost use Rattle.sm_gatelog.specs.Files.{alike, head, IsFresh, IsHeaded, NotALog};
+ghost use Rattle.sm_site.specs.Clauses.{read};
+ghost use Rattle.sm_gatelog.specs.Files.{alike, IsFresh, IsHeaded, NotALog};
 ghost use Rattle.sm_gatelog.specs.Logs.{Begins, Reads, GatesFit};
-ghost use Rattle.sm_gatelog.specs.Moments.{Looks};
+ghost use Rattle.sm_gatelog.specs.Moments.{Asks, FailsFor, Looks};
 
 use crate::log::FIRST_GATE;
 use crate::window::{Window, blank_window, fill, front_at};
@@ -13,7 +13,7 @@ use crate::{LogFault, Slot};
 use sm_site::{Disk, Failed};
 use std::alloc::Global;
 
-// What stands where a record may begin.
+/// What stands where a record may begin.
 #[derive(Clone, Copy)]
 pub enum Found {
     /// A closed gate.
@@ -60,8 +60,7 @@ fn record_at<D: Disk>(
     ensures told { IfOk result (λ found. IfSome (D.seen.view disk.old).contents
         (λ c. window.new.bytes.items ≡ read (bytes_of c file) window.new.start (length window.new.bytes.items))) }
     ensures fits { IfOk result (λ found. (n : ℕ) → found ≡ Found.Open n → at + 5 + n ≤ size) }
-    ensures looks { Looks D.seen disk.old disk.new }
-    ensures cause { HasCause (D.seen.view disk.old).disk_faults (D.seen.view disk.new).disk_faults result }
+    ensures asks { Asks D.seen disk.old disk.new result }
 {
     if at == size {
         return Ok(Found::Bad);
@@ -91,8 +90,7 @@ pub(crate) fn walk<D: Disk>(
     ensures sound { IfOk result (λ walk. GatesFit walk.slots.items walk.end) }
     ensures not_a_log { (at : ℕ) → IsErrOf result (LogFault.NotAStore at) → IfSome (D.seen.view disk.old).contents (λ c. NotALog at (bytes_of c file)) }
     ensures looks { Looks D.seen disk.old disk.new }
-    ensures cause { IsErrOf result LogFault.DiskFault → Rose (D.seen.view disk.old).disk_faults (D.seen.view disk.new).disk_faults }
-    ensures faults { result ≢ Err LogFault.DiskFault → (D.seen.view disk.new).disk_faults ≡ (D.seen.view disk.old).disk_faults }
+    ensures cause { FailsFor LogFault.DiskFault (D.seen.view disk.old) (D.seen.view disk.new) result }
 {
     let mut slots = Vec::new(alloc);
     let mut at = FIRST_GATE;
@@ -130,8 +128,7 @@ pub(crate) fn check_head<D: Disk>(disk: &mut D, file: u32, size: u64) -> Result<
     ensures not_a_log { (at : ℕ) → IsErrOf result (LogFault.NotAStore at) → IfSome (D.seen.view disk.old).contents (λ c. NotALog at (bytes_of c file)) }
     ensures memory { result ≢ Err LogFault.NoMemory }
     ensures looks { Looks D.seen disk.old disk.new }
-    ensures cause { IsErrOf result LogFault.DiskFault → Rose (D.seen.view disk.old).disk_faults (D.seen.view disk.new).disk_faults }
-    ensures faults { result ≢ Err LogFault.DiskFault → (D.seen.view disk.new).disk_faults ≡ (D.seen.view disk.old).disk_faults }
+    ensures cause { FailsFor LogFault.DiskFault (D.seen.view disk.old) (D.seen.view disk.new) result }
 {
     let mut front = [0; 13];
     disk.read_at(file, 0, &mut front)?;

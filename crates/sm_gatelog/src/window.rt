@@ -1,8 +1,8 @@
 //! A part of a file that is read at once.
-ghost use Rattle.std.specs.Prelude.{◌≡◌, ◌+◌, ◌-◌, ◌<◌, ◌≤◌, ◌^◌, length, take, drop, IfSome, IfOk, OnOk, IsErrOf};
+ghost use Rattle.std.specs.Prelude.{◌≡◌, ◌+◌, ◌-◌, ◌<◌, ◌≤◌, length, take, drop, IfSome, IfOk, OnOk};
 ghost use Rattle.sm_site.specs.Image.{bytes_of};
-ghost use Rattle.sm_site.specs.Clauses.{HasCause, Rose, read};
-ghost use Rattle.sm_gatelog.specs.Moments.{Looks};
+ghost use Rattle.sm_site.specs.Clauses.{read};
+ghost use Rattle.sm_gatelog.specs.Moments.{Asks};
 
 use sm_site::{Disk, Failed};
 use std::alloc::{AllocError, Global};
@@ -10,14 +10,14 @@ use std::alloc::{AllocError, Global};
 // How many bytes are read at once.
 const WINDOW_BYTES: usize = 65_536;
 
-/// Bytes of a file from a place on. Many small records are read in one disk call.
+// Bytes of a file from a place on. Many small records are read in one disk call.
 #[derive(Drop)]
 pub(crate) struct Window {
     pub(crate) start: u64,
     pub(crate) bytes: Vec<u8>,
 }
 
-/// A window of zeros, which stands for no file yet.
+// A window of zeros, which stands for no file yet.
 pub(crate) fn blank_window(alloc: Global) -> Result<Window, AllocError>
     ensures five { IfOk result (λ window. 5 ≤ length window.bytes.items) }
 {
@@ -27,7 +27,7 @@ pub(crate) fn blank_window(alloc: Global) -> Result<Window, AllocError>
     })
 }
 
-/// Reads the bytes from this place on into the window.
+// Reads the bytes from this place on into the window.
 pub(crate) fn fill<D: Disk>(
     window: &mut Window,
     disk: &mut D,
@@ -38,15 +38,14 @@ pub(crate) fn fill<D: Disk>(
         (λ c. window.new.bytes.items ≡ read (bytes_of c file) window.new.start (length window.new.bytes.items))) }
     ensures start { OnOk result (window.new.start ≡ at) }
     ensures length { length window.new.bytes.items ≡ length window.old.bytes.items }
-    ensures looks { Looks D.seen disk.old disk.new }
-    ensures cause { HasCause (D.seen.view disk.old).disk_faults (D.seen.view disk.new).disk_faults result }
+    ensures asks { Asks D.seen disk.old disk.new result }
 {
     disk.read_at(file, at, &mut window.bytes)?;
     window.start = at;
     Ok(())
 }
 
-/// Five bytes of the window.
+// Five bytes of the window.
 fn five_at(bytes: &[u8], from: usize) -> [u8; 5]
     requires { from + 5 ≤ length bytes.now }
     ensures { result ≡ take 5 (drop from bytes.now) }
@@ -60,7 +59,7 @@ fn five_at(bytes: &[u8], from: usize) -> [u8; 5]
     ]
 }
 
-/// Moves the window to this place where it doesn't cover five bytes from there on.
+// Moves the window to this place where it doesn't cover five bytes from there on.
 fn reach<D: Disk>(window: &mut Window, disk: &mut D, file: u32, at: u64) -> Result<(), Failed>
     requires five { 5 ≤ length window.old.bytes.items }
     requires told { IfSome (D.seen.view disk.old).contents (λ c. window.old.bytes.items ≡ read (bytes_of c file) window.old.start (length window.old.bytes.items)) }
@@ -69,8 +68,7 @@ fn reach<D: Disk>(window: &mut Window, disk: &mut D, file: u32, at: u64) -> Resu
     ensures below { OnOk result (window.new.start ≤ at) }
     ensures covers { OnOk result (at - window.new.start + 5 ≤ length window.new.bytes.items) }
     ensures five { 5 ≤ length window.new.bytes.items }
-    ensures looks { Looks D.seen disk.old disk.new }
-    ensures cause { HasCause (D.seen.view disk.old).disk_faults (D.seen.view disk.new).disk_faults result }
+    ensures asks { Asks D.seen disk.old disk.new result }
 {
     let last = window.bytes.len() as u64 - 5;
     if window.start <= at && at - window.start <= last {
@@ -79,7 +77,7 @@ fn reach<D: Disk>(window: &mut Window, disk: &mut D, file: u32, at: u64) -> Resu
     fill(window, disk, file, at)
 }
 
-/// The five bytes of a file from a place on.
+// The five bytes of a file from a place on.
 pub(crate) fn front_at<D: Disk>(
     window: &mut Window,
     disk: &mut D,
@@ -92,8 +90,7 @@ pub(crate) fn front_at<D: Disk>(
     ensures told { IfOk result (λ front. IfSome (D.seen.view disk.old).contents
         (λ c. window.new.bytes.items ≡ read (bytes_of c file) window.new.start (length window.new.bytes.items))) }
     ensures five { 5 ≤ length window.new.bytes.items }
-    ensures looks { Looks D.seen disk.old disk.new }
-    ensures cause { HasCause (D.seen.view disk.old).disk_faults (D.seen.view disk.new).disk_faults result }
+    ensures asks { Asks D.seen disk.old disk.new result }
 {
     reach(window, disk, file, at)?;
     Ok(five_at(&window.bytes, (at - window.start) as usize))

@@ -1,10 +1,10 @@
 //! Replies written.
-ghost use Rattle.std.specs.Prelude.{◌≡◌, ◌++◌, length, decimal, OnOk, IfOk};
+ghost use Rattle.std.specs.Prelude.{◌≡◌, ◌++◌, OnOk, IfOk};
 ghost use Rattle.http.specs.StatusCode.{IsStatusCode};
 ghost use Rattle.sm_head.specs.Replies.{kind_text, phrase, status_line, type_line, length_line, close_line, reply_head, reply_text};
 
 use http::StatusCode;
-use sm_model::{Bytes, NoMemory};
+use sm_model::{Bytes, NoMemory, put, put_number};
 use std::alloc::Global;
 
 /// What the body of a reply is.
@@ -28,20 +28,6 @@ pub const CONTINUE: &[u8] = b"HTTP/1.1 100 Continue\r\n\r\n";
 
 // More bytes than a head takes: 103 without the phrase and the count, of at most 20 digits.
 const HEAD_ROOM: usize = 256;
-
-fn put(out: &mut Vec<u8>, piece: &[u8]) -> Result<(), NoMemory>
-    ensures { OnOk result (out.new.items ≡ out.old.items ++ piece.now) }
-{
-    out.extend_from_slice(piece)?;
-    Ok(())
-}
-
-fn put_number(alloc: Global, out: &mut Vec<u8>, number: u64) -> Result<(), NoMemory>
-    ensures { OnOk result (out.new.items ≡ out.old.items ++ decimal number) }
-{
-    let text = format!(in alloc; "{number}")?;
-    put(out, text.as_bytes())
-}
 
 fn put_kind(out: &mut Vec<u8>, kind: Content) -> Result<(), NoMemory>
     ensures { OnOk result (out.new.items ≡ out.old.items ++ kind_text kind) }

@@ -28,7 +28,7 @@ pub enum ReqHead {
     Partial,
 }
 
-/// What the head asks that these spans cover.
+// What the head asks that these spans cover.
 fn judge_spans(
     alloc: Global,
     bytes: &[u8],

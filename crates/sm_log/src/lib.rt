@@ -5,6 +5,8 @@
 pub mod law;
 pub mod plain;
 mod times;
+mod tracks;
 mod verdict;
 
+pub use tracks::count_tracks;
 pub use verdict::{Checked, Decision, Judged};

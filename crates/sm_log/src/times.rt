@@ -23,7 +23,7 @@ fn free_place(times: &[(u64, u64)], start: u64) -> Option<usize>
     Some(times.len())
 }
 
-// Puts a start and a duration among others in order of time; one that stands there stays.
+/// Puts a start and a duration among others in order of time; one that stands there stays.
 pub fn put_time(times: &mut Vec<(u64, u64)>, start: u64, duration: u64) -> Result<(), NoMemory>
     ensures { OnOk result (times.new.items ≡ with_entry start duration times.old.items) }
 {
@@ -34,7 +34,7 @@ pub fn put_time(times: &mut Vec<(u64, u64)>, start: u64, duration: u64) -> Resul
     Ok(())
 }
 
-// The time that starts there.
+/// The time that starts there.
 pub fn time_at(times: &[(u64, u64)], start: u128) -> Option<(u64, u64)>
     ensures duration { option_map (λ time. time.1) result ≡ entry_at start times.now }
     ensures start { IfSome result (λ time. time.0 ≡ start) }
@@ -53,7 +53,7 @@ fn do_overlap(a: (u64, u64), b: (u64, u64)) -> bool
     (a.0 as u128) < b.0 as u128 + b.1 as u128 && (b.0 as u128) < a.0 as u128 + a.1 as u128
 }
 
-// The first time that overlaps the span.
+/// The first time that overlaps the span.
 pub fn overlapped(times: &[(u64, u64)], span: (u64, u64)) -> Option<(u64, u64)>
     ensures { option_map ends result ≡ overlapped_end span times.now }
 {

@@ -7,12 +7,12 @@ ghost use Rattle.sm_manin.specs.Values.{narrow_in};
 ghost use Rattle.sm_model.specs.Same.{is_same};
 ghost use Rattle.std.specs.List.{list_any};
 
-use crate::note::{note, note_if, note_option};
+use crate::note::note_if;
 use crate::raw::{RawLevel, RawRoot, RawStream};
 use crate::text::{is_pattern, kind_in_type, narrow_in, narrow_or};
 use crate::times::note_times;
 use crate::walk::Walk;
-use sm_model::{Bytes, Name};
+use sm_model::{Bytes, Name, note, note_option};
 
 fn is_two(number: Option<u32>) -> bool
     ensures { result ≡ is_two number }

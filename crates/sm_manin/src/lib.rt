@@ -15,4 +15,4 @@ mod walk;
 pub use listing::{Level, Levels, Listing, StreamListing, Streams};
 pub use read::read_manifest;
 pub use sm_model::TextFault as ManFault;
-pub use text::{is_bitrate_field, is_start_field};
+pub use text::{is_bitrate_field, is_start_field, wide_in};

@@ -12,7 +12,7 @@ use sm_model::{NoMemory, Tag, TextFault};
 use sm_tag::Tags;
 use std::alloc::Global;
 
-// Walks over the tags up to the end or one at fault, whose place it gives.
+/// Walks over the tags up to the end or one at fault, whose place it gives.
 pub fn walk_over<'a>(alloc: Global, mut tags: Tags<'a>) -> Result<(Walk, Option<u64>), NoMemory>
     ensures { IfOk result (λ x. WalkedOver tags.entry x.0 x.1) }
 {

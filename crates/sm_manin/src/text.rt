@@ -5,6 +5,7 @@ ghost use Rattle.sm_manin.specs.Patterns.{begins_with, is_bitrate_field, is_star
 
 use sm_model::{Bytes, Kind, number_of, wide_number_of};
 
+/// The number of 64 bits that a field writes, where it is there and writes one.
 pub fn wide_in(text: &Option<Bytes>) -> Option<u64>
     ensures { result ≡ wide_in text.now }
 {

@@ -4,10 +4,9 @@ ghost use Rattle.sm_model.specs.Places.{least_from};
 ghost use Rattle.sm_manin.specs.RunTimes.{start_in, until, duration_in, checked_count, count_in, fits, checked_time};
 ghost use Rattle.sm_manin.specs.RunTimes.{is_before, is_unsettled, unsettled_time, time_in, expand, times_in, fault_in, times_or_none};
 
-use crate::note::note;
 use crate::raw::RawTime;
 use crate::text::wide_in;
-use sm_model::{Bytes, NoMemory, number_of, wide_number_of};
+use sm_model::{Bytes, NoMemory, note, number_of, wide_number_of};
 use std::alloc::Global;
 
 fn start_in(end: u64, text: &Option<Bytes>) -> Option<u64>

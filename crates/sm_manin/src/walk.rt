@@ -1,11 +1,11 @@
 //! The walk over the tags of a manifest.
-ghost use Rattle.std.specs.Prelude.{◌≡◌, ◌-◌, ◌++◌, [], ◌∷◌, length, take, codes, IfOk, OnOk, Some, None, option_map, option_to_list};
+ghost use Rattle.std.specs.Prelude.{◌≡◌, ◌-◌, length, take, IfOk, OnOk, Some, None};
 ghost use Rattle.sm_tag.specs.Elements.{attribute_of};
-ghost use Rattle.sm_model.specs.Places.{first_place};
 ghost use Rattle.sm_manin.specs.ManifestWalk.{root_of, stream_of, level_of, time_of, is_in_root, is_in_stream, with_child};
 
 use crate::raw::{RawLevel, RawLevels, RawRoot, RawStream, RawTime, RawTimes};
-use sm_model::{Attribute, Bytes, NoMemory, Tag};
+use sm_model::{Attribute, Bytes, NoMemory, Tag, keep_first};
+use sm_tag::attribute_of;
 use std::alloc::Global;
 use std::marker::Model;
 
@@ -26,18 +26,6 @@ impl Model for Walk {
     ghost Value = { Met };
 
     ghost view = { λ w. record { path = w.path.items; root = w.root; other = w.other; protection = w.protection; done = w.done.items; current = w.current } };
-}
-
-// The value of the first attribute of that name.
-fn attribute_of<'a>(name: &[u8], attributes: &'a [Attribute]) -> Option<&'a [u8]>
-    ensures { option_map (λ x. x.now) result ≡ attribute_of name.now attributes.now }
-{
-    for attribute in attributes {
-        if attribute.name.as_slice() == name {
-            return Some(attribute.value.as_slice());
-        }
-    }
-    None
 }
 
 fn copied(alloc: Global, name: &[u8], attributes: &[Attribute]) -> Result<Option<Bytes>, NoMemory>
@@ -133,15 +121,6 @@ fn add_child(
         return stream.times.push(time_of(alloc, attributes, at)?);
     }
     Ok(())
-}
-
-// The place that was kept, or else this one.
-fn keep_first(place: &mut Option<u64>, at: u64)
-    ensures { place.new ≡ first_place place.old at }
-{
-    if place.is_none() {
-        *place = Some(at);
-    }
 }
 
 impl Walk {

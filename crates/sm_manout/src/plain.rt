@@ -5,6 +5,7 @@ ghost use Rattle.sm_manout.specs.Shown.{ended_by, quoted, value_of, stream_name,
 ghost use Rattle.sm_manin.specs.Values.{wide_in};
 ghost use Rattle.sm_manout.specs.Plain.{address};
 
+use sm_manin::wide_in;
 use sm_model::{Bytes, NoMemory, number_of, wide_number_of};
 use std::alloc::Global;
 use std::marker::Model;
@@ -118,15 +119,6 @@ impl OpenStream {
             return Ok(());
         }
         Ok(())
-    }
-}
-
-fn wide_in(text: &Option<Bytes>) -> Option<u64>
-    ensures { result ≡ wide_in text.now }
-{
-    match text {
-        None => None,
-        Some(text) => wide_number_of(text.as_slice()),
     }
 }
 

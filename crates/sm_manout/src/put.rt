@@ -1,17 +1,10 @@
 //! Pieces, attributes and escaped names.
-ghost use Rattle.std.specs.Prelude.{◌≡◌, ◌++◌, ◌<◌, OnOk, option_map};
+ghost use Rattle.std.specs.Prelude.{◌≡◌, ◌++◌, ◌<◌, OnOk};
 ghost use Rattle.sm_manout.specs.ManifestText.{attribute, number_attribute, option_attribute, text_attribute, escaped};
 
 use percent_encoding::{AsciiSet, NON_ALPHANUMERIC, ascii_set, percent_encode};
-use sm_model::NoMemory;
+use sm_model::{NoMemory, put};
 use std::alloc::Global;
-
-pub fn put(out: &mut Vec<u8>, piece: &[u8]) -> Result<(), NoMemory>
-    ensures { OnOk result (out.new.items ≡ out.old.items ++ piece.now) }
-{
-    out.extend_from_slice(piece)?;
-    Ok(())
-}
 
 fn put_two(out: &mut Vec<u8>, first: &[u8], second: &[u8]) -> Result<(), NoMemory>
     ensures { OnOk result (out.new.items ≡ out.old.items ++ (first.now ++ second.now)) }
@@ -59,7 +52,7 @@ pub fn put_text(out: &mut Vec<u8>, name: &[u8], value: &[u8]) -> Result<(), NoMe
     }
 }
 
-/// What is escaped in a name: all but ASCII letters, digits, `_`, `-` and `.`.
+// What is escaped in a name: all but ASCII letters, digits, `_`, `-` and `.`.
 const NAME_ESCAPES: AsciiSet = ascii_set!(NON_ALPHANUMERIC.remove(b'_').remove(b'-').remove(b'.'));
 
 /// A name as it stands in an address.

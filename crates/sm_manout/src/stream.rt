@@ -1,26 +1,16 @@
 //! Streams, and the whole manifest.
-ghost use Rattle.std.specs.Prelude.{◌≡◌, ◌+◌, ◌++◌, ◌<◌, ◌≤◌, [], length, IfOk, OnOk, if◌then◌else◌};
+ghost use Rattle.std.specs.Prelude.{◌≡◌, ◌+◌, ◌++◌, ◌<◌, [], IfOk, OnOk, if◌then◌else◌};
 ghost use Rattle.std.specs.List.{list_any};
 ghost use Rattle.sm_model.specs.Same.{is_same};
-ghost use Rattle.sm_model.specs.Kinds.{kind_name};
-ghost use Rattle.sm_log.specs.Adds.{tracks_of, listed};
+ghost use Rattle.sm_log.specs.Adds.{listed};
 ghost use Rattle.sm_manout.specs.ManifestText.{number_attributes, level_line, level_lines, url, stream_opening, stream_lines, streams_lines, manifest_head, manifest};
 
-use crate::put::{put, put_attribute, put_escaped, put_number, put_option, put_text};
+use crate::put::{put_attribute, put_escaped, put_number, put_option, put_text};
 use crate::times::put_times;
 use sm_catalog::Catalog;
-use sm_model::{Bytes, Kind, NoMemory, Params, Track};
+use sm_log::count_tracks;
+use sm_model::{Bytes, NoMemory, Params, Track, put};
 use std::alloc::Global;
-
-fn kind_name(kind: Kind) -> &'static [u8]
-    ensures { result.now ≡ kind_name kind }
-{
-    match kind {
-        Kind::Video => b"video",
-        Kind::Audio => b"audio",
-        Kind::Text => b"text",
-    }
-}
 
 #[tactic(auto, unfolding(crate::specs::ManifestText::number_attributes))]
 fn put_numbers(alloc: Global, out: &mut Vec<u8>, n: &Params) -> Result<(), NoMemory>
@@ -67,15 +57,6 @@ fn put_levels(
     Ok(())
 }
 
-fn count_tracks(channel: &[Track], name: &[u8]) -> usize
-    ensures { result ≡ length (tracks_of name.now channel.now) }
-{
-    channel
-        .iter()
-        .filter(|track| track.name.as_bytes() == name)
-        .count()
-}
-
 #[tactic(auto, unfolding(crate::specs::ManifestText::url))]
 fn url_of(alloc: Global, name: &[u8]) -> Result<Vec<u8>, NoMemory>
     ensures { IfOk result (λ v. v.items ≡ url name.now) }
@@ -99,7 +80,7 @@ fn put_opening(
 {
     let url = url_of(alloc, t.name.as_bytes())?;
     put(out, b"<StreamIndex")?;
-    put_attribute(out, b"Type", kind_name(t.kind))?;
+    put_attribute(out, b"Type", t.kind.name())?;
     put_attribute(out, b"Name", t.name.as_bytes())?;
     put_number(alloc, out, b"TimeScale", t.timescale as u64)?;
     put_number(alloc, out, b"Chunks", chunks as u64)?;

@@ -1,9 +1,9 @@
 //! The listed times, in runs.
-ghost use Rattle.std.specs.Prelude.{◌≡◌, ◌+◌, ◌++◌, ◌<◌, ◌≤◌, ◌^◌, length, OnOk};
+ghost use Rattle.std.specs.Prelude.{◌≡◌, ◌+◌, ◌++◌, ◌<◌, OnOk};
 ghost use Rattle.sm_manout.specs.ManifestText.{follows, runs_from, runs, run_line, run_lines};
 
-use crate::put::{put, put_number};
-use sm_model::NoMemory;
+use crate::put::put_number;
+use sm_model::{NoMemory, put};
 use std::alloc::Global;
 
 fn follows(last: (u64, u64), x: (u64, u64)) -> bool

@@ -1,6 +1,6 @@
 //! Why what was received is refused.
 ghost use Rattle.std.specs.Prelude.{◌≡◌, IfOk, string_bytes};
-ghost use Rattle.sm_model.specs.Causes.{cause_number, cause_status, cause_name, cause_values, has_place, cause_line};
+ghost use Rattle.sm_model.specs.Causes.{telling, cause_row, cause_number, cause_status, cause_name, cause_values, has_place, cause_line};
 
 use crate::{Bytes, Name, NoMemory};
 use std::alloc::Global;
@@ -148,173 +148,103 @@ pub enum Cause {
     TooManyConnections,
 }
 
+// How a cause is told.
+#[derive(Drop)]
+struct Telling {
+    number: u16,
+    name: &'static str,
+    status: u16,
+    has_place: bool,
+}
+
+fn by(number: u16, name: &'static str, status: u16, has_place: bool) -> Telling
+    ensures number { result.number ≡ number }
+    ensures name { result.name.now ≡ name.now }
+    ensures status { result.status ≡ status }
+    ensures place { result.has_place ≡ has_place }
+{
+    Telling {
+        number,
+        name,
+        status,
+        has_place,
+    }
+}
+
 impl Cause {
+    // The table of the causes: a line each.
+    fn telling(&self) -> Telling
+        ensures { telling result.number result.name.now result.status result.has_place ≡ cause_row self.now }
+    {
+        match self {
+            Cause::BadBox => by(1, "BadBox", 400, true),
+            Cause::BoxTooLarge => by(2, "BoxTooLarge", 413, true),
+            Cause::OpenEnded => by(3, "OpenEnded", 400, true),
+            Cause::NoHeader => by(4, "NoHeader", 400, true),
+            Cause::BadLiveManifest { .. } => by(5, "BadLiveManifest", 400, true),
+            Cause::BadMoov => by(6, "BadMoov", 400, true),
+            Cause::UnknownTrack => by(7, "UnknownTrack", 400, true),
+            Cause::NotDeclared { .. } => by(8, "NotDeclared", 409, false),
+            Cause::DeclClash { .. } => by(9, "DeclClash", 409, false),
+            Cause::Protected => by(10, "Protected", 415, true),
+            Cause::ManyTracks => by(11, "ManyTracks", 400, true),
+            Cause::ManyRuns => by(12, "ManyRuns", 400, true),
+            Cause::BaseOffset => by(13, "BaseOffset", 400, true),
+            Cause::NoTime => by(14, "NoTime", 400, true),
+            Cause::NoDuration => by(15, "NoDuration", 400, true),
+            Cause::NoSamples => by(16, "NoSamples", 400, true),
+            Cause::SamplesOutside => by(17, "SamplesOutside", 400, true),
+            Cause::NoMdat => by(18, "NoMdat", 400, true),
+            Cause::DurationClash { .. } => by(19, "DurationClash", 409, false),
+            Cause::Overlap { .. } => by(20, "Overlap", 409, false),
+            Cause::CutOff => by(21, "CutOff", 400, true),
+            Cause::TimeTooLarge => by(22, "TimeTooLarge", 400, true),
+            Cause::TooManySamples => by(23, "TooManySamples", 413, true),
+            Cause::BadRun => by(24, "BadRun", 400, true),
+            Cause::Full => by(30, "Full", 507, false),
+            Cause::DiskFault => by(31, "DiskFault", 503, false),
+            Cause::Damaged => by(32, "Damaged", 503, false),
+            Cause::NoMemory => by(33, "NoMemory", 500, false),
+            Cause::Forward => by(35, "Forward", 503, false),
+            Cause::BadHead => by(40, "BadHead", 400, false),
+            Cause::HeadTooLarge => by(41, "HeadTooLarge", 431, false),
+            Cause::NoTarget => by(42, "NoTarget", 404, false),
+            Cause::Method => by(43, "Method", 405, false),
+            Cause::Encoded => by(44, "Encoded", 415, false),
+            Cause::BadChunk => by(45, "BadChunk", 400, false),
+            Cause::LengthRequired => by(46, "LengthRequired", 411, false),
+            Cause::NotKept => by(47, "NotKept", 404, false),
+            Cause::NoChannel => by(48, "NoChannel", 404, false),
+            Cause::TooManyConnections => by(49, "TooManyConnections", 503, false),
+        }
+    }
+
     /// The number by which it is told.
     pub fn number(&self) -> u16
         ensures { result ≡ cause_number self.now }
     {
-        match self {
-            Cause::BadBox => 1,
-            Cause::BoxTooLarge => 2,
-            Cause::OpenEnded => 3,
-            Cause::NoHeader => 4,
-            Cause::BadLiveManifest { inside: _ } => 5,
-            Cause::BadMoov => 6,
-            Cause::UnknownTrack => 7,
-            Cause::NotDeclared {
-                stream: _,
-                bitrate: _,
-            } => 8,
-            Cause::DeclClash {
-                stream: _,
-                bitrate: _,
-            } => 9,
-            Cause::Protected => 10,
-            Cause::ManyTracks => 11,
-            Cause::ManyRuns => 12,
-            Cause::BaseOffset => 13,
-            Cause::NoTime => 14,
-            Cause::NoDuration => 15,
-            Cause::NoSamples => 16,
-            Cause::SamplesOutside => 17,
-            Cause::NoMdat => 18,
-            Cause::DurationClash { kept: _, given: _ } => 19,
-            Cause::Overlap { end: _ } => 20,
-            Cause::CutOff => 21,
-            Cause::TimeTooLarge => 22,
-            Cause::TooManySamples => 23,
-            Cause::BadRun => 24,
-            Cause::Full => 30,
-            Cause::DiskFault => 31,
-            Cause::Damaged => 32,
-            Cause::NoMemory => 33,
-            Cause::Forward => 35,
-            Cause::BadHead => 40,
-            Cause::HeadTooLarge => 41,
-            Cause::NoTarget => 42,
-            Cause::Method => 43,
-            Cause::Encoded => 44,
-            Cause::BadChunk => 45,
-            Cause::LengthRequired => 46,
-            Cause::NotKept => 47,
-            Cause::NoChannel => 48,
-            Cause::TooManyConnections => 49,
-        }
+        self.telling().number
     }
 
     /// The HTTP status of the reply that tells it.
     pub fn status(&self) -> u16
         ensures { result ≡ cause_status self.now }
     {
-        match self {
-            Cause::NotKept | Cause::NoChannel | Cause::NoTarget => 404,
-            Cause::Method => 405,
-            Cause::NotDeclared {
-                stream: _,
-                bitrate: _,
-            } => 409,
-            Cause::DeclClash {
-                stream: _,
-                bitrate: _,
-            } => 409,
-            Cause::DurationClash { kept: _, given: _ } => 409,
-            Cause::Overlap { end: _ } => 409,
-            Cause::LengthRequired => 411,
-            Cause::BoxTooLarge | Cause::TooManySamples => 413,
-            Cause::Protected | Cause::Encoded => 415,
-            Cause::HeadTooLarge => 431,
-            Cause::NoMemory => 500,
-            Cause::DiskFault | Cause::Damaged | Cause::Forward | Cause::TooManyConnections => 503,
-            Cause::Full => 507,
-            _ => 400,
-        }
+        self.telling().status
     }
 
     /// The name by which it is told.
     pub fn name(&self) -> &'static str
         ensures { result.now ≡ cause_name self.now }
     {
-        match self {
-            Cause::BadBox => "BadBox",
-            Cause::BoxTooLarge => "BoxTooLarge",
-            Cause::OpenEnded => "OpenEnded",
-            Cause::NoHeader => "NoHeader",
-            Cause::BadLiveManifest { inside: _ } => "BadLiveManifest",
-            Cause::BadMoov => "BadMoov",
-            Cause::UnknownTrack => "UnknownTrack",
-            Cause::NotDeclared {
-                stream: _,
-                bitrate: _,
-            } => "NotDeclared",
-            Cause::DeclClash {
-                stream: _,
-                bitrate: _,
-            } => "DeclClash",
-            Cause::Protected => "Protected",
-            Cause::ManyTracks => "ManyTracks",
-            Cause::ManyRuns => "ManyRuns",
-            Cause::BaseOffset => "BaseOffset",
-            Cause::NoTime => "NoTime",
-            Cause::NoDuration => "NoDuration",
-            Cause::NoSamples => "NoSamples",
-            Cause::SamplesOutside => "SamplesOutside",
-            Cause::NoMdat => "NoMdat",
-            Cause::DurationClash { kept: _, given: _ } => "DurationClash",
-            Cause::Overlap { end: _ } => "Overlap",
-            Cause::CutOff => "CutOff",
-            Cause::TimeTooLarge => "TimeTooLarge",
-            Cause::TooManySamples => "TooManySamples",
-            Cause::BadRun => "BadRun",
-            Cause::Full => "Full",
-            Cause::DiskFault => "DiskFault",
-            Cause::Damaged => "Damaged",
-            Cause::NoMemory => "NoMemory",
-            Cause::Forward => "Forward",
-            Cause::BadHead => "BadHead",
-            Cause::HeadTooLarge => "HeadTooLarge",
-            Cause::NoTarget => "NoTarget",
-            Cause::Method => "Method",
-            Cause::Encoded => "Encoded",
-            Cause::BadChunk => "BadChunk",
-            Cause::LengthRequired => "LengthRequired",
-            Cause::NotKept => "NotKept",
-            Cause::NoChannel => "NoChannel",
-            Cause::TooManyConnections => "TooManyConnections",
-        }
+        self.telling().name
     }
 
     /// Whether its line tells a place in the received bytes.
     pub fn has_place(&self) -> bool
         ensures { result ≡ has_place self.now }
     {
-        match self {
-            Cause::NotDeclared {
-                stream: _,
-                bitrate: _,
-            } => false,
-            Cause::DeclClash {
-                stream: _,
-                bitrate: _,
-            } => false,
-            Cause::DurationClash { kept: _, given: _ } => false,
-            Cause::Overlap { end: _ } => false,
-            Cause::Full
-            | Cause::DiskFault
-            | Cause::Damaged
-            | Cause::NoMemory
-            | Cause::Forward
-            | Cause::BadHead
-            | Cause::HeadTooLarge
-            | Cause::NoTarget
-            | Cause::Method
-            | Cause::Encoded
-            | Cause::BadChunk
-            | Cause::LengthRequired
-            | Cause::NotKept
-            | Cause::NoChannel
-            | Cause::TooManyConnections => false,
-            _ => true,
-        }
+        self.telling().has_place
     }
 }
 

@@ -1,8 +1,9 @@
 //! Fragments.
 ghost use Rattle.std.specs.Prelude.{◌≡◌, ◌↔◌, ◌-◌, ◌^◌, min, IsTrue, IfOk};
 ghost use Rattle.sm_model.specs.Fragments.{IsValid, sample_bytes};
+ghost use Rattle.sm_model.specs.Entries.{address_of};
 
-use crate::{Name, NoMemory, Sample, Samples};
+use crate::{Address, Name, NoMemory, Sample, Samples};
 use std::alloc::Global;
 
 /// One fragment of one track: the samples of a `moof` and the `mdat` behind it.
@@ -54,6 +55,15 @@ impl Fragment {
         ensures { result ≡ min (sample_bytes self.now.samples) (2 ^ 64 - 1) }
     {
         bytes_of(self.samples.as_slice())
+    }
+
+    /// Whether this is its address.
+    pub fn is_at(&self, address: &Address) -> bool
+        ensures { IsTrue result ↔ (address_of self.now ≡ address.now) }
+    {
+        self.time == address.time
+            && self.bitrate == address.bitrate
+            && self.stream.as_bytes() == address.stream.as_bytes()
     }
 
     /// An equal fragment. Bytes of samples that have several owners are not copied: they have one owner more.

@@ -1,9 +1,8 @@
 //! The header of a push.
-ghost use Rattle.std.specs.Prelude.{◌≡◌, length, IfOk};
+ghost use Rattle.std.specs.Prelude.{◌≡◌, IfOk};
 
-use crate::{Channel, Defaults, Name, NoMemory};
+use crate::{Channel, Defaults, Name, NoMemory, Sequence};
 use std::alloc::Global;
-use std::marker::Model;
 
 /// What fragments of a track need of the header that declared it.
 #[derive(Debug, Drop)]
@@ -33,49 +32,7 @@ impl HeaderTrack {
 }
 
 /// The tracks of a header in the order of its channel, which contracts see as a list.
-#[derive(Debug, Drop)]
-pub struct HeaderTracks {
-    items: Vec<HeaderTrack>,
-}
-
-impl Model for HeaderTracks {
-    ghost use Rattle.std.specs.Prelude.{List};
-    ghost use Rattle.sm_model.specs.declared.header.HeaderTrack.{HeaderTrack};
-
-    ghost Value = { List HeaderTrack };
-
-    ghost view = { λ h. h.items.items };
-}
-
-impl HeaderTracks {
-    /// These tracks, without a copy.
-    pub fn from_vec(items: Vec<HeaderTrack>) -> HeaderTracks
-        ensures { result ≡ items.items }
-    {
-        HeaderTracks { items }
-    }
-
-    /// The tracks back, without a copy.
-    pub fn into_vec(self) -> Vec<HeaderTrack>
-        ensures { result.items ≡ self }
-    {
-        self.items
-    }
-
-    /// The tracks, lent.
-    pub fn as_slice(&self) -> &[HeaderTrack]
-        ensures { result.now ≡ self.now }
-    {
-        &self.items
-    }
-
-    /// How many tracks there are.
-    pub fn len(&self) -> u64
-        ensures { result ≡ length self.now }
-    {
-        self.items.len() as u64
-    }
-}
+pub type HeaderTracks = Sequence<HeaderTrack>;
 
 /// The header of a push: what its live server manifest and its `moov` say together.
 #[derive(Debug, Drop)]

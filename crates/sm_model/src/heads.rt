@@ -1,8 +1,6 @@
 //! What a `moov` says of its tracks.
-ghost use Rattle.std.specs.Prelude.{◌≡◌, ◌==◌, length};
 
-use crate::Defaults;
-use std::marker::Model;
+use crate::{Defaults, Sequence};
 
 /// What holds for the samples of a track without a `trex` (ISO/IEC 14496-12, 8.8.3): all zero.
 pub const NO_DEFAULTS: Defaults = Defaults {
@@ -25,53 +23,4 @@ pub struct TrackHead {
 }
 
 /// Heads of tracks in the order of their boxes, which contracts see as a list.
-#[derive(Debug, Drop)]
-pub struct Heads {
-    items: Vec<TrackHead>,
-}
-
-impl Model for Heads {
-    ghost use Rattle.std.specs.Prelude.{List};
-    ghost use Rattle.sm_model.specs.declared.heads.TrackHead.{TrackHead};
-
-    ghost Value = { List TrackHead };
-
-    ghost view = { λ h. h.items.items };
-}
-
-impl Heads {
-    /// These heads, without a copy.
-    pub fn from_vec(items: Vec<TrackHead>) -> Heads
-        ensures { result ≡ items.items }
-    {
-        Heads { items }
-    }
-
-    /// The heads back, without a copy.
-    pub fn into_vec(self) -> Vec<TrackHead>
-        ensures { result.items ≡ self }
-    {
-        self.items
-    }
-
-    /// The heads, lent.
-    pub fn as_slice(&self) -> &[TrackHead]
-        ensures { result.now ≡ self.now }
-    {
-        &self.items
-    }
-
-    /// How many heads there are.
-    pub fn len(&self) -> u64
-        ensures { result ≡ length self.now }
-    {
-        self.items.len() as u64
-    }
-
-    /// Whether there are none.
-    pub fn is_empty(&self) -> bool
-        ensures { result ≡ (length self.now == 0) }
-    {
-        self.items.is_empty()
-    }
-}
+pub type Heads = Sequence<TrackHead>;

@@ -1,8 +1,6 @@
 //! Tags of a text.
-ghost use Rattle.std.specs.Prelude.{◌≡◌, length};
 
-use crate::Bytes;
-use std::marker::Model;
+use crate::{Bytes, Sequence};
 
 /// One attribute of a start tag.
 #[derive(Debug, Drop)]
@@ -13,49 +11,7 @@ pub struct Attribute {
 }
 
 /// Attributes in the order of the text, which contracts see as a list.
-#[derive(Debug, Drop)]
-pub struct Attributes {
-    items: Vec<Attribute>,
-}
-
-impl Model for Attributes {
-    ghost use Rattle.std.specs.Prelude.{List};
-    ghost use Rattle.sm_model.specs.declared.tag.Attribute.{Attribute};
-
-    ghost Value = { List Attribute };
-
-    ghost view = { λ a. a.items.items };
-}
-
-impl Attributes {
-    /// These attributes, without a copy.
-    pub fn from_vec(items: Vec<Attribute>) -> Attributes
-        ensures { result ≡ items.items }
-    {
-        Attributes { items }
-    }
-
-    /// The attributes back, without a copy.
-    pub fn into_vec(self) -> Vec<Attribute>
-        ensures { result.items ≡ self }
-    {
-        self.items
-    }
-
-    /// The attributes, lent.
-    pub fn as_slice(&self) -> &[Attribute]
-        ensures { result.now ≡ self.now }
-    {
-        &self.items
-    }
-
-    /// How many attributes there are.
-    pub fn len(&self) -> u64
-        ensures { result ≡ length self.now }
-    {
-        self.items.len() as u64
-    }
-}
+pub type Attributes = Sequence<Attribute>;
 
 /// One thing of a text that is made of tags. A place counts bytes from the first byte of the text.
 #[derive(Debug, Drop)]

@@ -1,6 +1,7 @@
 //! Tracks.
 ghost use Rattle.std.specs.Prelude.{◌≡◌, ◌↔◌, IsTrue, IfOk};
 ghost use Rattle.std.specs.List.{list_all};
+ghost use Rattle.sm_model.specs.Kinds.{kind_name};
 ghost use Rattle.sm_model.specs.Channels.{is_fourcc_byte, is_fourcc, IsOfOneQuality, IsOfOneCodec, IsOfOnePicture, IsOfOneSound};
 
 use crate::{Bytes, Name, NoMemory};
@@ -12,6 +13,19 @@ pub enum Kind {
     Video,
     Audio,
     Text,
+}
+
+impl Kind {
+    /// Its name in texts.
+    pub fn name(self) -> &'static [u8]
+        ensures { result.now ≡ kind_name self }
+    {
+        match self {
+            Kind::Video => b"video",
+            Kind::Audio => b"audio",
+            Kind::Text => b"text",
+        }
+    }
 }
 
 /// The numbers of a track that a decoder wants, each as it was declared or absent ([MS-SSTR] 2.2.2.5).

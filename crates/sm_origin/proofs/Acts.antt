@@ -136,21 +136,28 @@ inside_grown m e c (after, store, inr (mid, settles, more)) =
 
 -- ---- an act
 
-module _ {D : Type 0} (site : Seen D) where
+-- what holds of a disk and of the archives on it
+pub record Laws {D : Type 0} (site : Seen D) : Type 0 where
+  pub calls : (d : D) → is_some (site.view d).calls ≡ is_some (site.view d).contents
+  pub no_later : (d : D) (t : ℕ) (c : Image) → site.left_at d t c → t ≤ (site.view d).moment
+  pub at_now : (d : D) (c : Image) → site.left_at d (site.view d).moment c → site.may_leave d c
+  pub image : (a : Archive) (log : List Entry) (doubt : Option Entry) (d : D) (c : Image) → Stands a log doubt (site.may_leave d) → site.may_leave d c
+      → IsStore log c ⊎ ((x : Entry) × (doubt ≡ Some x) × IsStore (log ++ x ∷ []) c)
+
+module _ {D : Type 0} (site : Seen D) (laws : Laws site) where
   pub act_gives : (old new : D) (m after : Machine) (o : Origin) (act : Act) (reply : Reply) → IsSome (site.view old).contents
-      → is_some (site.view old).calls ≡ is_some (site.view old).contents → is_some (site.view new).calls ≡ is_some (site.view new).contents
-      → ((t : ℕ) (c : Image) → site.left_at new t c → t ≤ (site.view new).moment) → ((c : Image) → site.left_at new (site.view new).moment c → site.may_leave new c)
       → ((c : Image) → site.may_leave new c → Fits after c) → Step (Rose (site.view old).disk_faults (site.view new).disk_faults) m act after reply
       → StandsFor (IsSome (site.view new).contents) after o (site.may_leave new) → after.archive.limits ≡ m.archive.limits
       → Throughout site old new (λ t c. FitsInside m (entry_of act) c) → ((Acted (site.view old) (site.view new) → ⊥) → SameLog m after)
       → ActGives site old new m o act reply
-  act_gives old new m after o act reply told was is no_later at_now fits step stands limits through still =
-      let calls = calls_of (site.view old).calls (site.view new).calls (site.view old).moment (site.view new).moment (is_one (site.view old).calls (site.view old).contents was told) through.recorded in
+  act_gives old new m after o act reply told fits step stands limits through still =
+      let some = is_one (site.view old).calls (site.view old).contents (laws.calls old) told in
+      let calls = calls_of (site.view old).calls (site.view new).calls (site.view old).moment (site.view new).moment some through.recorded in
       record {
         after = after;
         calls = calls.made;
         step = step;
-        has_told = still_told (site.view old) (site.view new) was is through.recorded told;
+        has_told = still_told (site.view old) (site.view new) (laws.calls old) (laws.calls new) through.recorded told;
         stands = stands;
         limits = limits;
         noted = calls.noted;
@@ -160,7 +167,7 @@ module _ {D : Type 0} (site : Seen D) where
         keeps = through.keeps;
         inside = through.each;
         now = fits;
-        since = λ t c le left. fits c (at_now c (subst (λ (n : ℕ). site.left_at new n c) (omega (arith, le, no_later t c left)) left));
+        since = λ t c le left. fits c (laws.at_now new c (subst (λ (n : ℕ). site.left_at new n c) (omega (arith, le, laws.no_later new t c left)) left));
       }
 
 -- ---- replies
@@ -336,27 +343,21 @@ module _ {D : Type 0} (site : Seen D) where
       (λ c. (IsStore [] c → ⊥) → ((site.view d).contents ≡ (site.view d).contents) × NoMore (site.may_leave d) (site.may_leave d) × Throughout site d d (λ t x. site.may_leave d x))
       (λ c filled. (refl, λ x left. left, no_call site d (λ t x. site.may_leave d x) (no_later d)))
 
+module _ {D : Type 0} (site : Seen D) (laws : Laws site) where
   -- the law of images, for a machine
-  pub images : (Law : (a : Archive) (log : List Entry) (doubt : Option Entry) (d : D) (c : Image) → Stands a log doubt (site.may_leave d) → site.may_leave d c
-      → IsStore log c ⊎ ((x : Entry) × (doubt ≡ Some x) × IsStore (log ++ x ∷ []) c))
-      → (m : Machine) (a : Archive) (d : D) → Stands a m.log m.doubt (site.may_leave d) → (c : Image) → site.may_leave d c → Fits m c
-  images law m a d stands c left = fits_of m c (law a m.log m.doubt d c stands left)
+  images : (m : Machine) (a : Archive) (d : D) → Stands a m.log m.doubt (site.may_leave d) → (c : Image) → site.may_leave d c → Fits m c
+  images m a d stands c left = fits_of m c (laws.image a m.log m.doubt d c stands left)
 
   -- an act that adds an entry
   pub write_gives : (old new : D) (m : Machine) (o : Origin) (act : Act) (e : Entry) (reply : Reply) → IsSome (site.view old).contents
-      → is_some (site.view old).calls ≡ is_some (site.view old).contents → is_some (site.view new).calls ≡ is_some (site.view new).contents
-      → ((t : ℕ) (c : Image) → site.left_at new t c → t ≤ (site.view new).moment) → ((c : Image) → site.left_at new (site.view new).moment c → site.may_leave new c)
-      → ((a : Archive) (log : List Entry) (doubt : Option Entry) (d : D) (c : Image) → Stands a log doubt (site.may_leave d) → site.may_leave d c
-      → IsStore log c ⊎ ((x : Entry) × (doubt ≡ Some x) × IsStore (log ++ x ∷ []) c))
       → entry_of act ≡ Some e
       → (s : Stepped (Rose (site.view old).disk_faults (site.view new).disk_faults) (Acted (site.view old) (site.view new)) (site.may_leave new) m o.archive act reply)
       → o.archive.limits ≡ m.archive.limits
       → Throughout site old new (λ t c. (after : List Entry) × IsStore after c × Grows m.log m.doubt e after)
       → AreHeld (IsSome (site.view new).contents) s.after.log o.cache.entries
       → ActGives site old new m o act reply
-  write_gives old new m o act e reply told was is no_later at_now law entry s limits through held =
-      act_gives site old new m s.after o act reply told was is no_later at_now
-      (images law s.after o.archive new s.stands) s.step
+  write_gives old new m o act e reply told entry s limits through held =
+      act_gives site laws old new m s.after o act reply told (images s.after o.archive new s.stands) s.step
       (record { archive = s.archive; stands = s.stands; cached = held })
       (ap (λ (a : Archive). a.limits) s.archive ∙ limits)
       (weakened site old new _ (λ t c. FitsInside m (entry_of act) c) through
@@ -365,18 +366,13 @@ module _ {D : Type 0} (site : Seen D) where
 
   -- an act that only reads
   pub read_gives : (old new : D) (m : Machine) (was_o o : Origin) (act : Act) (reply : Reply) → IsSome (site.view old).contents
-      → is_some (site.view old).calls ≡ is_some (site.view old).contents → is_some (site.view new).calls ≡ is_some (site.view new).contents
-      → ((t : ℕ) (c : Image) → site.left_at new t c → t ≤ (site.view new).moment) → ((c : Image) → site.left_at new (site.view new).moment c → site.may_leave new c)
-      → ((a : Archive) (log : List Entry) (doubt : Option Entry) (d : D) (c : Image) → Stands a log doubt (site.may_leave d) → site.may_leave d c
-      → IsStore log c ⊎ ((x : Entry) × (doubt ≡ Some x) × IsStore (log ++ x ∷ []) c))
       → StandsFor (IsSome (site.view old).contents) m was_o (site.may_leave old)
       → Step (Rose (site.view old).disk_faults (site.view new).disk_faults) m act m reply
       → Throughout site old new (λ t c. site.may_leave old c)
       → StandsFor (IsSome (site.view new).contents) m o (site.may_leave new)
       → ActGives site old new m o act reply
-  read_gives old new m was_o o act reply told was is no_later at_now law stood step through stands =
-      act_gives site old new m m o act reply told was is no_later at_now
-      (images law m o.archive new stands.stands) step stands refl
+  read_gives old new m was_o o act reply told stood step through stands =
+      act_gives site laws old new m m o act reply told (images m o.archive new stands.stands) step stands refl
       (weakened site old new _ (λ t c. FitsInside m (entry_of act) c) through
-      (λ t c left. inside_of m (entry_of act) c (images law m was_o.archive old stood.stands c left)))
+      (λ t c left. inside_of m (entry_of act) c (images m was_o.archive old stood.stands c left)))
       (λ no. record { log = refl; doubt = refl })

@@ -1,10 +1,11 @@
 -- What is told of a fragment that is asked for.
-use Rattle.std.proofs.Common.{arith, ◌≡◌, inl, ℕ, List, Option, None, Some, option_map, Result, Ok, Err, IfOk, OnOk, OnErr, refl, ap, sym, ◌∙◌, ◌≢◌}
+use Rattle.std.proofs.Common.{arith, ◌≡◌, ◌⊎◌, ⊎_elim, inl, inr, ℕ, List, Option, None, Some, option_map, Result, Ok, Err, IfOk, OnOk, OnErr, refl, ap, sym, ◌∙◌, ◌≢◌}
 use Rattle.sm_model.specs.declared.track.Track.{Track}
 use Rattle.sm_model.specs.declared.address.Address.{Address}
 use Rattle.sm_model.specs.declared.fragment.Fragment.{Fragment}
 use Rattle.sm_model.specs.declared.entry.Entry.{Entry}
 use Rattle.sm_model.specs.declared.no_memory.NoMemory.{NoMemory}
+use Rattle.sm_model.specs.declared.act.Act.{Act}
 use Rattle.sm_model.specs.declared.act.Act.TheVariants.{Fragment as Ask, Frag}
 use Rattle.sm_model.specs.Entries.{address_of}
 use Rattle.sm_log.specs.Adds.{place_of}
@@ -13,6 +14,7 @@ use Rattle.lru.specs.LruCache.{LruCache}
 use Rattle.sm_cache.specs.declared.cache.Kept.{Kept}
 use Rattle.sm_head.specs.declared.reply.Content.TheVariants.{Mp4}
 use Rattle.sm_reply.specs.declared.reply.Reply.{Reply}
+use Rattle.sm_reply.specs.declared.reply.Counted.TheVariants as counted
 use Rattle.sm_reply.specs.Replies.{ok, no_memory, reply_of, fragment_of, fragment_reply, kept_reply}
 use Rattle.sm_origin.specs.Giving.{Made, missing}
 use Rattle.sm_origin.specs.Caching.{Remembers, held_at, with_kept}
@@ -63,13 +65,26 @@ same_cache a reply c other = record {
   same = λ asked counted status. refl;
 }
 
--- a fragment of a push that isn't kept leaves it so too
-pub same_behind : (f : Fragment) (reply : Reply) (c : LruCache Address Kept) → Remembers (Frag f) reply c c
-same_behind f reply c = record {
-  hit = λ b kept is status held. absurd (cc);
-  miss = λ b is status held. absurd (cc);
+-- an act that asks for none leaves it so too
+pub same_behind : (act : Act) (reply : Reply) (c : LruCache Address Kept) → ((a : Address) → act ≡ Ask a → ⊥) → Remembers act reply c c
+same_behind act reply c other = record {
+  hit = λ b kept is status held. absurd (other b is);
+  miss = λ b is status held. absurd (other b is);
   kept = λ g is counted. inl refl;
   same = λ asked counted status. refl;
+}
+
+pub frag_is : (f g : Fragment) → Frag f ≡ Frag g → f ≡ g
+frag_is f g e = cc
+
+-- one that was just kept was put, or not for want of memory
+pub put_behind : (f : Fragment) (place : ℕ) (reply : Reply) (old new : LruCache Address Kept) → (new ≡ old) ⊎ (new ≡ with_kept old place f) → reply.counted ≡ counted.Kept
+    → Remembers (Frag f) reply old new
+put_behind f place reply old new put is = record {
+  hit = λ b kept asks status held. absurd (cc);
+  miss = λ b asks status held. absurd (cc);
+  kept = λ g keeps counted. ⊎_elim (λ same. inl same) (λ now. inr (place, now ∙ ap (with_kept old place) (frag_is f g keeps))) put;
+  same = λ asked other status. absurd (other is);
 }
 
 pub status_of : (reply : Reply) → reply ≡ no_memory → reply.status ≡ 500

@@ -11,7 +11,10 @@ use Rattle.sm_cache.specs.declared.cache.Kept.{Kept}
 use Rattle.sm_cache.specs.Pairs.{is_one_address}
 use Rattle.sm_reply.specs.declared.reply.Reply.{Reply}
 use Rattle.sm_origin.specs.Giving.{Made}
-use Rattle.sm_origin.specs.Acting.{IsHeld, AreHeld}
+use Rattle.sm_site.specs.Image.{Image}
+use Rattle.sm_origin.specs.declared.origin.Origin.{Origin}
+use Rattle.sm_origin.specs.Machine.{Machine}
+use Rattle.sm_origin.specs.Acting.{IsHeld, AreHeld, StandsFor}
 use Rattle.sm_origin.specs.Caching.{Remembers, held_at, with_front}
 use Rattle.sm_origin.proofs.Acts.{some_address}
 use Rattle.sm_origin.proofs.Asked.{ask_is, status_of}
@@ -24,6 +27,11 @@ absent_stays a c new is none =
 pub front_held : (told : Type 0) (log : List Entry) (a : Address) (c new : LruCache Address Kept) → new ≡ with_front c a → AreHeld told log c.entries → AreHeld told log new.entries
 front_held told log a c new is held pair there =
     held pair (Contains-promoted (is_one_address a) c.entries pair (subst (λ (x : LruCache Address Kept). Contains x.entries pair) is there))
+
+-- the origin stands for the same
+pub fronted : (told : Type 0) (outcomes : Image → Type 0) (m : Machine) (was : Origin) (new : LruCache Address Kept) (a : Address) → new ≡ with_front was.cache a
+    → StandsFor told m was outcomes → StandsFor told m (record { archive = was.archive; cache = new }) outcomes
+fronted told outcomes m was new a is s = record { archive = s.archive; stands = s.stands; cached = front_held told m.log a was.cache new is s.cached }
 
 -- what is held at an address
 pub hit_held : (told : Type 0) (log : List Entry) (a : Address) (c : LruCache Address Kept) (kept : Kept) → held_at a c ≡ Some kept → AreHeld told log c.entries → IsHeld told log (a, kept)

@@ -10,3 +10,4 @@ pub mod KeptNow
 pub mod Real
 pub mod Showing
 pub mod Recalled
+pub mod Whole

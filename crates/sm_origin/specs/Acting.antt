@@ -38,6 +38,14 @@ pub record StandsFor (has_told : Type 0) (m : Machine) (o : Origin) (outcomes : 
   pub stands : Stands o.archive m.log m.doubt outcomes
   pub cached : AreHeld has_told m.log o.cache.entries
 
+-- the same on a site or a disk
+abbrev pub StandsOn : {D : Type 0} (site : Seen D) → Machine → Origin → D → Type 0
+StandsOn site m origin d = StandsFor (IsSome (site.view d).contents) m origin (site.may_leave d)
+
+-- it stands for some machine there
+abbrev pub StandsForSome : {D : Type 0} (site : Seen D) → Origin → D → Type 0
+StandsForSome site origin d = (m : Machine) × StandsOn site m origin d
+
 -- its channel or fragment is valid
 abbrev pub IsValidAct : Act → Type 0
 IsValidAct Manifest = Unit {0}
@@ -56,7 +64,7 @@ pub record ActGives {D : Type 0} (site : Seen D)
   pub calls : List DiskCall
   pub step : Step (Rose (site.view old).disk_faults (site.view new).disk_faults) m act after reply
   pub has_told : IsSome (site.view new).contents
-  pub stands : StandsFor (IsSome (site.view new).contents) after origin (site.may_leave new)
+  pub stands : StandsOn site after origin new
   pub limits : limits_of after.archive ≡ limits_of m.archive
   pub noted : Both (site.view old).calls (site.view new).calls (λ before now. now ≡ before ++ calls)
   -- with no disk call nothing changes

@@ -8,3 +8,4 @@ pub mod Caching
 pub mod Giving
 pub mod Shown
 pub mod Replying
+pub mod Acts

@@ -1,14 +1,11 @@
 //! One act is one step.
-ghost use Rattle.std.specs.Prelude.{◌≡◌, Some, IsSome, is_some};
+ghost use Rattle.std.specs.Prelude.{◌≡◌, Some};
 ghost use Rattle.sm_model.specs.declared.address.Address.{Address};
 ghost use Rattle.sm_model.specs.declared.act.Act.TheVariants.{Fragment as Ask};
 ghost use Rattle.sm_cache.specs.declared.cache.Kept.{Kept};
-ghost use Rattle.sm_site.specs.Meanings.{DiskAlone};
-ghost use Rattle.sm_site.specs.Clauses.{Rose};
-ghost use Rattle.sm_origin.specs.Machine.{Machine};
-ghost use Rattle.sm_origin.specs.Acting.{StandsFor, IsValidAct, ActGives};
-ghost use Rattle.sm_origin.specs.Caching.{Remembers, held_at};
-ghost use Rattle.sm_origin.specs.Replying.{Replies};
+ghost use Rattle.sm_origin.specs.Acting.{StandsForSome, IsValidAct};
+ghost use Rattle.sm_origin.specs.Acts.{Acts};
+ghost use Rattle.sm_origin.specs.Caching.{held_at};
 ghost use Rattle.sm_origin.specs.Seen.{cache_of};
 
 use crate::counts::tell_counts;
@@ -27,22 +24,11 @@ impl Origin {
     /// back from the disk and put there.
     pub fn act<S: Site>(&mut self, alloc: Global, site: &mut S, act: &Act) -> Reply
         requires valid { IsValidAct act.now }
-        requires stands { (m : Machine) × StandsFor (IsSome (S.Disk.seen.view site.old).contents) m self.old (S.Disk.seen.may_leave site.old) }
-        // It stands for some machine again, whichever it stood for.
-        ensures stands { (m : Machine) × StandsFor (IsSome (S.Disk.seen.view site.new).contents) m self.new (S.Disk.seen.may_leave site.new) }
-        ensures step { IsSome (S.Disk.seen.view site.old).contents → (m : Machine)
-            → StandsFor (IsSome (S.Disk.seen.view site.old).contents) m self.old (S.Disk.seen.may_leave site.old)
-            → ActGives S.Disk.seen site.old site.new m self.new act.now result }
-        // The same of the reply on any disk; of a fragment that is read back its address, its place and that it is valid.
-        ensures replied { (m : Machine) → StandsFor (IsSome (S.Disk.seen.view site.old).contents) m self.old (S.Disk.seen.may_leave site.old)
-            → Replies (Rose (S.Disk.seen.view site.old).disk_faults (S.Disk.seen.view site.new).disk_faults) (IsSome (S.Disk.seen.view site.new).contents)
-            (S.Disk.seen.may_leave site.new) m self.new act.now result }
+        requires stands { StandsForSome S.Disk.seen self.old site.old }
+        ensures acts { Acts S.Disk.seen site.old site.new self.old self.new act.now result }
         // A fragment in the cache is given without a read of the disk.
         ensures unread { (a : Address) (kept : Kept) → act.now ≡ Ask a → held_at a (cache_of self.old) ≡ Some kept
             → (S.Disk.seen.view site.new).reads ≡ (S.Disk.seen.view site.old).reads }
-        ensures remembers { Remembers act.now result (cache_of self.old) (cache_of self.new) }
-        ensures told { is_some (S.Disk.seen.view site.new).contents ≡ is_some (S.Disk.seen.view site.old).contents }
-        ensures disk_alone { DiskAlone (S.Disk.seen.view site.old) (S.Disk.seen.view site.new) }
     {
         an_image_fits::<S>();
         match act {

@@ -1,16 +1,13 @@
 //! A fragment that is asked for.
-ghost use Rattle.std.specs.Prelude.{◌≡◌, ◌<◌, ◌^◌, Some, None, IsSome, is_some, IfOk, OnOk, OnErr};
+ghost use Rattle.std.specs.Prelude.{◌≡◌, ◌<◌, ◌^◌, Some, None, IfOk, OnOk, OnErr};
 ghost use Rattle.sm_model.specs.Fragments.{IsValid};
 ghost use Rattle.sm_log.specs.Logs.{channel_of};
 ghost use Rattle.sm_model.specs.declared.act.Act.TheVariants.{Fragment as Ask};
 ghost use Rattle.sm_cache.specs.declared.cache.Kept.{Kept};
-ghost use Rattle.sm_site.specs.Meanings.{DiskAlone};
-ghost use Rattle.sm_site.specs.Clauses.{Rose};
-ghost use Rattle.sm_origin.specs.Machine.{Machine};
-ghost use Rattle.sm_origin.specs.Acting.{StandsFor, ActGives};
-ghost use Rattle.sm_origin.specs.Caching.{Remembers, held_at, with_kept};
+ghost use Rattle.sm_origin.specs.Acting.{StandsForSome};
+ghost use Rattle.sm_origin.specs.Acts.{Acts};
+ghost use Rattle.sm_origin.specs.Caching.{held_at, with_kept};
 ghost use Rattle.sm_origin.specs.Giving.{OfLog, Gives, missing};
-ghost use Rattle.sm_origin.specs.Replying.{Replies};
 
 use crate::kept::give;
 use crate::origin::Origin;
@@ -74,17 +71,8 @@ impl Origin {
     // Asks the archive for a fragment that the cache lacks.
     fn fetch<D: Disk>(&mut self, alloc: Global, disk: &mut D, address: &Address) -> Reply
         requires absent { held_at address.now self.old.cache ≡ None }
-        requires stands { (m : Machine) × StandsFor (IsSome (D.seen.view disk.old).contents) m self.old (D.seen.may_leave disk.old) }
-        // It stands for some machine again, whichever it stood for.
-        ensures stands { (m : Machine) × StandsFor (IsSome (D.seen.view disk.new).contents) m self.new (D.seen.may_leave disk.new) }
-        ensures step { IsSome (D.seen.view disk.old).contents → (m : Machine) → StandsFor (IsSome (D.seen.view disk.old).contents) m self.old (D.seen.may_leave disk.old)
-            → ActGives D.seen disk.old disk.new m self.new (Ask address.now) result }
-        ensures replied { (m : Machine) → StandsFor (IsSome (D.seen.view disk.old).contents) m self.old (D.seen.may_leave disk.old)
-            → Replies (Rose (D.seen.view disk.old).disk_faults (D.seen.view disk.new).disk_faults) (IsSome (D.seen.view disk.new).contents)
-            (D.seen.may_leave disk.new) m self.new (Ask address.now) result }
-        ensures remembers { Remembers (Ask address.now) result self.old.cache self.new.cache }
-        ensures told { is_some (D.seen.view disk.new).contents ≡ is_some (D.seen.view disk.old).contents }
-        ensures disk_alone { DiskAlone (D.seen.view disk.old) (D.seen.view disk.new) }
+        requires stands { StandsForSome D.seen self.old disk.old }
+        ensures { Acts D.seen disk.old disk.new self.old self.new (Ask address.now) result }
     {
         an_image_fits::<D>();
         kept_is_added();
@@ -106,18 +94,9 @@ impl Origin {
         disk: &mut D,
         address: &Address,
     ) -> Reply
-        requires stands { (m : Machine) × StandsFor (IsSome (D.seen.view disk.old).contents) m self.old (D.seen.may_leave disk.old) }
-        // It stands for some machine again, whichever it stood for.
-        ensures stands { (m : Machine) × StandsFor (IsSome (D.seen.view disk.new).contents) m self.new (D.seen.may_leave disk.new) }
-        ensures step { IsSome (D.seen.view disk.old).contents → (m : Machine) → StandsFor (IsSome (D.seen.view disk.old).contents) m self.old (D.seen.may_leave disk.old)
-            → ActGives D.seen disk.old disk.new m self.new (Ask address.now) result }
-        ensures replied { (m : Machine) → StandsFor (IsSome (D.seen.view disk.old).contents) m self.old (D.seen.may_leave disk.old)
-            → Replies (Rose (D.seen.view disk.old).disk_faults (D.seen.view disk.new).disk_faults) (IsSome (D.seen.view disk.new).contents)
-            (D.seen.may_leave disk.new) m self.new (Ask address.now) result }
+        requires stands { StandsForSome D.seen self.old disk.old }
+        ensures acts { Acts D.seen disk.old disk.new self.old self.new (Ask address.now) result }
         ensures unread { (kept : Kept) → held_at address.now self.old.cache ≡ Some kept → (D.seen.view disk.new).reads ≡ (D.seen.view disk.old).reads }
-        ensures remembers { Remembers (Ask address.now) result self.old.cache self.new.cache }
-        ensures told { is_some (D.seen.view disk.new).contents ≡ is_some (D.seen.view disk.old).contents }
-        ensures disk_alone { DiskAlone (D.seen.view disk.old) (D.seen.view disk.new) }
     {
         an_image_fits::<D>();
         kept_is_added();

@@ -1,17 +1,14 @@
 //! Headers and fragments of pushes.
-ghost use Rattle.std.specs.Prelude.{◌≡◌, ◌⊎◌, ℕ, IsSome, is_some};
-ghost use Rattle.lru.specs.LruCache.{LruCache};
+ghost use Rattle.std.specs.Prelude.{◌≡◌, ◌⊎◌};
 ghost use Rattle.sm_model.specs.declared.act.Act.TheVariants.{Header, Frag};
 ghost use Rattle.sm_model.specs.Channels.{IsChannel};
 ghost use Rattle.sm_model.specs.Fragments.{IsValid};
-ghost use Rattle.sm_site.specs.Meanings.{DiskAlone};
 ghost use Rattle.sm_site.specs.Clauses.{Rose};
 ghost use Rattle.sm_archive.specs.declared.answers.Declared.TheVariants as answer;
 ghost use Rattle.sm_origin.specs.Answers.{reply_to_header};
-ghost use Rattle.sm_origin.specs.Machine.{Machine};
-ghost use Rattle.sm_origin.specs.Acting.{StandsFor, ActGives};
-ghost use Rattle.sm_origin.specs.Caching.{Remembers, with_kept};
-ghost use Rattle.sm_origin.specs.Replying.{Replies};
+ghost use Rattle.sm_origin.specs.Acting.{StandsForSome};
+ghost use Rattle.sm_origin.specs.Acts.{IsOneStep, Acts};
+ghost use Rattle.sm_origin.specs.Caching.{with_kept};
 ghost use Rattle.sm_origin.specs.Seen.{cache_of};
 
 use crate::origin::Origin;
@@ -46,17 +43,8 @@ impl Origin {
         fragment: &Fragment,
     ) -> Reply
         requires valid { IsValid fragment.now }
-        requires stands { (m : Machine) × StandsFor (IsSome (D.seen.view disk.old).contents) m self.old (D.seen.may_leave disk.old) }
-        // It stands for some machine again, whichever it stood for.
-        ensures stands { (m : Machine) × StandsFor (IsSome (D.seen.view disk.new).contents) m self.new (D.seen.may_leave disk.new) }
-        ensures step { IsSome (D.seen.view disk.old).contents → (m : Machine) → StandsFor (IsSome (D.seen.view disk.old).contents) m self.old (D.seen.may_leave disk.old)
-            → ActGives D.seen disk.old disk.new m self.new (Frag fragment.now) result }
-        ensures replied { (m : Machine) → StandsFor (IsSome (D.seen.view disk.old).contents) m self.old (D.seen.may_leave disk.old)
-            → Replies (Rose (D.seen.view disk.old).disk_faults (D.seen.view disk.new).disk_faults) (IsSome (D.seen.view disk.new).contents) (D.seen.may_leave disk.new)
-            m self.new (Frag fragment.now) result }
-        ensures remembers { Remembers (Frag fragment.now) result self.old.cache self.new.cache }
-        ensures told { is_some (D.seen.view disk.new).contents ≡ is_some (D.seen.view disk.old).contents }
-        ensures disk_alone { DiskAlone (D.seen.view disk.old) (D.seen.view disk.new) }
+        requires stands { StandsForSome D.seen self.old disk.old }
+        ensures { Acts D.seen disk.old disk.new self.old self.new (Frag fragment.now) result }
     {
         an_image_fits::<D>();
         kept_is_added();
@@ -74,17 +62,11 @@ impl Origin {
     /// entry in doubt is settled first.
     pub fn declare<S: Site>(&mut self, alloc: Global, site: &mut S, channel: &Channel) -> Declared
         requires valid { IsChannel channel.now }
-        requires stands { (m : Machine) × StandsFor (IsSome (S.Disk.seen.view site.old).contents) m self.old (S.Disk.seen.may_leave site.old) }
+        requires stands { StandsForSome S.Disk.seen self.old site.old }
         // It is one step, whose reply is the answer's.
-        // It stands for some machine again, whichever it stood for.
-        ensures stands { (m : Machine) × StandsFor (IsSome (S.Disk.seen.view site.new).contents) m self.new (S.Disk.seen.may_leave site.new) }
-        ensures step { IsSome (S.Disk.seen.view site.old).contents → (m : Machine)
-            → StandsFor (IsSome (S.Disk.seen.view site.old).contents) m self.old (S.Disk.seen.may_leave site.old)
-            → ActGives S.Disk.seen site.old site.new m self.new (Header channel.now) (reply_to_header result) }
+        ensures one { IsOneStep S.Disk.seen site.old site.new self.old self.new (Header channel.now) (λ log. reply_to_header result) }
         ensures cache { cache_of self.new ≡ cache_of self.old }
         ensures fault { result ≡ answer.DiskFault → Rose (S.Disk.seen.view site.old).disk_faults (S.Disk.seen.view site.new).disk_faults }
-        ensures told { is_some (S.Disk.seen.view site.new).contents ≡ is_some (S.Disk.seen.view site.old).contents }
-        ensures disk_alone { DiskAlone (S.Disk.seen.view site.old) (S.Disk.seen.view site.new) }
     {
         an_image_fits::<S>();
         kept_is_added();
@@ -100,17 +82,8 @@ impl Origin {
         channel: &Channel,
     ) -> Reply
         requires valid { IsChannel channel.now }
-        requires stands { (m : Machine) × StandsFor (IsSome (D.seen.view disk.old).contents) m self.old (D.seen.may_leave disk.old) }
-        // It stands for some machine again, whichever it stood for.
-        ensures stands { (m : Machine) × StandsFor (IsSome (D.seen.view disk.new).contents) m self.new (D.seen.may_leave disk.new) }
-        ensures step { IsSome (D.seen.view disk.old).contents → (m : Machine) → StandsFor (IsSome (D.seen.view disk.old).contents) m self.old (D.seen.may_leave disk.old)
-            → ActGives D.seen disk.old disk.new m self.new (Header channel.now) result }
-        ensures replied { (m : Machine) → StandsFor (IsSome (D.seen.view disk.old).contents) m self.old (D.seen.may_leave disk.old)
-            → Replies (Rose (D.seen.view disk.old).disk_faults (D.seen.view disk.new).disk_faults) (IsSome (D.seen.view disk.new).contents) (D.seen.may_leave disk.new)
-            m self.new (Header channel.now) result }
-        ensures remembers { Remembers (Header channel.now) result self.old.cache self.new.cache }
-        ensures told { is_some (D.seen.view disk.new).contents ≡ is_some (D.seen.view disk.old).contents }
-        ensures disk_alone { DiskAlone (D.seen.view disk.old) (D.seen.view disk.new) }
+        requires stands { StandsForSome D.seen self.old disk.old }
+        ensures { Acts D.seen disk.old disk.new self.old self.new (Header channel.now) result }
     {
         an_image_fits::<D>();
         kept_is_added();

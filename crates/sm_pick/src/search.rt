@@ -20,11 +20,11 @@ pub struct Search {
     track: u32,
     time: u64,
     push: Push,
-    /// How many fragments came.
+    // How many fragments came.
     count: u32,
-    /// The first one that is sought, behind its place among them, from 1.
+    // The first one that is sought, behind its place among them, from 1.
     found: Option<(u32, Fragment)>,
-    /// Why the bytes are no push, once that is known.
+    // Why the bytes are no push, once that is known.
     refusal: Option<Refusal>,
 }
 

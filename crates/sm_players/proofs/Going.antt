@@ -1,5 +1,5 @@
 -- Entries of a transcript, joined.
-use Rattle.std.proofs.Common.{◌≡◌, ◌≢◌, ◌+◌, ◌<◌, ◌≤◌, ℕ, Bool, true, false, if◌then◌else◌, List, [], ◌∷◌, ◌++◌, Option, Some, None, IfSome, IsTrue, refl, sym, ◌∙◌, ap, subst, append_assoc}
+use Rattle.std.proofs.Common.{◌≡◌, ◌≢◌, ◌+◌, ◌<◌, ◌≤◌, ℕ, Bool, true, false, if◌then◌else◌, List, [], ◌∷◌, ◌++◌, Option, Some, None, IfSome, IsTrue, refl, sym, ◌∙◌, ap, subst, append_assoc, arith}
 use Rattle.std.specs.Prelude.{map, take}
 use Rattle.std.proofs.lemmas.List.{map-append, append-nil}
 use Rattle.std.proofs.lemmas.Bool.{ne_eqb, eq-eqb}
@@ -8,7 +8,7 @@ use Rattle.sm_site.specs.Meanings.Deal.{Began, Came, Left, Over, Sent, Shut}
 use Rattle.sm_site.specs.Clauses.{Both, Adds}
 use Rattle.sm_site.proofs.Transcripts.{open_push, stays_live}
 use Rattle.sm_players.specs.Asking.{Asking, behind}
-use Rattle.sm_players.specs.Telling.{Goes, StaysBeside}
+use Rattle.sm_players.specs.Telling.{Goes, LeavesBoth, StaysBeside}
 
 -- ---- the transcript goes on
 
@@ -57,6 +57,17 @@ behind_then a b c xs ys one two = two ∙ ap (λ (o : Option (List Asking)). beh
 
 pub beside_then : (n : ℕ) (a b c : Option (List Item)) → StaysBeside n a b → StaysBeside n b c → StaysBeside n a c
 beside_then n a b c one two m other live = two m other (one m other live)
+
+-- a turn behind one that left this connection open
+pub leaves_then : (n : ℕ) (open_ : Bool) (u v w : View) (i j k : ℕ) → LeavesBoth n true u v i j → LeavesBoth n open_ v w j k → LeavesBoth n open_ u w i k
+leaves_then n open_ u v w i j k one two = record {
+  wire = record {
+    live = two.wire.live;
+    others = beside_then n u.transcript v.transcript w.transcript one.wire.others two.wire.others;
+    link_faults = two.wire.link_faults ∙ one.wire.link_faults;
+  };
+  later = omega (arith, one.later, two.later);
+}
 
 pub beside_same : (n : ℕ) (a b : Option (List Item)) → b ≡ a → StaysBeside n a b
 beside_same n a b same m other live = subst (λ (o : Option (List Item)). IfSome o (IsLive m)) (sym same) live

@@ -4,7 +4,7 @@ use Rattle.std.specs.Prelude.{Ok, slice_set}
 use Rattle.std.specs.List.{remove}
 use Rattle.std.proofs.lemmas.List.{append-nil, take_more, take-append-drop}
 use Rattle.std.proofs.lemmas.Grind.{flat_map-append}
-use Rattle.sm_site.specs.Meanings.{Deal, Item, IsLive}
+use Rattle.sm_site.specs.Meanings.{Deal, Item, IsLive, View}
 use Rattle.sm_site.specs.Meanings.Deal.{Began, Came, Left, Over}
 use Rattle.sm_log.specs.Digests.{Digest}
 use Rattle.sm_head.specs.declared.reply.TheConstants.{NO_MEMORY}
@@ -16,10 +16,10 @@ use Rattle.sm_players.specs.declared.replying.Final.{Final}
 use Rattle.sm_players.specs.declared.telling.Outcome.{Outcome}
 use Rattle.sm_players.specs.declared.telling.Outcome.TheVariants.{Open, Closed, Failed}
 use Rattle.sm_players.specs.Asking.{Asking, behind}
-use Rattle.sm_players.specs.Telling.{Goes, StaysBeside, Tells, is_open, counted}
+use Rattle.sm_players.specs.Telling.{Goes, LeavesWire, StaysBeside, Tells, is_open, counted}
 use Rattle.sm_players.specs.Replying.{IsReplied, IsStarved, IsAnswer}
 use Rattle.sm_players.specs.Taking.{Standing, standing, Handles, skips, replies, starves, Takes, nothing, next, stops, PieceGives, taken, unread}
-use Rattle.sm_players.specs.Open.{Known, IsKnown, AreKnown, AreOpen, AreOpenBut, IsApart, IsNone, IsNewborn, IsTakenOut, Forgets, numbers_of}
+use Rattle.sm_players.specs.Open.{Known, IsKnown, AreKnown, AreOpen, AreOpenBut, IsApart, IsNone, IsNewborn, IsTakenOut, Forgets, LeavesOpen, numbers_of}
 use Rattle.sm_players.specs.Playing.{Turns, opened, crowded, unborn, came, unread as unread_turn, passed, left, left_alone, over, with_bytes, IsCrowded}
 use Rattle.sm_players.specs.Given.{TurnGives}
 use Rattle.sm_players.proofs.Going.{behind_nil, behind_then, goes_then, goes_nil}
@@ -102,6 +102,13 @@ open_apart n None None told ls beside goes may = tt
 open_apart n None (Some y) told ls beside goes may = absurd goes
 open_apart n (Some x) None told ls beside goes may = tt
 open_apart n (Some x) (Some y) told ls beside goes may = none_but n y ls may.1 (but_of n x y ls beside may.2)
+
+pub leaves_apart : (n : ℕ) (open_ : Bool) (v w : View) (told : List Deal) (ls : List Live) → LeavesWire n open_ v w → Goes v.transcript w.transcript told
+    → IfSome v.transcript (λ items. IsLive n items × IsApart n ls × AreOpen items ls) → LeavesOpen ls v w
+leaves_apart n open_ v w told ls leaves goes may = record {
+  open_ = open_apart n v.transcript w.transcript told ls leaves.others goes may;
+  link_faults = leaves.link_faults;
+}
 
 pub open_push : (a : Option (List Item)) (n : ℕ) (ls : List Live) (x : Live) → x.number ≡ n → IfSome a (λ items. IsLive n items × IsApart n ls × AreOpen items ls) → IfSome a (λ items. AreOpen items (ls ++ x ∷ []))
 open_push None n ls x is may = tt

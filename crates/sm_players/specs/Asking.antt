@@ -1,5 +1,5 @@
 -- What the loop was asked.
-use Rattle.std.specs.Prelude.{ℕ, List, [], ◌∷◌, ◌++◌, Option, Some, None, Result, Ok, Err}
+use Rattle.std.specs.Prelude.{◌≡◌, ℕ, ◌≤◌, List, [], ◌∷◌, ◌++◌, Option, Some, None, Result, Ok, Err}
 use Rattle.sm_model.specs.declared.target.Target.{Target}
 use Rattle.sm_players.specs.declared.forward.ForwardError.{ForwardError}
 use Rattle.sm_players.specs.declared.forward.ForwardError.TheVariants.{Failed, NoMemory}
@@ -22,3 +22,10 @@ told_of target (Err NoMemory) = []
 
 abbrev pub asked_with : Option (List Asking) → Target → Result (List ℕ) ForwardError → Option (List Asking)
 asked_with told target answer = behind told (told_of target answer)
+
+-- the loop was asked for these, of which P says what came of them; its faults are counted
+pub record HasAsked (was now : Option (List Asking)) (before after : ℕ) (P : List Asking → Type 0) : Type 0 where
+  pub asked : List Asking
+  pub asks : now ≡ behind was asked
+  pub means : P asked
+  pub later : before ≤ after

@@ -6,3 +6,4 @@ pub mod Open
 pub mod Playing
 pub mod Given
 pub mod Wiring
+pub mod Adding

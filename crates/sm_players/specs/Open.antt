@@ -1,6 +1,6 @@
 -- The live connections of a player.
-use Rattle.std.specs.Prelude.{◌≡◌, ◌≢◌, ◌⊎◌, ℕ, List, [], ◌∷◌, ◌++◌}
-use Rattle.sm_site.specs.Meanings.{Item, IsLive}
+use Rattle.std.specs.Prelude.{◌≡◌, ◌≢◌, ◌⊎◌, ℕ, List, [], ◌∷◌, ◌++◌, IfSome}
+use Rattle.sm_site.specs.Meanings.{Item, IsLive, View}
 use Rattle.sm_site.specs.declared.event.Event.{Event}
 use Rattle.sm_site.specs.declared.event.Event.TheVariants.{Opened, Piece, Closed, Ended}
 use Rattle.sm_conn.specs.Parts.{PartItem}
@@ -26,6 +26,11 @@ AreOpen items (l ∷ ls) = IsLive l.number items × IsApart l.number ls × AreOp
 abbrev pub AreOpenBut : ℕ → List Item → List Live → Type 0
 AreOpenBut n items [] = Unit {0}
 AreOpenBut n items (l ∷ ls) = (l.number ≢ n → IsLive l.number items) × IsApart l.number ls × AreOpenBut n items ls
+
+-- what an event leaves of the wire: the live connections are open, and no fault is counted
+pub record LeavesOpen (lives : List Live) (old new : View) : Type 0 where
+  pub open_ : IfSome new.transcript (λ items. AreOpen items lives)
+  pub link_faults : new.link_faults ≡ old.link_faults
 
 -- the connection was given these bytes, and gave what they give
 pub record IsKnown (k : Known) (l : Live) : Type 0 where

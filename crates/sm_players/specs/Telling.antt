@@ -1,6 +1,6 @@
 -- What a player sends, in the transcript of its wire.
-use Rattle.std.specs.Prelude.{◌≡◌, ◌≢◌, ℕ, ◌+◌, ◌-◌, ◌^◌, min, Bool, true, false, List, [], ◌∷◌, ◌++◌, map, take, Option, IfSome}
-use Rattle.sm_site.specs.Meanings.{Deal, Item, IsLive}
+use Rattle.std.specs.Prelude.{◌≡◌, ◌≢◌, ℕ, ◌+◌, ◌-◌, ◌^◌, ◌≤◌, min, Bool, true, false, IsTrue, List, [], ◌∷◌, ◌++◌, map, take, Option, IfSome}
+use Rattle.sm_site.specs.Meanings.{Deal, Item, IsLive, View}
 use Rattle.sm_site.specs.Meanings.Deal.{Sent, Shut}
 use Rattle.sm_site.specs.Clauses.{Both}
 use Rattle.sm_players.specs.declared.telling.Outcome.{Outcome}
@@ -13,6 +13,17 @@ Goes old new deals = Both old new (λ before now. (es : List Item) × (now ≡ b
 -- the other connections that are open stay so
 abbrev pub StaysBeside : ℕ → Option (List Item) → Option (List Item) → Type 0
 StaysBeside n old new = (m : ℕ) → m ≢ n → IfSome old (IsLive m) → IfSome new (IsLive m)
+
+-- What a turn on one connection leaves of the wire: this one is open or not, the others that are open stay so, and no fault is counted.
+pub record LeavesWire (number : ℕ) (open_ : Bool) (old new : View) : Type 0 where
+  pub live : IsTrue open_ → IfSome new.transcript (IsLive number)
+  pub others : StaysBeside number old.transcript new.transcript
+  pub link_faults : new.link_faults ≡ old.link_faults
+
+-- what it leaves of the wire and of the way to the loop, which may have failed meanwhile
+pub record LeavesBoth (number : ℕ) (open_ : Bool) (old new : View) (before now : ℕ) : Type 0 where
+  pub wire : LeavesWire number open_ old new
+  pub later : before ≤ now
 
 -- bytes are told on a connection, behind which it is closed or not
 pub data Tells (n : ℕ) (text : List ℕ) (close : Bool) (deals : List Deal) (result : Outcome) : Type 0 where

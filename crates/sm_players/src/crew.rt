@@ -37,6 +37,8 @@ pub struct Crew<R: Threads + Drop, W: Drop, F: Drop, G: Drop> {
 }
 
 impl<R: Threads + Drop, W: Drop, F: Drop, G: Drop> Crew<R, W, F, G> {
+    ghost use Rattle.sm_players.specs.Adding.{PartsAlone};
+
     /// A crew without parts. Its players take so many events at most, and `finish` raises that flag.
     pub fn new(alloc: Global, rt: R, stop: Stop, turns: u64) -> Crew<R, W, F, G>
         ensures handles { vec_len result.handles ≡ 0 }
@@ -58,10 +60,7 @@ impl<R: Threads + Drop, W: Drop, F: Drop, G: Drop> Crew<R, W, F, G> {
 
     /// Adds the parts of one player. They are taken in the order in which they were added.
     pub fn add(&mut self, wire: W, forward: F, gate: G) -> Result<(), NoMemory>
-        ensures handles { self.new.handles ≡ self.old.handles }
-        ensures started { self.new.started ≡ self.old.started }
-        ensures faults { self.new.faults ≡ self.old.faults }
-        ensures wiring { self.new.wiring ≡ self.old.wiring }
+        ensures { PartsAlone self.old self.new }
     {
         let parts = Parts {
             wire,

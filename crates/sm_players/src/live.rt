@@ -13,7 +13,7 @@ pub struct Live {
     pub conn: Conn,
 }
 
-/// The place of a connection.
+// The place of a connection.
 pub(crate) fn find(lives: &[Live], number: u64) -> Option<usize>
     ensures found { IfSome result (λ i. (i < length lives.now) × (slice_index (numbers_of lives.now) i ≡ number)) }
     ensures missing { IfNone result ((k : ℕ) → k < length lives.now → slice_index (numbers_of lives.now) k ≢ number) }
@@ -26,7 +26,7 @@ pub(crate) fn find(lives: &[Live], number: u64) -> Option<usize>
     None
 }
 
-/// Puts in a connection that has sent nothing.
+// Puts in a connection that has sent nothing.
 pub(crate) fn admit(alloc: Global, lives: &mut Vec<Live>, number: u64) -> Result<(), NoMemory>
     ensures admitted { OnOk result ((new : Live) × IsNewborn number new × (lives.new.items ≡ lives.old.items ++ new ∷ [])) }
     ensures refused { OnErr result (lives.new.items ≡ lives.old.items) }
@@ -36,7 +36,7 @@ pub(crate) fn admit(alloc: Global, lives: &mut Vec<Live>, number: u64) -> Result
     Ok(())
 }
 
-/// Forgets a connection that the peer closed.
+// Forgets a connection that the peer closed.
 pub(crate) fn forget(lives: &mut Vec<Live>, number: u64)
     ensures { Forgets number lives.old.items lives.new.items }
 {

@@ -1,5 +1,6 @@
 //! A spawner without a network.
-ghost use Rattle.std.specs.Prelude.{◌≡◌, ◌<◌, None, vec_len, vec_capacity};
+ghost use Rattle.std.specs.Prelude.{◌<◌, None, vec_len, vec_capacity};
+ghost use Rattle.sm_players.specs.Adding.{PartsAlone};
 
 use crate::crew::Crew;
 use crate::forward::{Forward, ForwardError};
@@ -61,10 +62,7 @@ impl<R: Threads + Drop> MemorySpawner<R> {
 
     // Adds the parts of one player more.
     fn add(&mut self) -> Result<(), NoMemory>
-        ensures handles { self.new.crew.handles ≡ self.old.crew.handles }
-        ensures started { self.new.crew.started ≡ self.old.crew.started }
-        ensures faults { self.new.crew.faults ≡ self.old.crew.faults }
-        ensures wiring { self.new.crew.wiring ≡ self.old.crew.wiring }
+        ensures { PartsAlone self.old.crew self.new.crew }
     {
         let script = Script::from_vec(Vec::new(self.alloc));
         let disk_failing = Numbers::from_vec(Vec::new(self.alloc));

@@ -1,11 +1,11 @@
 //! What a connection sent, answered.
-ghost use Rattle.std.specs.Prelude.{◌≡◌, ◌≤◌, ◌++◌, List, ℕ, IfSome, IsTrue};
+ghost use Rattle.std.specs.Prelude.{◌≡◌, ◌++◌, List, ℕ, IfSome};
 ghost use Rattle.sm_site.specs.Meanings.{Deal, IsLive};
 ghost use Rattle.sm_conn.specs.Parts.{PartItem};
 ghost use Rattle.sm_conn.specs.Stands.{items_of, joined, StandsFor};
 ghost use Rattle.sm_log.specs.Digests.{Digest};
 ghost use Rattle.sm_players.specs.Asking.{Asking, behind};
-ghost use Rattle.sm_players.specs.Telling.{Goes, StaysBeside, counted};
+ghost use Rattle.sm_players.specs.Telling.{Goes, LeavesBoth, LeavesWire, counted};
 ghost use Rattle.sm_players.specs.Replying.{IsAnswer};
 ghost use Rattle.sm_players.specs.Taking.{standing, Handles, Takes, PieceGives};
 
@@ -59,9 +59,7 @@ fn send_reply<W: Wire>(
     ensures handles { (told : List Deal) × Goes (W.seen.view wire.old).transcript (W.seen.view wire.new).transcript told
         × ((seen seen' : Digest) (items : List PartItem) (asked : List Asking) → IsAnswer seen items seen' asked reply
         → Handles number (standing seen counts.old.answered) items told asked result (standing seen' counts.new.answered)) }
-    ensures open { IsTrue result → IfSome (W.seen.view wire.new).transcript (IsLive number) }
-    ensures others { StaysBeside number (W.seen.view wire.old).transcript (W.seen.view wire.new).transcript }
-    ensures link_faults { (W.seen.view wire.new).link_faults ≡ (W.seen.view wire.old).link_faults }
+    ensures leaves { LeavesWire number result (W.seen.view wire.old) (W.seen.view wire.new) }
 {
     match reply {
         Ok(reply) => {
@@ -92,10 +90,7 @@ fn take_part<W: Wire, F: Forward, G: Gate>(
     ensures handles { (told : List Deal) × (asked : List Asking) × Goes (W.seen.view wire.old).transcript (W.seen.view wire.new).transcript told
         × (F.asked forward.new ≡ behind (F.asked forward.old) asked)
         × Handles number (standing reader.old.seen counts.old.answered) (items_of part) told asked result (standing reader.new.seen counts.new.answered) }
-    ensures open { IsTrue result → IfSome (W.seen.view wire.new).transcript (IsLive number) }
-    ensures others { StaysBeside number (W.seen.view wire.old).transcript (W.seen.view wire.new).transcript }
-    ensures link_faults { (W.seen.view wire.new).link_faults ≡ (W.seen.view wire.old).link_faults }
-    ensures later { F.forward_faults forward.old ≤ F.forward_faults forward.new }
+    ensures leaves { LeavesBoth number result (W.seen.view wire.old) (W.seen.view wire.new) (F.forward_faults forward.old) (F.forward_faults forward.new) }
 {
     if let Part::Continue = part {
         return true;
@@ -123,10 +118,7 @@ fn take_parts<W: Wire, F: Forward, G: Gate>(
     ensures takes { (told : List Deal) × (asked : List Asking) × Goes (W.seen.view wire.old).transcript (W.seen.view wire.new).transcript told
         × (F.asked forward.new ≡ behind (F.asked forward.old) asked)
         × Takes number (standing reader.old.seen counts.old.answered) (joined parts.items) told asked result (standing reader.new.seen counts.new.answered) }
-    ensures open { IsTrue result → IfSome (W.seen.view wire.new).transcript (IsLive number) }
-    ensures others { StaysBeside number (W.seen.view wire.old).transcript (W.seen.view wire.new).transcript }
-    ensures link_faults { (W.seen.view wire.new).link_faults ≡ (W.seen.view wire.old).link_faults }
-    ensures later { F.forward_faults forward.old ≤ F.forward_faults forward.new }
+    ensures leaves { LeavesBoth number result (W.seen.view wire.old) (W.seen.view wire.new) (F.forward_faults forward.old) (F.forward_faults forward.new) }
 {
     for part in parts {
         if !take_part(alloc, wire, forward, gate, reader, counts, number, part) {
@@ -136,7 +128,7 @@ fn take_parts<W: Wire, F: Forward, G: Gate>(
     true
 }
 
-/// Takes a piece that came on a live connection. Says whether the connection is still open.
+// Takes a piece that came on a live connection. Says whether the connection is still open.
 pub(crate) fn take_piece<W: Wire, F: Forward, G: Gate>(
     alloc: Global,
     wire: &mut W,
@@ -154,10 +146,8 @@ pub(crate) fn take_piece<W: Wire, F: Forward, G: Gate>(
         → PieceGives live.old.number (standing reader.old.seen counts.old.answered) bytes given piece.now told asked result live.new
         (standing reader.new.seen counts.new.answered)) }
     ensures same { live.new.number ≡ live.old.number }
-    ensures open { IsTrue result → IfSome (W.seen.view wire.new).transcript (IsLive live.old.number) }
-    ensures others { StaysBeside live.old.number (W.seen.view wire.old).transcript (W.seen.view wire.new).transcript }
-    ensures link_faults { (W.seen.view wire.new).link_faults ≡ (W.seen.view wire.old).link_faults }
-    ensures later { F.forward_faults forward.old ≤ F.forward_faults forward.new }
+    ensures leaves { LeavesBoth live.old.number result (W.seen.view wire.old) (W.seen.view wire.new) (F.forward_faults forward.old)
+        (F.forward_faults forward.new) }
 {
     match live.conn.feed(piece) {
         Ok(parts) => take_parts(

@@ -1,14 +1,14 @@
 //! The player.
-ghost use Rattle.std.specs.Prelude.{◌≡◌, ◌≤◌, ℕ, List, Option, IfSome, true, not};
+ghost use Rattle.std.specs.Prelude.{◌≡◌, ◌≤◌, ℕ, List, Option, IfSome, true, false, not};
 ghost use Rattle.sm_players.specs.Asking.{Asking};
 ghost use Rattle.sm_site.specs.Meanings.{Deal, IsLive};
 ghost use Rattle.sm_site.specs.Meanings.Deal.{Began, Came};
 ghost use Rattle.sm_site.specs.Event.{deal_of};
 ghost use Rattle.sm_site.specs.Clauses.{Rose};
 ghost use Rattle.sm_log.specs.Digests.{Extends};
-ghost use Rattle.sm_players.specs.Telling.{Goes, StaysBeside, Tells};
+ghost use Rattle.sm_players.specs.Telling.{Goes, LeavesWire, Tells};
 ghost use Rattle.sm_players.specs.Taking.{Standing, standing};
-ghost use Rattle.sm_players.specs.Open.{Known, AreKnown, AreOpen, IsApart, MayHandle};
+ghost use Rattle.sm_players.specs.Open.{Known, AreKnown, AreOpen, IsApart, LeavesOpen, MayHandle};
 ghost use Rattle.sm_players.specs.Playing.{IsCrowded, is_over, HasPlayed};
 ghost use Rattle.sm_players.specs.Given.{TurnGives};
 ghost use Rattle.sm_players.specs.declared.telling.Outcome.{Outcome as Sent};
@@ -34,8 +34,7 @@ fn crowd<W: Wire>(alloc: Global, wire: &mut W, number: u64)
     requires live { IfSome (W.seen.view wire.old).transcript (IsLive number) }
     ensures goes { (told : List Deal) × Goes (W.seen.view wire.old).transcript (W.seen.view wire.new).transcript told
         × ((text : List ℕ) × (result : Sent) × IsCrowded text × Tells number text true told result) }
-    ensures others { StaysBeside number (W.seen.view wire.old).transcript (W.seen.view wire.new).transcript }
-    ensures link_faults { (W.seen.view wire.new).link_faults ≡ (W.seen.view wire.old).link_faults }
+    ensures leaves { LeavesWire number false (W.seen.view wire.old) (W.seen.view wire.new) }
 {
     match refuse(alloc, Cause::TooManyConnections) {
         Ok(reply) => {
@@ -53,8 +52,7 @@ fn begin<W: Wire>(alloc: Global, wire: &mut W, lives: &mut Vec<Live>, number: u6
     requires may { IfSome (W.seen.view wire.old).transcript (λ items. IsLive number items × IsApart number lives.old.items × AreOpen items lives.old.items) }
     ensures turns { (ks : List Known) (p : Standing) (was : Option (List Asking)) → AreKnown ks lives.old.items
         → TurnGives (Began number) (W.seen.view wire.old).transcript (W.seen.view wire.new).transcript was was ks p lives.new.items p }
-    ensures open { IfSome (W.seen.view wire.new).transcript (λ items. AreOpen items lives.new.items) }
-    ensures link_faults { (W.seen.view wire.new).link_faults ≡ (W.seen.view wire.old).link_faults }
+    ensures leaves { LeavesOpen lives.new.items (W.seen.view wire.old) (W.seen.view wire.new) }
 {
     if lives.len() >= MOST {
         crowd(alloc, wire, number);
@@ -84,8 +82,7 @@ fn take<W: Wire, F: Forward, G: Gate>(
     ensures turns { (ks : List Known) → AreKnown ks lives.old.items
         → TurnGives (Came number piece.now) (W.seen.view wire.old).transcript (W.seen.view wire.new).transcript (F.asked forward.old) (F.asked forward.new) ks
         (standing reader.old.seen counts.old.answered) lives.new.items (standing reader.new.seen counts.new.answered) }
-    ensures open { IfSome (W.seen.view wire.new).transcript (λ items. AreOpen items lives.new.items) }
-    ensures link_faults { (W.seen.view wire.new).link_faults ≡ (W.seen.view wire.old).link_faults }
+    ensures leaves { LeavesOpen lives.new.items (W.seen.view wire.old) (W.seen.view wire.new) }
     ensures later { F.forward_faults forward.old ≤ F.forward_faults forward.new }
 {
     match find(lives, number) {
@@ -124,8 +121,7 @@ fn handle<W: Wire, F: Forward, G: Gate>(
         → TurnGives (deal_of event) (W.seen.view wire.old).transcript (W.seen.view wire.new).transcript (F.asked forward.old) (F.asked forward.new) ks
         (standing reader.old.seen counts.old.answered) lives.new.items (standing reader.new.seen counts.new.answered) }
     ensures over { result ≡ not (is_over (deal_of event)) }
-    ensures open { IfSome (W.seen.view wire.new).transcript (λ items. AreOpen items lives.new.items) }
-    ensures link_faults { (W.seen.view wire.new).link_faults ≡ (W.seen.view wire.old).link_faults }
+    ensures leaves { LeavesOpen lives.new.items (W.seen.view wire.old) (W.seen.view wire.new) }
     ensures later { F.forward_faults forward.old ≤ F.forward_faults forward.new }
 {
     match event {

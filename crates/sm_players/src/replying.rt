@@ -1,8 +1,8 @@
 //! The reply to a request.
-ghost use Rattle.std.specs.Prelude.{◌≡◌, ◌==◌, ◌||◌, ◌&&◌, ◌+◌, ◌≤◌, List, [], ◌∷◌, Some, IfOk};
+ghost use Rattle.std.specs.Prelude.{◌≡◌, ◌==◌, ◌||◌, ◌&&◌, ◌+◌, [], ◌∷◌, Some, IfOk};
 ghost use Rattle.sm_conn.specs.Parts.{got};
 ghost use Rattle.sm_conn.specs.Stands.{items_of};
-ghost use Rattle.sm_players.specs.Asking.{Asking, behind};
+ghost use Rattle.sm_players.specs.Asking.{HasAsked};
 ghost use Rattle.sm_players.specs.Replying.{act_for, refusal, refusal_last, ClosesBehind, IsForwardOr, IsFinalOr, IsAnswer};
 
 use crate::forward::{Forward, ForwardError};
@@ -80,8 +80,8 @@ fn brought(alloc: Global, bytes: Bytes) -> Result<Final, NoMemory>
 
 // What the loop replies.
 fn forwarded<F: Forward>(alloc: Global, forward: &mut F, target: &Target) -> Result<Final, NoMemory>
-    ensures replies { (asked : List Asking) × (F.asked forward.new ≡ behind (F.asked forward.old) asked) × IsForwardOr target.now asked result }
-    ensures later { F.forward_faults forward.old ≤ F.forward_faults forward.new }
+    ensures { HasAsked (F.asked forward.old) (F.asked forward.new) (F.forward_faults forward.old) (F.forward_faults forward.new)
+        (λ asked. IsForwardOr target.now asked result) }
 {
     match forward.ask(target) {
         Ok(bytes) => brought(alloc, bytes),
@@ -110,9 +110,8 @@ fn published<F: Forward>(
     act: &Act,
 ) -> Result<Final, NoMemory>
     requires { act_for target.now ≡ Some act.now }
-    ensures replies { (asked : List Asking) × (F.asked forward.new ≡ behind (F.asked forward.old) asked)
-        × IsFinalOr reader.old.seen target.now reader.new.seen asked result }
-    ensures later { F.forward_faults forward.old ≤ F.forward_faults forward.new }
+    ensures { HasAsked (F.asked forward.old) (F.asked forward.new) (F.forward_faults forward.old) (F.forward_faults forward.new)
+        (λ asked. IsFinalOr reader.old.seen target.now reader.new.seen asked result) }
 {
     match reader.answer(alloc, act) {
         Shown::Reply(text) => Ok(Final { text, close: false }),
@@ -128,9 +127,8 @@ fn reply_to<F: Forward>(
     reader: &mut ShelfReader,
     target: &Target,
 ) -> Result<Final, NoMemory>
-    ensures replies { (asked : List Asking) × (F.asked forward.new ≡ behind (F.asked forward.old) asked)
-        × IsFinalOr reader.old.seen target.now reader.new.seen asked result }
-    ensures later { F.forward_faults forward.old ≤ F.forward_faults forward.new }
+    ensures { HasAsked (F.asked forward.old) (F.asked forward.new) (F.forward_faults forward.old) (F.forward_faults forward.new)
+        (λ asked. IsFinalOr reader.old.seen target.now reader.new.seen asked result) }
 {
     match act_of(alloc, target) {
         Ok(Some(act)) => published(alloc, forward, reader, target, &act),
@@ -147,9 +145,8 @@ fn answered<F: Forward>(
     target: &Target,
     close: bool,
 ) -> Result<Final, NoMemory>
-    ensures replies { (asked : List Asking) × (F.asked forward.new ≡ behind (F.asked forward.old) asked)
-        × IsAnswer reader.old.seen (got target.now close ∷ []) reader.new.seen asked result }
-    ensures later { F.forward_faults forward.old ≤ F.forward_faults forward.new }
+    ensures { HasAsked (F.asked forward.old) (F.asked forward.new) (F.forward_faults forward.old) (F.forward_faults forward.new)
+        (λ asked. IsAnswer reader.old.seen (got target.now close ∷ []) reader.new.seen asked result) }
 {
     match reply_to(alloc, forward, reader, target) {
         Ok(reply) => Ok(Final {
@@ -160,16 +157,15 @@ fn answered<F: Forward>(
     }
 }
 
-/// The reply to a part of what a connection sent. A push gets 405, and the connection closes, so that nothing of its body comes.
+// The reply to a part of what a connection sent. A push gets 405, and the connection closes, so that nothing of its body comes.
 pub(crate) fn reply_for<F: Forward>(
     alloc: Global,
     forward: &mut F,
     reader: &mut ShelfReader,
     part: Part,
 ) -> Result<Final, NoMemory>
-    ensures replies { (asked : List Asking) × (F.asked forward.new ≡ behind (F.asked forward.old) asked)
-        × IsAnswer reader.old.seen (items_of part) reader.new.seen asked result }
-    ensures later { F.forward_faults forward.old ≤ F.forward_faults forward.new }
+    ensures { HasAsked (F.asked forward.old) (F.asked forward.new) (F.forward_faults forward.old) (F.forward_faults forward.new)
+        (λ asked. IsAnswer reader.old.seen (items_of part) reader.new.seen asked result) }
 {
     match part {
         Part::Get { target, close } => answered(alloc, forward, reader, &target, close),

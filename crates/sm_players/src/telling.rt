@@ -1,7 +1,7 @@
 //! Sending, and closing behind what was sent.
-ghost use Rattle.std.specs.Prelude.{◌≡◌, ◌++◌, true, List, IfSome};
+ghost use Rattle.std.specs.Prelude.{◌≡◌, ◌++◌, true, false, List, IfSome};
 ghost use Rattle.sm_site.specs.Meanings.{Deal, IsLive};
-ghost use Rattle.sm_players.specs.Telling.{Goes, StaysBeside, Tells, is_open};
+ghost use Rattle.sm_players.specs.Telling.{Goes, LeavesWire, Tells, is_open};
 
 use crate::wire::Wire;
 use sm_head::NO_MEMORY;
@@ -17,7 +17,7 @@ pub enum Outcome {
     Failed,
 }
 
-/// Whether the connection is open.
+// Whether the connection is open.
 pub(crate) fn is_open(outcome: Outcome) -> bool
     ensures { result ≡ is_open outcome }
 {
@@ -27,7 +27,7 @@ pub(crate) fn is_open(outcome: Outcome) -> bool
     }
 }
 
-/// Sends these bytes and right behind them those, in one send, and closes the connection where it is to be closed or the send failed.
+// Sends these bytes and right behind them those, in one send, and closes the connection where it is to be closed or the send failed.
 pub(crate) fn tell<W: Wire>(
     wire: &mut W,
     number: u64,
@@ -38,9 +38,7 @@ pub(crate) fn tell<W: Wire>(
     requires live { IfSome (W.seen.view wire.old).transcript (IsLive number) }
     ensures goes { (deals : List Deal) × Goes (W.seen.view wire.old).transcript (W.seen.view wire.new).transcript deals
         × Tells number (head.now ++ tail.now) close deals result }
-    ensures open { result ≡ Outcome.Open → IfSome (W.seen.view wire.new).transcript (IsLive number) }
-    ensures others { StaysBeside number (W.seen.view wire.old).transcript (W.seen.view wire.new).transcript }
-    ensures link_faults { (W.seen.view wire.new).link_faults ≡ (W.seen.view wire.old).link_faults }
+    ensures leaves { LeavesWire number (is_open result) (W.seen.view wire.old) (W.seen.view wire.new) }
 {
     match wire.send_both(number, head, tail) {
         Ok(()) => {
@@ -57,13 +55,12 @@ pub(crate) fn tell<W: Wire>(
     }
 }
 
-/// Sends 500 in place of what comes next, and closes.
+// Sends 500 in place of what comes next, and closes.
 pub(crate) fn starve<W: Wire>(wire: &mut W, number: u64) -> Outcome
     requires live { IfSome (W.seen.view wire.old).transcript (IsLive number) }
     ensures goes { (deals : List Deal) × Goes (W.seen.view wire.old).transcript (W.seen.view wire.new).transcript deals
         × Tells number NO_MEMORY.now true deals result }
-    ensures others { StaysBeside number (W.seen.view wire.old).transcript (W.seen.view wire.new).transcript }
-    ensures link_faults { (W.seen.view wire.new).link_faults ≡ (W.seen.view wire.old).link_faults }
+    ensures leaves { LeavesWire number false (W.seen.view wire.old) (W.seen.view wire.new) }
 {
     tell(wire, number, NO_MEMORY, &[], true)
 }

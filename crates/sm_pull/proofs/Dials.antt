@@ -7,9 +7,9 @@ use Rattle.sm_fetch.specs.declared.dial.Answer.{Answer}
 use Rattle.sm_fetch.specs.declared.dial.Answer.TheVariants as answers
 use Rattle.sm_fetch.specs.declared.dial.Exchange.{Exchange}
 use Rattle.sm_fetch.specs.Exchanges.{Peer, Rose, logged, with_one, with_all}
-use Rattle.sm_fetch.specs.Origins.{Grows, Answered}
-use Rattle.sm_fetch.proofs.Answering.{answered_none, answered_then}
-use Rattle.sm_client.proofs.Dials.{grows-same, grows-more}
+use Rattle.sm_fetch.specs.Origins.{Grows, DialAlone}
+use Rattle.sm_fetch.proofs.Alone.{Passes, alone_none, alone_then}
+use Rattle.sm_fetch.proofs.Origin.{stays_grown}
 use Rattle.sm_pull.specs.Asks.{Asks}
 
 -- ---- lists of exchanges
@@ -48,34 +48,26 @@ nothing x h = omega (arith, h.1)
 -- no exchange was made
 pub asks_none : {C : Type 0} {log : C → Option (List Exchange)} {store : C → List Entry → Type 0} {later : C → C → Type 0} {faults : C → ℕ} {chosen : C → Option Peer} {d e : C}
     → log e ≡ log d → Grows (store d) (store e) → later d e → chosen e ≡ chosen d → faults d ≤ faults e → Asks log store later faults chosen d e []
-asks_none {log = log} {d = d} same grows on turned fewer = record {
+asks_none {log = log} {d = d} same grows goes_on turned fewer = record {
   told_is = same ∙ with_none (log d);
-  grows = grows;
-  answered = answered_none same grows;
-  goes_on = on;
-  turned = turned;
-  no_fewer = fewer;
+  alone = alone_none (record { goes_on = goes_on; no_fewer = fewer; grows = grows }) turned same;
   lost = λ x there is. absurd (nothing x there);
 }
 
 -- nothing was done
 pub asks_same : {C : Type 0} {log : C → Option (List Exchange)} {store : C → List Entry → Type 0} {later : C → C → Type 0} {faults : C → ℕ} {chosen : C → Option Peer}
     → ((d : C) → later d d) → (d : C) → Asks log store later faults chosen d d []
-asks_same {store = store} same d = asks_none refl (grows-same (store d)) (same d) refl (omega arith)
+asks_same {store = store} same d = asks_none refl (stays_grown (store d)) (same d) refl (omega arith)
 
 -- one call, and then another
 pub asks_then : {C : Type 0} {log : C → Option (List Exchange)} {store : C → List Entry → Type 0} {later : C → C → Type 0} {faults : C → ℕ} {chosen : C → Option Peer} {d e f : C} {xs ys : List Exchange}
-    → ((d e f : C) → later d e → later e f → later d f) → Asks log store later faults chosen d e xs → Asks log store later faults chosen e f ys → Asks log store later faults chosen d f (xs ++ ys)
-asks_then {log = log} {store = store} {faults = faults} {d = d} {e = e} {f = f} {xs = xs} {ys = ys} then p q = record {
+    → Passes later → Asks log store later faults chosen d e xs → Asks log store later faults chosen e f ys → Asks log store later faults chosen d f (xs ++ ys)
+asks_then {log = log} {faults = faults} {d = d} {e = e} {f = f} {xs = xs} {ys = ys} then p q = record {
   told_is = q.told_is ∙ (ap (λ (w : Option (List Exchange)). with_all w ys) p.told_is ∙ with_both (log d) xs ys);
-  grows = grows-more (store d) (store e) (store f) p.grows q.grows;
-  answered = answered_then p.answered q.answered;
-  goes_on = then d e f p.goes_on q.goes_on;
-  turned = q.turned ∙ p.turned;
-  no_fewer = let one = p.no_fewer in let two = q.no_fewer in omega (arith, one, two);
+  alone = alone_then then p.alone q.alone;
   lost = λ x there is.
-      ⊎_elim (λ before. rose_later (faults d) (faults e) (faults f) (p.lost x before is) q.no_fewer)
-      (λ behind. rose_before (faults d) (faults e) (faults f) p.no_fewer (q.lost x behind is))
+      ⊎_elim (λ before. rose_later (faults d) (faults e) (faults f) (p.lost x before is) q.alone.on.no_fewer)
+      (λ behind. rose_before (faults d) (faults e) (faults f) p.alone.on.no_fewer (q.lost x behind is))
       (Contains-append_cases xs ys x there);
 }
 
@@ -102,14 +94,10 @@ made_answer request limit answers.NoMemory x there = absurd (nothing x there)
 
 -- one exchange was made, or memory was wanted
 pub asks_one : {C : Type 0} {log : C → Option (List Exchange)} {store : C → List Entry → Type 0} {later : C → C → Type 0} {faults : C → ℕ} {chosen : C → Option Peer} {d e : C}
-    (request : List ℕ) (limit : ℕ) (answer : Answer) → log e ≡ logged (log d) request limit answer → Grows (store d) (store e) → Answered (log d) (log e) (store d) (store e) → later d e
-    → chosen e ≡ chosen d → faults d ≤ faults e → (answer ≡ answers.Lost → Rose (faults d) (faults e)) → Asks log store later faults chosen d e (made_by request limit answer)
-asks_one {log = log} {d = d} request limit answer is grows answered on turned fewer lost = record {
+    (request : List ℕ) (limit : ℕ) (answer : Answer) → log e ≡ logged (log d) request limit answer → DialAlone log store later faults chosen d e
+    → (answer ≡ answers.Lost → Rose (faults d) (faults e)) → Asks log store later faults chosen d e (made_by request limit answer)
+asks_one {log = log} {d = d} request limit answer is alone lost = record {
   told_is = is ∙ logged_is (log d) request limit answer;
-  grows = grows;
-  answered = answered;
-  goes_on = on;
-  turned = turned;
-  no_fewer = fewer;
+  alone = alone;
   lost = λ x there so. lost (made_answer request limit answer x there ∙ so);
 }

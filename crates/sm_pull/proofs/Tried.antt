@@ -13,7 +13,7 @@ use Rattle.sm_fetch.specs.declared.got.Got.TheVariants as got
 use Rattle.sm_fetch.specs.declared.place.Place.{Place}
 use Rattle.sm_fetch.specs.Exchanges.{Peer, Rose}
 use Rattle.sm_fetch.specs.Fetched.{FetchedManifest, FetchedFragment}
-use Rattle.sm_fetch.specs.Origins.{Grows, Answered}
+use Rattle.sm_fetch.specs.Origins.{DialAlone}
 use Rattle.sm_fetch.specs.Requests.{manifest_request, manifest_limit, fragment_request, fragment_limit}
 use Rattle.sm_fetch.specs.Spelt.{SpellsManifest, SpellsFragment}
 use Rattle.sm_client.specs.declared.report.Miss.{Miss}
@@ -142,16 +142,16 @@ fragment_lost time answers.NoMemory g spelled is = absurd (cc)
 -- ---- one call
 
 module _ {C : Type 0} {log : C → Option (List Exchange)} {store : C → List Entry → Type 0} {later : C → C → Type 0} {faults : C → ℕ} {chosen : C → Option Peer} where
-  pub manifest_asked : {d e : C} {place : Place} {g : Got} (f : FetchedManifest place (log d) (log e) g) → Grows (store d) (store e) → Answered (log d) (log e) (store d) (store e) → later d e
-      → chosen e ≡ chosen d → faults d ≤ faults e → (g ≡ got.Lost → Rose (faults d) (faults e)) → Asks log store later faults chosen d e (made_by (manifest_request place) manifest_limit f.answer)
-  manifest_asked {place = place} {g = g} f grows answered on turned fewer lost =
-      asks_one (manifest_request place) manifest_limit f.answer f.log grows answered on turned fewer (λ is. lost (manifest_lost f.answer g f.spells is))
+  pub manifest_asked : {d e : C} {place : Place} {g : Got} (f : FetchedManifest place (log d) (log e) g) → DialAlone log store later faults chosen d e
+      → (g ≡ got.Lost → Rose (faults d) (faults e)) → Asks log store later faults chosen d e (made_by (manifest_request place) manifest_limit f.answer)
+  manifest_asked {place = place} {g = g} f alone lost =
+      asks_one (manifest_request place) manifest_limit f.answer f.log alone (λ is. lost (manifest_lost f.answer g f.spells is))
 
-  pub fragment_asked : {d e : C} {place : Place} {url : List ℕ} {address : Address} {g : Got} {bytes : ℕ} (f : FetchedFragment place url address (log d) (log e) g bytes) → Grows (store d) (store e)
-      → Answered (log d) (log e) (store d) (store e) → later d e → chosen e ≡ chosen d → faults d ≤ faults e → (g ≡ got.Lost → Rose (faults d) (faults e))
+  pub fragment_asked : {d e : C} {place : Place} {url : List ℕ} {address : Address} {g : Got} {bytes : ℕ} (f : FetchedFragment place url address (log d) (log e) g bytes)
+      → DialAlone log store later faults chosen d e → (g ≡ got.Lost → Rose (faults d) (faults e))
       → Asks log store later faults chosen d e (made_by (fragment_request place url address) fragment_limit f.answer)
-  fragment_asked {place = place} {url = url} {address = address} {g = g} f grows answered on turned fewer lost =
-      asks_one (fragment_request place url address) fragment_limit f.answer f.log grows answered on turned fewer (λ is. lost (fragment_lost address.time f.answer g f.spells is))
+  fragment_asked {place = place} {url = url} {address = address} {g = g} f alone lost =
+      asks_one (fragment_request place url address) fragment_limit f.answer f.log alone (λ is. lost (fragment_lost address.time f.answer g f.spells is))
 
 miss_some : (m : Miss) → None ≡ Some m → ⊥
 miss_some m e = cc

@@ -10,7 +10,7 @@ use Rattle.sm_fetch.specs.declared.got.Got.{Got}
 use Rattle.sm_fetch.specs.declared.got.Got.TheVariants as got
 use Rattle.sm_fetch.specs.declared.place.Place.{Place}
 use Rattle.sm_fetch.specs.Exchanges.{Peer, Rose, with_all}
-use Rattle.sm_fetch.specs.Origins.{Grows, Answered}
+use Rattle.sm_fetch.specs.Origins.{DialAlone}
 use Rattle.sm_fetch.specs.Requests.{manifest_request, manifest_limit, fragment_request, fragment_limit}
 use Rattle.sm_fetch.specs.Spelt.{SpellsManifest, SpellsFragment}
 use Rattle.sm_client.specs.declared.report.Miss.{Miss}
@@ -20,16 +20,11 @@ use Rattle.sm_pull.specs.declared.listing.Manifest.TheVariants as manifest
 
 -- ---- the dial
 
--- These exchanges were made, in this order. The logs that are told only grow, and answer exchanges on the way; one is lost only where
--- the count of faults rose.
+-- These exchanges were made, in this order, and nothing else; one is lost only where the count of faults rose.
 pub record Asks {C : Type 0} (log : C → Option (List Exchange)) (store : C → List Entry → Type 0) (later : C → C → Type 0)
     (faults : C → ℕ) (chosen : C → Option Peer) (old new : C) (made : List Exchange) : Type 0 where
   pub told_is : log new ≡ with_all (log old) made
-  pub grows : Grows (store old) (store new)
-  pub answered : Answered (log old) (log new) (store old) (store new)
-  pub goes_on : later old new
-  pub turned : chosen new ≡ chosen old
-  pub no_fewer : faults old ≤ faults new
+  pub alone : DialAlone log store later faults chosen old new
   pub lost : (x : Exchange) → Contains made x → x.answer ≡ answers.Lost → Rose (faults old) (faults new)
 
 -- ---- one exchange

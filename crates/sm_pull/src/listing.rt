@@ -27,7 +27,7 @@ pub fn read_listing<C: Dial>(alloc: Global, dial: &mut C, place: &Place, tries: 
         match get_manifest(alloc, dial, place) {
             Got::Manifest(listing) => return Manifest::Read(listing),
             other => match miss_of(&other) {
-                Some(miss) => match outcomes.add(miss) {
+                Some(miss) => match outcomes.push(miss) {
                     Ok(()) => {}
                     Err(_) => return Manifest::NoMemory,
                 },

@@ -33,7 +33,7 @@ impl From<NoMemory> for StepFault {
     }
 }
 
-/// A cause at a place.
+// A cause at a place.
 pub(crate) fn refuse(at: u64, cause: Cause) -> StepFault
     ensures { result ≡ Refused (record { at = at; cause = cause }) }
 {

@@ -1,16 +1,15 @@
 //! The header of a push, out of a live manifest and a `moov`.
-ghost use Rattle.std.specs.Prelude.{◌≡◌, ◌≤◌, length, IfOk};
-ghost use Rattle.sm_push.specs.Header.{head_for, heads_for, tracks_of, keys_of, is_off, has_two_timescales, names_protected, header_with, header_by, header_of};
+ghost use Rattle.std.specs.Prelude.{◌≡◌, length, IfOk};
+ghost use Rattle.sm_push.specs.Header.{head_for, heads_for, tracks_of, keys_of, is_off, has_two_timescales, names_protected, header_with, header_of};
 ghost use Rattle.sm_smil.specs.LiveRead.{live_manifest};
 ghost use Rattle.sm_model.specs.Moov.{moov};
 ghost use Rattle.std.specs.List.{list_any};
 ghost use Rattle.sm_model.specs.Gives.{Gives};
 ghost use Rattle.sm_push.specs.Answers.{Reads};
 
-use crate::same::is_same;
 use sm_model::{
     Cause, Channel, Header, HeaderTrack, HeaderTracks, Heads, NoMemory, ReadFault, Smil, SmilTrack,
-    TextFault, Track, TrackHead,
+    TextFault, Track, TrackHead, is_same,
 };
 use sm_moov::read_moov;
 use sm_smil::{live_manifest_has_one_answer, read_live_manifest};
@@ -158,7 +157,7 @@ fn read_tracks(alloc: Global, text: &[u8]) -> Result<Smil, ReadFault>
     }
 }
 
-/// The header of the text of a live manifest and the body of a `moov`, or the first cause why it is refused.
+// The header of the text of a live manifest and the body of a `moov`, or the first cause why it is refused.
 #[tactic(auto, using(crate::proofs::HeaderLemmas::as_many), unfolding(crate::specs::Header::header_of))]
 pub(crate) fn read_header(alloc: Global, text: &[u8], moov: &[u8]) -> Result<Header, ReadFault>
     ensures { Gives result (header_of text.now moov.now) }

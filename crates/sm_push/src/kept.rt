@@ -15,7 +15,7 @@ use crate::step::{NewItem, pass, take};
 use sm_model::Items;
 use std::alloc::Global;
 
-/// No head of a box is shorter, in bytes.
+// No head of a box is shorter, in bytes.
 const LEAST_HEAD: u64 = 8;
 
 /// What a push keeps of its bytes.

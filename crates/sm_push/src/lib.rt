@@ -8,7 +8,6 @@ mod held;
 mod kept;
 mod law;
 mod rules;
-mod same;
 mod session;
 /// What the boxes of a push body leave for the boxes behind them, of which the definition of a push body speaks.
 pub mod state;

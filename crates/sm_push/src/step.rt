@@ -28,7 +28,7 @@ pub struct NewItem {
     pub id: u32,
 }
 
-/// Goes on behind a box of this size, in bytes.
+// Goes on behind a box of this size, in bytes.
 pub(crate) fn pass(state: &mut PushState, size: u64)
     ensures { state.new ≡ passed state.old size }
 {
@@ -258,7 +258,7 @@ fn take_manifest(
     }
 }
 
-/// Takes one whole box.
+// Takes one whole box.
 #[tactic(auto, unfolding(crate::specs::PushBoxes::taken))]
 pub(crate) fn take(
     alloc: Global,

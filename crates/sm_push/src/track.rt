@@ -4,9 +4,8 @@ ghost use Rattle.sm_push.specs.Header.{track_with, id_for, is_named};
 ghost use Rattle.sm_push.specs.PushBoxes.{track_in};
 ghost use Rattle.sm_push.specs.Steps.{defaults_in};
 
-use crate::same::is_same;
 use crate::state::HeaderStage;
-use sm_model::{Defaults, HeaderTrack, Name, NoMemory};
+use sm_model::{Defaults, HeaderTrack, Name, NoMemory, is_same};
 use std::alloc::Global;
 
 pub(crate) const NO_DEFAULTS: Defaults = Defaults {
@@ -32,7 +31,7 @@ fn track_with(
     Ok(None)
 }
 
-/// The track of a track_ID: one of the header, and before a header came the one that the number stands for.
+// The track of a track_ID: one of the header, and before a header came the one that the number stands for.
 pub(crate) fn track_in(
     alloc: Global,
     stage: &HeaderStage,
@@ -66,7 +65,7 @@ fn defaults_with(id: u32, tracks: &[HeaderTrack]) -> Defaults
     NO_DEFAULTS
 }
 
-/// The defaults of the track of a track_ID; zeros where there is none, and before a header came. It takes no memory.
+// The defaults of the track of a track_ID; zeros where there is none, and before a header came. It takes no memory.
 pub(crate) fn defaults_of(stage: &HeaderStage, id: u32) -> Defaults
     ensures { result ≡ defaults_in (track_in stage.now id) }
 {
@@ -85,7 +84,7 @@ fn is_named(track: &HeaderTrack, stream: &Name, bitrate: u32) -> bool
     is_same(track.stream.as_bytes(), stream.as_bytes()) && track.bitrate == bitrate
 }
 
-/// The track_ID of the track of this name and bitrate.
+// The track_ID of the track of this name and bitrate.
 #[tactic(auto, using(crate::proofs::HeaderLemmas::name_here, crate::proofs::HeaderLemmas::name_on, crate::proofs::HeaderLemmas::name_end))]
 pub(crate) fn id_for(stream: &Name, bitrate: u32, tracks: &[HeaderTrack]) -> Option<u32>
     ensures { result ≡ id_for stream.now bitrate tracks.now }

@@ -1,15 +1,15 @@
 // How much of what a peer sends is handed on at once.
 ghost use Rattle.std.specs.Prelude.{◌≡◌, ◌≤◌, ◌<◌, ◌*◌, ◌/◌, ◌+◌, true, false, max, min, if◌then◌else◌};
 
-/// The least and the most, in bytes.
+// The least and the most, in bytes.
 const LEAST: usize = 256;
 
 const MOST: usize = 65_536;
 
-/// How long a turn of the loop may take before the peer whose piece it was has less, in milliseconds.
+// How long a turn of the loop may take before the peer whose piece it was has less, in milliseconds.
 const TURN: u128 = 5;
 
-/// How many bytes have to come without any work for each one that the next piece may have for that.
+// How many bytes have to come without any work for each one that the next piece may have for that.
 const SHARE: u64 = 2_048;
 
 /// How many bytes the next piece of a peer may have. A piece may hold hundreds of requests or fragments, and nobody else is served

@@ -2,7 +2,7 @@
 
 use std::io::{self, ErrorKind};
 
-/// Its number on Linux.
+// Its number on Linux.
 const FILE_SIZE: i32 = 1;
 
 /// Whether a file may become so long. A write past the limit would end the process, so it is not begun.

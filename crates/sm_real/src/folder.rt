@@ -13,7 +13,7 @@ use std::os::unix::fs::FileExt;
 use std::path::Path;
 use std::rt::Files;
 
-/// Every size is below this.
+// Every size is below this.
 const SIZES: u64 = 1 << 63;
 
 // The file that was written last.

@@ -14,19 +14,19 @@ use std::net::{Net, SocketAddr};
 use std::rt::Files;
 use std::time::{Clock, Duration, Instant, SystemTime, UNIX_EPOCH};
 
-/// How long lines may wait while the link is busy, and how long one reading of the clock is gone by, in milliseconds.
+// How long lines may wait while the link is busy, and how long one reading of the clock is gone by, in milliseconds.
 const WAIT: u128 = 200;
 
-/// How far two lines of counts lie apart, in milliseconds.
+// How far two lines of counts lie apart, in milliseconds.
 const APART: u128 = 10_000;
 
-/// The most bytes of lines that wait.
+// The most bytes of lines that wait.
 const MOST: usize = 1_048_576;
 
-/// From so many bytes on they are written within a round.
+// From so many bytes on they are written within a round.
 const LONG: usize = 524_288;
 
-/// The most bytes of the line of a refusal that are told.
+// The most bytes of the line of a refusal that are told.
 const CAUSE: usize = 128;
 
 /// A journal, whose lines wait in memory until the link comes to the end of a round. What fails harms nothing but the journal: lines

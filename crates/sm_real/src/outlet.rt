@@ -13,14 +13,14 @@ use std::os::fd::AsRawFd;
 use std::rt::Files;
 use std::time::Duration;
 
-/// How much is written to a pipe at once: one that has room at all takes as many without waiting (POSIX, PIPE_BUF).
+// How much is written to a pipe at once: one that has room at all takes as many without waiting (POSIX, PIPE_BUF).
 const AT_ONCE: usize = 4_096;
 
-/// How many such pieces are written in one go.
+// How many such pieces are written in one go.
 const PIECES: u32 = 64;
 
-/// So many bytes are worth a write. A pipe has room for no more of them as a rule, and a file takes a byte at the less cost the more
-/// come at once.
+// So many bytes are worth a write. A pipe has room for no more of them as a rule, and a file takes a byte at the less cost the more
+// come at once.
 const PIPE_FULL: usize = 65_536;
 
 const FILE_FULL: usize = 262_144;

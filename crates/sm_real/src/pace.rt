@@ -3,16 +3,16 @@ ghost use Rattle.std.specs.Prelude.{◌≤◌};
 
 use std::time::{Duration, Instant};
 
-/// The least and the most that is soon done whatever it holds, in bytes.
+// The least and the most that is soon done whatever it holds, in bytes.
 const LEAST: u128 = 512;
 
 const MOST: u128 = 65_536;
 
-/// What a piece may take, in bytes and microseconds: a fragment has 137 bytes at least and is brought to rest twice, and those of a
-/// piece are to take no longer than some 50 milliseconds.
+// What a piece may take, in bytes and microseconds: a fragment has 137 bytes at least and is brought to rest twice, and those of a
+// piece are to take no longer than some 50 milliseconds.
 const BYTES_TIMES_MICROS: u128 = 3_200_000;
 
-/// For how long the slowest is remembered, in milliseconds.
+// For how long the slowest is remembered, in milliseconds.
 const MEMORY: u128 = 10_000;
 
 /// How long it takes of late, at the most, to bring something to rest, with all that is done for it.

@@ -16,7 +16,7 @@ use std::io::{ErrorKind, IoSlice, Read, Write};
 use std::net::Shutdown;
 use std::time::{Duration, Instant};
 
-/// Behind bytes that wait others are kept up to this many in all. Where nothing waits a send of any length is kept.
+// Behind bytes that wait others are kept up to this many in all. Where nothing waits a send of any length is kept.
 const QUEUE: usize = 33_554_432;
 
 #[derive(Clone, Copy, Debug, PartialEq, Eq)]

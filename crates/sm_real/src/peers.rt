@@ -12,7 +12,7 @@ use sm_site::Failed;
 use std::alloc::{AllocError, Global};
 use std::time::{Duration, Instant};
 
-/// The most at once.
+// The most at once.
 const MOST: usize = 256;
 
 /// The peers, whose numbers rise.

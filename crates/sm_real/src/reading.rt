@@ -6,13 +6,13 @@ use std::fs::File;
 use std::io;
 use std::os::unix::fs::FileExt;
 
-/// So many bytes are read at once where short reads follow one another.
+// So many bytes are read at once where short reads follow one another.
 const AHEAD: usize = 131_072;
 
-/// A read of more bytes is made by itself.
+// A read of more bytes is made by itself.
 const SHORT: usize = 16_384;
 
-/// A read that begins at most so many bytes behind the last one follows it.
+// A read that begins at most so many bytes behind the last one follows it.
 const NEAR: u64 = 16_384;
 
 /// An open file that nobody writes. Short reads that follow one another, as those of a log in its order do, are one call of the

@@ -12,7 +12,7 @@ use std::net::Net;
 use std::rt::Files;
 use std::time::{Clock, Instant};
 
-/// Where the body of the first entry of a file stands.
+// Where the body of the first entry of a file stands.
 const FIRST_BODY: u64 = 18;
 
 /// A disk in a folder and a link over sockets. It tells no contents and no transcript. After a refusal of `select` it has neither a

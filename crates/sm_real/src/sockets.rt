@@ -20,24 +20,24 @@ use std::io;
 use std::net::{Net, SocketAddr};
 use std::time::{Clock, Duration, Instant};
 
-/// The most bytes of a piece.
+// The most bytes of a piece.
 const PIECE: usize = 65_536;
 
-/// The most reports of one wait.
+// The most reports of one wait.
 const REPORTS: usize = 256;
 
-/// The rest after a round in which nothing was done for any peer, in milliseconds: the system wakes it for everything but limits of
-/// time.
+// The rest after a round in which nothing was done for any peer, in milliseconds: the system wakes it for everything but limits of
+// time.
 const REST: u64 = 100;
 
-/// The rest after a round that gave no event, but did something for a peer, in milliseconds.
+// The rest after a round that gave no event, but did something for a peer, in milliseconds.
 const SHORT_REST: u64 = 1;
 
-/// Where two rounds lie farther apart than this, in milliseconds, the time between them doesn't count for the peers.
+// Where two rounds lie farther apart than this, in milliseconds, the time between them doesn't count for the peers.
 const GAP: u64 = 1_000;
 
-/// What is taken at the start and given back with the first round, in bytes: above the length of most replies, and below that of a
-/// large part of a push, which is to go back to the system.
+// What is taken at the start and given back with the first round, in bytes: above the length of most replies, and below that of a
+// large part of a push, which is to go back to the system.
 const SPARE: usize = 4_000_000;
 
 const LISTENER: Token = Token(0);

@@ -5,10 +5,10 @@ use std::alloc::{AllocError, Global};
 use std::collections::VecDeque;
 use std::time::Instant;
 
-/// The most bytes of a request line that are told.
+// The most bytes of a request line that are told.
 const TOLD: usize = 256;
 
-/// The most requests of one connection that wait for their replies and are told.
+// The most requests of one connection that wait for their replies and are told.
 const WAITING: usize = 1_024;
 
 /// A request that waits for its reply.

@@ -13,19 +13,19 @@ use std::net::{Net, SocketAddr, TcpStream, ToSocketAddrs};
 use std::thread;
 use std::time::{Clock, Duration, Instant};
 
-/// The most bytes of one read.
+// The most bytes of one read.
 const PIECE: usize = 65_536;
 
-/// How long a connection may take to come about, and a peer to take nothing, in seconds.
+// How long a connection may take to come about, and a peer to take nothing, in seconds.
 const STUCK: u64 = 30;
 
-/// How long an address is waited for that isn't the last one, in seconds.
+// How long an address is waited for that isn't the last one, in seconds.
 const SOON: u64 = 3;
 
-/// How many seconds a peer may send nothing.
+// How many seconds a peer may send nothing.
 const SILENT: u32 = 30;
 
-/// How many seconds a reply may take, and how many bytes give it one second more.
+// How many seconds a reply may take, and how many bytes give it one second more.
 const WHOLE: u64 = 120;
 
 const MORE: u64 = 65_536;

@@ -9,7 +9,7 @@ use sm_model::{
 };
 use std::alloc::Global;
 
-/// The first byte, which leaves the part.
+// The first byte, which leaves the part.
 pub(crate) fn byte_in(rest: &mut Part) -> Result<u8, RecordFault>
     ensures { Gives (λ byte. (byte, rest.new)) result (byte_at rest.old) }
 {
@@ -18,7 +18,7 @@ pub(crate) fn byte_in(rest: &mut Part) -> Result<u8, RecordFault>
     Ok(byte)
 }
 
-/// The first byte, and the bytes behind it.
+// The first byte, and the bytes behind it.
 pub(crate) fn byte_at(bytes: &[u8]) -> Result<(u8, &[u8]), RecordFault>
     ensures { Gives (λ x. (x.0, x.1.now)) result (byte_at bytes.now) }
 {
@@ -203,7 +203,7 @@ fn tracks_at(alloc: Global, count: u16, bytes: &[u8]) -> Result<(Vec<Track>, &[u
     Ok((tracks, rest))
 }
 
-/// The channel whose fields these bytes are, and nothing else.
+// The channel whose fields these bytes are, and nothing else.
 #[tactic(auto, unfolding(crate::specs::Reading::declare_at))]
 pub(crate) fn declare_at(alloc: Global, bytes: &[u8]) -> Result<Channel, RecordFault>
     ensures { Gives (λ channel. channel) result (declare_at bytes.now) }
@@ -337,7 +337,7 @@ fn front_in(rest: &mut Part) -> Result<Front, RecordFault>
     Ok(front)
 }
 
-/// The fragment of this channel whose fields these bytes are, and nothing else. No byte of a sample is copied.
+// The fragment of this channel whose fields these bytes are, and nothing else. No byte of a sample is copied.
 #[tactic(auto, unfolding(crate::specs::Reading::keep_at))]
 pub(crate) fn keep_at(
     alloc: Global,

@@ -37,7 +37,7 @@ pub fn ask<C: Dial>(
         match get_fragment(alloc, dial, &plan.place, url, address) {
             Got::Fragment(raw) => return Asked::Took(raw),
             other => match miss_of(&other) {
-                Some(miss) => match outcomes.add(miss) {
+                Some(miss) => match outcomes.push(miss) {
                     Ok(()) => {}
                     Err(_) => return Asked::NoMemory,
                 },

@@ -1,7 +1,6 @@
 //! A kept fragment, given.
-ghost use Rattle.std.specs.Prelude.{◌≡◌, ◌≤◌, ◌<◌, ◌^◌, ◌&&◌, ◌==◌, ℕ, false, length, Some, IfOk};
-ghost use Rattle.std.specs.List.{position, flat_map};
-ghost use Rattle.sm_model.specs.Same.{is_same};
+ghost use Rattle.std.specs.Prelude.{◌≡◌, ◌≤◌, ◌<◌, ◌^◌, false, length, Some, IfOk};
+ghost use Rattle.std.specs.List.{flat_map};
 ghost use Rattle.sm_model.specs.Channels.{IsChannel};
 ghost use Rattle.sm_model.specs.Fragments.{IsValid};
 ghost use Rattle.sm_model.specs.FragText.{frag_text};
@@ -11,18 +10,11 @@ ghost use Rattle.sm_reply.specs.Replies.{ok};
 ghost use Rattle.sm_log.specs.Adds.{id_in};
 
 use crate::reply::{Counted, Reply};
+use sm_catalog::track_place;
 use sm_head::{Content, begin_front, begin_response};
 use sm_model::{Address, Bytes, Channel, Fragment, NoMemory, Part, Text, Track};
 use sm_moof::{append_fragment, append_fragment_head, fragment_len};
 use std::alloc::Global;
-
-// The place of the track of that stream and bitrate.
-fn track_place(channel: &[Track], stream: &[u8], bitrate: u32) -> Option<usize>
-    ensures place { result ≡ position (λ t. is_same t.name stream.now && t.bitrate == bitrate) channel.now }
-    ensures short { (k : ℕ) → result ≡ Some k → k < length channel.now }
-{
-    channel.iter().position(|track| track.name.as_bytes() == stream && track.bitrate == bitrate)
-}
 
 // The track_ID under which a stream and bitrate is served: the place of its track in the channel, from 1.
 fn id_in(channel: &[Track], address: &Address) -> u32

@@ -3,7 +3,7 @@ use crate::RowFault;
 use crate::token::Token;
 use std::alloc::Global;
 
-/// A name, its parameters, and the words that it stands for.
+// A name, its parameters, and the words that it stands for.
 #[derive(Debug, Drop)]
 pub(crate) struct Definition {
     pub(crate) name: Vec<u8>,
@@ -55,7 +55,7 @@ fn named<'a>(definitions: &'a [Definition], word: &Token) -> Option<Option<&'a D
     Some(None)
 }
 
-/// These words, with what names stand for in their place.
+// These words, with what names stand for in their place.
 pub(crate) fn expanded(
     alloc: Global,
     line: u64,

@@ -301,7 +301,7 @@ fn put_at(out: &mut [u8], place: u64, new: &[u8]) -> bool {
     true
 }
 
-/// The bytes of an expression that stands in this line.
+// The bytes of an expression that stands in this line.
 pub(crate) fn bytes_of(alloc: Global, line: u64, tokens: &[Token]) -> Result<Vec<u8>, RowFault> {
     let mut builder = Builder {
         alloc,

@@ -20,7 +20,7 @@ pub enum RowFault {
 }
 
 impl RowFault {
-    /// This is wrong with the line.
+    // This is wrong with the line.
     pub(crate) fn new(line: u64, what: &'static str) -> RowFault {
         RowFault::Wrong { line, what }
     }

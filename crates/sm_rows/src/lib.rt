@@ -43,6 +43,7 @@ mod pages;
 mod parts;
 mod row;
 pub mod scripts;
+pub mod stored;
 pub mod tales;
 mod token;
 pub mod values;

@@ -11,7 +11,7 @@ pub struct Line {
 }
 
 impl Line {
-    /// The key and the value of a text.
+    // The key and the value of a text.
     pub(crate) fn read(alloc: Global, number: u64, text: &str) -> Result<Line, RowFault> {
         let (key, value) = match text.split_once(' ') {
             Some((key, value)) => (key, value),
@@ -24,7 +24,7 @@ impl Line {
         })
     }
 
-    /// The same line once more.
+    // The same line once more.
     pub(crate) fn copy(&self, alloc: Global) -> Result<Line, RowFault> {
         Ok(Line {
             number: self.number,

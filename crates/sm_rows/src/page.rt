@@ -192,7 +192,7 @@ impl Page {
         Some(Case { page: self, row })
     }
 
-    /// The words of a text that stands in this line.
+    // The words of a text that stands in this line.
     pub(crate) fn words(&self, alloc: Global, line: u64, text: &str) -> Result<Words, RowFault> {
         let tokens = tokens_of(alloc, line, text)?;
         Ok(Words {

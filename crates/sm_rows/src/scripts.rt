@@ -117,8 +117,8 @@ fn add(
     Ok(())
 }
 
-// The numbers of the first line with this key, if there is one.
-fn numbers(alloc: Global, case: &Case<'_>, key: &str) -> Result<Numbers> {
+/// The numbers of the first line with this key, if there is one.
+pub fn numbers(alloc: Global, case: &Case<'_>, key: &str) -> Result<Numbers> {
     let mut all = Vec::new(alloc);
     if case.has(key) {
         let words = case.words_of(alloc, key)?;

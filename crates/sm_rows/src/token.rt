@@ -2,7 +2,7 @@
 use crate::RowFault;
 use std::alloc::Global;
 
-/// A word, or a text in quotes.
+// A word, or a text in quotes.
 #[derive(Debug, Drop)]
 pub(crate) struct Token {
     pub(crate) bytes: Vec<u8>,
@@ -17,7 +17,7 @@ impl Token {
         })
     }
 
-    /// The word, or nothing where it is a text in quotes.
+    // The word, or nothing where it is a text in quotes.
     pub(crate) fn word(&self) -> Option<&str> {
         if self.quoted {
             return None;
@@ -25,7 +25,7 @@ impl Token {
         str::from_utf8(self.bytes.as_slice()).ok()
     }
 
-    /// Whether it is this word.
+    // Whether it is this word.
     pub(crate) fn is(&self, word: &str) -> bool {
         self.word() == Some(word)
     }
@@ -49,7 +49,7 @@ struct Lexer {
     state: State,
 }
 
-/// The value of a hexadecimal digit.
+// The value of a hexadecimal digit.
 pub(crate) fn digit(byte: u8) -> Option<u8> {
     match byte {
         b'0'..=b'9' => Some(byte - b'0'),
@@ -151,7 +151,7 @@ impl Lexer {
     }
 }
 
-/// The words of a value that stands in this line.
+// The words of a value that stands in this line.
 pub(crate) fn tokens_of(alloc: Global, line: u64, text: &str) -> Result<Vec<Token>, RowFault> {
     let mut lexer = Lexer {
         alloc,

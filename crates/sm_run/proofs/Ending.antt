@@ -11,7 +11,7 @@ use Rattle.sm_players.specs.declared.spawner.Finished.{Finished}
 use Rattle.sm_players.specs.declared.spawner.SpawnError.TheVariants as spawn
 use Rattle.sm_players.specs.Wiring.{Wires}
 use Rattle.sm_command.specs.declared.fault.StoreFault.{StoreFault}
-use Rattle.sm_command.specs.Lasting.{Lasts, Spared, Untouched}
+use Rattle.sm_command.specs.Lasting.{KeepsStores, Untouched}
 use Rattle.sm_tool.specs.declared.answer.Answer.{Answer}
 use Rattle.sm_tool.specs.declared.answer.Answer.TheVariants.{Found, LinkFault, NotAStore, Starved}
 use Rattle.sm_tool.specs.Edges.{Dialing}
@@ -125,21 +125,19 @@ fits_by (Some x) words e = showable (serving_of x.0) x.1 words (shown_back (aske
 -- ---- without memory for the words
 
 pub starved_runs : {D C P : Type 0} (site : Seen D) (t : Dialing C) (m : Meaning P) (policies : List P) (words : List (List ℕ))
-    (o : Option (Serving × ℕ)) (around : Around) (output output' : End) (d : D) (c : C) (staff : Staff) (status : ℕ) → Prints Starved output output' status → Lasts site d d
-    → Spared site d d → RunsBy site t m policies words o around around output output' d d c c staff staff status
-starved_runs site t m policies words None around output output' d c staff status prints lasts spared = (
+    (o : Option (Serving × ℕ)) (around : Around) (output output' : End) (d : D) (c : C) (staff : Staff) (status : ℕ) → Prints Starved output output' status → KeepsStores site d d ((line : List ℕ) × (Starved ≡ NotAStore line))
+    → RunsBy site t m policies words o around around output output' d d c c staff staff status
+starved_runs site t m policies words None around output output' d c staff status prints stores = (
   record {
     answer = Starved;
     written = output;
     means = inr (refl, refl, record { around_is = refl; site_is = refl; dial_is = refl });
     prints = prints;
-    lasts = lasts;
-    untouched = λ line is. absurd (cc);
-    spared = spared;
+    stores = stores;
   },
   refl,
 )
-starved_runs site t m policies words (Some x) around output output' d c staff status prints lasts spared = record {
+starved_runs site t m policies words (Some x) around output output' d c staff status prints stores = record {
   answer = Starved;
   means = inr (refl, refl, refl, refl);
   prints = prints;
@@ -147,9 +145,7 @@ starved_runs site t m policies words (Some x) around output output' d c staff st
   dial = refl;
   tracks = refl;
   dial_is = refl;
-  lasts = lasts;
-  untouched = λ line is. absurd (cc);
-  spared = spared;
+  stores = stores;
 }
 
 -- ---- with players

@@ -4,7 +4,7 @@ use Rattle.sm_site.specs.Meanings.{Seen}
 use Rattle.sm_client.specs.Turns.{Meaning}
 use Rattle.sm_serve.specs.declared.outcome.Served.{Served as Outcome}
 use Rattle.sm_players.specs.declared.spawner.Finished.{Finished}
-use Rattle.sm_command.specs.Lasting.{Lasts, Spared, Untouched}
+use Rattle.sm_command.specs.Lasting.{KeepsStores}
 use Rattle.sm_tool.specs.declared.answer.Answer.{Answer}
 use Rattle.sm_tool.specs.declared.answer.Answer.TheVariants.{NotAStore, Starved}
 use Rattle.sm_tool.specs.Edges.{Dialing}
@@ -48,13 +48,8 @@ pub record IsShown {D C : Type 0} (site : Seen D) (s : Serving) (players : ℕ)
   pub dial : new.dial ≡ old.dial
   pub tracks : new.tracks ≡ old.tracks
   pub dial_is : c' ≡ c
-  -- However it ended, what a crash may leave at each moment of the call is a store whose log begins with the one that was there, and holds
-  -- what the call had shown by then.
-  pub lasts : Lasts site d d'
-  -- files that are said to be no store weren't written
-  pub untouched : (line : List ℕ) → answer ≡ NotAStore line → Untouched site d d'
-  -- and none that are no store were, however it ended
-  pub spared : Spared site d d'
+  -- however it ended, no store was hurt
+  pub stores : KeepsStores site d d' ((line : List ℕ) × (answer ≡ NotAStore line))
 
 -- Where players are asked for they are shown to; else the run is the tool's, and nothing is asked of the spawner.
 abbrev pub RunsBy : {D C P : Type 0} (site : Seen D) (t : Dialing C)

@@ -2,7 +2,7 @@
 ghost use Rattle.std.specs.Prelude.{◌≡◌, ◌≤◌, ◌<◌, ◌⊎◌, ℕ, List, Option, IfOk, IfSome, length, map, string_bytes};
 ghost use Rattle.std.specs.Option.{option_map};
 ghost use Rattle.sm_site.specs.Texts.{text_of};
-ghost use Rattle.sm_command.specs.Lasting.{Lasts, Spared, Untouched};
+ghost use Rattle.sm_command.specs.Lasting.{KeepsStores};
 ghost use Rattle.sm_tool.specs.declared.answer.Answer.TheVariants as answers;
 ghost use Rattle.sm_words.specs.Orders.{IsShowable, serving_of, wanted_of};
 ghost use Rattle.sm_words.specs.Words.{asked};
@@ -85,9 +85,7 @@ fn show<R: Wait, I: Source, S: Site, P: Spawner>(
         (staff_of P.spawn_faults P.started P.running P.chosen P.counted spawner.old)
         (staff_of P.spawn_faults P.started P.running P.chosen P.counted spawner.new) result }
     ensures counted { I.faults input.old ≤ I.faults input.new }
-    ensures lasts { Lasts S.Disk.seen site.old site.new }
-    ensures untouched { (line : List ℕ) → result ≡ answers.NotAStore line → Untouched S.Disk.seen site.old site.new }
-    ensures spared { Spared S.Disk.seen site.old site.new }
+    ensures stores { KeepsStores S.Disk.seen site.old site.new ((line : List ℕ) × (result ≡ answers.NotAStore line)) }
 {
     let Ok(bind) = copied(alloc, &order.bind) else {
         return Answer::Starved;

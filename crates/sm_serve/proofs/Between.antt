@@ -1,6 +1,6 @@
 -- Calls that take no event.
-use Rattle.std.proofs.Common.{◌≡◌, is_some, refl, ◌∙◌}
-use Rattle.sm_site.specs.Meanings.{View, SameDisk, Seen}
+use Rattle.std.proofs.Common.{◌≡◌, is_some, refl, ◌∙◌, ap}
+use Rattle.sm_site.specs.Meanings.{View, SameDisk, SameLink, Seen}
 use Rattle.sm_serve.specs.Between.{TakesNone}
 use Rattle.sm_serve.proofs.Transcripts.{told_here, faults_here, script_here, chosen_here}
 use Rattle.sm_site.specs.Clauses.{AreOne}
@@ -17,6 +17,10 @@ none_then u v w one two = record {
   script = two.script ∙ one.script;
   chosen = two.chosen ∙ one.chosen;
 }
+
+-- a call of the disk
+pub none_of_disk : (v w : View) → SameLink v w → TakesNone v w
+none_of_disk v w same = record { told = ap is_some same.transcript; link_faults = same.link_faults; script = same.script; chosen = same.chosen }
 
 -- a call of the link, whose view is the site's
 pub none_of_link : {D : Type 0} (site link : Seen D) (one : AreOne site link) (d e : D) → is_some (link.view e).transcript ≡ is_some (link.view d).transcript

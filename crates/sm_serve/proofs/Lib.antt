@@ -1,5 +1,6 @@
 pub mod Transcripts
 pub mod Between
+pub mod Steps
 pub mod Lasting
 pub mod Going
 pub mod Sending

@@ -22,6 +22,49 @@ use Rattle.sm_serve.proofs.Growing.{reached_by}
 use Rattle.sm_serve.proofs.Going.{machine_push}
 use Rattle.sm_serve.proofs.Requests.{matches_map, matches_push, complete_split, open_split, bad_push, kept_push}
 
+-- the same of a connection, for another predicate, behind a log that keeps what the open push has, and of equal bytes and replies
+abbrev pub remade : (H K : Claim → Type 0) (log new : List Entry) (bytes now : List ℕ) (parts these : List (List ℕ)) → now ≡ bytes → these ≡ parts
+    → ((claim : Claim) → H claim → K claim) → (c : Core H log bytes parts) → AreKept new (open_push [] c.done) → Core K new now these
+remade H K log new bytes now parts these one two so c kept = record {
+  base = c.base;
+  extra = c.extra;
+  bytes_are = one ∙ c.bytes_are;
+  given = c.given;
+  wire = c.wire;
+  done = c.done;
+  rest = c.rest;
+  given_are = c.given_are;
+  good = c.good;
+  bad = c.bad;
+  parts_are = two ∙ c.parts_are;
+  matched = matches_map H K so (complete [] c.done) c.good c.matched;
+  not_ok = c.not_ok;
+  kept = kept;
+}
+
+-- the next item is done with, which ends no request
+abbrev past : (H K : Claim → Type 0) (log new : List Entry) (bytes : List ℕ) (parts : List (List ℕ)) (c : Core H log bytes parts) (item : WireItem) (more : List WireItem)
+    → ((claim : Claim) → H claim → K claim) → c.rest ≡ item ∷ more → complete (open_push [] c.done) (item ∷ []) ≡ [] → AreKept new (open_push [] (c.done ++ item ∷ []))
+    → Core K new bytes parts
+past H K log new bytes parts c item more so rest ends kept = record {
+  base = c.base;
+  extra = c.extra;
+  bytes_are = c.bytes_are;
+  given = c.given;
+  wire = c.wire;
+  done = c.done ++ item ∷ [];
+  rest = more;
+  given_are = c.given_are ∙ ap (λ (ws : List WireItem). c.done ++ ws) rest ∙ sym (append_assoc c.done (item ∷ []) more);
+  good = c.good;
+  bad = c.bad;
+  parts_are = c.parts_are;
+  matched = subst (λ (qs : List Request). Matches K qs c.good)
+      (sym (complete_split [] c.done (item ∷ []) ∙ ap (λ (qs : List Request). complete [] c.done ++ qs) ends ∙ append-nil (complete [] c.done)))
+      (matches_map H K so (complete [] c.done) c.good c.matched);
+  not_ok = c.not_ok;
+  kept = kept;
+}
+
 -- a reply that is sent, or its front, is one that answers the next request
 pub replied : (now : ℕ → Machine) (H K : Claim → Type 0) (p : Point) (bytes : List ℕ) (parts : List (List ℕ)) (c : Core H p.machine.log bytes parts) (text : List ℕ) (more : List WireItem) (item : WireItem) (q : Request)
     (k : ℕ)
@@ -99,45 +142,18 @@ module _ (longer : (log more : List Entry) (claim : Claim) → HeldIn log claim 
       → Extends p.machine q.machine
       → IsOpenWith H p bytes parts c (Frag f ∷ more) → HeldIn q.machine.log (Acknowledged (address_of f)) → (d : Core K q.machine.log bytes parts) × IsOpenWith K q bytes parts d more
   joins H K p q bytes parts c f more so grow (none, clean, rest) kept = (
-    record {
-      base = c.base;
-      extra = c.extra;
-      bytes_are = c.bytes_are;
-      given = c.given;
-      wire = c.wire;
-      done = c.done ++ Frag f ∷ [];
-      rest = more;
-      given_are = c.given_are ∙ ap (λ (ws : List WireItem). c.done ++ ws) rest ∙ sym (append_assoc c.done (Frag f ∷ []) more);
-      good = c.good;
-      bad = c.bad;
-      parts_are = c.parts_are;
-      not_ok = c.not_ok;
-      matched = subst (λ (qs : List Request). Matches K qs c.good) (sym (complete_split [] c.done (Frag f ∷ []) ∙ append-nil (complete [] c.done))) (matches_map H K so (complete [] c.done) c.good c.matched);
-      kept = subst (λ (fs : List Fragment). AreKept q.machine.log fs) (sym (open_split [] c.done (Frag f ∷ [])))
-          (kept_push q.machine.log (open_push [] c.done) f (subst (λ (log : List Entry). AreKept log (open_push [] c.done)) (sym grow.1) (kept_more p.machine.log grow.0 (open_push [] c.done) c.kept)) kept);
-    },
+    past H K p.machine.log q.machine.log bytes parts c (Frag f) more so rest refl
+        (subst (λ (fs : List Fragment). AreKept q.machine.log fs) (sym (open_split [] c.done (Frag f ∷ [])))
+        (kept_push q.machine.log (open_push [] c.done) f
+        (subst (λ (log : List Entry). AreKept log (open_push [] c.done)) (sym grow.1) (kept_more p.machine.log grow.0 (open_push [] c.done) c.kept)) kept)),
     (none, clean, refl),
   )
 
   pub carries : (H K : Claim → Type 0) (p q : Point) (bytes : List ℕ) (parts : List (List ℕ)) (more : List WireItem) → ((claim : Claim) → H claim → K claim) → Extends p.machine q.machine
       → Open H p bytes parts more → Open K q bytes parts more
   carries H K p q bytes parts more so grow (c, open_) = (
-    record {
-      base = c.base;
-      extra = c.extra;
-      bytes_are = c.bytes_are;
-      given = c.given;
-      wire = c.wire;
-      done = c.done;
-      rest = c.rest;
-      given_are = c.given_are;
-      good = c.good;
-      bad = c.bad;
-      parts_are = c.parts_are;
-      matched = matches_map H K so (complete [] c.done) c.good c.matched;
-      not_ok = c.not_ok;
-      kept = subst (λ (log : List Entry). AreKept log (open_push [] c.done)) (sym grow.1) (kept_more p.machine.log grow.0 (open_push [] c.done) c.kept);
-    },
+    remade H K p.machine.log q.machine.log bytes bytes parts parts refl refl so c
+        (subst (λ (log : List Entry). AreKept log (open_push [] c.done)) (sym grow.1) (kept_more p.machine.log grow.0 (open_push [] c.done) c.kept)),
     open_,
   )
 
@@ -165,44 +181,12 @@ anew laws K p bytes parts one two = (
 )
 
 pub recast : (K : Claim → Type 0) (p : Point) (bytes now : List ℕ) (parts these : List (List ℕ)) (more : List WireItem) → now ≡ bytes → these ≡ parts → Open K p bytes parts more → Open K p now these more
-recast K p bytes now parts these more one two (c, open_) = (
-  record {
-    base = c.base;
-    extra = c.extra;
-    bytes_are = one ∙ c.bytes_are;
-    given = c.given;
-    wire = c.wire;
-    done = c.done;
-    rest = c.rest;
-    given_are = c.given_are;
-    good = c.good;
-    bad = c.bad;
-    parts_are = two ∙ c.parts_are;
-    matched = c.matched;
-    not_ok = c.not_ok;
-    kept = c.kept;
-  },
-  open_,
-)
+recast K p bytes now parts these more one two (c, open_) =
+    (remade K K p.machine.log p.machine.log bytes now parts these one two (λ claim held. held) c c.kept, open_)
 
 pub mapped : (H K : Claim → Type 0) (log : List Entry) (bytes now : List ℕ) (parts these : List (List ℕ)) → now ≡ bytes → these ≡ parts → ((claim : Claim) → H claim → K claim) → Core H log bytes parts
     → Core K log now these
-mapped H K log bytes now parts these one two so c = record {
-  base = c.base;
-  extra = c.extra;
-  bytes_are = one ∙ c.bytes_are;
-  given = c.given;
-  wire = c.wire;
-  done = c.done;
-  rest = c.rest;
-  given_are = c.given_are;
-  good = c.good;
-  bad = c.bad;
-  parts_are = two ∙ c.parts_are;
-  matched = matches_map H K so (complete [] c.done) c.good c.matched;
-  not_ok = c.not_ok;
-  kept = c.kept;
-}
+mapped H K log bytes now parts these one two so c = remade H K log log bytes now parts these one two so c c.kept
 
 -- a part that is no 200
 pub with_bad : (H K : Claim → Type 0) (log : List Entry) (bytes now : List ℕ) (parts these : List (List ℕ)) (part : List ℕ) → now ≡ bytes → these ≡ parts ++ part ∷ [] → ((claim : Claim) → H claim → K claim)
@@ -253,24 +237,8 @@ pub passes : (H K : Claim → Type 0) (p : Point) (bytes : List ℕ) (parts : Li
     → ((fs : List Fragment) → complete fs (item ∷ []) ≡ [])
     → ((fs : List Fragment) → open_push fs (item ∷ []) ≡ fs) → Open H p bytes parts (item ∷ more) → Open K p bytes parts more
 passes H K p bytes parts item more so ends adds (c, (none, clean, rest)) = (
-  record {
-    base = c.base;
-    extra = c.extra;
-    bytes_are = c.bytes_are;
-    given = c.given;
-    wire = c.wire;
-    done = c.done ++ item ∷ [];
-    rest = more;
-    given_are = c.given_are ∙ ap (λ (ws : List WireItem). c.done ++ ws) rest ∙ sym (append_assoc c.done (item ∷ []) more);
-    good = c.good;
-    bad = c.bad;
-    parts_are = c.parts_are;
-    not_ok = c.not_ok;
-    matched = subst (λ (qs : List Request). Matches K qs c.good)
-        (sym (complete_split [] c.done (item ∷ []) ∙ ap (λ (qs : List Request). complete [] c.done ++ qs) (ends (open_push [] c.done)) ∙ append-nil (complete [] c.done)))
-        (matches_map H K so (complete [] c.done) c.good c.matched);
-    kept = subst (λ (fs : List Fragment). AreKept p.machine.log fs) (sym (open_split [] c.done (item ∷ []) ∙ adds (open_push [] c.done))) c.kept;
-  },
+  past H K p.machine.log p.machine.log bytes parts c item more so rest (ends (open_push [] c.done))
+      (subst (λ (fs : List Fragment). AreKept p.machine.log fs) (sym (open_split [] c.done (item ∷ []) ∙ adds (open_push [] c.done))) c.kept),
   (none, clean, refl),
 )
 
@@ -344,22 +312,9 @@ module _ (longer : (log more : List Entry) (claim : Claim) → HeldIn log claim 
   elsewhere_stood first items es ss xs p q n s grow on same_bytes same_parts same_live was_away is_away =
       let c = s.core in
       record {
-        core = record {
-          base = c.base;
-          extra = c.extra;
-          bytes_are = same_bytes ∙ c.bytes_are;
-          given = c.given;
-          wire = c.wire;
-          done = c.done;
-          rest = c.rest;
-          given_are = c.given_are;
-          good = c.good;
-          bad = c.bad;
-          parts_are = same_parts ∙ c.parts_are;
-          not_ok = c.not_ok;
-          matched = matches_map (HeldBy first items ss) (HeldBy first (items ++ es) (ss ++ xs)) (λ claim held. held_more longer first items es ss xs grow claim held) (complete [] c.done) c.good c.matched;
-          kept = subst (λ (log : List Entry). AreKept log (open_push [] c.done)) (sym on.1) (kept_more longer p.machine.log on.0 (open_push [] c.done) c.kept);
-        };
+        core = remade (HeldBy first items ss) (HeldBy first (items ++ es) (ss ++ xs)) p.machine.log q.machine.log (received n items) (received n (items ++ es))
+            (replies n items) (replies n (items ++ es)) same_bytes same_parts (λ claim held. held_more longer first items es ss xs grow claim held) c
+            (subst (λ (log : List Entry). AreKept log (open_push [] c.done)) (sym on.1) (kept_more longer p.machine.log on.0 (open_push [] c.done) c.kept));
         at_rest = λ away open_. s.at_rest was_away (same_live open_);
         acting_on = λ more is. absurd (subst (λ (f : Phase). IsAway n f) is is_away refl);
         sends = λ text close more is. absurd (subst (λ (f : Phase). IsAway n f) is is_away refl);

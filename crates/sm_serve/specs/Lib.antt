@@ -7,6 +7,7 @@ pub mod Pushes
 pub mod Resting
 pub mod Items
 pub mod Giving
+pub mod Steps
 pub mod Serving
 pub mod Shown
 pub mod Surviving

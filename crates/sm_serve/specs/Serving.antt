@@ -4,6 +4,7 @@ use Rattle.sm_site.specs.Image.{Image}
 use Rattle.sm_site.specs.Meanings.{Deal, Item, IsLive, Seen}
 use Rattle.sm_site.specs.Meanings.Deal.{Over}
 use Rattle.sm_site.specs.Clauses.{Both}
+use Rattle.sm_site.specs.Event.{deal_of}
 use Rattle.sm_site.specs.Scripts.{Takes}
 use Rattle.sm_site.specs.declared.event.Event.{Event}
 use Rattle.sm_site.specs.declared.event.Event.TheVariants.{Opened, Piece, Closed, Ended}
@@ -24,7 +25,8 @@ use Rattle.sm_serve.specs.Connections.{received, live, without, is_among, AreDis
 use Rattle.sm_serve.specs.Run.{Stepped, idle, at, Run}
 use Rattle.sm_serve.specs.Moments.{FitsAt}
 use Rattle.sm_serve.specs.Surviving.{Survives}
-use Rattle.sm_serve.specs.Standing.{History, StandsOn, is_told, GoesOn, Keeps, calls_of}
+use Rattle.sm_serve.specs.Between.{TakesNone}
+use Rattle.sm_serve.specs.Standing.{History, StandsOn, StandsForSome, is_told, GoesOn, Keeps, Pending, calls_of}
 use Rattle.sm_serve.specs.Resting.{Rests, counts_of}
 
 abbrev pub numbers_of : List Live → List ℕ
@@ -91,6 +93,13 @@ IsNew (Opened n) h = is_among n (live h.items) ≡ false
 IsNew (Piece n piece) h = Unit {0}
 IsNew (Closed n) h = Unit {0}
 IsNew Ended h = Unit {0}
+
+-- An event that was taken is handled: the run goes on from it, the origin stands for some machine, and no further event is taken.
+pub record Handles {D : Type 0} (site : Seen D) (event : Event) (before after : State) (old new : D) : Type 0 where
+  pub goes_on : (h : History) (m : ℕ) → Pending site h m (deal_of event) old → IsAtRest site h before old → IsNew event h
+      → Turns site h (deal_of event ∷ []) after new
+  pub stands : StandsForSome site after.origin new
+  pub link : TakesNone (site.view old) (site.view new)
 
 -- the last entry says that nothing more comes
 abbrev pub IsOver : Option (List Item) → Type 0

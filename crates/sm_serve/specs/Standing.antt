@@ -8,7 +8,7 @@ use Rattle.sm_origin.specs.declared.origin.Origin.{Origin}
 use Rattle.sm_reply.specs.declared.reply.Counted.{Counted}
 use Rattle.sm_origin.specs.Machine.{Machine}
 use Rattle.sm_origin.specs.Stores.{Fits}
-use Rattle.sm_origin.specs.Acting.{StandsFor}
+pub use Rattle.sm_origin.specs.Acting.{StandsOn, StandsForSome}
 use Rattle.sm_serve.specs.Connections.{received, live, without, deals_in}
 use Rattle.sm_serve.specs.Run.{Counts, counts_after, Phase, Point, Stepped, Moves, at, Run, LeadsTo}
 use Rattle.sm_serve.specs.Moments.{machine_at, FitsAt}
@@ -29,14 +29,6 @@ pub record History : Type 0 where
 abbrev pub calls_of : List Stepped → List DiskCall
 calls_of [] = []
 calls_of (x ∷ steps) = x.calls ++ calls_of steps
-
--- the origin stands for the machine on the site
-abbrev pub StandsOn : {D : Type 0} (site : Seen D) → Machine → Origin → D → Type 0
-StandsOn site m origin d = StandsFor (IsSome (site.view d).contents) m origin (site.may_leave d)
-
--- it stands for some machine on the site
-abbrev pub StandsForSome : {D : Type 0} (site : Seen D) → Origin → D → Type 0
-StandsForSome site origin d = (m : Machine) × StandsOn site m origin d
 
 -- whether the site tells the contents of its disk
 abbrev pub is_told : View → Bool

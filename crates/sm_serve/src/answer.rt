@@ -1,12 +1,10 @@
 //! One act of a connection, and its reply.
-ghost use Rattle.std.specs.Prelude.{◌≡◌, ◌∷◌, List, Some, IfSome, IsSome, is_some, IsTrue, if◌then◌else◌, None};
-ghost use Rattle.sm_site.specs.Meanings.{IsLive};
-ghost use Rattle.sm_site.specs.Clauses.{SameOutcomes};
+ghost use Rattle.std.specs.Prelude.{◌≡◌, ◌∷◌, List, Some, IsSome, is_some, IsTrue, if◌then◌else◌, None};
 ghost use Rattle.sm_wire.specs.declared.item.WireItem.{WireItem};
-ghost use Rattle.sm_origin.specs.declared.origin.Origin.{Origin};
 ghost use Rattle.sm_origin.specs.Acting.{IsValidAct};
 ghost use Rattle.sm_serve.specs.Run.{idle, acting, act_of, closes, phase_after, sent_of};
 ghost use Rattle.sm_serve.specs.Between.{TakesNone};
+ghost use Rattle.sm_serve.specs.Steps.{IsLiveOn, MayAct, Sends};
 ghost use Rattle.sm_serve.specs.Standing.{History, StandsOn, StandsForSome, Keeps, Reaches, counts_with, stays_open};
 
 use crate::still::Still;
@@ -18,18 +16,10 @@ use sm_origin::{Counted, Origin, Reply};
 use sm_site::Site;
 use std::alloc::Global;
 
-/// Sends a reply, where it has bytes, and closes the connection where that is to be closed.
+// Sends a reply, where it has bytes, and closes the connection where that is to be closed.
 fn send_reply<S: Site>(site: &mut S, number: u64, reply: &Reply, close: bool) -> Still
-    requires live { IfSome (S.Disk.seen.view site.old).transcript (IsLive number) }
-    ensures goes_on { (h : History) (more : List WireItem) (origin : Origin) → Keeps S.Disk.seen h site.old
-        → StandsOn S.Disk.seen h.point.machine origin site.old → h.point.phase ≡ phase_after number (sent_of reply.now) close more
-        → Reaches S.Disk.seen h number (stays_open result) (if stays_open result then acting number more else idle)
-        (h.point.counts number) origin site.new }
-    ensures closed { IsTrue close → result ≡ Still.Closed }
-    ensures same { SameOutcomes (S.Disk.seen.may_leave site.old) (S.Disk.seen.may_leave site.new) }
-    ensures contents { (S.Disk.seen.view site.new).contents ≡ (S.Disk.seen.view site.old).contents }
-    ensures open { result ≡ Still.Open → IfSome (S.Disk.seen.view site.new).transcript (IsLive number) }
-    ensures link { TakesNone (S.Disk.seen.view site.old) (S.Disk.seen.view site.new) }
+    requires live { IsLiveOn S.Disk.seen number site.old }
+    ensures { Sends S.Disk.seen number (phase_after number (sent_of reply.now) close) close site.old site.new result }
 {
     if reply.is_silent() {
         return end_item(site, number, close);
@@ -41,18 +31,10 @@ fn send_reply<S: Site>(site: &mut S, number: u64, reply: &Reply, close: bool) ->
     tell_both(site, number, head, tail, close)
 }
 
-/// Ends an item that has no reply.
+// Ends an item that has no reply.
 fn end_item<S: Site>(site: &mut S, number: u64, close: bool) -> Still
-    requires live { IfSome (S.Disk.seen.view site.old).transcript (IsLive number) }
-    ensures goes_on { (h : History) (more : List WireItem) (origin : Origin) → Keeps S.Disk.seen h site.old
-        → StandsOn S.Disk.seen h.point.machine origin site.old → h.point.phase ≡ phase_after number None close more
-        → Reaches S.Disk.seen h number (stays_open result) (if stays_open result then acting number more else idle)
-        (h.point.counts number) origin site.new }
-    ensures closed { IsTrue close → result ≡ Still.Closed }
-    ensures same { SameOutcomes (S.Disk.seen.may_leave site.old) (S.Disk.seen.may_leave site.new) }
-    ensures contents { (S.Disk.seen.view site.new).contents ≡ (S.Disk.seen.view site.old).contents }
-    ensures open { result ≡ Still.Open → IfSome (S.Disk.seen.view site.new).transcript (IsLive number) }
-    ensures link { TakesNone (S.Disk.seen.view site.old) (S.Disk.seen.view site.new) }
+    requires live { IsLiveOn S.Disk.seen number site.old }
+    ensures { Sends S.Disk.seen number (phase_after number None close) close site.old site.new result }
 {
     fewer_images_stand::<S>();
     if close {
@@ -62,7 +44,7 @@ fn end_item<S: Site>(site: &mut S, number: u64, close: bool) -> Still
     Still::Open
 }
 
-/// Acts, and sends the reply. What the act counts, or None where the connection was closed.
+// Acts, and sends the reply. What the act counts, or None where the connection was closed.
 pub(crate) fn answer<S: Site>(
     alloc: Global,
     site: &mut S,
@@ -72,8 +54,7 @@ pub(crate) fn answer<S: Site>(
     close: bool,
 ) -> Option<Counted>
     requires valid { IsValidAct act.now }
-    requires stands { StandsForSome S.Disk.seen origin.old site.old }
-    requires live { IfSome (S.Disk.seen.view site.old).transcript (IsLive number) }
+    requires may { MayAct S.Disk.seen origin.old number site.old }
     ensures goes_on { (h : History) (item : WireItem) (more : List WireItem) → Keeps S.Disk.seen h site.old
         → StandsOn S.Disk.seen h.point.machine origin.old site.old → h.point.phase ≡ acting number (item ∷ more)
         → act_of (h.point.counts number) item ≡ Some act.now → closes item ≡ close
@@ -81,7 +62,7 @@ pub(crate) fn answer<S: Site>(
         (counts_with item result (h.point.counts number)) origin.new site.new }
     ensures closed { IsTrue close → result ≡ None }
     ensures stands { StandsForSome S.Disk.seen origin.new site.new }
-    ensures open { IsSome result → IfSome (S.Disk.seen.view site.new).transcript (IsLive number) }
+    ensures open { IsSome result → IsLiveOn S.Disk.seen number site.new }
     ensures link { TakesNone (S.Disk.seen.view site.old) (S.Disk.seen.view site.new) }
 {
     fewer_images_stand::<S>();

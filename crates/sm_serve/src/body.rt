@@ -1,17 +1,11 @@
 //! The body of a push that is open.
-ghost use Rattle.std.specs.Prelude.{is_some, ◌≡◌, ◌<◌, ◌≤◌, ◌+◌, [], ◌∷◌, ◌++◌, true, List, ℕ, Option, Some, None, IfSome, IsTrue, if◌then◌else◌, map};
-ghost use Rattle.sm_site.specs.Meanings.{IsLive};
-ghost use Rattle.sm_conn.specs.Parts.{PartItem, byte, ended};
-ghost use Rattle.sm_wire.specs.declared.item.WireItem.{WireItem};
+ghost use Rattle.std.specs.Prelude.{is_some, ◌≡◌, ◌<◌, ◌≤◌, [], ◌∷◌, true, List, ℕ, Some, None, IsTrue, map};
+ghost use Rattle.sm_conn.specs.Parts.{byte, ended};
 ghost use Rattle.sm_wire.specs.declared.item.WireItem.TheVariants.{End};
-ghost use Rattle.sm_wire.specs.Wire.{Left};
-ghost use Rattle.sm_origin.specs.declared.origin.Origin.{Origin};
 ghost use Rattle.sm_serve.specs.Pushes.{GivesValid};
-ghost use Rattle.sm_serve.specs.Run.{idle, acting};
-ghost use Rattle.sm_serve.specs.Between.{TakesNone};
-ghost use Rattle.sm_serve.specs.Standing.{History, StandsOn, StandsForSome, Keeps, Reaches, stays_open};
-ghost use Rattle.sm_serve.specs.Resting.{counts_of, PlaceIs, SameConn};
-ghost use Rattle.sm_serve.specs.Giving.{PartGives, FedPush, EndedPush};
+ghost use Rattle.sm_serve.specs.Resting.{PlaceIs, SameConn};
+ghost use Rattle.sm_serve.specs.Giving.{FedPush, EndedPush};
+ghost use Rattle.sm_serve.specs.Steps.{MayAct, Leaves, TakesItems, TakesParts};
 
 use crate::answer::answer;
 use crate::item::{act_on, starve, take_items};
@@ -24,7 +18,7 @@ use sm_site::Site;
 use sm_wire::law::wire_of_front;
 use std::alloc::Global;
 
-/// Feeds the push that is open.
+// Feeds the push that is open.
 fn feed(push: &mut Option<OpenPush>, bytes: &[u8]) -> Result<Items, PushFault>
     requires open { is_some push.old ≡ true }
     ensures fed { (b : List ℕ) → PlaceIs push.old (Some b) → FedPush b bytes.now push.new result }
@@ -37,7 +31,7 @@ fn feed(push: &mut Option<OpenPush>, bytes: &[u8]) -> Result<Items, PushFault>
     }
 }
 
-/// Says whether the push that is open may end here.
+// Says whether the push that is open may end here.
 fn end(push: &mut Option<OpenPush>) -> Result<(), PushFault>
     ensures { (b : List ℕ) → PlaceIs push.old (Some b) → EndedPush b result }
 {
@@ -47,7 +41,7 @@ fn end(push: &mut Option<OpenPush>) -> Result<(), PushFault>
     }
 }
 
-/// How many of the next bytes are fed at once: so many that one item comes of them at the most, and one at least.
+// How many of the next bytes are fed at once: so many that one item comes of them at the most, and one at least.
 fn due(push: &Option<OpenPush>, count: usize) -> usize
     requires some { 0 < count }
     ensures some { 0 < result }
@@ -59,7 +53,7 @@ fn due(push: &Option<OpenPush>, count: usize) -> usize
     }
 }
 
-/// Takes some of the bytes of a part.
+// Takes some of the bytes of a part.
 fn take_chunk<S: Site>(
     alloc: Global,
     site: &mut S,
@@ -67,20 +61,11 @@ fn take_chunk<S: Site>(
     live: &mut Live,
     bytes: &[u8],
 ) -> Still
-    requires stands { StandsForSome S.Disk.seen origin.old site.old }
+    requires may { MayAct S.Disk.seen origin.old live.old.number site.old }
     requires open { is_some live.old.push ≡ true }
-    requires live { IfSome (S.Disk.seen.view site.old).transcript (IsLive live.old.number) }
-    ensures goes_on { (h : History) (b : List ℕ) (more : List PartItem) (items : List WireItem) → Keeps S.Disk.seen h site.old
-        → StandsOn S.Disk.seen h.point.machine origin.old site.old → PlaceIs live.old.push (Some b)
-        → Left (Some b) (map (λ x. byte x) bytes.now ++ more) items
-        → h.point.phase ≡ acting live.old.number items → h.point.counts live.old.number ≡ counts_of live.old
-        → PartGives S.Disk.seen h live.old.number (stays_open result) live.new.push (counts_of live.new) (Some b)
-        (map (λ x. byte x) bytes.now) more origin.new site.new }
-    ensures stands { StandsForSome S.Disk.seen origin.new site.new }
-    ensures open { result ≡ Still.Open → IfSome (S.Disk.seen.view site.new).transcript (IsLive live.old.number) }
+    ensures goes_on { (b : List ℕ) → TakesParts S.Disk.seen (Some b) (map (λ x. byte x) bytes.now) live.old live.new origin.old origin.new site.old site.new result }
+    ensures leaves { Leaves S.Disk.seen SameConn live.old live.new origin.new site.old site.new result }
     ensures push { result ≡ Still.Open → is_some live.new.push ≡ true }
-    ensures same { SameConn live.old live.new }
-    ensures link { TakesNone (S.Disk.seen.view site.old) (S.Disk.seen.view site.new) }
 {
     wire_of_front();
     match feed(&mut live.push, bytes) {
@@ -96,8 +81,8 @@ fn take_chunk<S: Site>(
     }
 }
 
-/// Takes bytes of the push that is open. They are handed on in parts that complete one item at the most, so that no more is held at
-/// once than one item and what the push holds.
+// Takes bytes of the push that is open. They are handed on in parts that complete one item at the most, so that no more is held at
+// once than one item and what the push holds.
 pub(crate) fn take_body<S: Site>(
     alloc: Global,
     site: &mut S,
@@ -105,20 +90,11 @@ pub(crate) fn take_body<S: Site>(
     live: &mut Live,
     bytes: &[u8],
 ) -> Still
-    requires stands { StandsForSome S.Disk.seen origin.old site.old }
+    requires may { MayAct S.Disk.seen origin.old live.old.number site.old }
     requires open { is_some live.old.push ≡ true }
-    requires live { IfSome (S.Disk.seen.view site.old).transcript (IsLive live.old.number) }
-    ensures goes_on { (h : History) (b : List ℕ) (more : List PartItem) (items : List WireItem) → Keeps S.Disk.seen h site.old
-        → StandsOn S.Disk.seen h.point.machine origin.old site.old → PlaceIs live.old.push (Some b)
-        → Left (Some b) (map (λ x. byte x) bytes.now ++ more) items
-        → h.point.phase ≡ acting live.old.number items → h.point.counts live.old.number ≡ counts_of live.old
-        → PartGives S.Disk.seen h live.old.number (stays_open result) live.new.push (counts_of live.new) (Some b)
-        (map (λ x. byte x) bytes.now) more origin.new site.new }
-    ensures stands { StandsForSome S.Disk.seen origin.new site.new }
-    ensures open { result ≡ Still.Open → IfSome (S.Disk.seen.view site.new).transcript (IsLive live.old.number) }
+    ensures goes_on { (b : List ℕ) → TakesParts S.Disk.seen (Some b) (map (λ x. byte x) bytes.now) live.old live.new origin.old origin.new site.old site.new result }
+    ensures leaves { Leaves S.Disk.seen SameConn live.old live.new origin.new site.old site.new result }
     ensures push { result ≡ Still.Open → is_some live.new.push ≡ true }
-    ensures same { SameConn live.old live.new }
-    ensures link { TakesNone (S.Disk.seen.view site.old) (S.Disk.seen.view site.new) }
 {
     let mut done = 0;
     while done < bytes.len() {
@@ -133,7 +109,7 @@ pub(crate) fn take_body<S: Site>(
     Still::Open
 }
 
-/// Ends the push that is open.
+// Ends the push that is open.
 pub(crate) fn take_end<S: Site>(
     alloc: Global,
     site: &mut S,
@@ -141,17 +117,9 @@ pub(crate) fn take_end<S: Site>(
     live: &mut Live,
     close: bool,
 ) -> Still
-    requires stands { StandsForSome S.Disk.seen origin.old site.old }
-    requires live { IfSome (S.Disk.seen.view site.old).transcript (IsLive live.old.number) }
-    ensures goes_on { (h : History) (b : List ℕ) (more : List PartItem) (items : List WireItem) → Keeps S.Disk.seen h site.old
-        → StandsOn S.Disk.seen h.point.machine origin.old site.old → PlaceIs live.old.push (Some b) → Left (Some b) (ended close ∷ more) items
-        → h.point.phase ≡ acting live.old.number items → h.point.counts live.old.number ≡ counts_of live.old
-        → PartGives S.Disk.seen h live.old.number (stays_open result) live.new.push (counts_of live.new) (Some b)
-        (ended close ∷ []) more origin.new site.new }
-    ensures stands { StandsForSome S.Disk.seen origin.new site.new }
-    ensures open { result ≡ Still.Open → IfSome (S.Disk.seen.view site.new).transcript (IsLive live.old.number) }
-    ensures same { SameConn live.old live.new }
-    ensures link { TakesNone (S.Disk.seen.view site.old) (S.Disk.seen.view site.new) }
+    requires may { MayAct S.Disk.seen origin.old live.old.number site.old }
+    ensures goes_on { (b : List ℕ) → TakesParts S.Disk.seen (Some b) (ended close ∷ []) live.old live.new origin.old origin.new site.old site.new result }
+    ensures leaves { Leaves S.Disk.seen SameConn live.old live.new origin.new site.old site.new result }
 {
     match end(&mut live.push) {
         Ok(()) => end_push(alloc, site, origin, live, close),
@@ -168,7 +136,7 @@ pub(crate) fn take_end<S: Site>(
     }
 }
 
-/// Acts on the end of a push: its counts are told, and set to 0.
+// Acts on the end of a push: its counts are told, and set to 0.
 fn end_push<S: Site>(
     alloc: Global,
     site: &mut S,
@@ -176,19 +144,11 @@ fn end_push<S: Site>(
     live: &mut Live,
     close: bool,
 ) -> Still
-    requires stands { StandsForSome S.Disk.seen origin.old site.old }
-    requires live { IfSome (S.Disk.seen.view site.old).transcript (IsLive live.old.number) }
-    ensures goes_on { (h : History) (more : List WireItem) → Keeps S.Disk.seen h site.old
-        → StandsOn S.Disk.seen h.point.machine origin.old site.old → h.point.phase ≡ acting live.old.number (End close ∷ more)
-        → h.point.counts live.old.number ≡ counts_of live.old
-        → Reaches S.Disk.seen h live.old.number (stays_open result) (if stays_open result then acting live.old.number more else idle)
-        (counts_of live.new) origin.new site.new }
+    requires may { MayAct S.Disk.seen origin.old live.old.number site.old }
+    ensures goes_on { TakesItems S.Disk.seen (λ more. End close ∷ more) live.old live.new origin.old origin.new site.old site.new result }
     ensures closed { IsTrue close → result ≡ Still.Closed }
-    ensures stands { StandsForSome S.Disk.seen origin.new site.new }
-    ensures open { result ≡ Still.Open → IfSome (S.Disk.seen.view site.new).transcript (IsLive live.old.number) }
     ensures push { result ≡ Still.Open → live.new.push ≡ None }
-    ensures same { SameConn live.old live.new }
-    ensures link { TakesNone (S.Disk.seen.view site.old) (S.Disk.seen.view site.new) }
+    ensures leaves { Leaves S.Disk.seen SameConn live.old live.new origin.new site.old site.new result }
 {
     let act = Act::End {
         kept: live.kept,

@@ -1,18 +1,15 @@
 //! The items of a connection.
-ghost use Rattle.std.specs.Prelude.{◌≡◌, ◌∷◌, ◌++◌, false, List, Some, None, IfSome, IsTrue, if◌then◌else◌, map};
-ghost use Rattle.sm_site.specs.Meanings.{IsLive};
-ghost use Rattle.sm_site.specs.Clauses.{SameOutcomes};
+ghost use Rattle.std.specs.Prelude.{◌≡◌, ◌∷◌, ◌++◌, false, List, Some, IsTrue, map};
+ghost use Rattle.std.specs.List.{AllByRecursion};
 ghost use Rattle.sm_wire.specs.declared.item.WireItem.{WireItem};
 ghost use Rattle.sm_origin.specs.declared.origin.Origin.{Origin};
 ghost use Rattle.sm_reply.specs.declared.reply.Counted.{Counted};
-ghost use Rattle.sm_origin.specs.Machine.{Machine};
 ghost use Rattle.sm_origin.specs.Acting.{IsValidAct};
 ghost use Rattle.sm_serve.specs.Run.{Counts, idle, acting, act_of, closes, counts_after, counts_by};
-ghost use Rattle.sm_serve.specs.Between.{TakesNone};
-ghost use Rattle.sm_serve.specs.Standing.{History, StandsOn, StandsForSome, Keeps, Reaches, stays_open};
+ghost use Rattle.sm_serve.specs.Standing.{History, StandsOn, Keeps, Reaches};
 ghost use Rattle.sm_serve.specs.Resting.{counts_of, SameBut};
 ghost use Rattle.sm_serve.specs.Items.{shown_item, ItemIsValid};
-ghost use Rattle.std.specs.List.{AllByRecursion};
+ghost use Rattle.sm_serve.specs.Steps.{IsLiveOn, MayAct, OnlySent, Leaves, TakesItems};
 
 use crate::Live;
 use crate::answer::answer;
@@ -24,7 +21,7 @@ use sm_origin::Origin;
 use sm_site::Site;
 use std::alloc::Global;
 
-/// Acts on an item that is no end of a push.
+// Acts on an item that is no end of a push.
 pub(crate) fn act_on<S: Site>(
     alloc: Global,
     site: &mut S,
@@ -34,20 +31,12 @@ pub(crate) fn act_on<S: Site>(
     close: bool,
 ) -> Still
     requires valid { IsValidAct act.now }
-    requires stands { StandsForSome S.Disk.seen origin.old site.old }
-    requires live { IfSome (S.Disk.seen.view site.old).transcript (IsLive live.old.number) }
-    ensures goes_on { (h : History) (item : WireItem) (more : List WireItem) → Keeps S.Disk.seen h site.old
-        → StandsOn S.Disk.seen h.point.machine origin.old site.old → h.point.phase ≡ acting live.old.number (item ∷ more)
-        → h.point.counts live.old.number ≡ counts_of live.old
-        → act_of (counts_of live.old) item ≡ Some act.now → closes item ≡ close
+    requires may { MayAct S.Disk.seen origin.old live.old.number site.old }
+    ensures goes_on { (item : WireItem) → act_of (counts_of live.old) item ≡ Some act.now → closes item ≡ close
         → ((c : Counted) (counts : Counts) → counts_after item c counts ≡ counts_by c counts)
-        → Reaches S.Disk.seen h live.old.number (stays_open result) (if stays_open result then acting live.old.number more else idle)
-        (counts_of live.new) origin.new site.new }
+        → TakesItems S.Disk.seen (λ more. item ∷ more) live.old live.new origin.old origin.new site.old site.new result }
     ensures closed { IsTrue close → result ≡ Still.Closed }
-    ensures stands { StandsForSome S.Disk.seen origin.new site.new }
-    ensures open { result ≡ Still.Open → IfSome (S.Disk.seen.view site.new).transcript (IsLive live.old.number) }
-    ensures same { SameBut live.old live.new }
-    ensures link { TakesNone (S.Disk.seen.view site.old) (S.Disk.seen.view site.new) }
+    ensures leaves { Leaves S.Disk.seen SameBut live.old live.new origin.new site.old site.new result }
 {
     match answer(alloc, site, origin, live.number, act, close) {
         Some(counted) => {
@@ -58,23 +47,19 @@ pub(crate) fn act_on<S: Site>(
     }
 }
 
-/// Sends 500 in place of what comes next, and closes.
+// Sends 500 in place of what comes next, and closes.
 pub(crate) fn starve<S: Site>(site: &mut S, number: u64) -> Still
-    requires live { IfSome (S.Disk.seen.view site.old).transcript (IsLive number) }
+    requires live { IsLiveOn S.Disk.seen number site.old }
     ensures goes_on { (h : History) (more : List WireItem) (counts : Counts) (origin : Origin) → Keeps S.Disk.seen h site.old
         → StandsOn S.Disk.seen h.point.machine origin site.old → h.point.phase ≡ acting number more
         → Reaches S.Disk.seen h number false idle counts origin site.new }
-    ensures stands { (m : Machine) (origin : Origin) → StandsOn S.Disk.seen m origin site.old
-        → StandsOn S.Disk.seen m origin site.new }
-    ensures same { SameOutcomes (S.Disk.seen.may_leave site.old) (S.Disk.seen.may_leave site.new) }
-    ensures contents { (S.Disk.seen.view site.new).contents ≡ (S.Disk.seen.view site.old).contents }
     ensures closed { result ≡ Still.Closed }
-    ensures link { TakesNone (S.Disk.seen.view site.old) (S.Disk.seen.view site.new) }
+    ensures sent { OnlySent S.Disk.seen site.old site.new }
 {
     tell(site, number, NO_MEMORY, true)
 }
 
-/// Acts on one item of a push.
+// Acts on one item of a push.
 fn take_item<S: Site>(
     alloc: Global,
     site: &mut S,
@@ -83,17 +68,9 @@ fn take_item<S: Site>(
     item: Item,
 ) -> Still
     requires valid { ItemIsValid item }
-    requires stands { StandsForSome S.Disk.seen origin.old site.old }
-    requires live { IfSome (S.Disk.seen.view site.old).transcript (IsLive live.old.number) }
-    ensures goes_on { (h : History) (more : List WireItem) → Keeps S.Disk.seen h site.old
-        → StandsOn S.Disk.seen h.point.machine origin.old site.old → h.point.phase ≡ acting live.old.number (shown_item item ∷ more)
-        → h.point.counts live.old.number ≡ counts_of live.old
-        → Reaches S.Disk.seen h live.old.number (stays_open result) (if stays_open result then acting live.old.number more else idle)
-        (counts_of live.new) origin.new site.new }
-    ensures stands { StandsForSome S.Disk.seen origin.new site.new }
-    ensures open { result ≡ Still.Open → IfSome (S.Disk.seen.view site.new).transcript (IsLive live.old.number) }
-    ensures same { SameBut live.old live.new }
-    ensures link { TakesNone (S.Disk.seen.view site.old) (S.Disk.seen.view site.new) }
+    requires may { MayAct S.Disk.seen origin.old live.old.number site.old }
+    ensures goes_on { TakesItems S.Disk.seen (λ more. shown_item item ∷ more) live.old live.new origin.old origin.new site.old site.new result }
+    ensures leaves { Leaves S.Disk.seen SameBut live.old live.new origin.new site.old site.new result }
 {
     let act = act_for_item(item);
     act_on(alloc, site, origin, live, &act, false)
@@ -111,7 +88,7 @@ fn act_for_item(item: Item) -> Act
     }
 }
 
-/// Acts on items of a push, one after the other.
+// Acts on items of a push, one after the other.
 pub(crate) fn take_items<S: Site>(
     alloc: Global,
     site: &mut S,
@@ -120,17 +97,9 @@ pub(crate) fn take_items<S: Site>(
     items: Vec<Item>,
 ) -> Still
     requires valid { AllByRecursion ItemIsValid items.items }
-    requires stands { StandsForSome S.Disk.seen origin.old site.old }
-    requires live { IfSome (S.Disk.seen.view site.old).transcript (IsLive live.old.number) }
-    ensures goes_on { (h : History) (more : List WireItem) → Keeps S.Disk.seen h site.old
-        → StandsOn S.Disk.seen h.point.machine origin.old site.old → h.point.phase ≡ acting live.old.number (map shown_item items.items ++ more)
-        → h.point.counts live.old.number ≡ counts_of live.old
-        → Reaches S.Disk.seen h live.old.number (stays_open result) (if stays_open result then acting live.old.number more else idle)
-        (counts_of live.new) origin.new site.new }
-    ensures stands { StandsForSome S.Disk.seen origin.new site.new }
-    ensures open { result ≡ Still.Open → IfSome (S.Disk.seen.view site.new).transcript (IsLive live.old.number) }
-    ensures same { SameBut live.old live.new }
-    ensures link { TakesNone (S.Disk.seen.view site.old) (S.Disk.seen.view site.new) }
+    requires may { MayAct S.Disk.seen origin.old live.old.number site.old }
+    ensures goes_on { TakesItems S.Disk.seen (λ more. map shown_item items.items ++ more) live.old live.new origin.old origin.new site.old site.new result }
+    ensures leaves { Leaves S.Disk.seen SameBut live.old live.new origin.new site.old site.new result }
 {
     for item in items {
         match take_item(alloc, site, origin, live, item) {

@@ -24,7 +24,7 @@ pub struct Live {
 impl Live {
     ghost use Rattle.sm_serve.specs.Resting.{IsNewborn};
 
-    /// A connection that has sent nothing.
+    // A connection that has sent nothing.
     pub(crate) fn new(alloc: Global, number: u64) -> Result<Live, NoMemory>
         ensures { IfOk result (IsNewborn number) }
     {
@@ -38,7 +38,7 @@ impl Live {
         })
     }
 
-    /// Counts a fragment.
+    // Counts a fragment.
     pub(crate) fn count(&mut self, counted: Counted)
         ensures counts { counts_of self.new ≡ counts_by counted (counts_of self.old) }
         ensures same { SameBut self.old self.new }

@@ -1,17 +1,10 @@
 //! A part of what a connection sends.
-ghost use Rattle.std.specs.Prelude.{is_some, ◌≡◌, ◌++◌, true, List, ℕ, Option, Some, None, IfSome};
-ghost use Rattle.sm_site.specs.Meanings.{IsLive};
-ghost use Rattle.sm_conn.specs.Parts.{PartItem};
-ghost use Rattle.sm_wire.specs.declared.item.WireItem.{WireItem};
-ghost use Rattle.sm_wire.specs.Wire.{Left};
-ghost use Rattle.sm_origin.specs.declared.origin.Origin.{Origin};
+ghost use Rattle.std.specs.Prelude.{is_some, ◌≡◌, true, List, ℕ, Option, Some, None};
 ghost use Rattle.sm_conn.specs.Stands.{items_of};
-ghost use Rattle.sm_serve.specs.Run.{acting, act_of_target};
-ghost use Rattle.sm_serve.specs.Between.{TakesNone};
-ghost use Rattle.sm_serve.specs.Standing.{History, StandsOn, StandsForSome, Keeps, stays_open};
-ghost use Rattle.sm_serve.specs.Resting.{counts_of, PlaceIs, SameConn};
-ghost use Rattle.sm_serve.specs.Giving.{PartGives};
 ghost use Rattle.sm_origin.specs.Acting.{IsValidAct};
+ghost use Rattle.sm_serve.specs.Run.{act_of_target};
+ghost use Rattle.sm_serve.specs.Resting.{SameConn};
+ghost use Rattle.sm_serve.specs.Steps.{MayAct, Leaves, TakesParts};
 
 use crate::body::{take_body, take_end};
 use crate::item::{act_on, starve};
@@ -36,7 +29,7 @@ fn act_for(target: Target) -> Act
     }
 }
 
-/// Takes a part inside a push: bytes of its body, its end, or a refusal.
+// Takes a part inside a push: bytes of its body, its end, or a refusal.
 fn take_inside<S: Site>(
     alloc: Global,
     site: &mut S,
@@ -44,18 +37,10 @@ fn take_inside<S: Site>(
     live: &mut Live,
     part: Part,
 ) -> Still
-    requires stands { StandsForSome S.Disk.seen origin.old site.old }
+    requires may { MayAct S.Disk.seen origin.old live.old.number site.old }
     requires open { is_some live.old.push ≡ true }
-    requires live { IfSome (S.Disk.seen.view site.old).transcript (IsLive live.old.number) }
-    ensures goes_on { (h : History) (b : List ℕ) (more : List PartItem) (items : List WireItem) → Keeps S.Disk.seen h site.old
-        → StandsOn S.Disk.seen h.point.machine origin.old site.old → PlaceIs live.old.push (Some b) → Left (Some b) (items_of part ++ more) items
-        → h.point.phase ≡ acting live.old.number items → h.point.counts live.old.number ≡ counts_of live.old
-        → PartGives S.Disk.seen h live.old.number (stays_open result) live.new.push (counts_of live.new) (Some b)
-        (items_of part) more origin.new site.new }
-    ensures stands { StandsForSome S.Disk.seen origin.new site.new }
-    ensures open { result ≡ Still.Open → IfSome (S.Disk.seen.view site.new).transcript (IsLive live.old.number) }
-    ensures same { SameConn live.old live.new }
-    ensures link { TakesNone (S.Disk.seen.view site.old) (S.Disk.seen.view site.new) }
+    ensures goes_on { (b : List ℕ) → TakesParts S.Disk.seen (Some b) (items_of part) live.old live.new origin.old origin.new site.old site.new result }
+    ensures leaves { Leaves S.Disk.seen SameConn live.old live.new origin.new site.old site.new result }
 {
     match part {
         Part::Body(bytes) => {
@@ -79,7 +64,7 @@ fn take_inside<S: Site>(
     starve(site, live.number)
 }
 
-/// Takes a part outside a push.
+// Takes a part outside a push.
 fn take_outside<S: Site>(
     alloc: Global,
     site: &mut S,
@@ -87,17 +72,9 @@ fn take_outside<S: Site>(
     live: &mut Live,
     part: Part,
 ) -> Still
-    requires stands { StandsForSome S.Disk.seen origin.old site.old }
-    requires live { IfSome (S.Disk.seen.view site.old).transcript (IsLive live.old.number) }
-    ensures goes_on { (h : History) (more : List PartItem) (items : List WireItem) → Keeps S.Disk.seen h site.old
-        → StandsOn S.Disk.seen h.point.machine origin.old site.old → PlaceIs live.old.push None → Left None (items_of part ++ more) items
-        → h.point.phase ≡ acting live.old.number items → h.point.counts live.old.number ≡ counts_of live.old
-        → PartGives S.Disk.seen h live.old.number (stays_open result) live.new.push (counts_of live.new) None
-        (items_of part) more origin.new site.new }
-    ensures stands { StandsForSome S.Disk.seen origin.new site.new }
-    ensures open { result ≡ Still.Open → IfSome (S.Disk.seen.view site.new).transcript (IsLive live.old.number) }
-    ensures same { SameConn live.old live.new }
-    ensures link { TakesNone (S.Disk.seen.view site.old) (S.Disk.seen.view site.new) }
+    requires may { MayAct S.Disk.seen origin.old live.old.number site.old }
+    ensures goes_on { TakesParts S.Disk.seen None (items_of part) live.old live.new origin.old origin.new site.old site.new result }
+    ensures leaves { Leaves S.Disk.seen SameConn live.old live.new origin.new site.old site.new result }
 {
     match part {
         Part::Get { target, close } => {
@@ -126,7 +103,7 @@ fn take_outside<S: Site>(
     starve(site, live.number)
 }
 
-/// Takes a part.
+// Takes a part.
 pub(crate) fn take_part<S: Site>(
     alloc: Global,
     site: &mut S,
@@ -134,18 +111,9 @@ pub(crate) fn take_part<S: Site>(
     live: &mut Live,
     part: Part,
 ) -> Still
-    requires stands { StandsForSome S.Disk.seen origin.old site.old }
-    requires live { IfSome (S.Disk.seen.view site.old).transcript (IsLive live.old.number) }
-    ensures goes_on { (h : History) (place : Option (List ℕ)) (more : List PartItem) (items : List WireItem)
-        → Keeps S.Disk.seen h site.old
-        → StandsOn S.Disk.seen h.point.machine origin.old site.old → PlaceIs live.old.push place → Left place (items_of part ++ more) items
-        → h.point.phase ≡ acting live.old.number items → h.point.counts live.old.number ≡ counts_of live.old
-        → PartGives S.Disk.seen h live.old.number (stays_open result) live.new.push (counts_of live.new) place
-        (items_of part) more origin.new site.new }
-    ensures stands { StandsForSome S.Disk.seen origin.new site.new }
-    ensures open { result ≡ Still.Open → IfSome (S.Disk.seen.view site.new).transcript (IsLive live.old.number) }
-    ensures same { SameConn live.old live.new }
-    ensures link { TakesNone (S.Disk.seen.view site.old) (S.Disk.seen.view site.new) }
+    requires may { MayAct S.Disk.seen origin.old live.old.number site.old }
+    ensures goes_on { (place : Option (List ℕ)) → TakesParts S.Disk.seen place (items_of part) live.old live.new origin.old origin.new site.old site.new result }
+    ensures leaves { Leaves S.Disk.seen SameConn live.old live.new origin.new site.old site.new result }
 {
     if live.push.is_some() {
         return take_inside(alloc, site, origin, live, part);

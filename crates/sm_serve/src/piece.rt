@@ -1,18 +1,14 @@
 //! A piece that came on a connection.
-ghost use Rattle.std.specs.Prelude.{◌≡◌, ◌++◌, true, List, ℕ, Option, IfSome};
-ghost use Rattle.sm_site.specs.Meanings.{IsLive};
-ghost use Rattle.sm_conn.specs.Parts.{PartItem};
-ghost use Rattle.sm_wire.specs.declared.item.WireItem.{WireItem};
-ghost use Rattle.sm_wire.specs.Wire.{Left};
-ghost use Rattle.sm_origin.specs.declared.origin.Origin.{Origin};
+ghost use Rattle.std.specs.Prelude.{◌≡◌, true, List, ℕ, Option};
 ghost use Rattle.sm_site.specs.Meanings.Deal.{Came};
 ghost use Rattle.sm_conn.specs.Stands.{joined};
 ghost use Rattle.sm_serve.specs.Connections.{received, is_open};
-ghost use Rattle.sm_serve.specs.Run.{idle, acting};
+ghost use Rattle.sm_serve.specs.Run.{idle};
 ghost use Rattle.sm_serve.specs.Between.{TakesNone};
-ghost use Rattle.sm_serve.specs.Standing.{History, StandsOn, StandsForSome, Keeps, Pending, stays_open};
-ghost use Rattle.sm_serve.specs.Resting.{counts_of, PlaceIs, SameConn, Rests};
-ghost use Rattle.sm_serve.specs.Giving.{PartGives, PieceGives};
+ghost use Rattle.sm_serve.specs.Standing.{History, StandsOn, StandsForSome, Pending, stays_open};
+ghost use Rattle.sm_serve.specs.Resting.{counts_of, SameConn, Rests};
+ghost use Rattle.sm_serve.specs.Giving.{PieceGives};
+ghost use Rattle.sm_serve.specs.Steps.{MayAct, Leaves, TakesParts};
 
 use crate::Live;
 use crate::part::take_part;
@@ -25,7 +21,7 @@ use sm_site::Site;
 use sm_wire::law::wire_of_front;
 use std::alloc::Global;
 
-/// Takes parts, one after the other.
+// Takes parts, one after the other.
 fn take_parts<S: Site>(
     alloc: Global,
     site: &mut S,
@@ -33,18 +29,9 @@ fn take_parts<S: Site>(
     live: &mut Live,
     parts: Vec<Part>,
 ) -> Still
-    requires stands { StandsForSome S.Disk.seen origin.old site.old }
-    requires live { IfSome (S.Disk.seen.view site.old).transcript (IsLive live.old.number) }
-    ensures goes_on { (h : History) (place : Option (List ℕ)) (more : List PartItem) (items : List WireItem)
-        → Keeps S.Disk.seen h site.old
-        → StandsOn S.Disk.seen h.point.machine origin.old site.old → PlaceIs live.old.push place → Left place (joined parts.items ++ more) items
-        → h.point.phase ≡ acting live.old.number items → h.point.counts live.old.number ≡ counts_of live.old
-        → PartGives S.Disk.seen h live.old.number (stays_open result) live.new.push (counts_of live.new) place
-        (joined parts.items) more origin.new site.new }
-    ensures stands { StandsForSome S.Disk.seen origin.new site.new }
-    ensures open { result ≡ Still.Open → IfSome (S.Disk.seen.view site.new).transcript (IsLive live.old.number) }
-    ensures same { SameConn live.old live.new }
-    ensures link { TakesNone (S.Disk.seen.view site.old) (S.Disk.seen.view site.new) }
+    requires may { MayAct S.Disk.seen origin.old live.old.number site.old }
+    ensures goes_on { (place : Option (List ℕ)) → TakesParts S.Disk.seen place (joined parts.items) live.old live.new origin.old origin.new site.old site.new result }
+    ensures leaves { Leaves S.Disk.seen SameConn live.old live.new origin.new site.old site.new result }
 {
     for part in parts {
         match take_part(alloc, site, origin, live, part) {
@@ -55,7 +42,7 @@ fn take_parts<S: Site>(
     Still::Open
 }
 
-/// Takes a piece that came on a live connection.
+// Takes a piece that came on a live connection.
 pub(crate) fn take_piece<S: Site>(
     alloc: Global,
     site: &mut S,
@@ -63,8 +50,7 @@ pub(crate) fn take_piece<S: Site>(
     live: &mut Live,
     piece: &[u8],
 ) -> Still
-    requires stands { StandsForSome S.Disk.seen origin.old site.old }
-    requires live { IfSome (S.Disk.seen.view site.old).transcript (IsLive live.old.number) }
+    requires may { MayAct S.Disk.seen origin.old live.old.number site.old }
     ensures goes_on { (h : History) (m : ℕ) → Pending S.Disk.seen h m (Came live.old.number piece.now) site.old
         → StandsOn S.Disk.seen h.point.machine origin.old site.old → h.point.phase ≡ idle → is_open live.old.number h.items ≡ true
         → h.point.counts live.old.number ≡ counts_of live.old

@@ -1,15 +1,13 @@
 //! The loop.
 ghost use Rattle.std.specs.Prelude.{◌≡◌, ◌≢◌, ◌↔◌, ◌⊎◌, ◌∷◌, ◌++◌, [], ℕ, true, false, Some, IfSome, IfNone, IsSome, OnOk, OnErr, is_some, length, ◌<◌, ◌≤◌, slice_index};
-ghost use Rattle.sm_site.specs.Meanings.{IsLive};
-ghost use Rattle.sm_site.specs.Meanings.Deal.{Began, Came, Over};
-ghost use Rattle.sm_site.specs.Event.{deal_of};
+ghost use Rattle.sm_site.specs.Meanings.Deal.{Over};
 ghost use Rattle.sm_site.specs.Clauses.{Rose, Adds};
 ghost use Rattle.sm_serve.specs.declared.live.Live.{Live};
-ghost use Rattle.sm_serve.specs.Connections.{is_among, live};
-ghost use Rattle.sm_serve.specs.Between.{TakesNone};
-ghost use Rattle.sm_serve.specs.Standing.{History, StandsForSome, Pending};
+ghost use Rattle.sm_serve.specs.Connections.{is_among};
+ghost use Rattle.sm_serve.specs.Standing.{History, StandsForSome};
+ghost use Rattle.sm_serve.specs.Steps.{IsLiveOn};
 ghost use Rattle.sm_serve.specs.Resting.{IsNewborn};
-ghost use Rattle.sm_serve.specs.Serving.{IsAtRest, Turns, TurnsBy, Serves, Known, CountsNone, numbers_of, Forgets, MayHandle, IsNew};
+ghost use Rattle.sm_serve.specs.Serving.{TurnsBy, Serves, Known, CountsNone, numbers_of, Forgets, MayHandle, Handles};
 ghost use Rattle.sm_serve.specs.Serving.{Served as HasServed, taken_by, HasTaken};
 
 use crate::item::starve;
@@ -23,7 +21,7 @@ use sm_model::NoMemory;
 use sm_origin::law::fewer_images_stand;
 use sm_site::{Event, LinkError, Site};
 
-/// The place of a connection.
+// The place of a connection.
 fn find(lives: &[Live], number: u64) -> Option<usize>
     ensures found { IfSome result (λ i. (i < length lives.now) × (slice_index (numbers_of lives.now) i ≡ number)) }
     ensures missing { IfNone result ((k : ℕ) → k < length lives.now → slice_index (numbers_of lives.now) k ≢ number) }
@@ -36,15 +34,11 @@ fn find(lives: &[Live], number: u64) -> Option<usize>
     None
 }
 
-/// Takes a piece. That of a connection that isn't live is passed over.
+// Takes a piece. That of a connection that isn't live is passed over.
 fn take<S: Site>(site: &mut S, state: &mut State, number: u64, piece: &[u8])
     requires stands { StandsForSome S.Disk.seen state.old.origin site.old }
-    requires live { is_among number (numbers_of state.old.lives.items) ≡ true → IfSome (S.Disk.seen.view site.old).transcript (IsLive number) }
-    ensures goes_on { (h : History) (m : ℕ) → Pending S.Disk.seen h m (Came number piece.now) site.old
-        → IsAtRest S.Disk.seen h state.old site.old
-        → Turns S.Disk.seen h (Came number piece.now ∷ []) state.new site.new }
-    ensures stands { StandsForSome S.Disk.seen state.new.origin site.new }
-    ensures link { TakesNone (S.Disk.seen.view site.old) (S.Disk.seen.view site.new) }
+    requires live { is_among number (numbers_of state.old.lives.items) ≡ true → IsLiveOn S.Disk.seen number site.old }
+    ensures { Handles S.Disk.seen (Event.Piece number piece.now) state.old state.new site.old site.new }
 {
     match find(&state.lives, number) {
         Some(i) => {
@@ -66,15 +60,11 @@ fn take<S: Site>(site: &mut S, state: &mut State, number: u64, piece: &[u8])
     }
 }
 
-/// Takes a connection in, or refuses it where 64 are live.
+// Takes a connection in, or refuses it where 64 are live.
 fn open<S: Site>(site: &mut S, state: &mut State, number: u64)
     requires stands { StandsForSome S.Disk.seen state.old.origin site.old }
-    requires live { IfSome (S.Disk.seen.view site.old).transcript (IsLive number) }
-    ensures goes_on { (h : History) (m : ℕ) → Pending S.Disk.seen h m (Began number) site.old
-        → IsAtRest S.Disk.seen h state.old site.old → is_among number (live h.items) ≡ false
-        → Turns S.Disk.seen h (Began number ∷ []) state.new site.new }
-    ensures stands { StandsForSome S.Disk.seen state.new.origin site.new }
-    ensures link { TakesNone (S.Disk.seen.view site.old) (S.Disk.seen.view site.new) }
+    requires live { IsLiveOn S.Disk.seen number site.old }
+    ensures { Handles S.Disk.seen (Event.Opened number) state.old state.new site.old site.new }
 {
     if state.lives.len() >= 64 {
         tell(site, number, TOO_MANY, true);
@@ -88,7 +78,7 @@ fn open<S: Site>(site: &mut S, state: &mut State, number: u64)
     }
 }
 
-/// Puts a new connection into the list.
+// Puts a new connection into the list.
 fn admit(state: &mut State, number: u64) -> Result<(), NoMemory>
     ensures admitted { OnOk result ((new : Live) × IsNewborn number new × (state.new.lives.items ≡ state.old.lives.items ++ new ∷ [])) }
     ensures refused { OnErr result (state.new.lives.items ≡ state.old.lives.items) }
@@ -99,7 +89,7 @@ fn admit(state: &mut State, number: u64) -> Result<(), NoMemory>
     Ok(())
 }
 
-/// Forgets a connection that the peer closed.
+// Forgets a connection that the peer closed.
 fn forget(state: &mut State, number: u64)
     ensures goes_on { (n : ℕ) → n ≡ number → Forgets n state.old state.new }
 {
@@ -111,15 +101,11 @@ fn forget(state: &mut State, number: u64)
     }
 }
 
-/// Handles an event that was taken.
+// Handles an event that was taken.
 fn handle<S: Site>(site: &mut S, state: &mut State, event: Event) -> Turn
     requires stands { StandsForSome S.Disk.seen state.old.origin site.old }
     requires may { MayHandle event state.old.lives.items (S.Disk.seen.view site.old).transcript }
-    ensures goes_on { (h : History) (m : ℕ) → Pending S.Disk.seen h m (deal_of event) site.old
-        → IsAtRest S.Disk.seen h state.old site.old → IsNew event h
-        → Turns S.Disk.seen h (deal_of event ∷ []) state.new site.new }
-    ensures stands { StandsForSome S.Disk.seen state.new.origin site.new }
-    ensures link { TakesNone (S.Disk.seen.view site.old) (S.Disk.seen.view site.new) }
+    ensures handles { Handles S.Disk.seen event state.old state.new site.old site.new }
     ensures ended { result ≡ Turn.Ended ↔ event ≡ Event.Ended }
     ensures still { event ≡ Event.Ended → site.new ≡ site.old }
     ensures no_fault { result ≢ Turn.LinkFault }

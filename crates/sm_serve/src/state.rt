@@ -1,24 +1,20 @@
 //! What the loop keeps.
-ghost use Rattle.std.specs.Prelude.{◌≡◌, ◌↔◌, ◌<◌, ◌≤◌, ◌^◌, ℕ, List, None, IfOk, IfSome, IsSome, IsErrOf, is_some};
+ghost use Rattle.std.specs.Prelude.{◌≡◌, ◌↔◌, ◌<◌, ◌≤◌, ◌^◌, ℕ, None, IfOk, IsSome, is_some};
 ghost use Rattle.sm_model.specs.Channels.{IsChannel};
-ghost use Rattle.sm_model.specs.declared.entry.Entry.{Entry};
 ghost use Rattle.sm_model.specs.declared.fragment.Fragment.{Fragment};
 ghost use Rattle.sm_model.specs.Entries.{address_of};
 ghost use Rattle.sm_model.specs.Fragments.{IsValid};
 ghost use Rattle.sm_log.specs.Adds.{place_of};
 ghost use Rattle.sm_log.specs.Logs.{adds_of};
-ghost use Rattle.sm_site.specs.Clauses.{Rose, NoMore, Throughout};
+ghost use Rattle.sm_site.specs.Clauses.{Rose};
 ghost use Rattle.sm_site.specs.Meanings.{DiskAlone};
-ghost use Rattle.sm_archive.specs.declared.opened.OpenFault.TheVariants as open_fault;
 ghost use Rattle.sm_archive.specs.declared.answers.Declared.TheVariants as answer;
 ghost use Rattle.sm_archive.specs.declared.fetch.Fetched.TheVariants.{Found, Absent, DiskFault, Damaged};
-ghost use Rattle.sm_archive.specs.Store.{IsStore};
-ghost use Rattle.sm_archive.specs.Opening.{NotAStore};
 ghost use Rattle.sm_origin.specs.Machine.{Machine};
 ghost use Rattle.sm_origin.specs.Acting.{IsHeld};
-ghost use Rattle.sm_origin.specs.Opening.{HasOneStore, WritesEmptyAlone};
+ghost use Rattle.sm_origin.specs.Opening.{Opens};
+ghost use Rattle.sm_serve.specs.declared.state.State.{State};
 ghost use Rattle.sm_serve.specs.Standing.{History, StandsOn, StandsForSome};
-ghost use Rattle.sm_archive.specs.Seen.{limits_of};
 ghost use Rattle.sm_origin.specs.Seen.{archive_of};
 
 use crate::Live;
@@ -44,26 +40,9 @@ impl State {
     pub fn start<S: Site>(alloc: Global, site: &mut S, limits: Limits) -> Result<State, OpenFault>
         requires bytes { limits.store_bytes ≤ 2 ^ 62 }
         requires entries { limits.entries < 2 ^ 32 }
-        // The origin stands for some log without a doubt, which is the store's where the disk tells its contents.
-        ensures opened { IfOk result (λ state. (m : Machine) × (m.doubt ≡ None) × StandsOn S.Disk.seen m state.origin site.new) }
-        ensures store { IfOk result (λ state. IfSome (S.Disk.seen.view site.old).contents (λ c. (m : Machine) × IsStore m.log c × (m.doubt ≡ None)
-            × StandsOn S.Disk.seen m state.origin site.new)) }
-        ensures limits { IfOk result (λ state. limits_of (archive_of state.origin) ≡ limits) }
+        ensures opens { Opens S.Disk.seen (λ (state : State). state.origin) site.old site.new limits result }
         // A run begins here.
         ensures begins { IfOk result (λ state. Begins S.Disk.seen state site.new) }
-        ensures refused { (at : ℕ) → IsErrOf result (open_fault.NotAStore at) → IfSome (S.Disk.seen.view site.old).contents (NotAStore at) }
-        // A store that is refused isn't written: the contents stay, and at no moment a crash leaves what it couldn't leave before.
-        ensures untouched { (at : ℕ) → IsErrOf result (open_fault.NotAStore at) → ((S.Disk.seen.view site.new).contents ≡ (S.Disk.seen.view site.old).contents)
-            × NoMore (S.Disk.seen.may_leave site.old) (S.Disk.seen.may_leave site.new)
-            × Throughout S.Disk.seen site.old site.new (λ t c. S.Disk.seen.may_leave site.old c) }
-        // Only the store of an empty log is written, whatever the answer.
-        ensures spared { WritesEmptyAlone S.Disk.seen site.old site.new }
-        // Where every image is one store, it stays that at each moment.
-        ensures any_moment { (log : List Entry) → HasOneStore log (S.Disk.seen.may_leave site.old)
-            → Throughout S.Disk.seen site.old site.new (λ t c. IsStore log c) }
-        ensures stays { (log : List Entry) → HasOneStore log (S.Disk.seen.may_leave site.old) → HasOneStore log (S.Disk.seen.may_leave site.new) }
-        ensures fault { IsErrOf result open_fault.DiskFault → Rose (S.Disk.seen.view site.old).disk_faults (S.Disk.seen.view site.new).disk_faults }
-        ensures disk_alone { DiskAlone (S.Disk.seen.view site.old) (S.Disk.seen.view site.new) }
     {
         an_image_fits::<S>();
         let origin = Origin::open_origin(alloc, site, limits)?;

@@ -51,14 +51,6 @@ fn trim(blocks: &mut VecDeque<Arc<Fragment>>, bytes: u64) -> u64
     left
 }
 
-fn is_at(fragment: &Fragment, address: &Address) -> bool
-    ensures { IsTrue result ↔ (address_of fragment.now ≡ address.now) }
-{
-    fragment.time == address.time
-        && fragment.bitrate == address.bitrate
-        && fragment.stream.as_bytes() == address.stream.as_bytes()
-}
-
 impl Window {
     /// No fragment.
     pub fn new(alloc: Global) -> Window
@@ -91,7 +83,7 @@ impl Window {
         requires { index < length self.now }
         ensures { IsTrue result ↔ ((f : Fragment) × (slice_get self.now index ≡ Some f) × (address_of f ≡ address.now)) }
     {
-        is_at(self.block(index), address)
+        self.block(index).is_at(address)
     }
 
     /// Puts a fragment behind the others, and drops the first ones which then do not fit. The block gets one owner more.

@@ -1,18 +1,23 @@
 -- A run that goes on by reading back.
-use Rattle.std.proofs.Common.{◌≡◌, List, [], Option, IsSome, is_some, refl, sym, ◌∙◌, ap, subst, append-nil}
+use Rattle.std.proofs.Common.{◌≡◌, ◌≢◌, List, [], Option, IsSome, is_some, refl, sym, ◌∙◌, ap, subst, append-nil, Err}
 use Rattle.sm_site.specs.Meanings.{Deal, Seen}
 use Rattle.sm_site.proofs.Moments.{alone_here, alone_then}
 use Rattle.sm_model.specs.declared.address.Address.{Address}
 use Rattle.sm_archive.specs.declared.fetch.Fetched.{Fetched}
+use Rattle.sm_archive.proofs.Keepings.{rose_later}
 use Rattle.sm_serve.specs.declared.state.State.{State}
 use Rattle.sm_serve.specs.Connections.{deals_in}
-use Rattle.sm_serve.specs.Standing.{History}
+use Rattle.sm_serve.specs.Standing.{History, StandsForSome}
 use Rattle.sm_serve.specs.Serving.{Serves, Since, TurnsBy, RecallsIn}
 use Rattle.sm_serve.proofs.Lasting.{on_itself, on_then}
 use Rattle.sm_serve.proofs.Events.{same_script}
 use Rattle.sm_model.specs.declared.entry.Entry.{Entry}
 use Rattle.sm_shelf.specs.Shelf.{Desk, Belongs}
-use Rattle.sm_show.specs.Recalling.{Rests, Recalls}
+use Rattle.sm_show.specs.declared.outcome.Lack.{Lack}
+use Rattle.sm_show.specs.declared.outcome.Lack.TheVariants as lack
+use Rattle.sm_show.specs.declared.outcome.Up.{Up}
+use Rattle.sm_show.specs.declared.outcome.Up.TheVariants.{Behind}
+use Rattle.sm_show.specs.Recalling.{BringsUp, ReadsBack, Rests, Recalls}
 
 pub since_itself : (h : History) → Since h h
 since_itself h = record { first = refl; begin = refl; base = refl; found = refl; on = on_itself h }
@@ -43,8 +48,9 @@ module _ {D : Type 0} (site : Seen D) where
     log = λ has. two.log has ∙ one.log (sym told ∙ has);
   }
 
-  pub recalls_here : (state : State) (d : D) → Recalls site state d d
-  recalls_here state d = record {
+  pub recalls_here : (state : State) (d : D) → StandsForSome site state.origin d → Recalls site state d d
+  recalls_here state d stands = record {
+    stands = stands;
     rests = λ h serves. rests_here h state d serves;
     told = refl;
     disk_alone = alone_here (site.view d);
@@ -52,6 +58,7 @@ module _ {D : Type 0} (site : Seen D) where
 
   pub recalls_then : (state : State) (d e f : D) → Recalls site state d e → Recalls site state e f → Recalls site state d f
   recalls_then state d e f one two = record {
+    stands = two.stands;
     rests = λ h serves.
         let mid = one.rests h serves in
         rests_then h state e f two.told mid (two.rests mid.later mid.serves);
@@ -83,3 +90,31 @@ module _ {D : Type 0} (site : Seen D) where
       let has = recalls.told ∙ told in
       let same = rests.log has in
       subst (λ (l : List Entry). Belongs l c) same (two rests.later rests.serves has (subst (λ (l : List Entry). Belongs l b) (sym same) (one h serves told belongs)))
+
+  -- what is read back next isn't there
+  pub back_without : {T U : Type 0} (state : State) (d e f : D) (why : Lack) → Recalls site state d e → ReadsBack {T = T} site state e f (Err why)
+      → ReadsBack {T = U} site state d f (Err why)
+  back_without state d e f why one two = record {
+    recalls = recalls_then state d e f one two.recalls;
+    fault = λ is told.
+        let same : why ≡ lack.Disk = cc in
+        rose_later (site.view d).disk_faults (site.view e).disk_faults (site.view f).disk_faults one.disk_alone.no_fewer
+        (two.fault (ap (λ (w : Lack). Err w) same) (one.told ∙ told));
+  }
+
+  -- nothing is brought there
+  pub brings_here : (state : State) (d : D) (desk : Desk) (up : Up) → up ≢ Behind → StandsForSome site state.origin d → BringsUp site state d d desk desk up
+  brings_here state d desk up not_behind stands = record {
+    recalls = recalls_here state d stands;
+    belongs = λ h serves told belongs. belongs;
+    behind = λ is. absurd (not_behind is);
+  }
+
+  pub brings_then : (state : State) (d e f : D) (a b c : Desk) (was up : Up) → BringsUp site state d e a b was → BringsUp site state e f b c up
+      → BringsUp site state d f a c up
+  brings_then state d e f a b c was up one two = record {
+    recalls = recalls_then state d e f one.recalls two.recalls;
+    belongs = belongs_then state d e a b c one.recalls one.belongs two.belongs;
+    behind = λ is told. rose_later (site.view d).disk_faults (site.view e).disk_faults (site.view f).disk_faults one.recalls.disk_alone.no_fewer
+        (two.behind is (one.recalls.told ∙ told));
+  }

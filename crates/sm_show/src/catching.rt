@@ -5,12 +5,11 @@ ghost use Rattle.sm_model.specs.declared.entry.Entry.TheVariants.{Keep};
 ghost use Rattle.sm_model.specs.Fragments.{IsValid};
 ghost use Rattle.sm_log.specs.Logs.{IsSound};
 ghost use Rattle.sm_log.specs.Digests.{digest_of};
-ghost use Rattle.sm_site.specs.Clauses.{Rose};
 ghost use Rattle.sm_serve.specs.Standing.{History, StandsForSome};
 ghost use Rattle.sm_serve.specs.Serving.{Serves};
 ghost use Rattle.sm_shelf.specs.Shelf.{Belongs, height_of};
 ghost use Rattle.sm_show.specs.declared.outcome.Up.TheVariants.{Whole, Behind};
-ghost use Rattle.sm_show.specs.Recalling.{Recalls, Shows};
+ghost use Rattle.sm_show.specs.Recalling.{BringsUp, Lists, Shows};
 ghost use Rattle.sm_origin.specs.Seen.{archive_of};
 
 use crate::outcome::{Up, up_of};
@@ -52,14 +51,9 @@ fn begin<R: Wait, S: Site>(
     catalog: &Catalog,
     writer: &mut ShelfWriter,
 ) -> Up
-    requires stands { StandsForSome S.Disk.seen state.now.origin site.old }
-    requires of { Shows (archive_of state.now.origin) (Some catalog.now) }
-    ensures stands { StandsForSome S.Disk.seen state.now.origin site.new }
-    ensures recalls { Recalls S.Disk.seen state.now site.old site.new }
-    ensures belongs { (h : History) → Serves S.Disk.seen h state.now site.old → IsSome (S.Disk.seen.view site.old).contents
-        → Belongs h.point.machine.log writer.old → Belongs h.point.machine.log writer.new }
+    requires { Lists S.Disk.seen state.now.origin catalog.now site.old }
+    ensures brings { BringsUp S.Disk.seen state.now site.old site.new writer.old writer.new result }
     ensures short { result ≢ Whole → writer.new.published ≡ writer.old.published }
-    ensures behind { result ≡ Behind → IsSome (S.Disk.seen.view site.old).contents → Rose (S.Disk.seen.view site.old).disk_faults (S.Disk.seen.view site.new).disk_faults }
 {
     catalogs_of_logs_fit();
     let window = match read_back(site, state, catalog) {
@@ -75,12 +69,8 @@ fn begin<R: Wait, S: Site>(
 // Brings the shelf up by one fragment, or to the whole log where it has nothing. `Whole` says that this was done.
 fn step<R: Wait, S: Site>(rt: &R, site: &mut S, state: &State, writer: &mut ShelfWriter) -> Up
     requires stands { StandsForSome S.Disk.seen state.now.origin site.old }
-    ensures stands { StandsForSome S.Disk.seen state.now.origin site.new }
-    ensures recalls { Recalls S.Disk.seen state.now site.old site.new }
-    ensures belongs { (h : History) → Serves S.Disk.seen h state.now site.old → IsSome (S.Disk.seen.view site.old).contents
-        → Belongs h.point.machine.log writer.old → Belongs h.point.machine.log writer.new }
+    ensures brings { BringsUp S.Disk.seen state.now site.old site.new writer.old writer.new result }
     ensures short { result ≢ Whole → writer.new.published ≡ writer.old.published }
-    ensures behind { result ≡ Behind → IsSome (S.Disk.seen.view site.old).contents → Rose (S.Disk.seen.view site.old).disk_faults (S.Disk.seen.view site.new).disk_faults }
 {
     catalogs_of_logs_fit();
     let Some(catalog) = catalog_of(state) else {
@@ -104,14 +94,10 @@ pub fn catch_up<R: Wait, S: Site>(
     state: &State,
     writer: &mut ShelfWriter,
 ) -> Up
-    requires stands { StandsForSome S.Disk.seen state.now.origin site.old }
-    ensures stands { StandsForSome S.Disk.seen state.now.origin site.new }
-    ensures recalls { Recalls S.Disk.seen state.now site.old site.new }
-    ensures belongs { (h : History) → Serves S.Disk.seen h state.now site.old → IsSome (S.Disk.seen.view site.old).contents
-        → Belongs h.point.machine.log writer.old → Belongs h.point.machine.log writer.new }
+    requires { StandsForSome S.Disk.seen state.now.origin site.old }
+    ensures brings { BringsUp S.Disk.seen state.now site.old site.new writer.old writer.new result }
     ensures whole { (h : History) → Serves S.Disk.seen h state.now site.old → IsSome (S.Disk.seen.view site.old).contents
         → Belongs h.point.machine.log writer.old → (result ≡ Whole) ↔ (writer.new.published ≡ digest_of h.point.machine.log) }
-    ensures behind { result ≡ Behind → IsSome (S.Disk.seen.view site.old).contents → Rose (S.Disk.seen.view site.old).disk_faults (S.Disk.seen.view site.new).disk_faults }
 {
     heights_tell();
     let len = state.archive().len();

@@ -1,17 +1,9 @@
 //! Reading back what the shelf lacks.
-ghost use Rattle.std.specs.Prelude.{◌≡◌, ◌≤◌, ◌<◌, ◌+◌, ◌++◌, ◌∷◌, ◌⊎◌, [], ℕ, true, false, List, All, Some, IfOk, IfSome, IsSome, IsErrOf, OnOk, OnErr, drop, length, map, slice_get};
+ghost use Rattle.std.specs.Prelude.{◌≡◌, ◌≤◌, ◌<◌, ◌++◌, ◌∷◌, ◌⊎◌, [], true, false, Some, IfOk, IfSome, slice_get};
 ghost use Rattle.sm_model.specs.declared.fragment.Fragment.{Fragment};
-ghost use Rattle.sm_model.specs.Entries.{address_of};
-ghost use Rattle.sm_model.specs.Fragments.{IsValid, sample_bytes};
+ghost use Rattle.sm_model.specs.Fragments.{sample_bytes};
 ghost use Rattle.sm_log.specs.Adds.{Add};
-ghost use Rattle.sm_log.specs.Digests.{bytes_of, keeps_of};
-ghost use Rattle.sm_site.specs.Clauses.{Rose};
-ghost use Rattle.sm_serve.specs.Standing.{History, StandsForSome};
-ghost use Rattle.sm_serve.specs.Serving.{Serves};
-ghost use Rattle.sm_shelf.specs.Parts.{addresses_in};
-ghost use Rattle.sm_show.specs.declared.outcome.Lack.TheVariants as lack;
-ghost use Rattle.sm_show.specs.Recalling.{Recalls, Reads, Shows, IsEndOf};
-ghost use Rattle.sm_origin.specs.Seen.{archive_of};
+ghost use Rattle.sm_show.specs.Recalling.{Lists, Reads, ReadsBack, IsEndOf};
 
 use crate::outcome::{Lack, fragment_in};
 use sm_catalog::Catalog;
@@ -48,13 +40,10 @@ fn recall<S: Site>(
     index: u64,
     address: &Address,
 ) -> Result<Fragment, Lack>
-    requires stands { StandsForSome S.Disk.seen state.now.origin site.old }
-    requires of { Shows (archive_of state.now.origin) (Some catalog.now) }
+    requires lists { Lists S.Disk.seen state.now.origin catalog.now site.old }
     requires at { (x : Add) × (slice_get catalog.now.adds index ≡ Some x) × (address.now ≡ x.address) }
-    ensures stands { StandsForSome S.Disk.seen state.now.origin site.new }
-    ensures recalls { Recalls S.Disk.seen state.now site.old site.new }
+    ensures back { ReadsBack S.Disk.seen state.now site.old site.new result }
     ensures reads { IfOk result (Reads S.Disk.seen state.now catalog.now.adds index site.old) }
-    ensures fault { IsErrOf result lack.Disk → IsSome (S.Disk.seen.view site.old).contents → Rose (S.Disk.seen.view site.old).disk_faults (S.Disk.seen.view site.new).disk_faults }
 {
     catalogs_of_logs_fit();
     let fetched = state.recall(site, address);
@@ -68,12 +57,9 @@ pub fn fetch<S: Site>(
     catalog: &Catalog,
     index: u64,
 ) -> Result<Fragment, Lack>
-    requires stands { StandsForSome S.Disk.seen state.now.origin site.old }
-    requires of { Shows (archive_of state.now.origin) (Some catalog.now) }
-    ensures stands { StandsForSome S.Disk.seen state.now.origin site.new }
-    ensures recalls { Recalls S.Disk.seen state.now site.old site.new }
+    requires { Lists S.Disk.seen state.now.origin catalog.now site.old }
+    ensures back { ReadsBack S.Disk.seen state.now site.old site.new result }
     ensures reads { IfOk result (Reads S.Disk.seen state.now catalog.now.adds index site.old) }
-    ensures fault { IsErrOf result lack.Disk → IsSome (S.Disk.seen.view site.old).contents → Rose (S.Disk.seen.view site.old).disk_faults (S.Disk.seen.view site.new).disk_faults }
 {
     match address_at(state.alloc, catalog, index) {
         Ok(Some(address)) => recall(site, state, catalog, index, &address),
@@ -89,13 +75,10 @@ fn read_next<S: Site>(
     index: u64,
     read: &mut Vec<Fragment>,
 ) -> Result<u64, Lack>
-    requires stands { StandsForSome S.Disk.seen state.now.origin site.old }
-    requires of { Shows (archive_of state.now.origin) (Some catalog.now) }
-    ensures stands { StandsForSome S.Disk.seen state.now.origin site.new }
-    ensures recalls { Recalls S.Disk.seen state.now site.old site.new }
+    requires { Lists S.Disk.seen state.now.origin catalog.now site.old }
+    ensures back { ReadsBack S.Disk.seen state.now site.old site.new result }
     ensures read { IfOk result (λ n. (f : Fragment) × (read.new.items ≡ read.old.items ++ f ∷ []) × (n ≡ sample_bytes f.samples)
         × Reads S.Disk.seen state.now catalog.now.adds index site.old f) }
-    ensures fault { IsErrOf result lack.Disk → IsSome (S.Disk.seen.view site.old).contents → Rose (S.Disk.seen.view site.old).disk_faults (S.Disk.seen.view site.new).disk_faults }
 {
     match fetch(site, state, catalog, index) {
         Ok(fragment) => {
@@ -123,12 +106,9 @@ pub fn read_back<S: Site>(
     state: &State,
     catalog: &Catalog,
 ) -> Result<Vec<Fragment>, Lack>
-    requires stands { StandsForSome S.Disk.seen state.now.origin site.old }
-    requires of { Shows (archive_of state.now.origin) (Some catalog.now) }
-    ensures stands { StandsForSome S.Disk.seen state.now.origin site.new }
-    ensures recalls { Recalls S.Disk.seen state.now site.old site.new }
+    requires { Lists S.Disk.seen state.now.origin catalog.now site.old }
+    ensures back { ReadsBack S.Disk.seen state.now site.old site.new result }
     ensures last { IfOk result (λ v. IsEndOf S.Disk.seen state.now catalog.now.adds site.old v.items) }
-    ensures fault { IsErrOf result lack.Disk → IsSome (S.Disk.seen.view site.old).contents → Rose (S.Disk.seen.view site.old).disk_faults (S.Disk.seen.view site.new).disk_faults }
 {
     catalogs_of_logs_fit();
     let mut read = Vec::new(state.alloc);

@@ -9,6 +9,7 @@ mod Crashes
 mod Filled
 mod Given
 mod Kept
+mod Noted
 mod Opens
 mod Ordered
 mod Outcomes

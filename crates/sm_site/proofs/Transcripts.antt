@@ -1,5 +1,5 @@
 -- One entry more in a transcript.
-use Rattle.std.proofs.Common.{◌≡◌, ◌+◌, ◌<◌, ◌≤◌, ℕ, Bool, List, [], ◌∷◌, ◌++◌, Option, Some, None, IfSome, IsTrue, refl, sym, subst, false}
+use Rattle.std.proofs.Common.{◌≡◌, ◌<◌, ◌≤◌, ℕ, Bool, List, [], ◌∷◌, ◌++◌, Option, Some, None, IfSome, IsTrue, refl, sym, subst, false}
 use Rattle.sm_site.specs.Meanings.{View, Item, Deal, open_after, open_from, IsLive}
 use Rattle.sm_site.specs.Clauses.{Both, Adds}
 

@@ -1,5 +1,5 @@
 -- A write that is put down.
-use Rattle.std.proofs.Common.{◌≡◌, ◌⊎◌, inl, inr, ℕ, ◌≤◌, Bool, true, false, List, [], ◌∷◌, ◌++◌, ◌+◌, length, refl, sym, ◌∙◌, ap, subst, Vec, arith}
+use Rattle.std.proofs.Common.{◌≡◌, ◌⊎◌, inl, inr, ℕ, ◌≤◌, Bool, true, false, List, [], ◌∷◌, ◌++◌, ◌+◌, length, refl, sym, ◌∙◌, ap, subst, Vec, arith, Result, is_err, OnOk}
 use Rattle.std.proofs.lemmas.Bool.{cases_eq}
 use Rattle.std.proofs.lemmas.List.{length_push}
 use Rattle.sm_site.specs.Meanings.Deed.{Wrote as WroteDeed}
@@ -7,8 +7,9 @@ use Rattle.std.specs.declared.alloc.Global.{Global}
 use Rattle.sm_site.specs.declared.step.Step.{Step}
 use Rattle.sm_site.specs.declared.step.Step.TheVariants.{Wrote}
 use Rattle.sm_site.specs.Image.{Image, bytes_of, written, SameElsewhere, TearsAt, WritesAt}
-use Rattle.sm_site.specs.Past.{State, Agrees, after, after_step, IsOutcome, calls_from}
-use Rattle.sm_site.proofs.Steps.{after_push, calls_push}
+use Rattle.sm_site.specs.Past.{State, Agrees, after_step, IsOutcome, calls_from}
+use Rattle.sm_site.proofs.Told.{when_ok}
+use Rattle.sm_site.proofs.Steps.{calls_push}
 use Rattle.sm_site.proofs.Outcomes.{bytes_insert_same, bytes_insert_other, agrees_write, follows_write, torn_now}
 
 module _ (s : State) (file at : ℕ) (own : Vec ℕ Global) (failed : Bool) where
@@ -49,13 +50,14 @@ module _ (s : State) (file at : ℕ) (own : Vec ℕ Global) (failed : Bool) wher
       here false wrote kept = kept refl ∙ was file
 
 -- a write was put down
-abbrev pub Put : List Step → List Step → ℕ → ℕ → List ℕ → Bool → Bool → Type 0
-Put past later file at bytes failed reached = (own : Vec ℕ Global) × (own.items ≡ bytes) × (later ≡ past ++ Wrote file at own failed reached ∷ [])
+pub record Put (past later : List Step) (file at : ℕ) (bytes : List ℕ) (failed reached : Bool) : Type 0 where
+  pub own : Vec ℕ Global
+  pub copied : own.items ≡ bytes
+  pub behind : later ≡ past ++ Wrote file at own failed reached ∷ []
 
-pub put_state : (first : State) (past later : List Step) (file at : ℕ) (bytes : List ℕ) (failed reached : Bool) (put : Put past later file at bytes failed reached)
-    → after first later ≡ after_step (after first past) (Wrote file at put.0 failed reached)
-put_state first past later file at bytes failed reached put =
-    ap (λ (l : List Step). after first l) put.2 ∙ after_push first past (Wrote file at put.0 failed reached)
+pub put_down : {T E : Type 0} {past later : List Step} {file at : ℕ} {bytes : List ℕ} {failed reached : Bool} (r : Result T E) → is_err r ≡ false
+    → OnOk r ((own : Vec ℕ Global) × (own.items ≡ bytes) × (later ≡ past ++ Wrote file at own failed reached ∷ [])) → Put past later file at bytes failed reached
+put_down r fine told = let p = when_ok r fine told in record { own = p.0; copied = p.1; behind = p.2 }
 
 -- nothing was put down
 pub cached_same : (file : ℕ) (x y z : Image) → ((k : ℕ) → bytes_of x k ≡ bytes_of z k) → SameElsewhere file x y → bytes_of y file ≡ bytes_of x file → (k : ℕ) → bytes_of y k ≡ bytes_of z k

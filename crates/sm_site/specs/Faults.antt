@@ -1,5 +1,6 @@
 -- Which calls of a site in memory fail.
-use Rattle.std.specs.Prelude.{ℕ, suc, zero, ◌+◌, ◌-◌, ◌^◌, ◌==◌, min, Bool, true, false, ◌||◌, List, Option, None, Some}
+use Rattle.std.specs.Prelude.{ℕ, suc, zero, ◌+◌, ◌-◌, ◌^◌, ◌==◌, min, Bool, true, false, ◌||◌, ◌≡◌, ◌⊎◌, List, Option, None, Some}
+use Rattle.std.specs.Prelude.{Result, IsErr, OnErr, IsTrue}
 use Rattle.std.specs.List.{list_any}
 
 -- The numbers, from 1, of the disk calls and of the link calls that are to fail, and how many there were; whether a failed write reaches
@@ -50,3 +51,10 @@ after_write f starved = record f { disk_calls = one_more f.disk_calls; stop = on
 
 abbrev pub after_link : Faults → Bool → Faults
 after_link f starved = record f { link_calls = one_more f.link_calls; starved = starved }
+
+-- A call is counted, and memory that has run out stays so. It fails where it is to fail, and otherwise where memory has run out alone.
+pub record FailsAs {T E : Type 0} (is_due : Faults → Bool) (after : Faults → Bool → Faults) (old new : Faults) (result : Result T E) : Type 0 where
+  pub counted : new ≡ after old new.starved
+  pub listed : IsTrue (is_due old) → IsErr result
+  pub fails : OnErr result (IsTrue (is_due old) ⊎ IsTrue new.starved)
+  pub starved : IsTrue old.starved → IsTrue new.starved

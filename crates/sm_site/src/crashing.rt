@@ -1,11 +1,11 @@
 //! A site that crashes where it is told to.
-ghost use Rattle.std.specs.Prelude.{◌≡◌, ◌↔◌, ◌++◌, ◌∷◌, [], ℕ, Bool, List, Option, None, Some, IfOk, IfSome, IsSome, IsTrue, OnOk, OnErr, is_some};
+ghost use Rattle.std.specs.Prelude.{◌≡◌, ◌++◌, ◌∷◌, [], ℕ, Bool, List, Option, None, Some, IfOk, IfSome, IsSome, IsTrue, OnOk, OnErr, is_some};
 ghost use Rattle.sm_site.specs.Image.{Image, bytes_of};
 ghost use Rattle.sm_site.specs.Meanings.{Item, sent_on};
-ghost use Rattle.sm_site.specs.Clauses.{Both, SameOutcomes, Settled, Kept};
+ghost use Rattle.sm_site.specs.Clauses.{Both, Settled, Kept};
 ghost use Rattle.sm_site.specs.Scripts.{is_script, deals_of, numbers_after};
 ghost use Rattle.sm_site.specs.NextNumber.{IsNumber};
-ghost use Rattle.sm_site.specs.Sites.{SameBut, SameCounts, Tells};
+ghost use Rattle.sm_site.specs.Sites.{SameBut, SameCounts, Tells, Undisturbed};
 
 use crate::{Piece, Script, Site};
 use std::alloc::AllocError;
@@ -36,13 +36,8 @@ pub trait Crashing: Site {
         ensures added { OnOk result (Both (Self.Disk.seen.view self.old).script (Self.Disk.seen.view self.new).script (λ old new. new ≡ old ++ deals_of events)) }
         ensures refused { OnErr result ((Self.Disk.seen.view self.new).script ≡ (Self.Disk.seen.view self.old).script) }
         ensures view { SameBut (Self.Disk.seen.view self.old) (Self.Disk.seen.view self.new) }
-        ensures crash { SameOutcomes (Self.Disk.seen.may_leave self.old) (Self.Disk.seen.may_leave self.new) }
-        ensures past { (t : ℕ) (c : Image) → Self.Disk.seen.left_at self.new t c ↔ Self.Disk.seen.left_at self.old t c }
-        ensures numbers { Self.Link.numbers self.new ≡ Self.Link.numbers self.old }
-        ensures openings { openings self.new ≡ openings self.old }
-        ensures starved { is_starved self.new ≡ is_starved self.old }
-        ensures stop { stop self.new ≡ stop self.old }
-        ensures choices { left_by self.new ≡ left_by self.old };
+        ensures keeps { Undisturbed Self.Disk.seen Self.Link.numbers openings is_starved left_by self.old self.new }
+        ensures stop { stop self.new ≡ stop self.old };
 
     /// The bytes that went out on a connection since the last crash.
     fn sent(&self, conn: u64) -> Result<Piece, AllocError>
@@ -51,13 +46,8 @@ pub trait Crashing: Site {
     /// Lets so many further writes and syncs pass. All behind them fail, up to the next crash.
     fn stop_after(&mut self, calls: u64)
         ensures view { Self.Disk.seen.view self.new ≡ Self.Disk.seen.view self.old }
-        ensures crash { SameOutcomes (Self.Disk.seen.may_leave self.old) (Self.Disk.seen.may_leave self.new) }
-        ensures past { (t : ℕ) (c : Image) → Self.Disk.seen.left_at self.new t c ↔ Self.Disk.seen.left_at self.old t c }
-        ensures numbers { Self.Link.numbers self.new ≡ Self.Link.numbers self.old }
-        ensures openings { openings self.new ≡ openings self.old }
-        ensures starved { is_starved self.new ≡ is_starved self.old }
-        ensures stop { stop self.new ≡ Some calls }
-        ensures choices { left_by self.new ≡ left_by self.old };
+        ensures keeps { Undisturbed Self.Disk.seen Self.Link.numbers openings is_starved left_by self.old self.new }
+        ensures stop { stop self.new ≡ Some calls };
 
     /// Crashes in place, without memory. What it keeps is one of the images that a crash may leave, chosen by the number; then
     /// nothing is pending, nothing stops, the script is empty, and the transcript begins anew, the old one being put to the others. It

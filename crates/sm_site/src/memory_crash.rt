@@ -1,14 +1,14 @@
 //! How a site in memory is selected, how it goes on, and how it crashes.
-ghost use Rattle.std.specs.Prelude.{◌≡◌, ◌↔◌, ◌≤◌, ◌++◌, ◌∷◌, [], ℕ, List, IfOk, IfSome, IsErrOf, IsOk, IsTrue, OnOk, OnErr, None, Some, refl, false, is_some};
+ghost use Rattle.std.specs.Prelude.{◌≡◌, ◌≤◌, ◌++◌, ◌∷◌, [], ℕ, List, IfOk, IfSome, IsErrOf, IsOk, IsTrue, OnOk, OnErr, None, Some, refl, false, is_some};
 ghost use Rattle.std.specs.Prelude.{length, take};
-ghost use Rattle.sm_site.specs.Image.{Image, bytes_of};
+ghost use Rattle.sm_site.specs.Image.{bytes_of};
 ghost use Rattle.sm_site.specs.Meanings.{sent_on};
 ghost use Rattle.sm_site.specs.Clauses.{Both, Passes, Kept, Rose, SameOutcomes, Settled};
 ghost use Rattle.sm_site.specs.Past.{begins, is_open, is_ordered, items_from};
 ghost use Rattle.sm_site.specs.Scripts.{deals_of, is_script, numbers_after};
-ghost use Rattle.sm_site.specs.Sites.{SameBut, SameCounts};
+ghost use Rattle.sm_site.specs.Sites.{SameBut, SameCounts, Undisturbed};
 ghost use Rattle.sm_site.specs.Sending.{sent_after};
-ghost use Rattle.sm_site.specs.Memory.{coming, faults_of, site_left_at, site_left_by, site_may_leave, site_numbers, site_openings, site_seen, site_view};
+ghost use Rattle.sm_site.specs.Memory.{coming, faults_of, site_left_by, site_may_leave, site_numbers, site_openings, site_seen, site_view};
 
 use crate::next_number::{above_past, above_script};
 use crate::note::has_begun;
@@ -16,7 +16,7 @@ use crate::pending::crash_files;
 use crate::{Crashing, Event, MemorySite, Piece, Script, Selection, Site, SiteError, Step};
 use std::alloc::AllocError;
 
-/// Puts events behind a script, all of them or none.
+// Puts events behind a script, all of them or none.
 fn add_events(script: &mut Vec<Event>, events: Vec<Event>) -> Result<(), AllocError>
     ensures added { OnOk result (script.new.items ≡ script.old.items ++ events.items) }
     ensures refused { OnErr result (script.new.items ≡ script.old.items) }
@@ -26,7 +26,7 @@ fn add_events(script: &mut Vec<Event>, events: Vec<Event>) -> Result<(), AllocEr
     Ok(())
 }
 
-/// What a step adds to the bytes that went out on a connection.
+// What a step adds to the bytes that went out on a connection.
 fn add_sent(bytes: &mut Vec<u8>, conn: u64, step: &Step) -> Result<(), AllocError>
     ensures { OnOk result (bytes.new.items ≡ sent_after conn bytes.old.items step.now) }
 {
@@ -42,7 +42,7 @@ fn add_sent(bytes: &mut Vec<u8>, conn: u64, step: &Step) -> Result<(), AllocErro
     Ok(())
 }
 
-/// Whether all that went out on a connection since the last crash stands behind this step.
+// Whether all that went out on a connection since the last crash stands behind this step.
 fn begins(step: &Step, conn: u64) -> bool
     ensures { result ≡ begins conn step.now }
 {
@@ -53,7 +53,7 @@ fn begins(step: &Step, conn: u64) -> bool
     }
 }
 
-/// A place before which nothing went out on a connection since the last crash: behind its opening, or behind the crash.
+// A place before which nothing went out on a connection since the last crash: behind its opening, or behind the crash.
 fn begun_at(past: &[Step], conn: u64) -> usize
     requires { IsTrue (is_ordered 0 past.now) }
     ensures within { result ≤ length past.now }
@@ -67,7 +67,7 @@ fn begun_at(past: &[Step], conn: u64) -> usize
 }
 
 impl MemorySite {
-    /// Keeps one image, in place. The record of the next opening begins behind the crash. Behind a crash there is nothing to be done.
+    // Keeps one image, in place. The record of the next opening begins behind the crash. Behind a crash there is nothing to be done.
     pub(crate) fn crash_in_place(&mut self, choice: u8)
         ensures crashed { IsTrue (is_open self.old.past.items) → self.new.past.items ≡ self.old.past.items ++ Step.Crashed choice ∷ [] }
         ensures same { is_open self.old.past.items ≡ false → self.new.past.items ≡ self.old.past.items }
@@ -145,13 +145,8 @@ impl Crashing for MemorySite {
         ensures added { OnOk result (Both (site_view self.old).script (site_view self.new).script (λ old new. new ≡ old ++ deals_of events)) }
         ensures refused { OnErr result ((site_view self.new).script ≡ (site_view self.old).script) }
         ensures view { SameBut (site_view self.old) (site_view self.new) }
-        ensures crash { SameOutcomes (site_may_leave self.old) (site_may_leave self.new) }
-        ensures past { (t : ℕ) (c : Image) → site_left_at self.new t c ↔ site_left_at self.old t c }
-        ensures numbers { site_numbers self.new ≡ site_numbers self.old }
-        ensures openings { site_openings self.new ≡ site_openings self.old }
-        ensures starved { (faults_of self.new).starved ≡ (faults_of self.old).starved }
+        ensures keeps { Undisturbed site_seen site_numbers site_openings (λ m. (faults_of m).starved) site_left_by self.old self.new }
         ensures stop { (faults_of self.new).stop ≡ (faults_of self.old).stop }
-        ensures choices { site_left_by self.new ≡ site_left_by self.old }
         ensures faults { faults_of self.new ≡ faults_of self.old }
     {
         add_events(&mut self.script, events.into_vec())
@@ -168,13 +163,8 @@ impl Crashing for MemorySite {
 
     fn stop_after(&mut self, calls: u64)
         ensures view { (site_view self.new) ≡ (site_view self.old) }
-        ensures crash { SameOutcomes (site_may_leave self.old) (site_may_leave self.new) }
-        ensures past { (t : ℕ) (c : Image) → site_left_at self.new t c ↔ site_left_at self.old t c }
-        ensures numbers { site_numbers self.new ≡ site_numbers self.old }
-        ensures openings { site_openings self.new ≡ site_openings self.old }
-        ensures starved { (faults_of self.new).starved ≡ (faults_of self.old).starved }
+        ensures keeps { Undisturbed site_seen site_numbers site_openings (λ m. (faults_of m).starved) site_left_by self.old self.new }
         ensures stop { (faults_of self.new).stop ≡ Some calls }
-        ensures choices { site_left_by self.new ≡ site_left_by self.old }
         ensures faults { faults_of self.new ≡ record (faults_of self.old) { stop = Some calls } }
     {
         self.stop = Some(calls);

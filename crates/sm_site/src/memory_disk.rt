@@ -1,10 +1,10 @@
 //! The disk of a site in memory.
-ghost use Rattle.std.specs.Prelude.{◌≡◌, ◌⊎◌, ◌+◌, ◌<◌, ◌≤◌, ◌^◌, length, false, refl, IfSome, IfOk, OnOk, OnErr, IsErr, IsTrue};
+ghost use Rattle.std.specs.Prelude.{◌≡◌, ◌+◌, ◌<◌, ◌≤◌, ◌^◌, length, false, refl, IfSome, IfOk, OnOk, OnErr};
 ghost use Rattle.sm_site.specs.Image.{bytes_of, WritesAt, TearsAt};
 ghost use Rattle.sm_site.specs.Meanings.{SameLink};
 ghost use Rattle.sm_site.specs.Meanings.Deed.{Sized, Read, Wrote, Synced};
 ghost use Rattle.sm_site.specs.Clauses.{Both, HasCause, Rose, Passes, Follows, NoMore, Durable, Notes, NotesFault, read};
-ghost use Rattle.sm_site.specs.Faults.{after_disk, after_write, disk_fails, is_listed, is_stopped, one_less, one_more, write_fails};
+ghost use Rattle.sm_site.specs.Faults.{FailsAs, after_disk, after_write, disk_fails, is_listed, is_stopped, one_less, one_more, write_fails};
 ghost use Rattle.sm_site.specs.Memory.{Reaches, faults_of, site_may_leave, site_seen, site_view, state_of};
 ghost use Rattle.sm_site.specs.PastLaws.{contents_pass, at_now, now_at};
 
@@ -13,7 +13,7 @@ use crate::note::{note, note_write};
 use crate::pending::forget;
 use crate::{Disk, Failed, MemorySite, Numbers, Step};
 
-/// Counts a call, and tells whether it is to fail.
+// Counts a call, and tells whether it is to fail.
 pub(crate) fn is_failing(calls: &mut u64, failing: &Numbers) -> bool
     ensures calls { calls.new ≡ one_more calls.old }
     ensures value { result ≡ is_listed (one_more calls.old) failing.now }
@@ -22,7 +22,7 @@ pub(crate) fn is_failing(calls: &mut u64, failing: &Numbers) -> bool
     failing.contains(*calls)
 }
 
-/// Counts a write or a sync towards the stop, and tells whether it is behind it.
+// Counts a write or a sync towards the stop, and tells whether it is behind it.
 fn is_behind(stop: &mut Option<u64>) -> bool
     ensures stop { stop.new ≡ one_less stop.old }
     ensures value { result ≡ is_stopped stop.old }
@@ -64,10 +64,7 @@ impl Disk for MemorySite {
         ensures reads { (site_view self.new).reads ≡ (site_view self.old).reads }
         ensures cause { HasCause (site_view self.old).disk_faults (site_view self.new).disk_faults result }
         ensures link { SameLink (site_view self.old) (site_view self.new) }
-        ensures counted { faults_of self.new ≡ after_disk (faults_of self.old) (faults_of self.new).starved }
-        ensures listed { IsTrue (disk_fails (faults_of self.old)) → IsErr result }
-        ensures fails { OnErr result (IsTrue (disk_fails (faults_of self.old)) ⊎ IsTrue (faults_of self.new).starved) }
-        ensures starved { IsTrue (faults_of self.old).starved → IsTrue (faults_of self.new).starved }
+        ensures faults { FailsAs disk_fails after_disk (faults_of self.old) (faults_of self.new) result }
     {
         let fails = is_failing(&mut self.disk_calls, &self.disk_failing);
         if note(&mut self.past, self.live.len(), Step::Sized(file, fails)).is_err() {
@@ -92,10 +89,7 @@ impl Disk for MemorySite {
         ensures reads { Rose (site_view self.old).reads (site_view self.new).reads }
         ensures cause { HasCause (site_view self.old).disk_faults (site_view self.new).disk_faults result }
         ensures link { SameLink (site_view self.old) (site_view self.new) }
-        ensures counted { faults_of self.new ≡ after_disk (faults_of self.old) (faults_of self.new).starved }
-        ensures listed { IsTrue (disk_fails (faults_of self.old)) → IsErr result }
-        ensures fails { OnErr result (IsTrue (disk_fails (faults_of self.old)) ⊎ IsTrue (faults_of self.new).starved) }
-        ensures starved { IsTrue (faults_of self.old).starved → IsTrue (faults_of self.new).starved }
+        ensures faults { FailsAs disk_fails after_disk (faults_of self.old) (faults_of self.new) result }
     {
         let fails = is_failing(&mut self.disk_calls, &self.disk_failing);
         self.reads = self.reads.saturating_add(1);
@@ -125,10 +119,7 @@ impl Disk for MemorySite {
         ensures reads { (site_view self.new).reads ≡ (site_view self.old).reads }
         ensures cause { HasCause (site_view self.old).disk_faults (site_view self.new).disk_faults result }
         ensures link { SameLink (site_view self.old) (site_view self.new) }
-        ensures counted { faults_of self.new ≡ after_write (faults_of self.old) (faults_of self.new).starved }
-        ensures listed { IsTrue (write_fails (faults_of self.old)) → IsErr result }
-        ensures fails { OnErr result (IsTrue (write_fails (faults_of self.old)) ⊎ IsTrue (faults_of self.new).starved) }
-        ensures starved { IsTrue (faults_of self.old).starved → IsTrue (faults_of self.new).starved }
+        ensures faults { FailsAs write_fails after_write (faults_of self.old) (faults_of self.new) result }
         ensures reached { OnErr result ((faults_of self.new).starved ≡ false
             → Both (site_view self.old).contents (site_view self.new).contents (Reaches (faults_of self.old).reaches file at bytes.now)) }
     {
@@ -169,10 +160,7 @@ impl Disk for MemorySite {
         ensures reads { (site_view self.new).reads ≡ (site_view self.old).reads }
         ensures cause { HasCause (site_view self.old).disk_faults (site_view self.new).disk_faults result }
         ensures link { SameLink (site_view self.old) (site_view self.new) }
-        ensures counted { faults_of self.new ≡ after_write (faults_of self.old) (faults_of self.new).starved }
-        ensures listed { IsTrue (write_fails (faults_of self.old)) → IsErr result }
-        ensures fails { OnErr result (IsTrue (write_fails (faults_of self.old)) ⊎ IsTrue (faults_of self.new).starved) }
-        ensures starved { IsTrue (faults_of self.old).starved → IsTrue (faults_of self.new).starved }
+        ensures faults { FailsAs write_fails after_write (faults_of self.old) (faults_of self.new) result }
     {
         let stopped = is_behind(&mut self.stop);
         let fails = is_failing(&mut self.disk_calls, &self.disk_failing) || stopped;

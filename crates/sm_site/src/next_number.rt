@@ -7,7 +7,7 @@ ghost use Rattle.sm_site.specs.Scripts.{deals_of, number_after, numbers_after};
 
 use crate::{Event, Step};
 
-/// The first number above all so far, once an event gives one.
+// The first number above all so far, once an event gives one.
 fn above(from: Option<u64>, event: &Event) -> Option<u64>
     ensures { (k : ℕ) → IsNumber from k → IsNumber result (number_after k (deal_of event.now)) }
 {
@@ -17,7 +17,7 @@ fn above(from: Option<u64>, event: &Event) -> Option<u64>
     }
 }
 
-/// The number that a step gave.
+// The number that a step gave.
 fn opened_in(step: &Step) -> Option<u64>
     ensures { result ≡ opened_in step.now }
 {
@@ -27,7 +27,7 @@ fn opened_in(step: &Step) -> Option<u64>
     }
 }
 
-/// The first number above all that were given: the last of them is the greatest.
+// The first number above all that were given: the last of them is the greatest.
 pub(crate) fn above_past(past: &[Step]) -> Option<u64>
     requires { IsTrue (is_ordered 0 past.now) }
     ensures { IsNumber result (numbers_of past.now) }
@@ -42,7 +42,7 @@ pub(crate) fn above_past(past: &[Step]) -> Option<u64>
     Some(0)
 }
 
-/// The first number above those that a script still gives too.
+// The first number above those that a script still gives too.
 pub(crate) fn above_script(from: Option<u64>, script: &[Event]) -> Option<u64>
     ensures { (k : ℕ) → IsNumber from k → IsNumber result (numbers_after k (deals_of script.now)) }
 {

@@ -7,7 +7,7 @@ use crate::files::{fill_bytes, undo_bytes};
 use crate::{FileBytes, Pending};
 use std::alloc::{AllocError, Global};
 
-/// Of this file nothing is pending any more.
+// Of this file nothing is pending any more.
 pub(crate) fn forget(pending: &mut Vec<Pending>, file: u32)
     ensures ranges { ranges_from [] pending.new.items ≡ without file (ranges_from [] pending.old.items) }
     ensures own { (bytes : List ℕ) → undone file pending.new.items bytes ≡ bytes }
@@ -23,7 +23,7 @@ pub(crate) fn forget(pending: &mut Vec<Pending>, file: u32)
     }
 }
 
-/// Gives every file its bytes before all that is pending. It takes no memory.
+// Gives every file its bytes before all that is pending. It takes no memory.
 fn undo_all(files: &mut Vec<FileBytes>, pending: &mut Vec<Pending>)
     ensures { (file : ℕ) → bytes_of (image_of files.new.items) file ≡ undone file pending.old.items (bytes_of (image_of files.old.items) file) }
 {
@@ -32,7 +32,7 @@ fn undo_all(files: &mut Vec<FileBytes>, pending: &mut Vec<Pending>)
     }
 }
 
-/// Makes every pending byte this one. It takes no memory.
+// Makes every pending byte this one. It takes no memory.
 fn fill_all(files: &mut Vec<FileBytes>, pending: &mut Vec<Pending>, byte: u8)
     ensures { (file : ℕ) → bytes_of (image_of files.new.items) file ≡ bytes_of (filled byte (image_of files.old.items) (ranges_from [] pending.old.items)) file }
 {
@@ -41,7 +41,7 @@ fn fill_all(files: &mut Vec<FileBytes>, pending: &mut Vec<Pending>, byte: u8)
     }
 }
 
-/// Makes the files those that a crash leaves by this choice. It takes no memory.
+// Makes the files those that a crash leaves by this choice. It takes no memory.
 pub(crate) fn crash_files(files: &mut Vec<FileBytes>, pending: &mut Vec<Pending>, choice: u8)
     ensures old { choice ≡ 0 → (file : ℕ) → bytes_of (image_of files.new.items) file
         ≡ undone file pending.old.items (bytes_of (image_of files.old.items) file) }
@@ -58,7 +58,7 @@ pub(crate) fn crash_files(files: &mut Vec<FileBytes>, pending: &mut Vec<Pending>
     pending.clear();
 }
 
-/// What a write of so many bytes will have put over.
+// What a write of so many bytes will have put over.
 pub(crate) fn pending_at(
     alloc: Global,
     own: &[u8],

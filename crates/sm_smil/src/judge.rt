@@ -1,20 +1,19 @@
 //! The faults of the tracks.
-ghost use Rattle.std.specs.Prelude.{◌≡◌, ◌++◌, [], None, option_map, option_to_list};
+ghost use Rattle.std.specs.Prelude.{◌≡◌, ◌++◌, [], None, option_map};
 ghost use Rattle.std.specs.List.{list_all};
 ghost use Rattle.hex.specs.Hex.{is_hex_digit};
 ghost use Rattle.sm_model.specs.Digits.{is_number};
-ghost use Rattle.sm_smil.specs.LiveTracks.{value_of, is_private, is_timescale, is_fit, stream_name, bitrate_text, number_in, bitrate_of, track_id_of};
-ghost use Rattle.sm_model.specs.Kinds.{kind_name};
-ghost use Rattle.sm_smil.specs.LiveTracks.{ticks_of, timescale_in, timescale_of};
+ghost use Rattle.sm_smil.specs.LiveTracks.{value_of, is_private, is_timescale, is_fit, stream_name, bitrate_text, number_in, bitrate_of};
+ghost use Rattle.sm_smil.specs.LiveTracks.{ticks_of, timescale_of};
 ghost use Rattle.sm_smil.specs.LiveFaults.{is_invalid, misfits, inner_faults, are_equal, do_differ, clash, share_id, collide, lacks_id, lacks_part};
 ghost use Rattle.sm_model.specs.Kinds.{are_one_kind};
 ghost use Rattle.sm_smil.specs.LiveFaults.{collides_with, end_faults, tracks_faults, open_faults, text_faults, faults_of};
-ghost use Rattle.sm_model.specs.Places.{sooner, least_from};
+ghost use Rattle.sm_model.specs.Places.{least_from};
 
 use crate::names::value_of;
 use crate::raw_track::{Form, ParamName, RawTrack, SmilParam};
 use crate::walk::Walk;
-use sm_model::{Bytes, Kind, Name, is_fourcc, number_of};
+use sm_model::{Bytes, Kind, Name, is_fourcc, note, note_option, number_of};
 
 fn is_hex_digit(c: u8) -> bool
     ensures { result ≡ is_hex_digit c }
@@ -64,24 +63,6 @@ pub fn is_fit(name: ParamName, value: &[u8]) -> bool
         ParamName::FourCc => is_fourcc(value),
         ParamName::CodecPrivateData => is_private(value),
         _ => is_number(value),
-    }
-}
-
-// Keeps the least place.
-fn note(fault: &mut Option<u64>, at: u64)
-    ensures { fault.new ≡ sooner fault.old at }
-{
-    *fault = Some(match *fault {
-        None => at,
-        Some(earlier) => earlier.min(at),
-    });
-}
-
-fn note_option(fault: &mut Option<u64>, at: Option<u64>)
-    ensures { fault.new ≡ least_from fault.old (option_to_list at) }
-{
-    if let Some(at) = at {
-        note(fault, at);
     }
 }
 
@@ -180,22 +161,12 @@ pub fn timescale_of(track: &RawTrack) -> Option<u32>
     }
 }
 
-fn kind_name(kind: Kind) -> &'static [u8]
-    ensures { result.now ≡ kind_name kind }
-{
-    match kind {
-        Kind::Video => b"video",
-        Kind::Audio => b"audio",
-        Kind::Text => b"text",
-    }
-}
-
 /// The name of a track, as it stands there or that of its kind.
 pub fn name_of(track: &RawTrack) -> &[u8]
     ensures { result.now ≡ stream_name track.now }
 {
     match value_of(ParamName::TrackName, track.params.as_slice()) {
-        None => kind_name(track.kind),
+        None => track.kind.name(),
         Some(name) => name,
     }
 }

@@ -2,10 +2,9 @@
 ghost use Rattle.std.specs.Prelude.{◌≡◌, option_map};
 ghost use Rattle.sm_smil.specs.LiveTracks.{value_of};
 ghost use Rattle.sm_smil.specs.LiveWalk.{text_param, number_param, video_param, audio_param, param_name, kind_in};
-ghost use Rattle.sm_tag.specs.Elements.{attribute_of};
 
 use crate::raw_track::{ParamName, SmilParam};
-use sm_model::{Attribute, Kind};
+use sm_model::Kind;
 
 #[tactic(auto, unfolding(crate::specs::LiveWalk::text_param))]
 fn text_param(name: &[u8]) -> Option<ParamName>
@@ -109,18 +108,6 @@ pub fn value_of(name: ParamName, params: &[SmilParam]) -> Option<&[u8]>
     for param in params {
         if param.name == name {
             return Some(param.value.as_slice());
-        }
-    }
-    None
-}
-
-/// The value of the attribute of that name.
-pub fn attribute_of<'a>(name: &[u8], attributes: &'a [Attribute]) -> Option<&'a [u8]>
-    ensures { option_map (λ x. x.now) result ≡ attribute_of name.now attributes.now }
-{
-    for attribute in attributes {
-        if attribute.name.as_slice() == name {
-            return Some(attribute.value.as_slice());
         }
     }
     None

@@ -1,9 +1,6 @@
 //! Tracks as they stand in the text of a live manifest.
-ghost use Rattle.std.specs.Prelude.{◌≡◌, ◌++◌, [], ◌∷◌, length, OnOk, OnErr};
 
-use sm_model::{Bytes, Kind, NoMemory};
-use std::alloc::Global;
-use std::marker::Model;
+use sm_model::{Bytes, Kind, Sequence};
 
 /// Where the text of a live manifest comes from.
 #[derive(Clone, Copy, Debug, PartialEq, Eq)]
@@ -42,67 +39,7 @@ pub struct SmilParam {
 }
 
 /// Params in the order of the text, which contracts see as a list.
-#[derive(Debug, Drop)]
-pub struct SmilParams {
-    items: Vec<SmilParam>,
-}
-
-impl Model for SmilParams {
-    ghost use Rattle.std.specs.Prelude.{List};
-    ghost use Rattle.sm_smil.specs.declared.raw_track.SmilParam.{SmilParam};
-
-    ghost Value = { List SmilParam };
-
-    ghost view = { λ p. p.items.items };
-}
-
-impl SmilParams {
-    /// No params.
-    pub fn new(alloc: Global) -> SmilParams
-        ensures { result ≡ [] }
-    {
-        SmilParams {
-            items: Vec::new(alloc),
-        }
-    }
-
-    /// These params, without a copy.
-    pub fn from_vec(items: Vec<SmilParam>) -> SmilParams
-        ensures { result ≡ items.items }
-    {
-        SmilParams { items }
-    }
-
-    /// The params back, without a copy.
-    pub fn into_vec(self) -> Vec<SmilParam>
-        ensures { result.items ≡ self }
-    {
-        self.items
-    }
-
-    /// How many params there are.
-    pub fn len(&self) -> u64
-        ensures { result ≡ length self.now }
-    {
-        self.items.len() as u64
-    }
-
-    /// One param more at the end.
-    pub fn push(&mut self, param: SmilParam) -> Result<(), NoMemory>
-        ensures ok { OnOk result (self.new ≡ self.old ++ param ∷ []) }
-        ensures err { OnErr result (self.new ≡ self.old) }
-    {
-        self.items.push(param)?;
-        Ok(())
-    }
-
-    /// The params, lent.
-    pub fn as_slice(&self) -> &[SmilParam]
-        ensures { result.now ≡ self.now }
-    {
-        &self.items
-    }
-}
+pub type SmilParams = Sequence<SmilParam>;
 
 /// A track as it stands in the text of a live manifest, or what was read of it so far.
 #[derive(Debug, Drop)]

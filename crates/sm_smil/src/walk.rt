@@ -1,12 +1,12 @@
 //! The walk over the tags of a live manifest.
 ghost use Rattle.std.specs.Prelude.{◌≡◌, ◌-◌, [], length, take, codes, IfOk, OnOk, None, option_map};
 ghost use Rattle.sm_smil.specs.LiveWalk.{is_read, with_param, with_named, with_element, is_switch, track_kind};
-ghost use Rattle.sm_model.specs.Places.{first_place};
 ghost use Rattle.sm_tag.specs.Elements.{attribute_of};
 
-use crate::names::{attribute_of, kind_in, param_name, value_of};
+use crate::names::{kind_in, param_name, value_of};
 use crate::raw_track::{Form, ParamName, RawTrack, SmilParam, SmilParams};
-use sm_model::{Attribute, Attributes, Bytes, Kind, NoMemory, Tag};
+use sm_model::{Attribute, Bytes, Kind, NoMemory, Tag, keep_first};
+use sm_tag::attribute_of;
 use std::alloc::Global;
 use std::marker::Model;
 
@@ -26,15 +26,6 @@ impl Model for Walk {
     ghost Value = { Met };
 
     ghost view = { λ w. record { path = w.path.items; other = w.other; done = w.done.items; current = w.current; over = w.over } };
-}
-
-// The place that was kept, or else this one.
-fn keep_first(place: &mut Option<u64>, at: u64)
-    ensures { place.new ≡ first_place place.old at }
-{
-    if place.is_none() {
-        *place = Some(at);
-    }
 }
 
 fn is_read(form: Form, track: &RawTrack, name: ParamName) -> bool

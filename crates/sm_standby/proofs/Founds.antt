@@ -1,5 +1,5 @@
 -- What one request for an address and its place gives.
-use Rattle.std.proofs.Common.{◌≡◌, ◌≤◌, ◌<◌, ℕ, cond, eqb, List, [], ◌++◌, Option, Some, None, refl, ap, sym, ◌∙◌, subst, append_assoc}
+use Rattle.std.proofs.Common.{◌≡◌, ◌<◌, ℕ, cond, eqb, List, [], ◌++◌, Option, Some, None, refl, ap, sym, ◌∙◌, subst, append_assoc}
 use Rattle.std.proofs.lemmas.Bool.{eqb-true}
 use Rattle.sm_model.specs.declared.address.Address.{Address}
 use Rattle.sm_model.specs.declared.entry.Entry.{Entry}
@@ -11,11 +11,12 @@ use Rattle.sm_fetch.specs.declared.dial.Exchange.{Exchange}
 use Rattle.sm_fetch.specs.declared.place.Place.{Place}
 use Rattle.sm_fetch.specs.declared.placed.Placed.{Placed}
 use Rattle.sm_fetch.specs.declared.placed.Placed.TheVariants as placed
-use Rattle.sm_fetch.specs.Exchanges.{Rose}
-use Rattle.sm_fetch.specs.Origins.{Grows, Answered}
+use Rattle.sm_fetch.specs.Exchanges.{Peer, Rose}
+use Rattle.sm_fetch.specs.Origins.{Grows, DialAlone}
 use Rattle.sm_fetch.specs.Placing.{SpellsPlaced, FetchedPlaced, GrowsPlaced, IsPlacedAt}
 use Rattle.sm_fetch.specs.Requests.{fragment_request, fragment_limit}
 use Rattle.sm_fetch.specs.Spelt.{given}
+use Rattle.sm_fetch.proofs.Alone.{Passes}
 use Rattle.sm_client.specs.declared.report.Miss.{Miss}
 use Rattle.sm_client.specs.declared.report.Miss.TheVariants as miss
 use Rattle.sm_pull.specs.Asks.{Asks, Gives}
@@ -33,11 +34,16 @@ placed_lost time (answers.Bytes bytes) p spelled is = absurd (cc)
 placed_lost time answers.Lost p spelled is = spelled
 placed_lost time answers.NoMemory p spelled is = absurd (cc)
 
-pub placed_asked : {C : Type 0} {log : C → Option (List Exchange)} {store : C → List Entry → Type 0} {later : C → C → Type 0} {faults : C → ℕ} {d e : C} {place : Place} {url : List ℕ} {address : Address} {p : Placed}
-    (f : FetchedPlaced place url address (log d) (log e) p) → Grows (store d) (store e) → Answered (log d) (log e) (store d) (store e) → later d e → faults d ≤ faults e
+-- what the dial is turned to isn't said
+pub alone_unsaid : {C : Type 0} {log : C → Option (List Exchange)} {store : C → List Entry → Type 0} {later : C → C → Type 0} {faults : C → ℕ} {chosen : C → Option Peer} {d e : C}
+    → DialAlone log store later faults chosen d e → DialAlone log store later faults unsaid d e
+alone_unsaid a = record { on = a.on; turned = refl; answered = a.answered }
+
+pub placed_asked : {C : Type 0} {log : C → Option (List Exchange)} {store : C → List Entry → Type 0} {later : C → C → Type 0} {faults : C → ℕ} {chosen : C → Option Peer} {d e : C} {place : Place} {url : List ℕ} {address : Address} {p : Placed}
+    (f : FetchedPlaced place url address (log d) (log e) p) → DialAlone log store later faults chosen d e
     → (p ≡ placed.Lost → Rose (faults d) (faults e)) → Asks log store later faults unsaid d e (made_by (fragment_request place url address) fragment_limit f.answer)
-placed_asked {place = place} {url = url} {address = address} {p = p} f grows answered on fewer lost =
-    asks_one (fragment_request place url address) fragment_limit f.answer f.log grows answered on refl fewer (λ is. lost (placed_lost address.time f.answer p f.spells is))
+placed_asked {place = place} {url = url} {address = address} {p = p} f alone lost =
+    asks_one (fragment_request place url address) fragment_limit f.answer f.log (alone_unsaid alone) (λ is. lost (placed_lost address.time f.answer p f.spells is))
 
 miss_some : (m : Miss) → None ≡ Some m → ⊥
 miss_some m e = cc
@@ -79,23 +85,23 @@ is_404 : (status : ℕ) (m : Miss) → cond (eqb status 404) None (Some m) ≡ N
 is_404 status m e = by_bool (eqb status 404) (λ t. cond t None (Some m) ≡ None → status ≡ 404) (λ is h. eqb-true status 404 is) (λ is h. absurd (cc)) e
 
 -- what the tries gave where the last one was no miss
-pub found_answer : {C : Type 0} {log : C → Option (List Exchange)} {store : C → List Entry → Type 0} {later : C → C → Type 0} {faults : C → ℕ} {c d e : C}
+pub found_answer : {C : Type 0} {log : C → Option (List Exchange)} {store : C → List Entry → Type 0} {later : C → C → Type 0} {faults : C → ℕ} {chosen : C → Option Peer} {c d e : C}
     {place : Place} {url : List ℕ} {a : Address} {outcomes : List Miss} {tries : ℕ}
-    (most : ℕ) (p : Placed) → ((c d e : C) → later c d → later d e → later c e) → missed p ≡ None → Tried log store later faults unsaid (AsksPlaced place url a) missed c d outcomes tries → tries < most
-    → FetchedPlaced place url a (log d) (log e) p → Grows (store d) (store e) → Answered (log d) (log e) (store d) (store e) → later d e → faults d ≤ faults e → (p ≡ placed.Lost → Rose (faults d) (faults e))
+    (most : ℕ) (p : Placed) → Passes later → missed p ≡ None → Tried log store later faults unsaid (AsksPlaced place url a) missed c d outcomes tries → tries < most
+    → FetchedPlaced place url a (log d) (log e) p → DialAlone log store later faults chosen d e → (p ≡ placed.Lost → Rose (faults d) (faults e))
     → GrowsPlaced place url a (store d) (store e) p
     → (made : List Exchange) × Asks log store later faults unsaid c e made × Finds place most url a made (store c) (store e) (found_of p)
-found_answer {store = store} {c = c} {d = d} {e = e} {place = place} {url = url} {a = a} most (placed.Fragment n raw) then none t fits f grows answered on fewer lost there =
-    let r = tried_gave most then t fits (placed_asked f grows answered on fewer lost)
+found_answer {store = store} {c = c} {d = d} {e = e} {place = place} {url = url} {a = a} most (placed.Fragment n raw) then none t fits f alone lost there =
+    let r = tried_gave most then t fits (placed_asked f alone lost)
     (try_made (fragment_request place url a) fragment_limit (SpellsPlaced a.time) placed.NoMemory (placed_wanting a.time) f.answer (placed.Fragment n raw) f.spells (fragment_other n raw)) in
-    (r.0, r.1, read_of (store c) (store d) (store e) place most url a r.0 n raw t.asked.grows there r.2)
-found_answer {place = place} {url = url} {a = a} most (placed.Status status) then none t fits f grows answered on fewer lost there =
-    let r = tried_gave most then t fits (placed_asked f grows answered on fewer lost)
+    (r.0, r.1, read_of (store c) (store d) (store e) place most url a r.0 n raw t.asked.alone.on.grows there r.2)
+found_answer {place = place} {url = url} {a = a} most (placed.Status status) then none t fits f alone lost there =
+    let r = tried_gave most then t fits (placed_asked f alone lost)
     (try_made (fragment_request place url a) fragment_limit (SpellsPlaced a.time) placed.NoMemory (placed_wanting a.time) f.answer (placed.Status status) f.spells (status_other status)) in
     (r.0, r.1, subst (λ (s : ℕ). Gives (AsksPlaced place url a) missed most r.0 (placed.Status s)) (is_404 status (miss.Status status) none) r.2)
-found_answer most placed.Cut then none t fits f grows answered on fewer lost there = absurd (cc)
-found_answer most (placed.Unreadable at) then none t fits f grows answered on fewer lost there = absurd (cc)
-found_answer most placed.Lost then none t fits f grows answered on fewer lost there = absurd (cc)
-found_answer {place = place} {url = url} {a = a} most placed.NoMemory then none t fits f grows answered on fewer lost there =
-    tried_stopped most then t fits (placed_asked f grows answered on fewer lost)
+found_answer most placed.Cut then none t fits f alone lost there = absurd (cc)
+found_answer most (placed.Unreadable at) then none t fits f alone lost there = absurd (cc)
+found_answer most placed.Lost then none t fits f alone lost there = absurd (cc)
+found_answer {place = place} {url = url} {a = a} most placed.NoMemory then none t fits f alone lost there =
+    tried_stopped most then t fits (placed_asked f alone lost)
     (try_any (fragment_request place url a) fragment_limit (SpellsPlaced a.time) f.answer placed.NoMemory f.spells) (few_made (fragment_request place url a) fragment_limit f.answer)

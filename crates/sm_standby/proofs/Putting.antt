@@ -179,7 +179,7 @@ module _ {D C : Type 0} {site : Seen D} {told : C → Option (List Exchange)} {s
     id = tt;
     step = tt;
     asks = asks;
-    up = λ up told. let g = asks.grows up told in (g.0, g.1, tt);
+    up = λ up told. let g = asks.alone.on.grows up told in (g.0, g.1, tt);
     adds = adds_none no_later d z log stands;
   }
 
@@ -208,7 +208,7 @@ module _ {D C : Type 0} {site : Seen D} {told : C → Option (List Exchange)} {s
     tried = [];
     stops = stops;
     asks = asks;
-    up = λ up told. let g = asks.grows up told in (g.0, g.1, tt);
+    up = λ up told. let g = asks.alone.on.grows up told in (g.0, g.1, tt);
     adds = adds_none no_later d z log stands;
   }
 

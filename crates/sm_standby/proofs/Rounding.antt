@@ -29,6 +29,7 @@ use Rattle.sm_standby.specs.Turns.{url_of, address_for, Turn, Standing, made_in,
 use Rattle.sm_standby.specs.Asked.{unsaid, StopsAt}
 use Rattle.sm_standby.specs.Followed.{at, Follows, EndsTurns, Ends}
 use Rattle.sm_standby.specs.Rounds.{addresses_of, Round, AreRounds, made_by, kept_by, RoundsUpstream, Part, nothing_listed, no_part, IsBare, StopsRound, Rounds, RoundEnds, EndsCall, Called}
+use Rattle.sm_standby.proofs.Founds.{alone_unsaid}
 use Rattle.sm_standby.proofs.Taking.{both_all, all_grown}
 
 -- ---- lists of rounds
@@ -88,7 +89,7 @@ missing_few listing channel index m few =
 -- what the dial is turned to isn't said
 pub asks_unsaid : {C : Type 0} {log : C → Option (List Exchange)} {store : C → List Entry → Type 0} {later : C → C → Type 0} {faults : C → ℕ} {chosen : C → Option Peer} {d e : C} {made : List Exchange}
     → Asks log store later faults chosen d e made → Asks log store later faults unsaid d e made
-asks_unsaid a = record { told_is = a.told_is; grows = a.grows; answered = a.answered; goes_on = a.goes_on; turned = refl; no_fewer = a.no_fewer; lost = a.lost }
+asks_unsaid a = record { told_is = a.told_is; alone = alone_unsaid a.alone; lost = a.lost }
 
 pub bare : (reads : List Exchange) (listing : Listing) → IsBare (record { reads = reads; listing = listing; turns = []; last = []; tried = [] })
 bare reads listing = record { turns = refl; last = refl; tried = refl }
@@ -166,7 +167,7 @@ module _ {D C : Type 0} {site : Seen D} {told : C → Option (List Exchange)} {s
     log_is = f.log_is ∙ ap (λ (fs : List Fragment). log ++ keeps_of fs) (sym (append-nil (kept_in f.turns)));
     asks = subst (λ (xs : List Exchange). Asks told store goes_on faults unsaid x z xs) (sym (append-nil (reads ++ made_in f.turns))) (asks_then on asked f.asks);
     up = λ up is.
-        let g = asked.grows up is in
+        let g = asked.alone.on.grows up is in
         let u = f.up (up ++ g.0) g.1 in
         let joined : (up ++ g.0) ++ u.0 ≡ up ++ (g.0 ++ u.0) = append_assoc up g.0 u.0 in
         (g.0 ++ u.0, subst (store z) joined u.1, (subst (λ (l : List Entry). AllByRecursion (IsUpstream plan.place listing l) f.turns) joined u.2, tt));
@@ -207,7 +208,7 @@ module _ {D C : Type 0} {site : Seen D} {told : C → Option (List Exchange)} {s
     log_is = r.log_is;
     asks = asks_then on paused r.asks;
     up = on_weak (store x) (store z) (λ up. Unit {0} × RoundsUpstream plan.place r.rounds up) (RoundsUpstream plan.place r.rounds) (λ up both. both.1)
-        (on_then (store x) (store y) (store z) (λ up. Unit {0}) (RoundsUpstream plan.place r.rounds) (λ up more u. tt) (on_none (store x) (store y) paused.grows) r.up);
+        (on_then (store x) (store y) (store z) (λ up. Unit {0}) (RoundsUpstream plan.place r.rounds) (λ up more u. tt) (on_none (store x) (store y) paused.alone.on.grows) r.up);
     adds = r.adds;
     waiting = r.waiting;
   }
@@ -225,7 +226,7 @@ module _ {D C : Type 0} {site : Seen D} {told : C → Option (List Exchange)} {s
     stops = stops;
     log_is = sym (append-nil log);
     asks = subst (λ (xs : List Exchange). Asks told store goes_on faults unsaid x y xs) (sym (append-nil reads)) asked;
-    up = on_none (store x) (store y) asked.grows;
+    up = on_none (store x) (store y) asked.alone.on.grows;
     adds = adds_none no_later d a log stands;
     fault = λ is. absurd (never is);
   }
@@ -242,7 +243,7 @@ module _ {D C : Type 0} {site : Seen D} {told : C → Option (List Exchange)} {s
     log_is = f.log_is;
     asks = asks_then on asked f.asks;
     up = on_weak (store x) (store z) (λ up. Unit {0} × AllByRecursion (IsUpstream plan.place listing up) (f.turns ++ f.tried)) (λ up. AllByRecursion (IsUpstream plan.place listing up) (f.turns ++ f.tried)) (λ up both. both.1)
-        (on_then (store x) (store y) (store z) (λ up. Unit {0}) (λ up. AllByRecursion (IsUpstream plan.place listing up) (f.turns ++ f.tried)) (λ up more u. tt) (on_none (store x) (store y) asked.grows) f.up);
+        (on_then (store x) (store y) (store z) (λ up. Unit {0}) (λ up. AllByRecursion (IsUpstream plan.place listing up) (f.turns ++ f.tried)) (λ up more u. tt) (on_none (store x) (store y) asked.alone.on.grows) f.up);
     adds = f.adds;
     fault = f.fault;
   }
@@ -259,7 +260,7 @@ module _ {D C : Type 0} {site : Seen D} {told : C → Option (List Exchange)} {s
     up = on_weak (store x) (store z) (λ up. Unit {0} × AllByRecursion (IsUpstream plan.place r.part.listing up) (r.part.turns ++ r.part.tried))
         (λ up. AllByRecursion (IsUpstream plan.place r.part.listing up) (r.part.turns ++ r.part.tried)) (λ up both. both.1)
         (on_then (store x) (store y) (store z) (λ up. Unit {0}) (λ up. AllByRecursion (IsUpstream plan.place r.part.listing up) (r.part.turns ++ r.part.tried)) (λ up more u. tt)
-        (on_none (store x) (store y) paused.grows) r.up);
+        (on_none (store x) (store y) paused.alone.on.grows) r.up);
     adds = r.adds;
     fault = r.fault;
   }

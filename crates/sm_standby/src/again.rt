@@ -60,7 +60,7 @@ fn take_one<C: Dial, D: Disk>(
     }
 }
 
-/// Asks again for what waits, as long as its place is the next one.
+// Asks again for what waits, as long as its place is the next one.
 pub(crate) fn take_held<C: Dial, D: Disk>(
     alloc: Global,
     dial: &mut C,

@@ -10,14 +10,14 @@ use sm_fetch::{Dial, Place, Placed, get_placed};
 use sm_model::{Address, RawFragment};
 use std::alloc::Global;
 
-/// What all tries at an address gave.
+// What all tries at an address gave.
 #[derive(Drop)]
 pub(crate) enum Found {
-    /// The fragment, and its place in the primary's log.
+    // The fragment, and its place in the primary's log.
     At(u32, RawFragment),
-    /// The primary keeps none there.
+    // The primary keeps none there.
     Absent,
-    /// What came in place of an answer, in order.
+    // What came in place of an answer, in order.
     GaveUp(Outcomes),
     NoMemory,
 }
@@ -47,7 +47,7 @@ fn found_of(placed: Placed) -> Found
     }
 }
 
-/// As many requests for an address as there are tries, until a fragment is read or none is there.
+// As many requests for an address as there are tries, until a fragment is read or none is there.
 pub(crate) fn ask<C: Dial>(
     alloc: Global,
     dial: &mut C,
@@ -63,7 +63,7 @@ pub(crate) fn ask<C: Dial>(
     for _done in 0..tries {
         let placed = get_placed(alloc, dial, place, url, address);
         match miss_of(&placed) {
-            Some(miss) => match outcomes.add(miss) {
+            Some(miss) => match outcomes.push(miss) {
                 Ok(()) => {}
                 Err(_) => return Found::NoMemory,
             },

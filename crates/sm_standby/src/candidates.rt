@@ -9,7 +9,7 @@ use sm_model::{Address, Name, NoMemory, Track};
 use std::alloc::Global;
 use std::marker::Model;
 
-/// The candidates of one stream: the starts and the ends of its listed times.
+// The candidates of one stream: the starts and the ends of its listed times.
 #[derive(Debug, Drop)]
 pub(crate) struct StreamCandidates {
     name: Name,
@@ -63,7 +63,7 @@ fn candidates(alloc: Global, times: &[(u64, u64)]) -> Result<Vec<u64>, NoMemory>
 }
 
 impl StreamCandidates {
-    /// Those of a stream of that name with these listed times.
+    // Those of a stream of that name with these listed times.
     pub(crate) fn new(
         alloc: Global,
         name: &Name,
@@ -77,7 +77,7 @@ impl StreamCandidates {
         })
     }
 
-    /// Whether they are of the stream of that name.
+    // Whether they are of the stream of that name.
     pub(crate) fn is_of(&self, name: &Name) -> bool
         ensures { result ≡ is_same self.now.name name.now }
     {
@@ -144,7 +144,7 @@ fn put_addresses(
     Ok(())
 }
 
-/// Stream by stream, the addresses at the candidates of that place.
+// Stream by stream, the addresses at the candidates of that place.
 pub(crate) fn row(
     alloc: Global,
     channel: &[Track],
@@ -160,7 +160,7 @@ pub(crate) fn row(
     Ok(addresses)
 }
 
-/// How many candidates the stream has that has most.
+// How many candidates the stream has that has most.
 pub(crate) fn longest(all: &[StreamCandidates]) -> usize
     ensures { result ≡ longest all.now }
 {

@@ -155,7 +155,7 @@ fn follow_place<C: Dial, D: Disk>(
     }
 }
 
-/// The first candidates of all streams, then the second ones, and so on.
+// The first candidates of all streams, then the second ones, and so on.
 pub(crate) fn follow_all<C: Dial, D: Disk>(
     alloc: Global,
     dial: &mut C,

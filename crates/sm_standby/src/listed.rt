@@ -13,7 +13,7 @@ use sm_model::{Address, Name, NoMemory, Track};
 use sm_pull::stream_of;
 use std::alloc::Global;
 
-/// The Url of the fragments of an address's stream, in whose fields bitrate and start go; none where no such stream is listed.
+// The Url of the fragments of an address's stream, in whose fields bitrate and start go; none where no such stream is listed.
 pub(crate) fn url_of<'a>(listing: &'a Listing, address: &Address) -> &'a [u8]
     ensures { result.now ≡ url_of listing.now address.now }
 {
@@ -56,7 +56,7 @@ fn put_stream(
     Ok(())
 }
 
-/// The candidates of the streams of a channel, in the order in which their names first stand.
+// The candidates of the streams of a channel, in the order in which their names first stand.
 pub(crate) fn candidates_of(
     alloc: Global,
     channel: &[Track],

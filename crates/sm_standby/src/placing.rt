@@ -21,14 +21,14 @@ use sm_pull::{PullPlan, keep};
 use sm_site::Disk;
 use std::alloc::Global;
 
-/// What became of an address that was asked for.
+// What became of an address that was asked for.
 #[derive(Drop)]
 pub(crate) enum Step {
-    /// It was kept.
+    // It was kept.
     Kept,
-    /// Its place comes later.
+    // Its place comes later.
     Later(u64, Address),
-    /// Nothing is there, or its place has passed.
+    // Nothing is there, or its place has passed.
     Passed,
 }
 
@@ -104,7 +104,7 @@ fn put<D: Disk>(
     }
 }
 
-/// Asks for an address at which nothing is kept, and keeps what comes where its place is the next one.
+// Asks for an address at which nothing is kept, and keeps what comes where its place is the next one.
 pub(crate) fn place_one<C: Dial, D: Disk>(
     alloc: Global,
     dial: &mut C,

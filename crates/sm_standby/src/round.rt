@@ -158,7 +158,7 @@ fn follow_rounds<C: Dial, D: Disk>(
     Ok(())
 }
 
-/// As many rounds as the plan has, and how they end.
+// As many rounds as the plan has, and how they end.
 pub(crate) fn follow_channel<C: Dial, D: Disk>(
     alloc: Global,
     dial: &mut C,

@@ -21,7 +21,7 @@ fn opening_of(bytes: &[u8]) -> Result<(&[u8], u8, &[u8]), Halt>
     Ok((name, quote, rest))
 }
 
-// The name and the value of an attribute, and what is behind it.
+/// The name and the value of an attribute, and what is behind it.
 pub fn attribute_of(alloc: Global, bytes: &[u8]) -> Result<(&[u8], Bytes, &[u8]), Halt>
     ensures read { GivesBy (λ x. (record { name = x.0.now; value = x.1 }, x.2.now)) result (AttributeAt bytes.now) }
     ensures shorter { IfOk result (λ x. length x.2.now < length bytes.now) }
@@ -31,7 +31,7 @@ pub fn attribute_of(alloc: Global, bytes: &[u8]) -> Result<(&[u8], Bytes, &[u8])
     Ok((name, Bytes::from_vec(value), rest))
 }
 
-// Where the tag ends: whether its element is empty, and what is behind it. Else where an attribute is to stand.
+/// Where the tag ends: whether its element is empty, and what is behind it. Else where an attribute is to stand.
 #[tactic(auto, unfolding(crate::specs::TagParts::mark_at))]
 pub fn mark_of(bytes: &[u8]) -> Result<(Option<bool>, &[u8]), Halt>
     ensures read { Gives (λ x. (x.0, x.1.now)) result (mark_at bytes.now) }

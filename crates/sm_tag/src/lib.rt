@@ -8,6 +8,7 @@ mod halt;
 mod law;
 mod lead;
 mod markup;
+mod named;
 pub mod plain;
 mod reference;
 mod scan;
@@ -18,5 +19,6 @@ pub use law::{
     tags_are_of_the_grammar, tags_stand_at_their_places, text_has_one_list_of_tags,
     what_follows_mends_nothing, written_tags_are_read,
 };
+pub use named::attribute_of;
 pub use sm_model::{Attribute, Attributes, Tag};
 pub use tags::Tags;

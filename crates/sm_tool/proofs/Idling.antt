@@ -4,7 +4,7 @@ use Rattle.sm_archive.specs.Store.{IsStore}
 use Rattle.sm_site.specs.Image.{Image}
 use Rattle.sm_site.specs.Meanings.{Seen}
 use Rattle.sm_site.proofs.Moments.{no_call}
-use Rattle.sm_command.specs.Lasting.{Lasts, Spared, Untouched}
+use Rattle.sm_command.specs.Lasting.{KeepsStores, Lasts, Spared, Untouched}
 use Rattle.sm_command.proofs.Lasting.{at_each, silent_lasts, unwritten_spared}
 
 module _ {D : Type 0} (site : Seen D) (no_later : (d : D) (t : ℕ) (c : Image) → site.left_at d t c → t ≤ (site.view d).moment) where
@@ -18,3 +18,6 @@ module _ {D : Type 0} (site : Seen D) (no_later : (d : D) (t : ℕ) (c : Image) 
   idle_lasts at_now d some log one base told =
       silent_lasts site at_now log base d d one
       (at_each site d d (λ t c. IsStore log c) (IsStore log) (no_call site d (λ t c. IsStore log c) (no_later d)) (λ t c store. store)) told
+
+  pub idle_stores : (at_now : (d : D) (c : Image) → site.left_at d (site.view d).moment c → site.may_leave d c) → (d : D) (R : Type 0) → KeepsStores site d d R
+  idle_stores at_now d R = record { lasts = idle_lasts at_now d; untouched = λ r. idle_untouched d; spared = idle_spared d }

@@ -5,7 +5,7 @@ use Rattle.sm_ends.specs.Faults.{Rose}
 use Rattle.sm_ends.specs.Moves.{TakesCount, TakesAtMost, AppendsFront}
 use Rattle.sm_fetch.specs.Origins.{Grows}
 use Rattle.sm_client.specs.Turns.{Meaning}
-use Rattle.sm_command.specs.Lasting.{Lasts, NoFewer, Spared, Untouched}
+use Rattle.sm_command.specs.Lasting.{IsSilent, KeepsStores}
 use Rattle.sm_site.specs.Meanings.{Seen}
 use Rattle.sm_pick.specs.declared.picked.Picked.TheVariants as picked
 use Rattle.sm_tool.specs.declared.answer.Answer.{Answer}
@@ -19,7 +19,7 @@ use Rattle.sm_tool.specs.Edges.{Dialing, RelayMeans, StandbyMeans, at_edge}
 use Rattle.sm_tool.specs.Exports.{ExportMeans}
 use Rattle.sm_words.specs.Helps.{help_of, version}
 use Rattle.sm_usage.specs.Wrong.{wrong_words}
-use Rattle.sm_tool.specs.Stores.{IsSelected, IsSilent, ListMeans, ServeMeans, at_folder, chosen_of}
+use Rattle.sm_tool.specs.Stores.{IsSelected, ListMeans, ServeMeans, at_folder, chosen_of}
 use Rattle.sm_tool.specs.Origins.{PushMeans}
 use Rattle.sm_tool.specs.Plays.{PlayMeans, Tape}
 use Rattle.sm_tool.specs.Rehearsals.{RehearseMeans}
@@ -94,17 +94,17 @@ MeansBy site t m policies wrong (Some (Play plan)) old new out out' d d' c c' an
     PlayMeans m plan policies old.dial new.dial (t.store c) (t.store c') old.tracks new.tracks answer × (out' ≡ out) × (new.input ≡ old.input) × (d' ≡ d)
 MeansBy site t m policies wrong (Some (Relay e)) old new out out' d d' c c' answer =
     RelayMeans site t e old.input new.input d d' c c' answer × (t.faults c ≤ t.faults c') × Grows (t.store c) (t.store c')
-    × IsSilent (site.view d) (site.view d') × NoFewer (site.view d) (site.view d') × IsSelected answer (at_edge e.store) (site.view d') × (out' ≡ out) × (new.tracks ≡ old.tracks)
+    × IsSilent (site.view d) (site.view d') × IsSelected answer (at_edge e.store) (site.view d') × (out' ≡ out) × (new.tracks ≡ old.tracks)
 MeansBy site t m policies wrong (Some (Standby e)) old new out out' d d' c c' answer =
     StandbyMeans site t e old.input new.input d d' c c' answer × (t.faults c ≤ t.faults c') × Grows (t.store c) (t.store c')
-    × IsSilent (site.view d) (site.view d') × NoFewer (site.view d) (site.view d') × IsSelected answer (at_edge e.store) (site.view d') × (out' ≡ out) × (new.tracks ≡ old.tracks)
+    × IsSilent (site.view d) (site.view d') × IsSelected answer (at_edge e.store) (site.view d') × (out' ≡ out) × (new.tracks ≡ old.tracks)
 MeansBy site t m policies wrong (Some (Listing folder)) old new out out' d d' c c' answer =
-    ListMeans site d d' answer × IsSilent (site.view d) (site.view d') × NoFewer (site.view d) (site.view d') × IsSelected answer (at_folder folder) (site.view d')
+    ListMeans site d d' answer × IsSilent (site.view d) (site.view d') × IsSelected answer (at_folder folder) (site.view d')
     × (out' ≡ out) × (new.input ≡ old.input) × (new.dial ≡ old.dial) × (new.tracks ≡ old.tracks) × (c' ≡ c)
 MeansBy site t m policies wrong (Some (Rehearse number size)) old new out out' d d' c c' answer =
     RehearseMeans m number size policies answer × (out' ≡ out) × IsIdle old new d d' c c'
 MeansBy site t m policies wrong (Some (Export folder name bitrate)) old new out out' d d' c c' answer =
-    ExportMeans name bitrate (site.view d) (site.view d') old.input new.input out out' answer × IsSilent (site.view d) (site.view d') × NoFewer (site.view d) (site.view d')
+    ExportMeans name bitrate (site.view d) (site.view d') old.input new.input out out' answer × IsSilent (site.view d) (site.view d')
     × IsSelected answer (at_folder folder) (site.view d') × (old.input.faults ≤ new.input.faults) × (out.faults ≤ out'.faults)
     × (new.dial ≡ old.dial) × (new.tracks ≡ old.tracks) × (c' ≡ c)
 MeansBy site t m policies wrong (Some (Help about)) old new out out' d d' c c' answer =
@@ -132,13 +132,8 @@ pub record IsRun {D C P : Type 0} (site : Seen D) (t : Dialing C)
   pub written : End
   pub means : Means site t m policies words old new output written d d' c c' answer
   pub prints : Prints answer written output' status
-  -- Whatever the command, and however it ended: what a crash may leave at each moment of the call is a store whose log begins with the one
-  -- that was there, and holds what the call had shown by then.
-  pub lasts : Lasts site d d'
-  -- files that are said to be no store weren't written
-  pub untouched : (line : List ℕ) → answer ≡ NotAStore line → Untouched site d d'
-  -- and none that are no store were, however it ended
-  pub spared : Spared site d d'
+  -- whatever the command, and however it ended, no store was hurt
+  pub stores : KeepsStores site d d' ((line : List ℕ) × (answer ≡ NotAStore line))
 
 -- A program ended with the status of a run; where there was no memory for its words, that alone was told.
 abbrev pub EndsAs : {D C P : Type 0} (site : Seen D) (t : Dialing C)

@@ -143,8 +143,3 @@ ListMeans site d d' Full = ⊥
 ListMeans site d d' (NotAStore line) =
     (at : ℕ) × (line ≡ store_line at) × WhyUnlisted site d d' (fault.NotAStore at)
 ListMeans site d d' (Unfinished stop) = ⊥
-
--- nothing was taken from the link, and nothing was sent
-pub record IsSilent (old new : View) : Type 0 where
-  pub transcript : new.transcript ≡ old.transcript
-  pub send_faults : new.send_faults ≡ old.send_faults

@@ -1,6 +1,6 @@
 //! The commands.
 ghost use Rattle.std.specs.Prelude.{◌≡◌, ◌⊎◌, ℕ, List, length, map, string_bytes};
-ghost use Rattle.sm_command.specs.Lasting.{Lasts, Spared, Untouched};
+ghost use Rattle.sm_command.specs.Lasting.{KeepsStores};
 ghost use Rattle.sm_usage.specs.Wrong.{wrong_words};
 ghost use Rattle.sm_tool.specs.declared.answer.Answer.TheVariants as answers;
 ghost use Rattle.sm_tool.specs.Ran.{IsRun, Means, PickMeans, Prints, around};
@@ -79,9 +79,7 @@ fn answer_to<I: Source, O: Sink, S: Site, C: Dial, T: Tracks>(
         (around (end_of I.left I.faults input.old) (line_of C.log C.dial_faults C.chosen dial.old) (tape_of T.held T.faults tracks.old))
         (around (end_of I.left I.faults input.new) (line_of C.log C.dial_faults C.chosen dial.new) (tape_of T.held T.faults tracks.new))
         (end_of O.held O.faults output.old) (end_of O.held O.faults output.new) site.old site.new dial.old dial.new result }
-    ensures lasts { Lasts S.Disk.seen site.old site.new }
-    ensures untouched { (line : List ℕ) → result ≡ answers.NotAStore line → Untouched S.Disk.seen site.old site.new }
-    ensures spared { Spared S.Disk.seen site.old site.new }
+    ensures stores { KeepsStores S.Disk.seen site.old site.new ((line : List ℕ) × (result ≡ answers.NotAStore line)) }
     ensures goes_on { C.later dial.old dial.new }
 {
     match order_of(alloc, words) {

@@ -1,12 +1,12 @@
 //! The commands that pull into a store.
-ghost use Rattle.std.specs.Prelude.{◌≡◌, ◌≤◌, ℕ, List, IfOk, OnErr, slice_get, string_bytes};
-ghost use Rattle.sm_command.specs.Lasting.{Lasts, NoFewer, Spared, Untouched};
-ghost use Rattle.sm_fetch.specs.Origins.{Grows};
+ghost use Rattle.std.specs.Prelude.{◌≡◌, ℕ, List, IfOk, OnErr, slice_get, string_bytes};
+ghost use Rattle.sm_command.specs.Lasting.{IsSilent, KeepsStores};
+ghost use Rattle.sm_fetch.specs.Origins.{DialGoesOn};
 ghost use Rattle.sm_words.specs.Orders.{IsPullable, pulling_of};
 ghost use Rattle.sm_tool.specs.declared.answer.Answer.TheVariants as answers;
 ghost use Rattle.sm_tool.specs.Edges.{HasFollowLine, HasRelayLine, RelayMeans, StandbyMeans, TellsFollow, TellsRelay, at_edge, dialing};
 ghost use Rattle.sm_tool.specs.Edges.{followed_line, gap_line, no_track_line, other_id_line, relayed_line};
-ghost use Rattle.sm_tool.specs.Stores.{IsSelected, IsSilent};
+ghost use Rattle.sm_tool.specs.Stores.{IsSelected};
 ghost use Rattle.sm_ends.specs.Ended.{end_of};
 
 use crate::answer::Answer;
@@ -142,14 +142,9 @@ pub fn relay<I: Source, S: Site, C: Dial>(
     ensures selected { IsSelected result (at_edge (string_bytes order.store)) (S.Disk.seen.view site.new) }
     ensures means { RelayMeans S.Disk.seen (dialing C.log C.store C.later C.dial_faults C.chosen) (pulling_of order)
         (end_of I.left I.faults input.old) (end_of I.left I.faults input.new) site.old site.new dial.old dial.new result }
-    ensures later { C.dial_faults dial.old ≤ C.dial_faults dial.new }
-    ensures goes_on { C.later dial.old dial.new }
-    ensures grows { Grows (C.store dial.old) (C.store dial.new) }
-    ensures no_fewer { NoFewer (S.Disk.seen.view site.old) (S.Disk.seen.view site.new) }
+    ensures dial { DialGoesOn C.store C.later C.dial_faults dial.old dial.new }
     ensures silent { IsSilent (S.Disk.seen.view site.old) (S.Disk.seen.view site.new) }
-    ensures lasts { Lasts S.Disk.seen site.old site.new }
-    ensures untouched { (line : List ℕ) → result ≡ answers.NotAStore line → Untouched S.Disk.seen site.old site.new }
-    ensures spared { Spared S.Disk.seen site.old site.new }
+    ensures stores { KeepsStores S.Disk.seen site.old site.new ((line : List ℕ) × (result ≡ answers.NotAStore line)) }
 {
     let selection = Selection {
         store: order.store,
@@ -189,14 +184,9 @@ pub fn standby<I: Source, S: Site, C: Dial>(
     ensures selected { IsSelected result (at_edge (string_bytes order.store)) (S.Disk.seen.view site.new) }
     ensures means { StandbyMeans S.Disk.seen (dialing C.log C.store C.later C.dial_faults C.chosen) (pulling_of order)
         (end_of I.left I.faults input.old) (end_of I.left I.faults input.new) site.old site.new dial.old dial.new result }
-    ensures later { C.dial_faults dial.old ≤ C.dial_faults dial.new }
-    ensures goes_on { C.later dial.old dial.new }
-    ensures grows { Grows (C.store dial.old) (C.store dial.new) }
-    ensures no_fewer { NoFewer (S.Disk.seen.view site.old) (S.Disk.seen.view site.new) }
+    ensures dial { DialGoesOn C.store C.later C.dial_faults dial.old dial.new }
     ensures silent { IsSilent (S.Disk.seen.view site.old) (S.Disk.seen.view site.new) }
-    ensures lasts { Lasts S.Disk.seen site.old site.new }
-    ensures untouched { (line : List ℕ) → result ≡ answers.NotAStore line → Untouched S.Disk.seen site.old site.new }
-    ensures spared { Spared S.Disk.seen site.old site.new }
+    ensures stores { KeepsStores S.Disk.seen site.old site.new ((line : List ℕ) × (result ≡ answers.NotAStore line)) }
 {
     let selection = Selection {
         store: order.store,

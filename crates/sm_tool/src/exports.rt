@@ -1,10 +1,10 @@
 //! Exporting from a store.
 ghost use Rattle.std.specs.Prelude.{◌≡◌, ◌≤◌, ℕ, List, IfOk, OnErr, string_bytes};
-ghost use Rattle.sm_command.specs.Lasting.{Lasts, NoFewer, Spared, Untouched};
+ghost use Rattle.sm_command.specs.Lasting.{IsSilent, KeepsStores};
 ghost use Rattle.sm_export.specs.declared.exported.StoreExport.TheVariants as ends;
 ghost use Rattle.sm_tool.specs.declared.answer.Answer.TheVariants as answers;
 ghost use Rattle.sm_tool.specs.Exports.{ExportMeans, IsUnwritten, TellsExport};
-ghost use Rattle.sm_tool.specs.Stores.{IsSelected, IsSilent, at_folder};
+ghost use Rattle.sm_tool.specs.Stores.{IsSelected, at_folder};
 ghost use Rattle.sm_ends.specs.Ended.{end_of};
 
 use crate::answer::{Answer, Stop};
@@ -70,11 +70,8 @@ pub fn export<I: Source, O: Sink, S: Site>(
         (end_of O.held O.faults output.new) result }
     ensures counted { I.faults input.old ≤ I.faults input.new }
     ensures later { O.faults output.old ≤ O.faults output.new }
-    ensures no_fewer { NoFewer (S.Disk.seen.view site.old) (S.Disk.seen.view site.new) }
     ensures silent { IsSilent (S.Disk.seen.view site.old) (S.Disk.seen.view site.new) }
-    ensures lasts { Lasts S.Disk.seen site.old site.new }
-    ensures untouched { (line : List ℕ) → result ≡ answers.NotAStore line → Untouched S.Disk.seen site.old site.new }
-    ensures spared { Spared S.Disk.seen site.old site.new }
+    ensures stores { KeepsStores S.Disk.seen site.old site.new ((line : List ℕ) × (result ≡ answers.NotAStore line)) }
 {
     let ExportOrder {
         store,

@@ -1,9 +1,9 @@
 //! The commands on a store.
 ghost use Rattle.std.specs.Prelude.{◌≡◌, ◌≤◌, ℕ, List, IfOk, string_bytes};
-ghost use Rattle.sm_command.specs.Lasting.{Lasts, NoFewer, Spared, Untouched};
+ghost use Rattle.sm_command.specs.Lasting.{IsSilent, KeepsStores};
 ghost use Rattle.sm_tool.specs.declared.answer.Answer.TheVariants as answers;
 ghost use Rattle.sm_words.specs.Orders.{serving_of};
-ghost use Rattle.sm_tool.specs.Stores.{IsSelected, IsSilent, ListMeans, ServeMeans, Tells, at_folder, chosen_of, TellsEnd, clash_line, ladder_line, or_starved, store_line, turns_line};
+ghost use Rattle.sm_tool.specs.Stores.{IsSelected, ListMeans, ServeMeans, Tells, at_folder, chosen_of, TellsEnd, clash_line, ladder_line, or_starved, store_line, turns_line};
 ghost use Rattle.sm_ends.specs.Ended.{end_of};
 
 use crate::answer::Answer;
@@ -106,9 +106,7 @@ pub fn serve<I: Source, S: Site>(
     ensures means { ServeMeans S.Disk.seen order.ladder order.turns (end_of I.left I.faults input.old)
         (end_of I.left I.faults input.new) site.old site.new result }
     ensures counted { I.faults input.old ≤ I.faults input.new }
-    ensures lasts { Lasts S.Disk.seen site.old site.new }
-    ensures untouched { (line : List ℕ) → result ≡ answers.NotAStore line → Untouched S.Disk.seen site.old site.new }
-    ensures spared { Spared S.Disk.seen site.old site.new }
+    ensures stores { KeepsStores S.Disk.seen site.old site.new ((line : List ℕ) × (result ≡ answers.NotAStore line)) }
 {
     let selection = Selection {
         store: order.store,
@@ -127,11 +125,8 @@ pub fn serve<I: Source, S: Site>(
 pub fn list<S: Site>(alloc: Global, site: &mut S, store: String) -> Answer
     ensures selected { IsSelected result (at_folder (string_bytes store)) (S.Disk.seen.view site.new) }
     ensures means { ListMeans S.Disk.seen site.old site.new result }
-    ensures no_fewer { NoFewer (S.Disk.seen.view site.old) (S.Disk.seen.view site.new) }
     ensures silent { IsSilent (S.Disk.seen.view site.old) (S.Disk.seen.view site.new) }
-    ensures lasts { Lasts S.Disk.seen site.old site.new }
-    ensures untouched { (line : List ℕ) → result ≡ answers.NotAStore line → Untouched S.Disk.seen site.old site.new }
-    ensures spared { Spared S.Disk.seen site.old site.new }
+    ensures stores { KeepsStores S.Disk.seen site.old site.new ((line : List ℕ) × (result ≡ answers.NotAStore line)) }
 {
     match list_store(alloc, site, store) {
         Ok(text) => Answer::Found(text),

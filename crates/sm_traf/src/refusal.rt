@@ -13,8 +13,8 @@ use crate::trun::trun_fits;
 use sm_box::u32_at;
 use sm_model::Cause;
 
-/// The first cause that holds, if one does. The order is that of the causes' list: a box that is missing, doubled or of
-/// the wrong length, protection, a second `trun`, a base data offset, the time, the samples.
+// The first cause that holds, if one does. The order is that of the causes' list: a box that is missing, doubled or of
+// the wrong length, protection, a second `trun`, a base data offset, the time, the samples.
 #[tactic(auto, unfolding(sm_model::specs::Frag::refusal))]
 pub(crate) fn refused(parts: &Parts) -> Option<Cause>
     ensures cause { result ≡ refusal (seen_parts parts.now) }

@@ -19,7 +19,7 @@ fn tfhd_len(word: u32) -> usize
         + field(word, 0x20, 4)
 }
 
-/// Whether a body has exactly the length that its flags give.
+// Whether a body has exactly the length that its flags give.
 #[tactic(auto, unfolding(sm_model::specs::Fields::tfhd_fits))]
 pub(crate) fn tfhd_fits(body: &[u8]) -> bool
     ensures value { result ≡ tfhd_fits body.now }
@@ -37,7 +37,7 @@ fn tfhd_at(word: u32) -> usize
     8 + field(word, 0x1, 8) + field(word, 0x2, 4)
 }
 
-/// The defaults that the body gives, and for those that it lacks the ones of the track.
+// The defaults that the body gives, and for those that it lacks the ones of the track.
 #[tactic(auto, unfolding(sm_model::specs::Fields::defaults_of, sm_model::specs::Fields::tfhd_fits, sm_model::specs::Fields::tfhd_len, sm_model::specs::Fields::tfhd_at))]
 pub(crate) fn defaults_of(defaults: &Defaults, body: &[u8]) -> Defaults
     requires fits { IsTrue (tfhd_fits body.now) }

@@ -18,7 +18,7 @@ fn pair_len(body: &[u8]) -> usize
     if version(body) == 1 { 16 } else { 8 }
 }
 
-/// Whether a body has a version that is known, and exactly the length that its version and count give.
+// Whether a body has a version that is known, and exactly the length that its version and count give.
 #[tactic(auto, unfolding(sm_model::specs::Fields::tfrf_fits))]
 pub(crate) fn tfrf_fits(body: &[u8]) -> bool
     ensures value { result ≡ tfrf_fits body.now }
@@ -63,7 +63,7 @@ pub fn read_tfrf(body: &[u8], index: u32) -> Ahead
     Ahead::Pair(time, duration)
 }
 
-/// All pairs.
+// All pairs.
 #[tactic(auto, using(crate::proofs::Facts::ahead_five, crate::proofs::RowLemmas::pairs_none, crate::proofs::RowLemmas::pairs_more))]
 pub(crate) fn pairs_of(alloc: Global, body: &[u8]) -> Result<Pairs, NoMemory>
     requires { IsTrue (tfrf_fits body.now) }

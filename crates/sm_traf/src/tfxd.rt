@@ -5,7 +5,7 @@ ghost use Rattle.sm_model.specs.Fields.{pair_at, tfxd_fits, tfxd_pair, tfxd};
 use crate::fields::version;
 use sm_box::{u32_at, u64_at};
 
-/// A time and a duration at a place, of 64 bits each or of 32.
+// A time and a duration at a place, of 64 bits each or of 32.
 #[tactic(auto, unfolding(sm_model::specs::Fields::pair_at))]
 pub(crate) fn pair_at(wide: bool, at: usize, body: &[u8]) -> (u64, u64)
     requires { at + (if wide then 16 else 8) ≤ length body.now }
@@ -18,7 +18,7 @@ pub(crate) fn pair_at(wide: bool, at: usize, body: &[u8]) -> (u64, u64)
     }
 }
 
-/// Whether a body has a version that is known, and exactly the length of that version.
+// Whether a body has a version that is known, and exactly the length of that version.
 #[tactic(auto, unfolding(sm_model::specs::Fields::tfxd_fits))]
 pub(crate) fn tfxd_fits(body: &[u8]) -> bool
     ensures { result ≡ tfxd_fits body.now }
@@ -26,7 +26,7 @@ pub(crate) fn tfxd_fits(body: &[u8]) -> bool
     (body.len() == 12 && version(body) == 0) || (body.len() == 20 && version(body) == 1)
 }
 
-/// The time and the duration.
+// The time and the duration.
 #[tactic(auto, unfolding(sm_model::specs::Fields::tfxd_pair, sm_model::specs::Fields::tfxd_fits))]
 pub(crate) fn tfxd_pair(body: &[u8]) -> (u64, u64)
     requires { IsTrue (tfxd_fits body.now) }

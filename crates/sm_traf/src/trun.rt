@@ -26,7 +26,7 @@ fn rows_at(word: u32) -> usize
     8 + field(word, 0x1, 4) + field(word, 0x4, 4)
 }
 
-/// Whether a body has a version that is known, and exactly the length that its flags and count give.
+// Whether a body has a version that is known, and exactly the length that its flags and count give.
 #[tactic(auto, unfolding(sm_model::specs::Fields::trun_fits))]
 pub(crate) fn trun_fits(body: &[u8]) -> bool
     ensures { result ≡ trun_fits body.now }
@@ -85,7 +85,7 @@ fn row(defaults: &Defaults, body: &[u8], index: usize) -> Row
     row_at(defaults, word, at, body, index == 0)
 }
 
-/// All samples. The room for them is taken once, after the length was compared with the count.
+// All samples. The room for them is taken once, after the length was compared with the count.
 #[tactic(auto, using(crate::proofs::Facts::run_eight, crate::proofs::RowLemmas::rows_none, crate::proofs::RowLemmas::rows_more))]
 pub(crate) fn rows_of(alloc: Global, defaults: &Defaults, body: &[u8]) -> Result<Rows, NoMemory>
     requires { IsTrue (trun_fits body.now) }
@@ -99,7 +99,7 @@ pub(crate) fn rows_of(alloc: Global, defaults: &Defaults, body: &[u8]) -> Result
     Ok(Rows::from_vec(rows))
 }
 
-/// Where the first sample starts, in bytes from the first byte of the `moof`, if the body says it.
+// Where the first sample starts, in bytes from the first byte of the `moof`, if the body says it.
 #[tactic(auto, using(crate::proofs::Facts::run_fits), unfolding(sm_model::specs::Fields::data_offset, sm_model::specs::Fields::rows_at, sm_model::specs::Fields::field))]
 pub(crate) fn start_of(body: &[u8]) -> Option<i64>
     requires { IsTrue (trun_fits body.now) }

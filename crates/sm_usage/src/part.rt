@@ -22,7 +22,7 @@ pub enum Part {
     Size,
 }
 
-// Whether a text writes a number in these bounds.
+/// Whether a text writes a number in these bounds.
 pub fn is_number(text: &str, low: u64, high: u64) -> bool
     requires { high < 2 ^ 63 }
     ensures { result ≡ is_number low high text.now }
@@ -30,7 +30,7 @@ pub fn is_number(text: &str, low: u64, high: u64) -> bool
     number(text, low, high).is_some()
 }
 
-// Whether a text isn't empty.
+/// Whether a text isn't empty.
 pub fn is_filled(text: &str) -> bool
     ensures { result ≡ is_filled text.now }
 {

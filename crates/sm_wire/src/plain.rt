@@ -12,14 +12,14 @@ use sm_model::{Bytes, Cause, Item, Items, NoMemory, Refusal};
 use sm_push::{Push, PushFault};
 use std::alloc::Global;
 
-/// What the bytes of a push give: items, and the refusal behind them.
+// What the bytes of a push give: items, and the refusal behind them.
 #[derive(Debug, Drop)]
 struct Pushed {
     items: Items,
     refusal: Option<Refusal>,
 }
 
-/// Reads the bytes of a push, which ends there or not.
+// Reads the bytes of a push, which ends there or not.
 fn read_push(alloc: Global, bytes: &[u8], ends: bool) -> Result<Pushed, NoMemory>
     ensures items { IfOk result (λ pushed. pushed.items ≡ (body false bytes.now).items) }
     ensures refusal { IfOk result (λ pushed. pushed.refusal ≡ refusal_by ends bytes.now) }
@@ -55,7 +55,7 @@ fn read_push(alloc: Global, bytes: &[u8], ends: bool) -> Result<Pushed, NoMemory
     }
 }
 
-/// Adds the items of a push.
+// Adds the items of a push.
 fn show(out: &mut Vec<WireItem>, items: Items) -> Result<(), NoMemory>
     ensures { OnOk result (out.new.items ≡ out.old.items ++ map shown items) }
 {
@@ -69,7 +69,7 @@ fn show(out: &mut Vec<WireItem>, items: Items) -> Result<(), NoMemory>
     Ok(())
 }
 
-/// Adds the items of a push and its refusal, and says whether it has none.
+// Adds the items of a push and its refusal, and says whether it has none.
 fn give_push(
     alloc: Global,
     out: &mut Vec<WireItem>,
@@ -89,12 +89,12 @@ fn give_push(
     }
 }
 
-/// Where the reading stands behind a part.
+// Where the reading stands behind a part.
 #[derive(Drop)]
 enum Behind {
-    /// Parts may follow. The bytes are those of the push that is open, if one is.
+    // Parts may follow. The bytes are those of the push that is open, if one is.
     More(Option<Bytes>),
-    /// Nothing follows.
+    // Nothing follows.
     Last,
 }
 
@@ -115,7 +115,7 @@ fn refuse(out: &mut Vec<WireItem>, cause: Cause) -> Result<(), NoMemory>
     Ok(())
 }
 
-/// Takes a part that comes where no push is open.
+// Takes a part that comes where no push is open.
 fn take_outside(alloc: Global, out: &mut Vec<WireItem>, part: Part) -> Result<Behind, NoMemory>
     ensures { IfOk result (λ behind. Goes out.old.items None part behind out.new.items) }
 {
@@ -142,7 +142,7 @@ fn take_outside(alloc: Global, out: &mut Vec<WireItem>, part: Part) -> Result<Be
     }
 }
 
-/// Takes a part that comes where a push is open, of which these bytes came.
+// Takes a part that comes where a push is open, of which these bytes came.
 fn take_inside(
     alloc: Global,
     out: &mut Vec<WireItem>,
@@ -189,7 +189,7 @@ fn take_inside(
     }
 }
 
-/// Gives what a push gave that goes on no more.
+// Gives what a push gave that goes on no more.
 fn cut_push(alloc: Global, out: &mut Vec<WireItem>, bytes: &[u8]) -> Result<(), NoMemory>
     ensures { OnOk result (out.new.items ≡ out.old.items ++ wire (Some bytes.now) []) }
 {
@@ -211,7 +211,7 @@ fn take(
     }
 }
 
-/// Gives what the push gave that is still open.
+// Gives what the push gave that is still open.
 fn finish(alloc: Global, out: &mut Vec<WireItem>, pending: Option<Bytes>) -> Result<(), NoMemory>
     ensures { OnOk result (out.new.items ≡ out.old.items ++ wire pending []) }
 {

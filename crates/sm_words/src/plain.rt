@@ -24,7 +24,7 @@ fn is_plain(word: &str) -> bool
     }
 }
 
-/// Whether each word before `--` is plain: `clap` takes `-` for a word, and `--name=-value` for an option.
+// Whether each word before `--` is plain: `clap` takes `-` for a word, and `--name=-value` for an option.
 pub(crate) fn are_plain(words: &[String]) -> bool
     ensures { result ≡ are_plain (map string_bytes words.now) }
 {

@@ -1,18 +1,10 @@
 //! The numbers among the words.
 ghost use Rattle.std.specs.Prelude.{◌≡◌, ◌<◌, ◌≤◌, ◌^◌, IfSome};
-ghost use Rattle.std.specs.List.{list_all};
-ghost use Rattle.sm_model.specs.Digits.{is_digit};
 ghost use Rattle.sm_words.specs.Words.{numeral};
 
-use sm_model::decimal_up_to;
+use sm_model::{are_digits, decimal_up_to};
 
-fn are_digits(text: &[u8]) -> bool
-    ensures { result ≡ list_all is_digit text.now }
-{
-    text.iter().all(|c| 48 <= *c && *c <= 57)
-}
-
-// The number that a word writes, if it writes one in these bounds.
+/// The number that a word writes, if it writes one in these bounds.
 #[tactic(auto, unfolding(crate::specs::Words::numeral))]
 pub fn number(word: &str, low: u64, high: u64) -> Option<u64>
     requires { high < 2 ^ 63 }

@@ -18,7 +18,7 @@ pub enum Acted {
     NoMemory,
 }
 
-/// The first half of the bytes, rounded down, where the reply is cut, and at most as many as the limit.
+// The first half of the bytes, rounded down, where the reply is cut, and at most as many as the limit.
 fn cut_short(bytes: &mut Vec<u8>, cut: bool, limit: u64)
     ensures { bytes.new.items ≡ take limit (halved cut bytes.old.items) }
 {
@@ -30,7 +30,7 @@ fn cut_short(bytes: &mut Vec<u8>, cut: bool, limit: u64)
     }
 }
 
-/// What the dial answers.
+// What the dial answers.
 pub(crate) fn answer_for(lost: bool, cut: bool, limit: u64, acted: Acted) -> Answer
     ensures { result ≡ answer_for lost cut limit acted }
 {

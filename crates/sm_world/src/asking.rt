@@ -12,7 +12,7 @@ const FIRST: u64 = 1 << 63;
 // The most bytes of a piece.
 const PIECE: usize = 65_536;
 
-/// The number of the next connection.
+// The number of the next connection.
 pub(crate) fn next_connection<S: Crashing>(site: &S) -> Option<u64>
     ensures first { IfSome result (λ n. 2 ^ 63 ≤ n) }
     ensures above { IfSome result (λ n. IfSome (S.Disk.seen.view site.now).script (λ deals. numbers_after (S.Link.numbers site.now) deals ≤ n)) }
@@ -39,7 +39,7 @@ fn add_piece(
     Ok(())
 }
 
-/// A connection that is opened and brings these bytes, in pieces.
+// A connection that is opened and brings these bytes, in pieces.
 pub(crate) fn script_of(alloc: Global, conn: u64, request: &[u8]) -> Result<Script, AllocError>
     ensures { IfOk result (Brings conn request.now) }
 {

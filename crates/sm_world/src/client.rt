@@ -34,7 +34,7 @@ pub struct Client {
     pub played: u64,
 }
 
-/// Where the origin is. Its host, its port and its path say nothing to an origin in memory.
+// Where the origin is. Its host, its port and its path say nothing to an origin in memory.
 pub(crate) fn place(alloc: Global) -> Result<Place, NoMemory>
     ensures { IfOk result (λ p. p ≡ place) }
 {
@@ -119,8 +119,8 @@ fn plan(alloc: Global, stream: &[u8], count: u64) -> Result<Plan, NoMemory>
     })
 }
 
-/// Plays a stream of the channel of the encoders with one policy: so many fragments, or only a manifest. A play that doesn't get them all
-/// is told as want of memory.
+// Plays a stream of the channel of the encoders with one policy: so many fragments, or only a manifest. A play that doesn't get them all
+// is told as want of memory.
 pub(crate) fn play_stream(
     alloc: Global,
     dial: &mut OriginDial<MemorySite>,

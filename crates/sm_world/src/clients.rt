@@ -72,8 +72,8 @@ fn play_first(
     Ok(client)
 }
 
-/// Plays the streams of the clients, each with a policy of its own: pictures, pictures and sound. Before the second the site crashes, and what
-/// it keeps is read back.
+// Plays the streams of the clients, each with a policy of its own: pictures, pictures and sound. Before the second the site crashes, and what
+// it keeps is read back.
 pub(crate) fn play_all(
     alloc: Global,
     dial: &mut OriginDial<MemorySite>,

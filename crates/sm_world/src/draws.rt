@@ -2,7 +2,7 @@
 ghost use Rattle.std.specs.Prelude.{◌≡◌};
 ghost use Rattle.sm_world.specs.Rounds.{drawn, stirred};
 
-/// What decides a rehearsal: a linear congruential generator of 31 bits, of which each draw gives the upper ones.
+// What decides a rehearsal: a linear congruential generator of 31 bits, of which each draw gives the upper ones.
 #[derive(Clone, Copy, Debug)]
 pub(crate) struct Draws {
     pub state: u32,

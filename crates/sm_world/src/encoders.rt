@@ -10,7 +10,7 @@ use sm_model::{Bytes, Fragment, NoMemory, Sample, Samples};
 use sm_moof::put_fragment;
 use std::alloc::Global;
 
-/// How long a fragment of encoder A is, and how far apart they are, in ticks of ten million a second.
+// How long a fragment of encoder A is, and how far apart they are, in ticks of ten million a second.
 pub(crate) const LENGTH: u64 = 20_000_000;
 
 fn name_of(id: u32) -> &'static [u8]
@@ -55,7 +55,7 @@ fn fragment_of(
     })
 }
 
-/// The fragment that encoder A pushes in round `i`, from 0, for the track with this track_ID.
+// The fragment that encoder A pushes in round `i`, from 0, for the track with this track_ID.
 pub(crate) fn of_encoder_a(alloc: Global, i: u64, id: u32) -> Result<Fragment, NoMemory>
     requires early { i < 2 ^ 32 }
     requires low { id < 4 }
@@ -75,7 +75,7 @@ fn add(alloc: Global, body: &mut Vec<u8>, id: u32, fragment: &Fragment) -> Resul
     Ok(())
 }
 
-/// The push of encoder A in round `i`, from 0: the header, and a fragment of each track.
+// The push of encoder A in round `i`, from 0: the header, and a fragment of each track.
 pub(crate) fn push_of_a(alloc: Global, header: &[u8], i: u64) -> Result<Vec<u8>, NoMemory>
     requires early { i < 2 ^ 32 }
     ensures { IfOk result (λ body. body.items ≡ body_of_a header.now i) }
@@ -87,7 +87,7 @@ pub(crate) fn push_of_a(alloc: Global, header: &[u8], i: u64) -> Result<Vec<u8>,
     Ok(body)
 }
 
-/// A push of encoder B: the header, and a fragment of track 1 whose one sample is the byte 0.
+// A push of encoder B: the header, and a fragment of track 1 whose one sample is the byte 0.
 pub(crate) fn push_of_b(
     alloc: Global,
     header: &[u8],

@@ -63,7 +63,7 @@ fn are_same_tracks(a: &[Track], b: &[Track]) -> bool
     }
 }
 
-/// Whether these are the same tracks in the same order.
+// Whether these are the same tracks in the same order.
 pub(crate) fn is_same_channel(a: &Channel, b: &Channel) -> bool
     ensures { IsTrue result → a.now ≡ b.now }
 {
@@ -100,7 +100,7 @@ fn are_same_samples(a: &[Sample], b: &[Sample]) -> bool
     }
 }
 
-/// Whether these are the same fragments, samples and all.
+// Whether these are the same fragments, samples and all.
 pub(crate) fn is_same_fragment(a: &Fragment, b: &Fragment) -> bool
     ensures { IsTrue result → a.now ≡ b.now }
 {

@@ -92,10 +92,10 @@ impl<S: Crashing> Dial for OriginDial<S> {
         Ok(())
     }
 
-    /// `Lost` is answered where the number is listed so, once the origin has acted; and otherwise where the store could not be
-    /// opened because its disk failed, or the link failed before all was served. Else what went out to a GET is a front of the reply of the log of
-    /// that moment: it tells a disk that failed, or a connection too many, only where this exchange met with it. `NoMemory` is not told, and says
-    /// nothing of what the origin did.
+    // `Lost` is answered where the number is listed so, once the origin has acted; and otherwise where the store could not be
+    // opened because its disk failed, or the link failed before all was served. Else what went out to a GET is a front of the reply of the log of
+    // that moment: it tells a disk that failed, or a connection too many, only where this exchange met with it. `NoMemory` is not told, and says
+    // nothing of what the origin did.
     fn exchange(&mut self, request: &[u8], limit: u64) -> Answer
         ensures chosen { untold_peer ≡ untold_peer }
         ensures log { Some self.new.1.made ≡ logged (Some self.old.1.made) request.now limit result }

@@ -50,7 +50,7 @@ const TEXT: &[u8] = br#"<?xml version="1.0" encoding="utf-8"?>
 </smil>
 "#;
 
-/// A name of these bytes, which are one.
+// A name of these bytes, which are one.
 pub(crate) fn name(alloc: Global, bytes: &[u8]) -> Result<Name, NoMemory>
     ensures { IfOk result (λ name. name ≡ bytes.now) }
 {
@@ -105,7 +105,7 @@ fn audio(alloc: Global) -> Result<Track, NoMemory>
     })
 }
 
-/// The channel that both encoders push: two qualities of pictures, and sound.
+// The channel that both encoders push: two qualities of pictures, and sound.
 pub(crate) fn channel(alloc: Global) -> Result<Channel, NoMemory>
     ensures { IfOk result (λ c. c ≡ channel) }
 {
@@ -116,7 +116,7 @@ pub(crate) fn channel(alloc: Global) -> Result<Channel, NoMemory>
     Ok(Channel::from_vec(tracks))
 }
 
-/// The header of a push of this channel.
+// The header of a push of this channel.
 pub(crate) fn header(alloc: Global) -> Result<Bytes, NoMemory>
     ensures { IfOk result (λ h. h ≡ header_text) }
 {

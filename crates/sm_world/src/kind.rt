@@ -34,7 +34,7 @@ fn kind_of(number: u32) -> Kind
     }
 }
 
-/// What is drawn for the next round.
+// What is drawn for the next round.
 pub(crate) fn draw_kind(draws: &mut Draws) -> Kind
     ensures kind { result ≡ kind_by draws.old.state }
     ensures state { draws.new.state ≡ state_by draws.old.state }

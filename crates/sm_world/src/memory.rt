@@ -8,7 +8,7 @@ use sm_origin::law::{an_image_fits, fewer_images_stand};
 use sm_site::{Crashing, MemorySite};
 
 impl OriginDial<MemorySite> {
-    /// Lets so many further writes and syncs of the disk pass, up to the next crash.
+    // Lets so many further writes and syncs of the disk pass, up to the next crash.
     pub(crate) fn stop_disk(&mut self, calls: u64)
         ensures stop { IsStop calls self.old self.new }
         ensures stands { (w : World) → Stands site_seen w self.old.1.state self.old.0 → Stands site_seen w self.new.1.state self.new.0 }
@@ -17,7 +17,7 @@ impl OriginDial<MemorySite> {
         self.site.stop_after(calls);
     }
 
-    /// Crashes the site, which keeps the image of this choice.
+    // Crashes the site, which keeps the image of this choice.
     pub(crate) fn crash_by(&mut self, choice: u8)
         ensures crash { IsCrash choice self.old self.new }
         ensures crashes { (w : World) → Stands site_seen w self.old.1.state self.old.0

@@ -23,7 +23,7 @@ use sm_serve::{Served, State, serve};
 use sm_site::{Crashing, Script};
 use std::alloc::{AllocError, Global};
 
-/// What the loop keeps behind a request, and what came of that.
+// What the loop keeps behind a request, and what came of that.
 pub(crate) struct Asked {
     pub state: Option<State>,
     pub acted: Acted,
@@ -155,7 +155,7 @@ fn serve_request<S: Crashing>(
     }
 }
 
-/// Opens the store where it isn't open, and serves a request on a new connection until nothing more comes.
+// Opens the store where it isn't open, and serves a request on a new connection until nothing more comes.
 pub(crate) fn ask<S: Crashing>(
     alloc: Global,
     site: &mut S,

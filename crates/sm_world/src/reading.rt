@@ -19,7 +19,7 @@ use sm_serve::State;
 use sm_site::Crashing;
 use std::alloc::Global;
 
-/// How many entries a store has after so many rounds: the channel, and three fragments each.
+// How many entries a store has after so many rounds: the channel, and three fragments each.
 pub(crate) fn entries_after(rounds: u64) -> u64
     requires few { rounds ≤ 2000 }
     ensures { result ≡ entries_after rounds }
@@ -159,8 +159,8 @@ impl<S: Crashing> OriginDial<S> {
         }
     }
 
-    /// Reads a store back that isn't open: whether it keeps the channel of the encoders and all that encoder A pushed in so many rounds, in
-    /// order, and nothing else. An opening that fails is told as want of memory.
+    // Reads a store back that isn't open: whether it keeps the channel of the encoders and all that encoder A pushed in so many rounds, in
+    // order, and nothing else. An opening that fails is told as want of memory.
     pub(crate) fn reads_back(&mut self, rounds: u64) -> Result<bool, NoMemory>
         requires closed { self.old.1.state ≡ None }
         requires few { rounds ≤ 2000 }

@@ -16,7 +16,7 @@ use sm_model::{Bytes, Name, NoMemory};
 use sm_site::MemorySite;
 use std::alloc::Global;
 
-/// An origin in memory, the way to it, and what it has said of pushes: how many fragments were known, and how many pushes it refused.
+// An origin in memory, the way to it, and what it has said of pushes: how many fragments were known, and how many pushes it refused.
 #[derive(Drop)]
 pub(crate) struct Stage {
     pub alloc: Global,

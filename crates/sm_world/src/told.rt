@@ -33,8 +33,8 @@ fn known_in(alloc: Global, line: &[u8], fragments: u64) -> Result<Option<u64>, N
     Ok(None)
 }
 
-/// What was said of a push of so many fragments. A line of another kind behind a 200, which an origin never says, is taken as want of
-/// memory.
+// What was said of a push of so many fragments. A line of another kind behind a 200, which an origin never says, is taken as want of
+// memory.
 pub(crate) fn told_by(alloc: Global, fragments: u64, pushed: Pushed) -> Result<Told, NoMemory>
     requires few { fragments ≤ 3 }
     ensures { IfOk result (Says fragments pushed) }

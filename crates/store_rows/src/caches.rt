@@ -1,8 +1,8 @@
 //! Steps on a cache of fragments.
-use crate::values::{address, fragment};
 use anyhow::{Result, bail};
 use sm_cache::Cache;
 use sm_rows::scripts::is_quiet;
+use sm_rows::stored::{address, fragment};
 use sm_rows::tales::Tale;
 use sm_rows::{Case, Line, Words};
 use std::alloc::Global;

@@ -16,7 +16,6 @@ mod origins;
 mod serving;
 mod stage;
 mod stores;
-mod values;
 mod verdicts;
 
 use anyhow::Result;

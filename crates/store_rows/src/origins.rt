@@ -5,12 +5,12 @@ ghost use Rattle.sm_origin.specs.Machine.{Machine};
 ghost use Rattle.sm_origin.specs.Acting.{StandsFor, IsValidAct};
 
 use crate::choices::limits;
-use crate::values::{add_to, address, channel, fragment};
 use crate::verdicts::declared;
 use anyhow::{Result, bail};
 use sm_model::{Act, Cause, Channel, Refusal, Track};
 use sm_origin::{Counted, Origin, Reply};
 use sm_rows::scripts::is_quiet;
+use sm_rows::stored::{add_to, address, channel, fragment};
 use sm_rows::tales::Tale;
 use sm_rows::{Case, Line, Words};
 use sm_site::MemorySite;

@@ -6,11 +6,11 @@ ghost use Rattle.sm_serve.specs.Standing.{StandsOn};
 ghost use Rattle.sm_serve.specs.Serving.{Known};
 
 use crate::choices::{chosen, limits};
-use crate::values::{add_to, channel, is_of_track};
 use crate::verdicts::declared;
 use anyhow::{Result, bail};
 use sm_archive::Declared;
 use sm_model::Channel;
+use sm_rows::stored::{add_to, channel, is_of_track};
 use sm_rows::tales::Tale;
 use sm_rows::{Case, Line, Words};
 use sm_serve::{Served, State, serve};

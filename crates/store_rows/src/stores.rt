@@ -5,12 +5,12 @@ ghost use Rattle.sm_site.specs.Memory.{site_may_leave};
 ghost use Rattle.sm_archive.specs.Stands.{Stands};
 
 use crate::choices::limits;
-use crate::values::{add_to, address, channel, fragment};
 use crate::verdicts::{declared, fetched, kept};
 use anyhow::{Result, bail};
 use sm_archive::{Archive, Fetched, fewer_images_stand, open_store};
 use sm_model::{Address, Channel, Fragment, Track};
 use sm_rows::scripts::is_quiet;
+use sm_rows::stored::{add_to, address, channel, fragment};
 use sm_rows::tales::Tale;
 use sm_rows::{Case, Line, Words};
 use sm_site::{Crashing, MemorySite};

@@ -3,6 +3,6 @@ use Rattle.player_rows.proofs.serving.start.Goals as goal
 
 pub run-requires-clause-known : goal.run-requires-clause-known
 run-requires-clause-known g c some =
-    let machine = c.in-Ok.ensures.opened in
+    let machine = c.in-Ok.ensures.opens.opened in
     let run = c.in-Ok.ensures.begins machine.0 _ machine.2 refl in
     (run.0, run.6)

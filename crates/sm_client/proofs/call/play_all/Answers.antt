@@ -1,5 +1,5 @@
-use Rattle.std.proofs.Common.{refl, arith, sym, ◌∙◌}
-use Rattle.sm_client.proofs.Dials.{dialed-start, dialed-then, dialed-dropped}
+use Rattle.std.proofs.Common.{refl, arith, sym}
+use Rattle.sm_client.proofs.Dials.{left-same, left-then, left-dropped}
 use Rattle.sm_client.proofs.Playing.{part-by, playing-start, playing-more, playing-ended, playing-done}
 use Rattle.sm_client.proofs.call.play_all.Goals as goal
 
@@ -9,9 +9,7 @@ loop-name-init g c = record {
   place = refl;
   few = omega arith;
   later = omega arith;
-  goes_on = g.met.C.Dial.later_same _;
-  chosen = refl;
-  dial = dialed-start _ _ _;
+  dial = left-same (g.met.C.Dial.later_same _);
 }
 
 pub loop-name-preserved : goal.loop-name-preserved
@@ -23,10 +21,8 @@ loop-name-preserved g c =
           (part-by c.requires.tries c.requires.refresh e.streamed) c.in-Done.is e.others;
       place = omega (arith, i.place);
       few = omega (arith, i.few, e.few, c.requires.count);
-      later = omega (arith, i.later, e.later);
-      goes_on = g.met.C.Dial.later_then _ _ _ i.goes_on e.goes_on;
-      chosen = e.chosen ∙ i.chosen;
-      dial = dialed-dropped (dialed-then i.dial e.dial);
+      later = omega (arith, i.later, e.cause.later);
+      dial = left-dropped (left-then g.met.C.Dial.later_then i.dial e.dial);
     }
 
 pub returns-clause-plays : goal.returns-clause-plays
@@ -40,7 +36,4 @@ returns-in_default-clause-plays g c =
     (part-by c.requires.tries c.requires.refresh e.streamed) c.in_default.not-Done e.others
 
 pub returns-in_default-clause-dial : goal.returns-in_default-clause-dial
-returns-in_default-clause-dial g c = dialed-then c.loop-name.invariant.dial c.play_stream-stream.ensures.dial
-
-pub returns-in_default-clause-goes_on : goal.returns-in_default-clause-goes_on
-returns-in_default-clause-goes_on g c = g.met.C.Dial.later_then _ _ _ c.loop-name.invariant.goes_on c.play_stream-stream.ensures.goes_on
+returns-in_default-clause-dial g c = left-then g.met.C.Dial.later_then c.loop-name.invariant.dial c.play_stream-stream.ensures.dial

@@ -1,5 +1,5 @@
 use Rattle.std.proofs.Common.{◌≡◌, ◌≤◌, ◌*◌, []}
-use Rattle.sm_client.specs.Dials.{Dialed}
+use Rattle.sm_client.specs.Dials.{LeavesDial}
 use Rattle.sm_client.specs.Turns.{fresh}
 use Rattle.sm_client.proofs.Playing.{Playing}
 use Rattle.sm_client.proofs.call.play_all.Given as goal
@@ -15,8 +15,6 @@ invariant-loop-name g l = record {
       l.names l.number l.played (g.C.Dial.log l.fn.dial) (g.C.Dial.log l.dial) (g.C.Dial.store l.fn.dial) (g.C.Dial.store l.dial) (g.T.Tracks.held l.fn.tracks) (g.T.Tracks.held l.tracks);
   place : l.number ≡ l.name-index;
   few : l.played ≤ l.number * 4294967295;
-  goes_on : g.C.Dial.later l.fn.dial l.dial;
-  chosen : g.C.Dial.chosen l.dial ≡ g.C.Dial.chosen l.fn.dial;
-  dial : Dialed (g.C.Dial.log l.fn.dial) (g.C.Dial.log l.dial) (g.C.Dial.dial_faults l.fn.dial) (g.C.Dial.dial_faults l.dial) (g.C.Dial.store l.fn.dial) (g.C.Dial.store l.dial) [];
+  dial : LeavesDial g.C.Dial.log g.C.Dial.store g.C.Dial.later g.C.Dial.dial_faults g.C.Dial.chosen l.fn.dial l.dial [];
   later : g.T.Tracks.faults l.fn.tracks ≤ g.T.Tracks.faults l.tracks;
 }

@@ -1,5 +1,5 @@
-use Rattle.std.proofs.Common.{arith, refl, ◌∙◌}
-use Rattle.sm_client.proofs.Dials.{dialed-start, dialed-then, dialed-dropped, dialed-more, dialed-carried}
+use Rattle.std.proofs.Common.{arith, refl}
+use Rattle.sm_client.proofs.Dials.{left-same, left-then, left-dropped, left-more, left-carried}
 use Rattle.sm_client.proofs.Kept.{keeps-behind}
 use Rattle.sm_client.proofs.Tries.{piece_tried-start, piece_tried-more, piece_tried-took, piece_tried-stopped, piece_tried-lost, piece_tried-end, took-valid}
 use Rattle.sm_client.proofs.piece.ask.Goals as goal
@@ -7,17 +7,13 @@ use Rattle.sm_client.proofs.piece.ask.Goals as goal
 pub loop-done-init : goal.loop-done-init
 loop-done-init g c = record {
   tried = piece_tried-start _ _ _ _ _ _ _ _ _ c.new-outcomes.ensures;
-  goes_on = g.met.C.Dial.later_same _;
-  chosen = refl;
-  dial = dialed-carried _ (dialed-start _ _ _) c.new-outcomes.ensures;
+  dial = left-carried _ (left-same (g.met.C.Dial.later_same _)) c.new-outcomes.ensures;
 }
 
 pub loop-done-preserved : goal.loop-done-preserved
 loop-done-preserved g c = record {
   tried = piece_tried-more _ _ _ c.loop-done.invariant.tried c.loop-done-test.true c.in-Missed.ensures.once c.in-Missed.ensures.rest c.settle-in-Missed.ensures c.in-Ok.ensures.ok refl;
-  goes_on = g.met.C.Dial.later_then _ _ _ c.loop-done.invariant.goes_on c.in-Missed.ensures.goes_on;
-  chosen = c.in-Missed.ensures.chosen ∙ c.loop-done.invariant.chosen;
-  dial = dialed-more _ c.loop-done.invariant.dial c.in-Missed.ensures.dial c.in-Ok.ensures.ok;
+  dial = left-more _ g.met.C.Dial.later_then c.loop-done.invariant.dial c.in-Missed.ensures.dial c.in-Ok.ensures.ok;
 }
 
 pub returns-in-Took-clause-made : goal.returns-in-Took-clause-made
@@ -36,22 +32,13 @@ pub returns-in-Took-clause-took : goal.returns-in-Took-clause-took
 returns-in-Took-clause-took g c = took-valid c.in-Took.ensures.once
 
 pub returns-in-Took-clause-dial : goal.returns-in-Took-clause-dial
-returns-in-Took-clause-dial g c = dialed-then c.loop-done.invariant.dial c.in-Took.ensures.dial
+returns-in-Took-clause-dial g c = left-then g.met.C.Dial.later_then c.loop-done.invariant.dial c.in-Took.ensures.dial
 
 pub returns-in-Took-clause-kept : goal.returns-in-Took-clause-kept
-returns-in-Took-clause-kept g c = keeps-behind c.loop-done.invariant.dial.grows c.in-Took.ensures.kept
+returns-in-Took-clause-kept g c = keeps-behind c.loop-done.invariant.dial.dialed.grows c.in-Took.ensures.kept
 
 pub returns-in_default-clause-dial : goal.returns-in_default-clause-dial
-returns-in_default-clause-dial g c = dialed-dropped (dialed-then c.loop-done.invariant.dial c.in-Missed.ensures.dial)
+returns-in_default-clause-dial g c = left-dropped (left-then g.met.C.Dial.later_then c.loop-done.invariant.dial c.in-Missed.ensures.dial)
 
 pub returns-in-NoMemory-clause-dial : goal.returns-in-NoMemory-clause-dial
-returns-in-NoMemory-clause-dial g c = dialed-then c.loop-done.invariant.dial c.in-NoMemory.ensures.dial
-
-pub returns-in-Took-clause-goes_on : goal.returns-in-Took-clause-goes_on
-returns-in-Took-clause-goes_on g c = g.met.C.Dial.later_then _ _ _ c.loop-done.invariant.goes_on c.in-Took.ensures.goes_on
-
-pub returns-in_default-clause-goes_on : goal.returns-in_default-clause-goes_on
-returns-in_default-clause-goes_on g c = g.met.C.Dial.later_then _ _ _ c.loop-done.invariant.goes_on c.in-Missed.ensures.goes_on
-
-pub returns-in-NoMemory-clause-goes_on : goal.returns-in-NoMemory-clause-goes_on
-returns-in-NoMemory-clause-goes_on g c = g.met.C.Dial.later_then _ _ _ c.loop-done.invariant.goes_on c.in-NoMemory.ensures.goes_on
+returns-in-NoMemory-clause-dial g c = left-then g.met.C.Dial.later_then c.loop-done.invariant.dial c.in-NoMemory.ensures.dial

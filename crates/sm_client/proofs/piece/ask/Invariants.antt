@@ -1,5 +1,4 @@
-use Rattle.std.proofs.Common.{◌≡◌}
-use Rattle.sm_client.specs.Dials.{Dialed}
+use Rattle.sm_client.specs.Dials.{LeavesDial}
 use Rattle.sm_client.specs.Turns.{fresh}
 use Rattle.sm_client.proofs.Tries.{PieceTried}
 use Rattle.sm_client.proofs.piece.ask.Given as goal
@@ -14,7 +13,5 @@ invariant-loop-done g l = record {
       l.plan l.name l.stream l.start l.ahead
       (fresh l.initial.policies.acting l.initial.policies.rest.items) (fresh l.policies.acting l.policies.rest.items)
       l.outcomes l.done (g.C.Dial.log l.initial.dial) (g.C.Dial.log l.dial);
-  goes_on : g.C.Dial.later l.initial.dial l.dial;
-  chosen : g.C.Dial.chosen l.dial ≡ g.C.Dial.chosen l.initial.dial;
-  dial : Dialed (g.C.Dial.log l.initial.dial) (g.C.Dial.log l.dial) (g.C.Dial.dial_faults l.initial.dial) (g.C.Dial.dial_faults l.dial) (g.C.Dial.store l.initial.dial) (g.C.Dial.store l.dial) l.outcomes;
+  dial : LeavesDial g.C.Dial.log g.C.Dial.store g.C.Dial.later g.C.Dial.dial_faults g.C.Dial.chosen l.initial.dial l.dial l.outcomes;
 }

@@ -1,3 +1,4 @@
+use Rattle.sm_fetch.proofs.Alone.{on_then}
 use Rattle.sm_fetch.proofs.Answering.{answered_none, answered_then}
 use Rattle.sm_client.proofs.pushing.push_input.Goals as goal
 
@@ -8,4 +9,9 @@ pub returns-in_err-body-clause-answered : goal.returns-in_err-body-clause-answer
 returns-in_err-body-clause-answered g c = answered_none c.select.ensures.log c.select.ensures.store
 
 pub returns-clause-answered : goal.returns-clause-answered
-returns-clause-answered g c = answered_then (answered_none c.select.ensures.log c.select.ensures.store) c.push_body.ensures.answered
+returns-clause-answered g c = answered_then (answered_none c.select.ensures.log c.select.ensures.store) c.push_body.ensures.dial.answered
+
+pub returns-clause-dial : goal.returns-clause-dial
+returns-clause-dial g c =
+    let e = c.select.ensures in
+    on_then g.met.C.Dial.later_then (record { goes_on = e.goes_on; no_fewer = e.later; grows = e.store }) c.push_body.ensures.dial.on

@@ -1,5 +1,5 @@
 use Rattle.std.proofs.Common.{refl}
-use Rattle.sm_client.proofs.Dials.{dialed-none, dialed-then}
+use Rattle.sm_client.proofs.Dials.{left-behind}
 use Rattle.sm_client.proofs.Seeks.{found-levels, relisted-to, relisted-lost, relist-gave_up, relist-stopped}
 use Rattle.sm_client.proofs.seek.relist.Goals as goal
 
@@ -22,25 +22,13 @@ pub returns-in-Ok-clause-levels : goal.returns-in-Ok-clause-levels
 returns-in-Ok-clause-levels g c = rw c.in-Ok.ensures.listing (found-levels _ c.in-Read.ensures.listed refl)
 
 pub returns-in-Ok-clause-dial : goal.returns-in-Ok-clause-dial
-returns-in-Ok-clause-dial g c = dialed-then (dialed-none c.pause.ensures.log c.pause.ensures.later c.pause.ensures.store) c.in-Read.ensures.dial
+returns-in-Ok-clause-dial g c = let e = c.pause.ensures in left-behind g.met.C.Dial.later_then e.goes_on e.later e.chosen e.log e.store c.in-Read.ensures.dial
 
 pub returns-in-Err-clause-dial : goal.returns-in-Err-clause-dial
-returns-in-Err-clause-dial g c = dialed-then (dialed-none c.pause.ensures.log c.pause.ensures.later c.pause.ensures.store) c.in-Read.ensures.dial
+returns-in-Err-clause-dial g c = let e = c.pause.ensures in left-behind g.met.C.Dial.later_then e.goes_on e.later e.chosen e.log e.store c.in-Read.ensures.dial
 
 pub returns-in-GaveUp-clause-dial : goal.returns-in-GaveUp-clause-dial
-returns-in-GaveUp-clause-dial g c = dialed-then (dialed-none c.pause.ensures.log c.pause.ensures.later c.pause.ensures.store) c.in-GaveUp.ensures.dial
+returns-in-GaveUp-clause-dial g c = let e = c.pause.ensures in left-behind g.met.C.Dial.later_then e.goes_on e.later e.chosen e.log e.store c.in-GaveUp.ensures.dial
 
 pub returns-in-NoMemory-clause-dial : goal.returns-in-NoMemory-clause-dial
-returns-in-NoMemory-clause-dial g c = dialed-then (dialed-none c.pause.ensures.log c.pause.ensures.later c.pause.ensures.store) c.in-NoMemory.ensures.dial
-
-pub returns-in-Ok-clause-goes_on : goal.returns-in-Ok-clause-goes_on
-returns-in-Ok-clause-goes_on g c = g.met.C.Dial.later_then _ _ _ c.pause.ensures.goes_on c.in-Read.ensures.goes_on
-
-pub returns-in-Err-clause-goes_on : goal.returns-in-Err-clause-goes_on
-returns-in-Err-clause-goes_on g c = g.met.C.Dial.later_then _ _ _ c.pause.ensures.goes_on c.in-Read.ensures.goes_on
-
-pub returns-in-GaveUp-clause-goes_on : goal.returns-in-GaveUp-clause-goes_on
-returns-in-GaveUp-clause-goes_on g c = g.met.C.Dial.later_then _ _ _ c.pause.ensures.goes_on c.in-GaveUp.ensures.goes_on
-
-pub returns-in-NoMemory-clause-goes_on : goal.returns-in-NoMemory-clause-goes_on
-returns-in-NoMemory-clause-goes_on g c = g.met.C.Dial.later_then _ _ _ c.pause.ensures.goes_on c.in-NoMemory.ensures.goes_on
+returns-in-NoMemory-clause-dial g c = let e = c.pause.ensures in left-behind g.met.C.Dial.later_then e.goes_on e.later e.chosen e.log e.store c.in-NoMemory.ensures.dial

@@ -1,18 +1,16 @@
-use Rattle.std.proofs.Common.{sym, ◌∙◌, refl}
-use Rattle.sm_client.proofs.Dials.{dialed-start, dialed-then, dialed-carried}
+use Rattle.std.proofs.Common.{sym, ◌∙◌}
+use Rattle.sm_client.proofs.Dials.{left-same, left-then, left-carried}
 use Rattle.sm_client.proofs.Seeks.{seeking-start, seeking-more, seeking-found, seeking-ended}
 use Rattle.sm_client.proofs.seek.seek.Goals as goal
 
 pub loop-alloc-init : goal.loop-alloc-init
-loop-alloc-init g c = record { seeking = seeking-start _ _ _ _ c.requires.levels; goes_on = g.met.C.Dial.later_same _; chosen = refl; dial = dialed-start _ _ _ }
+loop-alloc-init g c = record { seeking = seeking-start _ _ _ _ c.requires.levels; dial = left-same (g.met.C.Dial.later_same _) }
 
 pub loop-alloc-preserved : goal.loop-alloc-preserved
 loop-alloc-preserved g c = record {
   seeking = seeking-more _ c.loop-alloc.invariant.seeking (λ q h more. c.in_default.ensures.none q h (sym
       (c.is_known.ensures q h) ∙ c.loop-alloc-test.true) more) c.in_default-relist.ensures.relists c.in_default-relist.ensures.written c.in_default-relist.ensures.levels;
-  goes_on = g.met.C.Dial.later_then _ _ _ c.loop-alloc.invariant.goes_on c.in_default-relist.ensures.goes_on;
-  chosen = c.in_default-relist.ensures.chosen ∙ c.loop-alloc.invariant.chosen;
-  dial = dialed-then c.loop-alloc.invariant.dial c.in_default-relist.ensures.dial;
+  dial = left-then g.met.C.Dial.later_then c.loop-alloc.invariant.dial c.in_default-relist.ensures.dial;
 }
 
 pub returns-clause-sought : goal.returns-clause-sought
@@ -23,10 +21,7 @@ returns-in-Some-relist-clause-sought g c =
     seeking-ended c.loop-alloc.invariant.seeking (λ q h more. c.in_default.ensures.none q h (sym (c.is_known.ensures q h) ∙ c.loop-alloc-test.true) more) c.in-Some-relist.ensures.relists
 
 pub returns-in-Some-relist-clause-dial : goal.returns-in-Some-relist-clause-dial
-returns-in-Some-relist-clause-dial g c = dialed-then c.loop-alloc.invariant.dial c.in-Some-relist.ensures.dial
+returns-in-Some-relist-clause-dial g c = left-then g.met.C.Dial.later_then c.loop-alloc.invariant.dial c.in-Some-relist.ensures.dial
 
 pub returns-in-Some-clause-dial : goal.returns-in-Some-clause-dial
-returns-in-Some-clause-dial g c = dialed-carried _ c.loop-alloc.invariant.dial c.in-Some.ensures.quiet
-
-pub returns-in-Some-relist-clause-goes_on : goal.returns-in-Some-relist-clause-goes_on
-returns-in-Some-relist-clause-goes_on g c = g.met.C.Dial.later_then _ _ _ c.loop-alloc.invariant.goes_on c.in-Some-relist.ensures.goes_on
+returns-in-Some-clause-dial g c = left-carried _ c.loop-alloc.invariant.dial c.in-Some.ensures.quiet

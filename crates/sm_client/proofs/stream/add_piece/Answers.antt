@@ -1,24 +1,24 @@
 use Rattle.std.proofs.Common.{refl, ◌∙◌, sym, ap, ◌+◌}
 use Rattle.sm_model.specs.declared.fragment.Fragment.{Fragment}
-use Rattle.sm_client.proofs.Dials.{dialed-dropped, dialed-carried}
+use Rattle.sm_client.proofs.Dials.{left-dropped, left-carried}
 use Rattle.sm_client.proofs.Streaming.{may-piece, ends-gave_up, ends-stopped, ends-untold, ends-unwritten, ends-written, streams-on, follows}
 use Rattle.sm_client.proofs.stream.add_piece.Goals as goal
 
 pub returns-clause-added : goal.returns-clause-added
 returns-clause-added g c p h more known =
-    ends-stopped c.in-Some.stream _ c.in-NoMemory.ensures.dial.grows (c.in-NoMemory.ensures.made p (may-piece c.ahead-ahead.result h c.in-Some.is more known c.ahead-ahead.ensures)) h.written
+    ends-stopped c.in-Some.stream _ c.in-NoMemory.ensures.dial.dialed.grows (c.in-NoMemory.ensures.made p (may-piece c.ahead-ahead.result h c.in-Some.is more known c.ahead-ahead.ensures)) h.written
 
 pub returns-in-GaveUp-clause-added : goal.returns-in-GaveUp-clause-added
 returns-in-GaveUp-clause-added g c p h more known =
-    ends-gave_up c.in-Some.stream _ c.in-GaveUp.ensures.dial.grows h more known (c.in-GaveUp.ensures.made p (may-piece c.ahead-ahead.result h c.in-Some.is more known c.ahead-ahead.ensures)) h.written
+    ends-gave_up c.in-Some.stream _ c.in-GaveUp.ensures.dial.dialed.grows h more known (c.in-GaveUp.ensures.made p (may-piece c.ahead-ahead.result h c.in-Some.is more known c.ahead-ahead.ensures)) h.written
 
 pub returns-in_default-fragment_of-clause-added : goal.returns-in_default-fragment_of-clause-added
 returns-in_default-fragment_of-clause-added g c p h more known =
-    ends-untold _ c.in-Took.ensures.dial.grows (c.in-Took.ensures.made p (may-piece c.ahead-ahead.result h c.in-Some.is more known c.ahead-ahead.ensures)) h.written
+    ends-untold _ c.in-Took.ensures.dial.dialed.grows (c.in-Took.ensures.made p (may-piece c.ahead-ahead.result h c.in-Some.is more known c.ahead-ahead.ensures)) h.written
 
 pub returns-in-Some-write-clause-added : goal.returns-in-Some-write-clause-added
 returns-in-Some-write-clause-added g c p h more known =
-    ends-unwritten c.in-Some-write.end (c.args.standing.now.written + 1) (c.in-Took.level + 1) c.in-Ok.fragment c.in-Took.ensures.dial.grows (sym h.listing ∙ c.in-Some.is)
+    ends-unwritten c.in-Some-write.end (c.args.standing.now.written + 1) (c.in-Took.level + 1) c.in-Ok.fragment c.in-Took.ensures.dial.dialed.grows (sym h.listing ∙ c.in-Some.is)
     (c.in-Took.ensures.made p (may-piece c.ahead-ahead.result h c.in-Some.is more known c.ahead-ahead.ensures))
     (ap (λ n. n + 1) h.written) refl
     c.in-Ok.ensures.0 c.in-Some-write.ensures.bad
@@ -41,4 +41,4 @@ returns-in-Took-clause-added g c p h more known =
     (ap (λ n. n + 1) h.written) refl c.in-Ok.ensures.0 c.in_default-write.ensures.ok (c.wrote.ensures.written ∙ ap (λ n. n + 1) h.written)
 
 pub returns-in-Some-write-clause-dial : goal.returns-in-Some-write-clause-dial
-returns-in-Some-write-clause-dial g c = dialed-carried _ (dialed-dropped c.in-Took.ensures.dial) c.in-Some-write.ensures.quiet
+returns-in-Some-write-clause-dial g c = left-carried _ (left-dropped c.in-Took.ensures.dial) c.in-Some-write.ensures.quiet

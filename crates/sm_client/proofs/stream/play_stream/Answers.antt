@@ -1,18 +1,16 @@
 use Rattle.std.proofs.Common.{refl, ◌∙◌, ap, arith, ◌+◌}
 use Rattle.std.proofs.KnownBytes.{Keeps-refl, Keeps-trans}
-use Rattle.sm_client.proofs.Dials.{dialed-then}
+use Rattle.sm_client.proofs.Dials.{left-then}
 use Rattle.sm_client.proofs.Streaming.{streaming-start, streaming-more, streaming-ended, streaming-done, ends-lists, begun-levels, begun-written}
 use Rattle.sm_client.proofs.stream.play_stream.Goals as goal
 
 pub loop-init : goal.loop-init
 loop-init g c = record {
-  streaming = streaming-start _ _ _ c.in-Stands.ensures.dial.grows c.in-Stands.ensures.began;
+  streaming = streaming-start _ _ _ c.in-Stands.ensures.dial.dialed.grows c.in-Stands.ensures.began;
   levels = begun-levels c.in-Stands.ensures.began;
   written = begun-written c.in-Stands.ensures.began;
   others = λ k other. Keeps-refl _;
   later = omega arith;
-  goes_on = c.in-Stands.ensures.goes_on;
-  chosen = c.in-Stands.ensures.chosen;
   dial = c.in-Stands.ensures.dial;
 }
 
@@ -25,14 +23,12 @@ loop-preserved g c =
       levels = e.levels;
       written = e.written ∙ ap (λ n. n + 1) i.written;
       others = λ k other. Keeps-trans _ _ _ (i.others k other) (e.others k other);
-      later = omega (arith, i.later, e.later);
-      goes_on = g.met.C.Dial.later_then _ _ _ i.goes_on e.goes_on;
-      chosen = e.chosen ∙ i.chosen;
-      dial = dialed-then i.dial e.dial;
+      later = omega (arith, i.later, e.cause.later);
+      dial = left-then g.met.C.Dial.later_then i.dial e.dial;
     }
 
 pub returns-in-Ended-clause-streamed : goal.returns-in-Ended-clause-streamed
-returns-in-Ended-clause-streamed g c = ends-lists _ _ c.in-Ended.ensures.dial.grows c.in-Ended.ensures.began refl
+returns-in-Ended-clause-streamed g c = ends-lists _ _ c.in-Ended.ensures.dial.dialed.grows c.in-Ended.ensures.began refl
 
 pub returns-in-Some-clause-streamed : goal.returns-in-Some-clause-streamed
 returns-in-Some-clause-streamed g c =
@@ -43,7 +39,4 @@ pub returns-clause-streamed : goal.returns-clause-streamed
 returns-clause-streamed g c = streaming-done _ c.loop.invariant.streaming (omega (arith, c.loop-test.false, c.loop.auto.counter-end))
 
 pub returns-in-Some-clause-dial : goal.returns-in-Some-clause-dial
-returns-in-Some-clause-dial g c = dialed-then c.loop.invariant.dial c.in-Some.ensures.dial
-
-pub returns-in-Some-clause-goes_on : goal.returns-in-Some-clause-goes_on
-returns-in-Some-clause-goes_on g c = g.met.C.Dial.later_then _ _ _ c.loop.invariant.goes_on c.in-Some.ensures.goes_on
+returns-in-Some-clause-dial g c = left-then g.met.C.Dial.later_then c.loop.invariant.dial c.in-Some.ensures.dial

@@ -1,7 +1,7 @@
 use Rattle.std.proofs.Common.{◌≡◌, ◌≢◌, ◌≤◌, ℕ, []}
 use Rattle.std.specs.Io.KnownBytes.{Keeps}
 use Rattle.sm_client.specs.Turns.{fresh}
-use Rattle.sm_client.specs.Dials.{Dialed}
+use Rattle.sm_client.specs.Dials.{LeavesDial}
 use Rattle.sm_client.specs.Calls.{HasLevels}
 use Rattle.sm_client.proofs.Streaming.{Streaming}
 use Rattle.sm_client.proofs.stream.play_stream.Given as goal
@@ -18,8 +18,6 @@ invariant-loop g l = record {
   levels : HasLevels l.standing.listing;
   written : l.standing.written ≡ l.counter;
   others : (k : ℕ) → k ≢ l.number → Keeps (g.T.Tracks.held l.fn.tracks k) (g.T.Tracks.held l.tracks k);
-  goes_on : g.C.Dial.later l.fn.dial l.dial;
-  chosen : g.C.Dial.chosen l.dial ≡ g.C.Dial.chosen l.fn.dial;
-  dial : Dialed (g.C.Dial.log l.fn.dial) (g.C.Dial.log l.dial) (g.C.Dial.dial_faults l.fn.dial) (g.C.Dial.dial_faults l.dial) (g.C.Dial.store l.fn.dial) (g.C.Dial.store l.dial) [];
+  dial : LeavesDial g.C.Dial.log g.C.Dial.store g.C.Dial.later g.C.Dial.dial_faults g.C.Dial.chosen l.fn.dial l.dial [];
   later : g.T.Tracks.faults l.fn.tracks ≤ g.T.Tracks.faults l.tracks;
 }

@@ -4,13 +4,13 @@ use Rattle.sm_command.proofs.serving.serve_state.Goals as goal
 pub serve-requires-clause-known : goal.serve-requires-clause-known
 serve-requires-clause-known g c =
     let p = prepared g.S.Disk.seen c.args.ladder _ _ c.args.state.now c.args.site.now c.prepare.new.state c.prepare.new.site c.in-Ok.ensures.means in
-    known g.S.Disk.seen c.args.ladder _ _ c.args.state.now c.args.site.now c.prepare.new.state c.prepare.new.site c.requires.begins p c.requires.stands c.in-Ok.ensures.transcript
+    known g.S.Disk.seen c.args.ladder _ _ c.args.state.now c.args.site.now c.prepare.new.state c.prepare.new.site c.requires.begins p c.requires.stands c.in-Ok.ensures.disk_alone.link.transcript
 
 pub returns-in-Ok-clause-run : goal.returns-in-Ok-clause-run
 returns-in-Ok-clause-run g c =
     let p = prepared g.S.Disk.seen c.args.ladder _ _ c.args.state.now c.args.site.now c.prepare.new.state c.prepare.new.site c.in-Ok.ensures.means in
     runs_from g.S.Disk.seen c.args.ladder _ _ c.args.turns c.args.state.now c.args.site.now c.prepare.new.state c.prepare.new.site c.serve.new.state c.serve.new.site c.serve.result
-    p c.in-Ok.ensures.link_faults c.serve.ensures.link_fault c.serve.ensures.runs
+    p c.in-Ok.ensures.disk_alone.link.link_faults c.serve.ensures.link_fault c.serve.ensures.runs
 
 pub returns-in-Ok-clause-lasts : goal.returns-in-Ok-clause-lasts
 returns-in-Ok-clause-lasts g c h serves =

@@ -8,27 +8,27 @@ pub returns-in-Ok-clause-run : goal.returns-in-Ok-clause-run
 returns-in-Ok-clause-run g c =
     has_run g.S.Disk.seen g.met.S.Disk.contents_pass g.met.S.Disk.at_now g.met.S.Disk.now_at c.stores_have_one_reading.ensures.one_list c.bodies_have_one_log.ensures
     c.args.ladder _ _ c.args.turns c.in-Ok.state c.args.site.now c.open_state.new.site c.serve_state.new.site c.serve_state.result
-    c.in-Ok.ensures.found c.in-Ok.ensures.begins c.in-Ok.ensures.any_moment c.in-Ok.ensures.transcript (record { disk = c.in-Ok.ensures.disk_faults; link = c.in-Ok.ensures.link_faults }) c.serve_state.ensures.run
+    c.in-Ok.ensures.found c.in-Ok.ensures.begins c.in-Ok.ensures.any_moment c.in-Ok.ensures.silent.transcript c.in-Ok.ensures.silent.no_fewer c.serve_state.ensures.run
 
 pub returns-in-Ok-clause-why : goal.returns-in-Ok-clause-why
 returns-in-Ok-clause-why g c =
     why_stopped g.S.Disk.seen c.args.ladder _ _ c.in-Ok.state c.args.site.now c.open_state.new.site c.serve_state.new.site c.serve_state.result
-    c.in-Ok.ensures.found (record { disk = c.in-Ok.ensures.disk_faults; link = c.in-Ok.ensures.link_faults }) c.in-Ok.ensures.transcript c.in-Ok.ensures.begins
+    c.in-Ok.ensures.found c.in-Ok.ensures.silent.no_fewer c.in-Ok.ensures.silent.transcript c.in-Ok.ensures.begins
     c.serve_state.ensures.why c.serve_state.ensures.silent c.serve_state.ensures.no_fewer c.serve_state.ensures.counted
 
 pub returns-in-Err-clause-why : goal.returns-in-Err-clause-why
 returns-in-Err-clause-why g c =
     why_unopened g.S.Disk.seen c.args.ladder _ c.args.site.now c.open_state.new.site c.in-Err.fault
-    c.in-Err.ensures.why c.in-Err.ensures.transcript (record { disk = c.in-Err.ensures.disk_faults; link = c.in-Err.ensures.link_faults }) c.in-Err.ensures.untouched
+    c.in-Err.ensures.why c.in-Err.ensures.silent.transcript c.in-Err.ensures.silent.no_fewer c.in-Err.ensures.untouched
 
 pub returns-in-Ok-clause-any_moment : goal.returns-in-Ok-clause-any_moment
 returns-in-Ok-clause-any_moment g c =
     opened_lasts g.S.Disk.seen g.met.S.Disk.contents_pass g.met.S.Disk.at_now g.met.S.Disk.now_at c.stores_have_one_reading.ensures.one_list c.bodies_have_one_log.ensures
-    c.in-Ok.state c.args.site.now c.open_state.new.site c.serve_state.new.site c.in-Ok.ensures.found c.in-Ok.ensures.transcript c.in-Ok.ensures.begins c.in-Ok.ensures.any_moment c.serve_state.ensures.lasts
+    c.in-Ok.state c.args.site.now c.open_state.new.site c.serve_state.new.site c.in-Ok.ensures.found c.in-Ok.ensures.silent.transcript c.in-Ok.ensures.begins c.in-Ok.ensures.any_moment c.serve_state.ensures.lasts
 
 pub returns-in-Err-clause-any_moment : goal.returns-in-Err-clause-any_moment
 returns-in-Err-clause-any_moment g c some log one base told =
-    silent_lasts g.S.Disk.seen g.met.S.Disk.at_now log base c.args.site.now c.open_state.new.site one (c.in-Err.ensures.any_moment log one) (c.in-Err.ensures.transcript ∙ told)
+    silent_lasts g.S.Disk.seen g.met.S.Disk.at_now log base c.args.site.now c.open_state.new.site one (c.in-Err.ensures.any_moment log one) (c.in-Err.ensures.silent.transcript ∙ told)
 
 pub returns-in-Ok-clause-chosen : goal.returns-in-Ok-clause-chosen
 returns-in-Ok-clause-chosen g c =

@@ -7,9 +7,10 @@ use Rattle.sm_fetch.specs.Exchanges.{Peer}
 use Rattle.sm_pull.specs.declared.plan.PullPlan.{PullPlan}
 use Rattle.sm_standby.specs.declared.report.FollowReport.{FollowReport}
 use Rattle.sm_edge.specs.Following.{HasFollowed}
-use Rattle.sm_client.proofs.Dials.{grows-more}
+use Rattle.sm_fetch.proofs.Alone.{on_then}
 use Rattle.sm_command.proofs.Chosen.{chosen_still}
-use Rattle.sm_command.proofs.Lasting.{counts_then}
+use Rattle.sm_command.proofs.Lasting.{silent_then}
+use Rattle.sm_command.proofs.Starting.{stated_again}
 use Rattle.sm_edge.proofs.Outlasting.{added_lasts, edge_spared, fits_alone, silent_grows}
 use Rattle.sm_edge.proofs.following.follow_store.Goals as goal
 use Rattle.sm_ends.specs.Ended.{End}
@@ -54,69 +55,44 @@ returns-in-Ok-clause-chosen g c =
     let f = c.follow-report.ensures.followed l.log c.in-Ok.field-0.channel l.stands l.channel_is in
     f.called.adds.disk_alone.link.chosen ∙ o.chosen
 
-pub returns-in-Ok-clause-later : goal.returns-in-Ok-clause-later
-returns-in-Ok-clause-later g c =
+pub returns-in-Ok-clause-dial : goal.returns-in-Ok-clause-dial
+returns-in-Ok-clause-dial g c =
     let o = c.in-Ok.ensures in
     let e = o.opened in
     let l = e.store in
     let f = c.follow-report.ensures.followed l.log c.in-Ok.field-0.channel l.stands l.channel_is in
-    omega (arith, c.open_edge.ensures.later, f.called.asks.no_fewer)
+    on_then g.met.C.Dial.later_then c.open_edge.ensures.dial f.called.asks.alone.on
 
-pub returns-in-Ok-clause-goes_on : goal.returns-in-Ok-clause-goes_on
-returns-in-Ok-clause-goes_on g c =
+pub returns-in-Ok-clause-stores : goal.returns-in-Ok-clause-stores
+returns-in-Ok-clause-stores g c =
     let o = c.in-Ok.ensures in
     let e = o.opened in
     let l = e.store in
     let f = c.follow-report.ensures.followed l.log c.in-Ok.field-0.channel l.stands l.channel_is in
-    g.met.C.Dial.later_then _ _ _ c.open_edge.ensures.goes_on f.called.asks.goes_on
+    record {
+      lasts = λ some log one base told.
+          added_lasts g.S.Disk.seen g.met.S.Disk.contents_pass g.met.S.Disk.told g.met.S.Disk.at_now g.met.S.Disk.now_at
+          c.stores_have_one_reading.ensures.one_list c.bodies_have_one_log.ensures log base c.args.site.now c.open_edge.new.site c.follow-report.new.disk one
+          (c.open_edge.ensures.any_moment some log one) (λ image left. fits_alone l.log image (c.an_image_fits.ensures c.in-Ok.field-0.archive l.log _ c.open_edge.new.site image l.stands left))
+          f.called.adds (c.open_edge.ensures.silent.transcript ∙ told);
+      untouched = λ r. absurd (cc);
+      spared = edge_spared g.S.Disk.seen c.args.site.now c.open_edge.new.site c.follow-report.new.disk o.opened;
+    }
 
-pub returns-in-Ok-clause-store : goal.returns-in-Ok-clause-store
-returns-in-Ok-clause-store g c =
+pub returns-in-Err-clause-stores : goal.returns-in-Err-clause-stores
+returns-in-Err-clause-stores g c = record {
+  lasts = λ some log one base told.
+      silent_grows g.S.Disk.seen g.met.S.Disk.at_now log base c.args.site.now c.open_edge.new.site one (λ t image left. c.open_edge.ensures.any_moment some log one)
+      (c.open_edge.ensures.silent.transcript ∙ told);
+  untouched = λ r. c.in-Err.ensures.untouched r.0 (stated_again c.in-Err.fault _ r.1);
+  spared = c.open_edge.ensures.spared;
+}
+
+pub returns-in-Ok-clause-silent : goal.returns-in-Ok-clause-silent
+returns-in-Ok-clause-silent g c =
     let o = c.in-Ok.ensures in
     let e = o.opened in
     let l = e.store in
     let f = c.follow-report.ensures.followed l.log c.in-Ok.field-0.channel l.stands l.channel_is in
-    grows-more (g.C.Dial.store c.args.dial.now) (g.C.Dial.store c.open_edge.new.dial) (g.C.Dial.store c.follow-report.new.dial) c.open_edge.ensures.store f.called.asks.grows
-
-pub returns-in-Ok-clause-lasts : goal.returns-in-Ok-clause-lasts
-returns-in-Ok-clause-lasts g c some log one base told =
-    let o = c.in-Ok.ensures in
-    let e = o.opened in
-    let l = e.store in
-    let f = c.follow-report.ensures.followed l.log c.in-Ok.field-0.channel l.stands l.channel_is in
-    added_lasts g.S.Disk.seen g.met.S.Disk.contents_pass g.met.S.Disk.told g.met.S.Disk.at_now g.met.S.Disk.now_at
-    c.stores_have_one_reading.ensures.one_list c.bodies_have_one_log.ensures log base c.args.site.now c.open_edge.new.site c.follow-report.new.disk one
-    (c.open_edge.ensures.any_moment some log one) (λ image left. fits_alone l.log image (c.an_image_fits.ensures c.in-Ok.field-0.archive l.log _ c.open_edge.new.site image l.stands left))
-    f.called.adds (c.open_edge.ensures.transcript ∙ told)
-
-pub returns-in-Err-clause-lasts : goal.returns-in-Err-clause-lasts
-returns-in-Err-clause-lasts g c some log one base told =
-    silent_grows g.S.Disk.seen g.met.S.Disk.at_now log base c.args.site.now c.open_edge.new.site one (λ t image left. c.open_edge.ensures.any_moment some log one)
-    (c.open_edge.ensures.transcript ∙ told)
-
-pub returns-in-Ok-clause-no_fewer : goal.returns-in-Ok-clause-no_fewer
-returns-in-Ok-clause-no_fewer g c =
-    let o = c.in-Ok.ensures in
-    let e = o.opened in
-    let l = e.store in
-    let f = c.follow-report.ensures.followed l.log c.in-Ok.field-0.channel l.stands l.channel_is in
-    counts_then (g.S.Disk.seen.view c.args.site.now) (g.S.Disk.seen.view c.open_edge.new.site) (g.S.Disk.seen.view c.follow-report.new.disk) c.open_edge.ensures.no_fewer f.called.adds.disk_alone.no_fewer f.called.adds.disk_alone.link.link_faults
-
-pub returns-in-Ok-clause-transcript : goal.returns-in-Ok-clause-transcript
-returns-in-Ok-clause-transcript g c =
-    let o = c.in-Ok.ensures in
-    let e = o.opened in
-    let l = e.store in
-    let f = c.follow-report.ensures.followed l.log c.in-Ok.field-0.channel l.stands l.channel_is in
-    f.called.adds.disk_alone.link.transcript ∙ c.open_edge.ensures.transcript
-
-pub returns-in-Ok-clause-send_faults : goal.returns-in-Ok-clause-send_faults
-returns-in-Ok-clause-send_faults g c =
-    let o = c.in-Ok.ensures in
-    let e = o.opened in
-    let l = e.store in
-    let f = c.follow-report.ensures.followed l.log c.in-Ok.field-0.channel l.stands l.channel_is in
-    f.called.adds.disk_alone.link.send_faults ∙ c.open_edge.ensures.send_faults
-
-pub returns-in-Ok-clause-spared : goal.returns-in-Ok-clause-spared
-returns-in-Ok-clause-spared g c = edge_spared g.S.Disk.seen c.args.site.now c.open_edge.new.site c.follow-report.new.disk c.in-Ok.ensures.opened
+    silent_then (g.S.Disk.seen.view c.args.site.now) (g.S.Disk.seen.view c.open_edge.new.site) (g.S.Disk.seen.view c.follow-report.new.disk)
+    c.open_edge.ensures.silent f.called.adds.disk_alone

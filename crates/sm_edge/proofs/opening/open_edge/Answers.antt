@@ -3,7 +3,7 @@ use Rattle.std.specs.Prelude.{is_some}
 use Rattle.sm_site.specs.Image.{Image}
 use Rattle.sm_command.specs.Lasting.{NoFewer}
 use Rattle.sm_command.proofs.Chosen.{chosen_still}
-use Rattle.sm_command.proofs.Lasting.{at_each, chosen_spared, counts_then, one_by_one, unwritten_spared}
+use Rattle.sm_command.proofs.Lasting.{chosen_spared, chosen_untouched, counts_then, only_untouched, silent_then, unwritten_spared}
 use Rattle.sm_edge.specs.Opening.{IsSiteOf}
 use Rattle.sm_edge.proofs.Edges.{if_err, if_ok}
 use Rattle.sm_edge.proofs.Outlasting.{chosen_begins, opened_begins}
@@ -12,9 +12,9 @@ use Rattle.sm_edge.proofs.opening.open_edge.Goals as goal
 pub returns-in-Ok-turn-clause-opened : goal.returns-in-Ok-turn-clause-opened
 returns-in-Ok-turn-clause-opened g c =
     let V = g.S.Disk.seen.view in
-    let chosen : NoFewer (V c.args.site.now) (V c.choose.new.site) = record { disk = c.choose.ensures.disk_faults; link = c.choose.ensures.link_faults } in
+    let chosen : NoFewer (V c.args.site.now) (V c.choose.new.site) = c.choose.ensures.only.silent.no_fewer in
     let site : IsSiteOf g.S.Disk.seen c.args.selection c.args.site.now c.choose.new.site =
-    record { chosen_is = c.in-Ok.ensures.chosen; contents = c.choose.ensures.contents; crash = c.choose.ensures.crash; no_fewer = chosen } in
+    record { chosen_is = c.in-Ok.ensures.chosen; contents = c.choose.ensures.only.contents; crash = c.choose.ensures.only.crash; no_fewer = chosen } in
     if_ok c.open_beside.result
     (λ edge store. record {
       selected = c.choose.new.site;
@@ -27,55 +27,50 @@ returns-in-Ok-turn-clause-opened g c =
 pub returns-in-Ok-turn-clause-why : goal.returns-in-Ok-turn-clause-why
 returns-in-Ok-turn-clause-why g c =
     let V = g.S.Disk.seen.view in
-    let chosen : NoFewer (V c.args.site.now) (V c.choose.new.site) = record { disk = c.choose.ensures.disk_faults; link = c.choose.ensures.link_faults } in
+    let chosen : NoFewer (V c.args.site.now) (V c.choose.new.site) = c.choose.ensures.only.silent.no_fewer in
     let site : IsSiteOf g.S.Disk.seen c.args.selection c.args.site.now c.choose.new.site =
-    record { chosen_is = c.in-Ok.ensures.chosen; contents = c.choose.ensures.contents; crash = c.choose.ensures.crash; no_fewer = chosen } in
+    record { chosen_is = c.in-Ok.ensures.chosen; contents = c.choose.ensures.only.contents; crash = c.choose.ensures.only.crash; no_fewer = chosen } in
     if_err c.open_beside.result (λ why no. inr (inr (c.choose.new.site, site, no))) c.open_beside.ensures.why
 
 pub returns-in-Ok-turn-clause-chosen : goal.returns-in-Ok-turn-clause-chosen
 returns-in-Ok-turn-clause-chosen g c =
     chosen_still c.open_beside.result c.args.selection (g.S.Disk.seen.view c.choose.new.site) (g.S.Disk.seen.view c.open_beside.new.disk) c.in-Ok.ensures.chosen c.open_beside.ensures.disk_alone.link.chosen
 
-pub returns-in-Ok-turn-clause-no_fewer : goal.returns-in-Ok-turn-clause-no_fewer
-returns-in-Ok-turn-clause-no_fewer g c =
-    counts_then (g.S.Disk.seen.view c.args.site.now) (g.S.Disk.seen.view c.choose.new.site) (g.S.Disk.seen.view c.open_beside.new.disk)
-    (record { disk = c.choose.ensures.disk_faults; link = c.choose.ensures.link_faults }) c.open_beside.ensures.disk_alone.no_fewer c.open_beside.ensures.disk_alone.link.link_faults
+pub returns-in-Ok-turn-clause-silent : goal.returns-in-Ok-turn-clause-silent
+returns-in-Ok-turn-clause-silent g c =
+    silent_then (g.S.Disk.seen.view c.args.site.now) (g.S.Disk.seen.view c.choose.new.site) (g.S.Disk.seen.view c.open_beside.new.disk)
+    c.choose.ensures.only.silent c.open_beside.ensures.disk_alone
 
-pub returns-in-Err-turn-clause-no_fewer : goal.returns-in-Err-turn-clause-no_fewer
-returns-in-Err-turn-clause-no_fewer g c = record { disk = c.choose.ensures.disk_faults; link = c.choose.ensures.link_faults }
+pub returns-in-Err-turn-clause-silent : goal.returns-in-Err-turn-clause-silent
+returns-in-Err-turn-clause-silent g c = c.choose.ensures.only.silent
 
-pub returns-in-Err-clause-no_fewer : goal.returns-in-Err-clause-no_fewer
-returns-in-Err-clause-no_fewer g c = record { disk = c.choose.ensures.disk_faults; link = c.choose.ensures.link_faults }
+pub returns-in-Err-clause-silent : goal.returns-in-Err-clause-silent
+returns-in-Err-clause-silent g c = c.choose.ensures.only.silent
 
 pub returns-in-Ok-turn-clause-any_moment : goal.returns-in-Ok-turn-clause-any_moment
 returns-in-Ok-turn-clause-any_moment g c some log one =
-    opened_begins g.S.Disk.seen log c.args.site.now c.choose.new.site c.open_beside.new.disk one c.choose.ensures.any_moment c.choose.ensures.crash
-    (c.open_beside.ensures.any_moment (ap (λ (x : Option Image). is_some x) c.choose.ensures.contents ∙ some))
+    opened_begins g.S.Disk.seen log c.args.site.now c.choose.new.site c.open_beside.new.disk one c.choose.ensures.only.any_moment c.choose.ensures.only.crash
+    (c.open_beside.ensures.any_moment (ap (λ (x : Option Image). is_some x) c.choose.ensures.only.contents ∙ some))
 
 pub returns-in-Err-turn-clause-any_moment : goal.returns-in-Err-turn-clause-any_moment
-returns-in-Err-turn-clause-any_moment g c some log one = chosen_begins g.S.Disk.seen log c.args.site.now c.choose.new.site one c.choose.ensures.any_moment
+returns-in-Err-turn-clause-any_moment g c some log one = chosen_begins g.S.Disk.seen log c.args.site.now c.choose.new.site one c.choose.ensures.only.any_moment
 
 pub returns-in-Err-clause-any_moment : goal.returns-in-Err-clause-any_moment
-returns-in-Err-clause-any_moment g c some log one = chosen_begins g.S.Disk.seen log c.args.site.now c.choose.new.site one c.choose.ensures.any_moment
+returns-in-Err-clause-any_moment g c some log one = chosen_begins g.S.Disk.seen log c.args.site.now c.choose.new.site one c.choose.ensures.only.any_moment
 
 pub returns-in-Ok-turn-clause-untouched : goal.returns-in-Ok-turn-clause-untouched
 returns-in-Ok-turn-clause-untouched g c at is =
-    let u = c.open_beside.ensures.untouched at is in
-    record {
-      contents = u.0 ∙ c.choose.ensures.contents;
-      each = one_by_one g.S.Disk.seen c.args.site.now c.choose.new.site c.open_beside.new.disk (g.S.Disk.seen.may_leave c.args.site.now) c.choose.ensures.any_moment
-          (at_each g.S.Disk.seen c.choose.new.site c.open_beside.new.disk _ (g.S.Disk.seen.may_leave c.args.site.now) u.2 (λ t image left. (c.choose.ensures.crash image).0 left));
-    }
+    chosen_untouched g.S.Disk.seen c.args.site.now c.choose.new.site c.open_beside.new.disk c.choose.ensures.only (c.open_beside.ensures.untouched at is)
 
 pub returns-in-Ok-turn-clause-spared : goal.returns-in-Ok-turn-clause-spared
 returns-in-Ok-turn-clause-spared g c =
     chosen_spared g.S.Disk.seen c.args.site.now c.choose.new.site c.open_beside.new.disk
-    c.choose.ensures.contents c.choose.ensures.any_moment c.choose.ensures.crash c.open_beside.ensures.spared
+    c.choose.ensures.only.contents c.choose.ensures.only.any_moment c.choose.ensures.only.crash c.open_beside.ensures.spared
 
 pub returns-in-Err-turn-clause-spared : goal.returns-in-Err-turn-clause-spared
 returns-in-Err-turn-clause-spared g c =
-    unwritten_spared g.S.Disk.seen c.args.site.now c.choose.new.site (record { contents = c.choose.ensures.contents; each = c.choose.ensures.any_moment })
+    unwritten_spared g.S.Disk.seen c.args.site.now c.choose.new.site (only_untouched g.S.Disk.seen c.args.site.now c.choose.new.site c.choose.ensures.only)
 
 pub returns-in-Err-clause-spared : goal.returns-in-Err-clause-spared
 returns-in-Err-clause-spared g c =
-    unwritten_spared g.S.Disk.seen c.args.site.now c.choose.new.site (record { contents = c.choose.ensures.contents; each = c.choose.ensures.any_moment })
+    unwritten_spared g.S.Disk.seen c.args.site.now c.choose.new.site (only_untouched g.S.Disk.seen c.args.site.now c.choose.new.site c.choose.ensures.only)

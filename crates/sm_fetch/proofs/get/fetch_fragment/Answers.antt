@@ -2,8 +2,8 @@ use Rattle.std.proofs.Common.{ℕ, List, subst, ◌∙◌}
 use Rattle.sm_fetch.specs.declared.dial.Answer.TheVariants as answers
 use Rattle.sm_fetch.specs.Origins.{AnswersFrom}
 use Rattle.sm_fetch.specs.Spelt.{SpellsSamples}
-use Rattle.sm_fetch.proofs.Answering.{answered_by}
-use Rattle.sm_fetch.proofs.Origin.{grown, answer_is_kept}
+use Rattle.sm_fetch.proofs.Alone.{alone_one}
+use Rattle.sm_fetch.proofs.Origin.{answer_is_kept}
 use Rattle.sm_fetch.proofs.get.fetch_fragment.Goals as goal
 
 pub returns-in-Bytes-clause-kept : goal.returns-in-Bytes-clause-kept
@@ -12,17 +12,11 @@ returns-in-Bytes-clause-kept g c =
     (subst (λ (r : List ℕ). AnswersFrom (g.C.Dial.store c.args.dial.now) (g.C.Dial.store c.exchange.new.self) r (answers.Bytes c.in-Bytes.bytes)) (c.as_slice.ensures ∙ c.in-Ok.ensures) c.in-Bytes.ensures.store)
     (subst (λ (b : List ℕ). SpellsSamples c.args.address.now.time b c.read_fragment_reply.result) c.as_slice-in-Bytes.ensures c.read_fragment_reply.ensures)
 
-pub returns-in-Lost-clause-grows : goal.returns-in-Lost-clause-grows
-returns-in-Lost-clause-grows g c = grown (g.C.Dial.store c.args.dial.now) (g.C.Dial.store c.exchange.new.self) c.as_slice.result.now c.exchange.result c.exchange.ensures.store
+pub returns-in-Bytes-clause-dial : goal.returns-in-Bytes-clause-dial
+returns-in-Bytes-clause-dial g c = let e = c.exchange.ensures in alone_one _ _ c.exchange.result e.goes_on e.later e.chosen e.log e.store
 
-pub returns-clause-grows : goal.returns-clause-grows
-returns-clause-grows g c = grown (g.C.Dial.store c.args.dial.now) (g.C.Dial.store c.exchange.new.self) c.as_slice.result.now c.exchange.result c.exchange.ensures.store
+pub returns-in-Lost-clause-dial : goal.returns-in-Lost-clause-dial
+returns-in-Lost-clause-dial g c = let e = c.exchange.ensures in alone_one _ _ c.exchange.result e.goes_on e.later e.chosen e.log e.store
 
-pub returns-in-Bytes-clause-answered : goal.returns-in-Bytes-clause-answered
-returns-in-Bytes-clause-answered g c = answered_by _ _ _ _ c.exchange.result c.exchange.ensures.log c.exchange.ensures.store
-
-pub returns-in-Lost-clause-answered : goal.returns-in-Lost-clause-answered
-returns-in-Lost-clause-answered g c = answered_by _ _ _ _ c.exchange.result c.exchange.ensures.log c.exchange.ensures.store
-
-pub returns-clause-answered : goal.returns-clause-answered
-returns-clause-answered g c = answered_by _ _ _ _ c.exchange.result c.exchange.ensures.log c.exchange.ensures.store
+pub returns-clause-dial : goal.returns-clause-dial
+returns-clause-dial g c = let e = c.exchange.ensures in alone_one _ _ c.exchange.result e.goes_on e.later e.chosen e.log e.store

@@ -19,5 +19,5 @@ returns c =
       c.in_ok-url.ensures,
       c.as_bytes.ensures.same,
       c.as_bytes-2.ensures.same,
-      c.kind_name.ensures,
+      c.name.ensures,
     ) (eight c.args.out.now.items _ _ _ _ _ _ _ _))

@@ -18,10 +18,6 @@ returns-in-Ok-clause-handles g c =
           (subst (λ (b : List ℕ). Tells c.args.number b f.close t.0 c.tell-outcome.result) c.parts.ensures t.2) c.is_open.ensures c.note.ensures,
     )
 
-pub returns-in-Ok-clause-open : goal.returns-in-Ok-clause-open
-returns-in-Ok-clause-open g c is =
-    c.tell-outcome.ensures.open (open_is c.tell-outcome.result (subst (λ (b : Bool). IsTrue b) c.is_open.ensures is))
-
 pub returns-in-Err-clause-handles : goal.returns-in-Err-clause-handles
 returns-in-Err-clause-handles g c =
     let t = c.starve.ensures.goes in (

@@ -1,4 +1,4 @@
-use Rattle.std.proofs.Common.{◌≡◌, ℕ, [], ◌∷◌, true, refl, sym, ◌∙◌, ap, subst}
+use Rattle.std.proofs.Common.{◌≡◌, ℕ, [], ◌∷◌, true, refl, sym, ◌∙◌, ap, subst, arith}
 use Rattle.sm_conn.specs.declared.part.Part.{Part}
 use Rattle.sm_conn.specs.Parts.{PartItem, continued}
 use Rattle.sm_conn.specs.Stands.{items_of}
@@ -10,19 +10,20 @@ pub returns-in-Continue-clause-handles : goal.returns-in-Continue-clause-handles
 returns-in-Continue-clause-handles g c =
     ([], [], goes_nil (g.W.Link.seen.view c.args.wire.now).transcript, behind_nil (g.F.Forward.asked c.args.forward.now), skips (ap items_of c.in-Continue.is) refl refl refl refl)
 
-pub returns-in-Continue-clause-others : goal.returns-in-Continue-clause-others
-returns-in-Continue-clause-others g c = λ m other live. live
+pub returns-in-Continue-clause-leaves : goal.returns-in-Continue-clause-leaves
+returns-in-Continue-clause-leaves g c =
+    record { wire = record { live = λ open_. c.requires.live; others = λ m other live. live; link_faults = refl }; later = omega arith }
 
 pub returns-clause-handles : goal.returns-clause-handles
 returns-clause-handles g c =
-    let r = c.reply_for-reply.ensures.replies in
+    let r = c.reply_for-reply.ensures in
     let s = c.send_reply-open.ensures.handles in
     let seen = c.args.reader.now.seen in
     let seen' = c.reply_for-reply.new.reader.seen in
     let items = items_of c.args.part in (
       s.0,
-      r.0,
+      r.asked,
       s.1,
-      r.1,
-      subst (λ (n : ℕ). Handles c.args.number (standing seen n) items s.0 r.0 c.send_reply-open.result (standing seen' c.send_reply-open.new.counts.answered)) c.begin-call.ensures (s.2 seen seen' items r.0 r.2),
+      r.asks,
+      subst (λ (n : ℕ). Handles c.args.number (standing seen n) items s.0 r.asked c.send_reply-open.result (standing seen' c.send_reply-open.new.counts.answered)) c.begin-call.ensures (s.2 seen seen' items r.asked r.means),
     )

@@ -6,16 +6,13 @@ use Rattle.sm_conn.specs.declared.part.Part.{Part}
 use Rattle.sm_conn.specs.Parts.{PartItem}
 use Rattle.sm_conn.specs.Stands.{items_of, joined}
 use Rattle.sm_players.specs.Taking.{standing}
-use Rattle.sm_players.proofs.Going.{beside_then}
+use Rattle.sm_players.proofs.Going.{leaves_then}
 use Rattle.sm_players.proofs.Handling.{Taken, taken_nothing, taken_then, taken_stops, joined_take, joined_split}
 use Rattle.sm_players.proofs.parts.take_parts.Goals as goal
 
 pub loop-part-init : goal.loop-part-init
 loop-part-init g c = record {
-  live = c.requires.live;
-  others = λ m other live. live;
-  link_faults = refl;
-  later = omega arith;
+  leaves = record { wire = record { live = λ is. c.requires.live; others = λ m other live. live; link_faults = refl }; later = omega arith };
   takes = taken_nothing c.args.number (standing c.args.reader.now.seen c.args.counts.now.answered) (g.W.Link.seen.view c.args.wire.now).transcript (g.F.Forward.asked c.args.forward.now);
 }
 
@@ -34,10 +31,7 @@ loop-part-preserved g c =
     let p = standing c.args.reader.now.seen c.args.counts.now.answered in
     let q = standing c.take_part.new.reader.seen c.take_part.new.counts.answered in
     record {
-      live = c.if-not-take_part.ensures.open refl;
-      others = beside_then n (V c.args.wire.now).transcript (V c.loop-part.wire).transcript (V c.take_part.new.wire).transcript c.loop-part.invariant.others c.take_part.ensures.others;
-      link_faults = c.take_part.ensures.link_faults ∙ c.loop-part.invariant.link_faults;
-      later = omega (arith, c.take_part.ensures.later, c.loop-part.invariant.later);
+      leaves = leaves_then n true _ _ _ _ _ _ c.loop-part.invariant.leaves c.if-not-take_part.ensures.leaves;
       takes = subst (λ (j : ℕ). Taken n p (V c.args.wire.now).transcript (V c.take_part.new.wire).transcript (A c.args.forward.now) (A c.take_part.new.forward) (joined (take j parts)) true q) (sym at)
           (taken_then n p (standing c.loop-part.reader.seen c.loop-part.counts.answered) q (V c.args.wire.now).transcript (V c.loop-part.wire).transcript (V c.take_part.new.wire).transcript (A c.args.forward.now) (A c.loop-part.forward)
           (A c.take_part.new.forward) (joined (take i parts)) (items_of x) (joined (take (i + 1) parts)) h.0 h.1 true c.loop-part.invariant.takes h.2 h.3 h.4 (joined_take parts i x t.0 t.1));
@@ -61,10 +55,8 @@ returns-then-not-take_part-clause-takes g c =
     (A c.take_part.new.forward) (joined (take i parts)) (items_of x) (joined (take (i + 1) parts)) h.0 h.1 false c.loop-part.invariant.takes h.2 h.3 h.4 (joined_take parts i x t.0 t.1)) (joined_split parts (i + 1)) in
     (all.told, all.asked, all.goes, all.asks, all.takes)
 
-pub returns-then-not-take_part-clause-others : goal.returns-then-not-take_part-clause-others
-returns-then-not-take_part-clause-others g c =
-    let V = g.W.Link.seen.view in
-    beside_then c.args.number (V c.args.wire.now).transcript (V c.loop-part.wire).transcript (V c.take_part.new.wire).transcript c.loop-part.invariant.others c.take_part.ensures.others
+pub returns-then-not-take_part-clause-leaves : goal.returns-then-not-take_part-clause-leaves
+returns-then-not-take_part-clause-leaves g c = leaves_then c.args.number false _ _ _ _ _ _ c.loop-part.invariant.leaves c.if-not-take_part.ensures.leaves
 
 pub returns-clause-takes : goal.returns-clause-takes
 returns-clause-takes g c =

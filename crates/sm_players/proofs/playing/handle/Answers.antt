@@ -54,12 +54,15 @@ returns-in-Closed-clause-turns g c ks known =
 pub returns-in-Closed-clause-over : goal.returns-in-Closed-clause-over
 returns-in-Closed-clause-over g c = sym (ap goes_on c.in-Closed.is)
 
-pub returns-in-Closed-clause-open : goal.returns-in-Closed-clause-open
-returns-in-Closed-clause-open g c =
+pub returns-in-Closed-clause-leaves : goal.returns-in-Closed-clause-leaves
+returns-in-Closed-clause-leaves g c =
     let T = (g.W.Link.seen.view c.args.wire.now).transcript in
     let old = c.args.lives.now.items in
-    if_then T (λ items. AreOpenBut c.in-Closed.number items old) (λ items. AreOpen items c.forget.new.lives.items) (λ items but. c.forget.ensures.open_ items but)
-    (subst (λ (e : Event). IfSome T (MayHandle e old)) c.in-Closed.is c.requires.may)
+    record {
+      open_ = if_then T (λ items. AreOpenBut c.in-Closed.number items old) (λ items. AreOpen items c.forget.new.lives.items) c.forget.ensures.open_
+          (subst (λ (e : Event). IfSome T (MayHandle e old)) c.in-Closed.is c.requires.may);
+      link_faults = refl;
+    }
 
 pub returns-in-Ended-clause-turns : goal.returns-in-Ended-clause-turns
 returns-in-Ended-clause-turns g c ks known =
@@ -71,5 +74,8 @@ returns-in-Ended-clause-turns g c ks known =
 pub returns-in-Ended-clause-over : goal.returns-in-Ended-clause-over
 returns-in-Ended-clause-over g c = sym (ap goes_on c.in-Ended.is)
 
-pub returns-in-Ended-clause-open : goal.returns-in-Ended-clause-open
-returns-in-Ended-clause-open g c = subst (λ (e : Event). IfSome (g.W.Link.seen.view c.args.wire.now).transcript (MayHandle e c.args.lives.now.items)) c.in-Ended.is c.requires.may
+pub returns-in-Ended-clause-leaves : goal.returns-in-Ended-clause-leaves
+returns-in-Ended-clause-leaves g c = record {
+  open_ = subst (λ (e : Event). IfSome (g.W.Link.seen.view c.args.wire.now).transcript (MayHandle e c.args.lives.now.items)) c.in-Ended.is c.requires.may;
+  link_faults = refl;
+}

@@ -37,8 +37,8 @@ loop-preserved g c =
     let all = played_then seen old (V c.loop.wire) (V c.next.new.self) new (A c.args.forward.now) (A c.loop.forward) (A c.handle.new.forward) c.loop.counter
     c.loop.lives.items c.handle.new.lives.items p q event so c.in-Ok.ensures.taken turn in
     record {
-      open_ = c.if-not-handle.ensures.open;
-      link_faults = omega (arith, c.loop.invariant.link_faults, c.next.ensures.link_faults, c.if-not-handle.ensures.link_faults);
+      open_ = c.if-not-handle.ensures.leaves.open_;
+      link_faults = omega (arith, c.loop.invariant.link_faults, c.next.ensures.link_faults, c.if-not-handle.ensures.leaves.link_faults);
       later = omega (arith, c.loop.invariant.later, c.if-not-handle.ensures.later);
       plays = subst (λ (b : Bool). Played seen old new (A c.args.forward.now) (A c.handle.new.forward) (c.loop.counter + 1) c.handle.new.lives.items b q) (goes_still (is_over (deal_of event)) c.if-not-handle.ensures.over) all;
     }

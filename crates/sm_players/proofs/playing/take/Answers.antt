@@ -39,8 +39,8 @@ returns-else-not-open-clause-turns g c ks known =
     let turns = open_turns n c.args.piece.now ks old i x y p q at number c.take_piece-open.ensures.same t.0 t.1 (t.4 at.one.bytes at.known.given at.known.stands) in
     record { told = t.0; goes = t.2; asked = t.1; asks = t.3; after = _; turns = turns.0; known = turns.1 }
 
-pub returns-else-not-open-clause-open : goal.returns-else-not-open-clause-open
-returns-else-not-open-clause-open g c =
+pub returns-else-not-open-clause-leaves : goal.returns-else-not-open-clause-leaves
+returns-else-not-open-clause-leaves g c =
     let V = g.W.Link.seen.view in
     let a = (V c.args.wire.now).transcript in
     let b = (V c.take_piece-open.new.wire).transcript in
@@ -52,9 +52,12 @@ returns-else-not-open-clause-open g c =
     let found = subst (λ (ls : List Live). (i < length ls) × (get_or (numbers_of ls) i 0 ≡ c.args.number)) same c.in-Some.ensures.found in
     let here = number_at old i x found.0 c.index_mut.ensures.value in
     let t = c.if-not-open.ensures.gives in
-    if_both b (λ items. AreOpenBut x.number items old) (λ items. IsLive x.number items) (λ items. AreOpen items (slice_set old i y))
-    (λ items but live. set_open items old i y found.0 (c.take_piece-open.ensures.same ∙ sym here) (whole x.number items old live but))
-    (open_but x.number a b t.0 old c.take_piece-open.ensures.others t.2 c.requires.live) (c.if-not-open.ensures.open refl)
+    record {
+      open_ = if_both b (λ items. AreOpenBut x.number items old) (λ items. IsLive x.number items) (λ items. AreOpen items (slice_set old i y))
+          (λ items but live. set_open items old i y found.0 (c.take_piece-open.ensures.same ∙ sym here) (whole x.number items old live but))
+          (open_but x.number a b t.0 old c.take_piece-open.ensures.leaves.wire.others t.2 c.requires.live) (c.if-not-open.ensures.leaves.wire.live refl);
+      link_faults = c.take_piece-open.ensures.leaves.wire.link_faults;
+    }
 
 pub returns-then-not-open-clause-turns : goal.returns-then-not-open-clause-turns
 returns-then-not-open-clause-turns g c ks known =
@@ -81,8 +84,8 @@ returns-then-not-open-clause-turns g c ks known =
       known = subst (λ (ls : List Live). AreKnown (at.front ++ at.back) ls) (sym gone) at.gone;
     }
 
-pub returns-then-not-open-clause-open : goal.returns-then-not-open-clause-open
-returns-then-not-open-clause-open g c =
+pub returns-then-not-open-clause-leaves : goal.returns-then-not-open-clause-leaves
+returns-then-not-open-clause-leaves g c =
     let V = g.W.Link.seen.view in
     let a = (V c.args.wire.now).transcript in
     let b = (V c.take_piece-open.new.wire).transcript in
@@ -95,9 +98,12 @@ returns-then-not-open-clause-open g c =
     let here = number_at old i x found.0 c.index_mut.ensures.value in
     let t = c.if-not-open.ensures.gives in
     let gone = c.remove.ensures.items ∙ remove_set old i y in
-    subst (λ (ls : List Live). IfSome b (λ items. AreOpen items ls)) (sym gone)
-    (if_then b (λ items. AreOpenBut x.number items old) (λ items. AreOpen items (remove old i)) (λ items but. gone_open x.number items old i found.0 here but)
-    (open_but x.number a b t.0 old c.take_piece-open.ensures.others t.2 c.requires.live))
+    record {
+      open_ = subst (λ (ls : List Live). IfSome b (λ items. AreOpen items ls)) (sym gone)
+          (if_then b (λ items. AreOpenBut x.number items old) (λ items. AreOpen items (remove old i)) (λ items but. gone_open x.number items old i found.0 here but)
+          (open_but x.number a b t.0 old c.take_piece-open.ensures.leaves.wire.others t.2 c.requires.live));
+      link_faults = c.take_piece-open.ensures.leaves.wire.link_faults;
+    }
 
 pub returns-in-None-clause-turns : goal.returns-in-None-clause-turns
 returns-in-None-clause-turns g c ks known =

@@ -35,19 +35,18 @@ returns-else-close-clause-goes g c =
     let adds : Adds (Sent n bytes false) (V c.args.wire.now) (V c.send_both.new.self) = search rules in
     (Sent n bytes false ∷ [], goes_one (V c.args.wire.now) (V c.send_both.new.self) (Sent n bytes false) adds, sent c.if-close.false refl refl)
 
-pub returns-else-close-clause-open : goal.returns-else-close-clause-open
-returns-else-close-clause-open g c is =
-    let V = g.W.Link.seen.view in
+pub returns-else-close-clause-leaves : goal.returns-else-close-clause-leaves
+returns-else-close-clause-leaves g c =
+    let v = g.W.Link.seen.view c.args.wire.now in
+    let w = g.W.Link.seen.view c.send_both.new.self in
+    let n = c.args.number in
     let bytes = c.args.head.now ++ c.args.tail.now in
-    let adds : Adds (Sent c.args.number bytes false) (V c.args.wire.now) (V c.send_both.new.self) = search rules in
-    sent_live (V c.args.wire.now) (V c.send_both.new.self) c.args.number bytes false c.requires.live adds
-
-pub returns-else-close-clause-others : goal.returns-else-close-clause-others
-returns-else-close-clause-others g c =
-    let V = g.W.Link.seen.view in
-    let bytes = c.args.head.now ++ c.args.tail.now in
-    let adds : Adds (Sent c.args.number bytes false) (V c.args.wire.now) (V c.send_both.new.self) = search rules in
-    sent_beside (V c.args.wire.now) (V c.send_both.new.self) c.args.number bytes false adds
+    let adds : Adds (Sent n bytes false) v w = search rules in
+    record {
+      live = λ is. sent_live v w n bytes false c.requires.live adds;
+      others = sent_beside v w n bytes false adds;
+      link_faults = search rules;
+    }
 
 pub returns-then-close-clause-goes : goal.returns-then-close-clause-goes
 returns-then-close-clause-goes g c =
@@ -63,8 +62,8 @@ returns-then-close-clause-goes g c =
       closed c.if-close.true refl refl,
     )
 
-pub returns-then-close-clause-others : goal.returns-then-close-clause-others
-returns-then-close-clause-others g c =
+pub returns-then-close-clause-leaves : goal.returns-then-close-clause-leaves
+returns-then-close-clause-leaves g c =
     let V = g.W.Link.seen.view in
     let n = c.args.number in
     let v = V c.args.wire.now in
@@ -72,7 +71,11 @@ returns-then-close-clause-others g c =
     let x = V c.close.new.self in
     let bytes = c.args.head.now ++ c.args.tail.now in
     let adds : Adds (Sent n bytes false) v w = search rules in
-    beside_then n v.transcript w.transcript x.transcript (sent_beside v w n bytes false adds) (shut_beside w x n c.close.ensures.shut)
+    record {
+      live = λ is. absurd (cc);
+      others = beside_then n v.transcript w.transcript x.transcript (sent_beside v w n bytes false adds) (shut_beside w x n c.close.ensures.shut);
+      link_faults = search rules;
+    }
 
 told_failed : (v w x : View) (n : ℕ) (bytes : List ℕ) (close : Bool) → ((k : ℕ) × (k ≤ length bytes) × Adds (Sent n (take k bytes) true) v w) ⊎ (w.transcript ≡ v.transcript) → Adds (Shut n) w x
     → (deals : List Deal) × Goes v.transcript x.transcript deals × Tells n bytes close deals Failed
@@ -98,8 +101,8 @@ returns-in-Err-clause-goes g c =
     let part : ((k : ℕ) × (k ≤ length bytes) × Adds (Sent n (take k bytes) true) v w) ⊎ (w.transcript ≡ v.transcript) = search rules in
     told_failed v w (V c.close-in-Err.new.self) n bytes c.args.close part c.close-in-Err.ensures.shut
 
-pub returns-in-Err-clause-others : goal.returns-in-Err-clause-others
-returns-in-Err-clause-others g c =
+pub returns-in-Err-clause-leaves : goal.returns-in-Err-clause-leaves
+returns-in-Err-clause-leaves g c =
     let V = g.W.Link.seen.view in
     let n = c.args.number in
     let v = V c.args.wire.now in
@@ -107,7 +110,11 @@ returns-in-Err-clause-others g c =
     let x = V c.close-in-Err.new.self in
     let bytes = c.args.head.now ++ c.args.tail.now in
     let part : ((k : ℕ) × (k ≤ length bytes) × Adds (Sent n (take k bytes) true) v w) ⊎ (w.transcript ≡ v.transcript) = search rules in
-    beside_then n v.transcript w.transcript x.transcript
-    (⊎_elim (λ (p : (k : ℕ) × (k ≤ length bytes) × Adds (Sent n (take k bytes) true) v w). sent_beside v w n (take p.0 bytes) true p.2)
-    (λ (same : w.transcript ≡ v.transcript). beside_same n v.transcript w.transcript same) part)
-    (shut_beside w x n c.close-in-Err.ensures.shut)
+    record {
+      live = λ is. absurd (cc);
+      others = beside_then n v.transcript w.transcript x.transcript
+          (⊎_elim (λ (p : (k : ℕ) × (k ≤ length bytes) × Adds (Sent n (take k bytes) true) v w). sent_beside v w n (take p.0 bytes) true p.2)
+          (λ (same : w.transcript ≡ v.transcript). beside_same n v.transcript w.transcript same) part)
+          (shut_beside w x n c.close-in-Err.ensures.shut);
+      link_faults = search rules;
+    }

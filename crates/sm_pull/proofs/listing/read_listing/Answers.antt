@@ -12,26 +12,26 @@ pub loop-done-preserved : goal.loop-done-preserved
 loop-done-preserved g c =
     let e = c.get_manifest.ensures in
     let is = sym c.miss_of.ensures ∙ c.in-Some.is in
-    tried_more c.add.new.self (c.loop-done._done + 1) g.met.C.Dial.later_then c.loop-done.invariant (manifest_asked e.asked e.grows e.answered e.goes_on e.chosen e.later e.lost)
+    tried_more c.push.new.self (c.loop-done._done + 1) g.met.C.Dial.later_then c.loop-done.invariant (manifest_asked e.asked e.dial e.lost)
     (try_made (manifest_request c.args.place.now) manifest_limit SpellsManifest got.NoMemory manifest_wanting e.asked.answer c.get_manifest.result e.asked.spells (missed_other c.get_manifest.result c.in-Some.miss is))
     is c.in-Ok.ensures.ok refl
 
 pub returns-in-Manifest : goal.returns-in-Manifest
 returns-in-Manifest g c =
     let e = c.in-Manifest.ensures in
-    tried_gave c.args.tries g.met.C.Dial.later_then c.loop-done.invariant c.loop-done-test.true (manifest_asked e.asked e.grows e.answered e.goes_on e.chosen e.later e.lost)
+    tried_gave c.args.tries g.met.C.Dial.later_then c.loop-done.invariant c.loop-done-test.true (manifest_asked e.asked e.dial e.lost)
     (try_made (manifest_request c.args.place.now) manifest_limit SpellsManifest got.NoMemory manifest_wanting e.asked.answer (got.Manifest c.in-Manifest.listing) e.asked.spells (manifest_other c.in-Manifest.listing))
 
 pub returns-in-Err : goal.returns-in-Err
 returns-in-Err g c =
     let e = c.get_manifest.ensures in
-    tried_stopped c.args.tries g.met.C.Dial.later_then c.loop-done.invariant c.loop-done-test.true (manifest_asked e.asked e.grows e.answered e.goes_on e.chosen e.later e.lost)
+    tried_stopped c.args.tries g.met.C.Dial.later_then c.loop-done.invariant c.loop-done-test.true (manifest_asked e.asked e.dial e.lost)
     (try_any (manifest_request c.args.place.now) manifest_limit SpellsManifest e.asked.answer c.get_manifest.result e.asked.spells) (few_made (manifest_request c.args.place.now) manifest_limit e.asked.answer)
 
 pub returns-in-None : goal.returns-in-None
 returns-in-None g c =
     let e = c.get_manifest.ensures in
-    tried_stopped c.args.tries g.met.C.Dial.later_then c.loop-done.invariant c.loop-done-test.true (manifest_asked e.asked e.grows e.answered e.goes_on e.chosen e.later e.lost)
+    tried_stopped c.args.tries g.met.C.Dial.later_then c.loop-done.invariant c.loop-done-test.true (manifest_asked e.asked e.dial e.lost)
     (try_any (manifest_request c.args.place.now) manifest_limit SpellsManifest e.asked.answer c.get_manifest.result e.asked.spells) (few_made (manifest_request c.args.place.now) manifest_limit e.asked.answer)
 
 pub returns : goal.returns

@@ -1,5 +1,5 @@
 use Rattle.std.proofs.Common.{refl}
-use Rattle.sm_tool.proofs.Idling.{idle_lasts, idle_spared}
+use Rattle.sm_tool.proofs.Idling.{idle_stores}
 use Rattle.sm_words.specs.Orders.{serving_of}
 use Rattle.sm_run.proofs.Ending.{shown_of, shown_runs, starved_runs}
 use Rattle.sm_run.proofs.command.run.Goals as goal
@@ -15,13 +15,10 @@ returns-in-Ok-Some-clause-run g c =
       dial = refl;
       tracks = refl;
       dial_is = refl;
-      lasts = c.show-answer.ensures.lasts;
-      untouched = c.show-answer.ensures.untouched;
-      spared = c.show-answer.ensures.spared;
+      stores = c.show-answer.ensures.stores;
     })
 
 pub returns-in-Err-clause-run : goal.returns-in-Err-clause-run
 returns-in-Err-clause-run g c =
     starved_runs g.S.Disk.seen _ _ _ _ _ _ _ _ c.args.site.now _ _ _ c.starved.ensures
-    (idle_lasts g.S.Disk.seen g.met.S.Disk.no_later g.met.S.Disk.at_now c.args.site.now)
-    (idle_spared g.S.Disk.seen g.met.S.Disk.no_later c.args.site.now)
+    (idle_stores g.S.Disk.seen g.met.S.Disk.no_later g.met.S.Disk.at_now c.args.site.now _)

@@ -11,4 +11,4 @@ returns-clause-shown g c h serves some =
     (c.serve_beside-ended.new.writer, s.0, s.1)
 
 pub returns-in_default-clause-idle : goal.returns-in_default-clause-idle
-returns-in_default-clause-idle g c = recalls_here g.S.Disk.seen c.args.state.now c.args.site.now
+returns-in_default-clause-idle g c = recalls_here g.S.Disk.seen c.args.state.now c.args.site.now c.requires.stands

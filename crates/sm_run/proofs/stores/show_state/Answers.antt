@@ -6,13 +6,13 @@ use Rattle.sm_run.proofs.stores.show_state.Goals as goal
 pub show-requires-clause-known : goal.show-requires-clause-known
 show-requires-clause-known g c κs lives =
     let p = prepared g.S.Disk.seen c.args.ladder _ _ c.args.state.now c.args.site.now c.prepare.new.state c.prepare.new.site c.in-Ok.ensures.means in
-    known g.S.Disk.seen c.args.ladder _ _ c.args.state.now c.args.site.now c.prepare.new.state c.prepare.new.site c.requires.begins p c.requires.stands c.in-Ok.ensures.transcript
+    known g.S.Disk.seen c.args.ladder _ _ c.args.state.now c.args.site.now c.prepare.new.state c.prepare.new.site c.requires.begins p c.requires.stands c.in-Ok.ensures.disk_alone.link.transcript
 
 pub returns-in-Ok-show-clause-run : goal.returns-in-Ok-show-clause-run
 returns-in-Ok-show-clause-run g c =
     let p = prepared g.S.Disk.seen c.args.ladder _ _ c.args.state.now c.args.site.now c.prepare.new.state c.prepare.new.site c.in-Ok.ensures.means in
     shown_from g.S.Disk.seen c.args.ladder _ _ c.args.turns c.args.state.now c.args.site.now c.prepare.new.state c.prepare.new.site c.show.new.state c.show.new.site
-    c.in-Ok-show.ended.served p c.in-Ok.ensures.link_faults c.in-Ok-show.ensures.link_fault c.in-Ok-show.ensures.runs c.in-Ok-show.ensures.shown
+    c.in-Ok-show.ended.served p c.in-Ok.ensures.disk_alone.link.link_faults c.in-Ok-show.ensures.link_fault c.in-Ok-show.ensures.runs c.in-Ok-show.ensures.shown
 
 pub returns-in-Ok-show-clause-lasts : goal.returns-in-Ok-show-clause-lasts
 returns-in-Ok-show-clause-lasts g c h serves =

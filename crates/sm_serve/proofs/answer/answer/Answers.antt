@@ -1,5 +1,7 @@
-use Rattle.std.proofs.Common.{true, false, Some}
+use Rattle.std.proofs.Common.{true, false, List, Option, Some, IfSome, refl, sym, subst}
+use Rattle.sm_site.specs.Meanings.{Item, IsLive}
 use Rattle.sm_serve.specs.Run.{idle, acting}
+use Rattle.sm_serve.proofs.Between.{none_then, none_of_disk}
 use Rattle.sm_serve.proofs.Going.{acted}
 use Rattle.sm_serve.proofs.Reaching.{reach_then, behind, behind_keeps, behind_follows, behind_counts, behind_phase}
 use Rattle.sm_serve.proofs.answer.answer.Goals as goal
@@ -12,8 +14,9 @@ returns-in-Open-clause-goes_on g c h item more keeps stands phase does close =
     let o = c.act-reply.new.self in
     let act = c.args.act.now in
     let reply = c.act-reply.result in
-    let a = acted g.S.Disk.seen g.met.S.Disk.told h d e o act reply (Some n) keeps c.act-reply.ensures.told g.met.S.Disk.now_at g.met.S.Disk.calls_told
-    (λ has. c.act-reply.ensures.step has h.point.machine stands) c.act-reply.ensures.stands c.act-reply.ensures.disk_alone.link c.act-reply.ensures.disk_alone.no_fewer in
+    let one = c.act-reply.ensures.acts.one in
+    let a = acted g.S.Disk.seen g.met.S.Disk.told h d e o act reply (Some n) keeps one.told g.met.S.Disk.now_at g.met.S.Disk.calls_told
+    (λ has. one.step has h.point.machine stands) one.stands one.disk_alone.link one.disk_alone.no_fewer in
     let k = behind g.S.Disk.seen h e o act reply n item more a phase does in
     let kept = behind_keeps g.S.Disk.seen h e o act reply n item more a phase does in
     let follows = behind_follows g.S.Disk.seen h e o act reply n item more a phase does in
@@ -30,8 +33,9 @@ returns-clause-goes_on g c h item more keeps stands phase does close =
     let o = c.act-reply.new.self in
     let act = c.args.act.now in
     let reply = c.act-reply.result in
-    let a = acted g.S.Disk.seen g.met.S.Disk.told h d e o act reply (Some n) keeps c.act-reply.ensures.told g.met.S.Disk.now_at g.met.S.Disk.calls_told
-    (λ has. c.act-reply.ensures.step has h.point.machine stands) c.act-reply.ensures.stands c.act-reply.ensures.disk_alone.link c.act-reply.ensures.disk_alone.no_fewer in
+    let one = c.act-reply.ensures.acts.one in
+    let a = acted g.S.Disk.seen g.met.S.Disk.told h d e o act reply (Some n) keeps one.told g.met.S.Disk.now_at g.met.S.Disk.calls_told
+    (λ has. one.step has h.point.machine stands) one.stands one.disk_alone.link one.disk_alone.no_fewer in
     let k = behind g.S.Disk.seen h e o act reply n item more a phase does in
     let kept = behind_keeps g.S.Disk.seen h e o act reply n item more a phase does in
     let follows = behind_follows g.S.Disk.seen h e o act reply n item more a phase does in
@@ -39,18 +43,28 @@ returns-clause-goes_on g c h item more keeps stands phase does close =
     reach_then g.S.Disk.seen h k n false idle _ _ o c.send_reply.new.site follows
     (c.in-Closed.ensures.goes_on k more o kept a.stands at) (λ t. absurd (cc))
 
+pub send_reply-requires : goal.send_reply-requires
+send_reply-requires g c = record {
+  live = subst (λ (o : Option (List Item)). IfSome o (IsLive c.args.number)) (sym c.act-reply.ensures.acts.one.disk_alone.link.transcript) c.requires.may.live;
+}
+
 pub returns-in-Open-clause-stands : goal.returns-in-Open-clause-stands
 returns-in-Open-clause-stands g c =
-    let m = c.act-reply.ensures.stands in (
-      m.0,
-      c.fewer_images_stand.ensures m.0 c.act-reply.new.self c.act-reply.new.site c.send_reply.new.site m.1 c.send_reply.ensures.contents
-          (λ image left. (c.send_reply.ensures.same image).0 left),
-    )
+    let m = c.act-reply.ensures.acts.one.stands in
+    (m.0, c.send_reply.ensures.sent.stands m.0 c.act-reply.new.self m.1)
 
 pub returns-clause-stands : goal.returns-clause-stands
 returns-clause-stands g c =
-    let m = c.act-reply.ensures.stands in (
-      m.0,
-      c.fewer_images_stand.ensures m.0 c.act-reply.new.self c.act-reply.new.site c.send_reply.new.site m.1 c.send_reply.ensures.contents
-          (λ image left. (c.send_reply.ensures.same image).0 left),
-    )
+    let m = c.act-reply.ensures.acts.one.stands in
+    (m.0, c.send_reply.ensures.sent.stands m.0 c.act-reply.new.self m.1)
+
+pub returns-in-Open-clause-open : goal.returns-in-Open-clause-open
+returns-in-Open-clause-open g c some = c.in-Open.ensures.live refl
+
+pub returns-in-Open-clause-link : goal.returns-in-Open-clause-link
+returns-in-Open-clause-link g c =
+    none_then _ _ _ (none_of_disk _ _ c.act-reply.ensures.acts.one.disk_alone.link) c.send_reply.ensures.sent.link
+
+pub returns-clause-link : goal.returns-clause-link
+returns-clause-link g c =
+    none_then _ _ _ (none_of_disk _ _ c.act-reply.ensures.acts.one.disk_alone.link) c.send_reply.ensures.sent.link

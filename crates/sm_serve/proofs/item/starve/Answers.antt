@@ -17,6 +17,3 @@ returns-clause-goes_on g c h more counts origin keeps stands phase =
     closed_counts g.S.Disk.seen h n idle (h.point.counts n) counts origin c.tell.new.site
     (reach_then g.S.Disk.seen h k n false idle (h.point.counts n) (h.point.counts n) origin c.tell.new.site (paused_follows g.S.Disk.seen h n (sending n NO_MEMORY.now true []) (wants n more phase refl refl refl))
     (subst (λ (s : Still). Reaches g.S.Disk.seen k n (stays_open s) (if stays_open s then acting n [] else idle) (h.point.counts n) origin c.tell.new.site) shut told) (λ t. refl))
-
-pub returns-clause-stands : goal.returns-clause-stands
-returns-clause-stands g c m origin stands = c.tell.ensures.stands m origin stands

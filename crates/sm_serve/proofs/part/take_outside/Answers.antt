@@ -9,12 +9,14 @@ use Rattle.sm_wire.proofs.WireLaw.{left_unique, continue_left, posted_left, post
 use Rattle.sm_conn.specs.Stands.{items_of}
 use Rattle.sm_head.specs.declared.reply.TheConstants.{CONTINUE}
 use Rattle.sm_serve.specs.Run.{idle, acting, sending, in_phase, continues}
-use Rattle.sm_serve.specs.Resting.{PlaceIs, counts_of}
+use Rattle.sm_serve.specs.declared.still.Still.TheVariants.{Open}
+use Rattle.sm_serve.specs.Resting.{PlaceIs, SameConn, counts_of}
 use Rattle.sm_serve.specs.Giving.{PartGives, StaysOpen}
 use Rattle.sm_serve.specs.Standing.{stays_open}
 use Rattle.sm_serve.proofs.Going.{paused}
 use Rattle.sm_serve.proofs.Reaching.{reach_then, reaches_here, continuing, paused_follows}
 use Rattle.sm_serve.proofs.Giving.{starved_gives, get_gives, get_items, continue_gives, closed_gives}
+use Rattle.sm_serve.proofs.Steps.{here_leaves, less_same, sent_leaves, shut_leaves}
 use Rattle.sm_serve.proofs.part.take_outside.Goals as goal
 
 pub returns-in-Get-clause-goes_on : goal.returns-in-Get-clause-goes_on
@@ -24,9 +26,10 @@ returns-in-Get-clause-goes_on g c h more items keeps stands place left phase cou
     let close = c.in-Get.close in
     let here = subst (λ (p : Part). Left None (items_of p ++ more) items) c.in-Get.is left in
     let is = get_items g.S.Disk.seen t close more items here in
-    let none = subst (λ (p : Option Standing). PlaceIs p None) (sym c.act_on.ensures.same.push) place in
+    let none = subst (λ (p : Option Standing). PlaceIs p None) (sym c.act_on.ensures.leaves.same.push) place in
     let gives = get_gives g.S.Disk.seen h n t close c.act_on.result c.act_on.new.live.push (counts_of c.act_on.new.live) more c.act_on.new.origin c.act_on.new.site c.act_on.ensures.closed none
-    (c.act_on.ensures.goes_on h (Get t close) (if close then [] else wire None more) keeps stands (phase ∙ ap (acting n) is) counts (ap (λ (a : Act). Some a) (sym c.act_for-act.ensures.is)) refl (λ counted all. refl)) in
+    (c.act_on.ensures.goes_on (Get t close) (ap (λ (a : Act). Some a) (sym c.act_for-act.ensures.is)) refl (λ counted all. refl) h (if close then [] else wire None more) keeps stands
+    (phase ∙ ap (acting n) is) counts) in
     subst (λ (p : Part). PartGives g.S.Disk.seen h n (stays_open c.act_on.result) c.act_on.new.live.push (counts_of c.act_on.new.live) None (items_of p) more c.act_on.new.origin c.act_on.new.site) (sym c.in-Get.is) gives
 
 pub returns-in-Continue-clause-goes_on : goal.returns-in-Continue-clause-goes_on
@@ -65,19 +68,32 @@ returns-in-Bad-clause-goes_on g c h more items keeps stands place left phase cou
     let is : items ≡ Refuse r ∷ [] = left_unique None (bad c.in-Bad.cause ∷ more) items _ here (bad_left c.in-Bad.cause more) in
     closed_gives g.S.Disk.seen h c.args.live.now.number c.act_on-in-Bad.result c.act_on-in-Bad.new.live.push (counts_of c.act_on-in-Bad.new.live) None
     (items_of c.args.part) more [] c.act_on-in-Bad.new.origin c.act_on-in-Bad.new.site (c.act_on-in-Bad.ensures.closed refl)
-    (c.act_on-in-Bad.ensures.goes_on h (Refuse r) [] keeps stands (phase ∙ ap (acting c.args.live.now.number) is) counts refl refl (λ counted all. refl))
-
-pub returns-in-Continue-clause-stands : goal.returns-in-Continue-clause-stands
-returns-in-Continue-clause-stands g c =
-    let m = c.requires.stands in
-    (m.0, c.tell.ensures.stands m.0 c.args.origin.now m.1)
-
-pub returns-clause-stands : goal.returns-clause-stands
-returns-clause-stands g c =
-    let m = c.requires.stands in
-    (m.0, c.starve.ensures.stands m.0 c.args.origin.now m.1)
+    (c.act_on-in-Bad.ensures.goes_on (Refuse r) refl refl (λ counted all. refl) h [] keeps stands (phase ∙ ap (acting c.args.live.now.number) is) counts)
 
 pub returns-clause-goes_on : goal.returns-clause-goes_on
 returns-clause-goes_on g c h more items keeps stands place left phase counts =
     starved_gives g.S.Disk.seen h c.args.live.now.number c.starve.result c.args.live.now.push (counts_of c.args.live.now) None (items_of c.args.part) more c.args.origin.now c.starve.new.site
     c.starve.ensures.closed (c.starve.ensures.goes_on h items (counts_of c.args.live.now) c.args.origin.now keeps stands phase)
+
+pub returns-in-Get-clause-leaves : goal.returns-in-Get-clause-leaves
+returns-in-Get-clause-leaves g c =
+    less_same g.S.Disk.seen c.args.live.now c.act_on.new.live c.act_on.new.origin c.args.site.now c.act_on.new.site c.act_on.result c.act_on.ensures.leaves
+
+pub returns-in-Continue-clause-leaves : goal.returns-in-Continue-clause-leaves
+returns-in-Continue-clause-leaves g c =
+    sent_leaves g.S.Disk.seen c.args.live.now c.args.live.now c.args.origin.now c.args.site.now c.tell.new.site c.tell.result (record { number = refl; conn = refl })
+    c.requires.may c.tell.ensures.sent c.tell.ensures.live
+
+pub returns-in-Post-clause-leaves : goal.returns-in-Post-clause-leaves
+returns-in-Post-clause-leaves g c =
+    here_leaves g.S.Disk.seen SameConn c.args.live.now _ c.args.origin.now c.args.site.now Open (record { number = refl; conn = refl }) c.requires.may
+
+pub returns-in-Bad-clause-leaves : goal.returns-in-Bad-clause-leaves
+returns-in-Bad-clause-leaves g c =
+    less_same g.S.Disk.seen c.args.live.now c.act_on-in-Bad.new.live c.act_on-in-Bad.new.origin c.args.site.now c.act_on-in-Bad.new.site c.act_on-in-Bad.result
+    c.act_on-in-Bad.ensures.leaves
+
+pub returns-clause-leaves : goal.returns-clause-leaves
+returns-clause-leaves g c =
+    shut_leaves g.S.Disk.seen c.args.live.now c.args.live.now c.args.origin.now c.args.site.now c.starve.new.site c.starve.result (record { number = refl; conn = refl })
+    c.requires.may c.starve.ensures.sent c.starve.ensures.closed

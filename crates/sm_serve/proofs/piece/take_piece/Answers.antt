@@ -23,9 +23,9 @@ returns-in-Ok-clause-goes_on g c h m pending stands phase is_live counts rests =
     (c.in-Ok.ensures.stands (received n h.items) rests.parts rests.stands) in
     let items = c.wire_of_front.ensures.left rests.place (ps ++ []) in
     let keeps = read_move g.S.Disk.seen h m n piece c.args.live.now c.feed.new.self ps c.args.site.now pending phase is_live rests gave items.0 items.1 in
-    let gives = c.take_parts.ensures.goes_on (moved h (at m (Came n piece)) (at_event h.point (acting n items.0) m)) rests.place [] items.0 keeps stands rests.place_is items.1 refl counts in
+    let gives = c.take_parts.ensures.goes_on rests.place (moved h (at m (Came n piece)) (at_event h.point (acting n items.0) m)) [] items.0 keeps stands rests.place_is items.1 refl counts in
     piece_gives g.S.Disk.seen h m n piece c.args.live.now c.take_parts.new.live (stays_open c.take_parts.result) ps items.0 c.take_parts.new.origin c.take_parts.new.site rests
-    (subst (λ (k : Conn). Gave k (received n h.items ++ piece) (rests.parts ++ ps)) (sym c.take_parts.ensures.same.conn) gave)
+    (subst (λ (k : Conn). Gave k (received n h.items ++ piece) (rests.parts ++ ps)) (sym c.take_parts.ensures.leaves.same.conn) gave)
     (came_move g.S.Disk.seen false h m n piece c.args.live.now c.feed.new.self ps phase is_live rests gave items.0 items.1) gives
 
 pub returns-in-Err-clause-goes_on : goal.returns-in-Err-clause-goes_on
@@ -48,5 +48,17 @@ returns-in-Err-clause-goes_on g c h m pending stands phase is_live counts rests 
 
 pub returns-in-Err-clause-stands : goal.returns-in-Err-clause-stands
 returns-in-Err-clause-stands g c =
-    let m = c.requires.stands in
-    (m.0, c.tell.ensures.stands m.0 c.args.origin.now m.1)
+    let m = c.requires.may.stands in
+    (m.0, c.tell.ensures.sent.stands m.0 c.args.origin.now m.1)
+
+pub returns-in-Ok-clause-stands : goal.returns-in-Ok-clause-stands
+returns-in-Ok-clause-stands g c = c.take_parts.ensures.leaves.stands
+
+pub returns-in-Ok-clause-same : goal.returns-in-Ok-clause-same
+returns-in-Ok-clause-same g c = c.take_parts.ensures.leaves.same.number
+
+pub returns-in-Ok-clause-link : goal.returns-in-Ok-clause-link
+returns-in-Ok-clause-link g c = c.take_parts.ensures.leaves.link
+
+pub returns-in-Err-clause-link : goal.returns-in-Err-clause-link
+returns-in-Err-clause-link g c = c.tell.ensures.sent.link

@@ -52,8 +52,8 @@ returns-in-Ok-clause-runs g c h serves =
       resting = serves.rest.resting;
     } in (
       turn_taken g.S.Disk.seen g.S.Link.seen g.met.S.Site.one h (taken_by c.handle.result) (deal_of c.in-Ok.event) c.handle.new.state d e c.handle.new.site
-          (sym (took c.handle.result c.handle.ensures.no_fault c.handle.ensures.no_want)) c.in-Ok.ensures.script c.handle.ensures.link.script
-          (c.handle.ensures.goes_on h p.0 p.1 rest (is_new g.S.Disk.seen g.S.Link.seen
+          (sym (took c.handle.result c.handle.ensures.no_fault c.handle.ensures.no_want)) c.in-Ok.ensures.script c.handle.ensures.handles.link.script
+          (c.handle.ensures.handles.goes_on h p.0 p.1 rest (is_new g.S.Disk.seen g.S.Link.seen
           g.met.S.Site.one g.met.S.Disk.told
           c.in-Ok.event h d serves.keeps.told next)),
       has_taken c.handle.result c.in-Ok.event c.handle.ensures.no_fault c.handle.ensures.no_want c.handle.ensures.ended,
@@ -158,7 +158,7 @@ returns-in-Ok-clause-link_faults g c =
     let before = ap (λ (v : View). v.link_faults) (g.met.S.Site.one.view c.args.site.now) in
     let between = ap (λ (v : View). v.link_faults) (g.met.S.Site.one.view c.next.new.self) in
     let later = c.next.ensures.link_faults in
-    let same = c.handle.ensures.link.link_faults in
+    let same = c.handle.ensures.handles.link.link_faults in
     omega (arith, before, between, later, same)
 
 pub returns-in-Err-Failed-clause-link_faults : goal.returns-in-Err-Failed-clause-link_faults
@@ -177,7 +177,7 @@ returns-in-Err-NoMemory-clause-link_faults g c =
 
 pub returns-in-Ok-clause-chosen : goal.returns-in-Ok-clause-chosen
 returns-in-Ok-clause-chosen g c =
-    c.handle.ensures.link.chosen ∙ chosen_here g.S.Disk.seen g.S.Link.seen g.met.S.Site.one c.args.site.now c.next.new.self c.next.ensures.link_alone.disk.chosen
+    c.handle.ensures.handles.link.chosen ∙ chosen_here g.S.Disk.seen g.S.Link.seen g.met.S.Site.one c.args.site.now c.next.new.self c.next.ensures.link_alone.disk.chosen
 
 pub returns-in-Err-Failed-clause-chosen : goal.returns-in-Err-Failed-clause-chosen
 returns-in-Err-Failed-clause-chosen g c = chosen_here g.S.Disk.seen g.S.Link.seen g.met.S.Site.one c.args.site.now c.next.new.self c.next.ensures.link_alone.disk.chosen

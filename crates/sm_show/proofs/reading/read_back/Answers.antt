@@ -2,7 +2,7 @@ use Rattle.std.proofs.Common.{arith, ◌≡◌, ◌+◌, ◌-◌, ℕ, List, len
 use Rattle.sm_model.specs.declared.fragment.Fragment.{Fragment}
 use Rattle.sm_log.specs.Adds.{Add}
 use Rattle.sm_show.specs.Recalling.{IsEndOf}
-use Rattle.sm_show.proofs.Resting.{recalls_here, recalls_then}
+use Rattle.sm_show.proofs.Resting.{back_without, recalls_here, recalls_then}
 use Rattle.sm_show.proofs.Readings.{Gathered, gathers, gathered, end_gathered, reverse_push}
 use Rattle.sm_show.proofs.reading.read_back.Goals as goal
 
@@ -17,8 +17,7 @@ loop-site-init g c =
     let adds = c.args.catalog.now.adds in
     let whole : c.len-left.result ≡ length adds = omega (arith, c.len-left.ensures, few, same) in
     record {
-      stands = c.requires.stands;
-      recalls = recalls_here g.S.Disk.seen c.args.state.now c.args.site.now;
+      recalls = recalls_here g.S.Disk.seen c.args.state.now c.args.site.now c.requires.stands;
       gathered = subst (λ (l : List Fragment). Gathered g.S.Disk.seen c.args.state.now adds c.args.site.now c.len-left.result 0 l)
           (sym (ap (λ (l : List Fragment). reverse l) c.new-read.ensures.items))
           (gathers g.S.Disk.seen c.args.state.now c.args.catalog.now c.args.site.now c.len-left.result
@@ -39,8 +38,7 @@ loop-site-preserved g c =
     let size = got.2 in
     let valid = got.3.valid.short in
     record {
-      stands = c.read_next.ensures.stands;
-      recalls = recalls_then g.S.Disk.seen c.args.state.now c.args.site.now c.loop-site.site c.read_next.new.site was.recalls c.read_next.ensures.recalls;
+      recalls = recalls_then g.S.Disk.seen c.args.state.now c.args.site.now c.loop-site.site c.read_next.new.site was.recalls c.read_next.ensures.back.recalls;
       gathered = subst (λ (l : List Fragment). Gathered g.S.Disk.seen c.args.state.now adds c.args.site.now (left - 1) (c.loop-site.bytes + c.in-Ok.count) l)
           (sym (reverse_push c.loop-site.read.items c.read_next.new.read.items got.0 got.1))
           (gathered g.S.Disk.seen c.args.state.now c.args.catalog.now c.args.site.now c.loop-site.site left (left - 1) c.loop-site.bytes (c.loop-site.bytes + c.in-Ok.count) (left - 1)
@@ -49,9 +47,10 @@ loop-site-preserved g c =
       short = omega (arith, few, size, valid);
     }
 
-pub returns-in-Err-clause-recalls : goal.returns-in-Err-clause-recalls
-returns-in-Err-clause-recalls g c =
-    recalls_then g.S.Disk.seen c.args.state.now c.args.site.now c.loop-site.site c.read_next.new.site c.loop-site.invariant.recalls c.read_next.ensures.recalls
+pub returns-in-Err-clause-back : goal.returns-in-Err-clause-back
+returns-in-Err-clause-back g c =
+    back_without g.S.Disk.seen c.args.state.now c.args.site.now c.loop-site.site c.read_next.new.site c.in-Err.lack c.loop-site.invariant.recalls
+    c.in-Err.ensures.back
 
 pub returns-clause-last : goal.returns-clause-last
 returns-clause-last g c =

@@ -1,12 +1,10 @@
 use Rattle.std.proofs.Common.{◌≤◌, reverse}
-use Rattle.sm_serve.specs.Standing.{StandsForSome}
 use Rattle.sm_show.specs.Recalling.{Recalls}
 use Rattle.sm_show.proofs.Readings.{Gathered}
 use Rattle.sm_show.proofs.reading.read_back.Given as goal
 
 abbrev pub invariant-loop-site : goal.invariant-loop-site
 invariant-loop-site g l = record {
-  stands : StandsForSome g.S.Disk.seen l.state.origin l.site;
   recalls : Recalls g.S.Disk.seen l.state l.initial.site l.site;
   gathered : Gathered g.S.Disk.seen l.state l.catalog.adds l.initial.site l.left l.bytes (reverse l.read.items);
   short : l.bytes ≤ 134217728;

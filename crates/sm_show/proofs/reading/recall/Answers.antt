@@ -4,13 +4,20 @@ use Rattle.sm_show.proofs.Resting.{rests_by}
 use Rattle.sm_show.proofs.Readings.{if_ok, recalled_found}
 use Rattle.sm_show.proofs.reading.recall.Goals as goal
 
-pub returns-clause-recalls : goal.returns-clause-recalls
-returns-clause-recalls g c =
+pub returns-clause-back : goal.returns-clause-back
+returns-clause-back g c =
     let r = c.recall-fetched.ensures in
     record {
-      rests = λ h serves. rests_by g.S.Disk.seen h c.args.address.now c.recall-fetched.result c.args.state.now c.recall-fetched.new.site (r.runs h serves);
-      told = r.told;
-      disk_alone = r.disk_alone;
+      recalls = record {
+        stands = r.stands;
+        rests = λ h serves. rests_by g.S.Disk.seen h c.args.address.now c.recall-fetched.result c.args.state.now c.recall-fetched.new.site (r.runs h serves);
+        told = r.told;
+        disk_alone = r.disk_alone;
+      };
+      fault = λ is told. elim (c.fragment_in.ensures.disk is) [
+        | inl fault ↦ r.fault fault
+        | inr damaged ↦ absurd (r.damaged damaged told)
+      ];
     }
 
 pub returns-clause-reads : goal.returns-clause-reads
@@ -28,15 +35,7 @@ returns-clause-reads g c =
       found = λ h serves told.
           let log = h.point.machine.log in
           let stands = serves.rest.stands.stands in
-          let shows = c.requires.of stands.bodies stands.body log h.point.machine.doubt stands.keeps in
+          let shows = c.requires.lists.of stands.bodies stands.body log h.point.machine.doubt stands.keeps in
           let held = r.found was.0 f was.1 h.point.machine serves.rest.stands in
           recalled_found log c.args.catalog.now.adds x.0 c.args.index was.0 c.args.address.now f (c.catalogs_of_logs_fit.ensures.listing log stands.keeps.sound) shows.1 x.1 x.2 held.place (held.same told);
     })
-
-pub returns-clause-fault : goal.returns-clause-fault
-returns-clause-fault g c is told =
-    let r = c.recall-fetched.ensures in
-    elim (c.fragment_in.ensures.disk is) [
-      | inl fault ↦ r.fault fault
-      | inr damaged ↦ absurd (r.damaged damaged told)
-    ]

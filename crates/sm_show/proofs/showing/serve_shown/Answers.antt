@@ -16,18 +16,19 @@ pub loop-taken-init : goal.loop-taken-init
 unfolding turns_rest
 loop-taken-init g c =
     let up = c.catch_up.ensures in
-    let link = up.recalls.disk_alone.link in
+    let link = up.brings.recalls.disk_alone.link in
     record {
-      stands = up.stands;
+      stands = up.brings.recalls.stands;
       told = ap (λ o. is_some o) link.transcript;
       chosen = link.chosen;
       link_faults = (let same = link.link_faults in omega (arith, same));
       few = omega arith;
       goes_on = λ h serves.
-          let rests = up.recalls.rests h serves in (
+          let rests = up.brings.recalls.rests h serves in (
             turns_rest g.S.Disk.seen h (g.S.Disk.seen.view c.args.site.now).script c.args.state.now c.catch_up.new.site link.script rests,
             tt,
-            λ told belongs. shows_none h rests.later c.catch_up.new.writer rests.since rests.same (rests.log (up.recalls.told ∙ told)) (up.belongs h serves told belongs),
+            λ told belongs. shows_none h rests.later c.catch_up.new.writer rests.since rests.same (rests.log (up.brings.recalls.told ∙ told))
+                (up.brings.belongs h serves told belongs),
           );
     }
 
@@ -36,9 +37,9 @@ unfolding turns_then turns_rest turns_next
 loop-taken-preserved g c =
     let up = c.catch_up-up.ensures in
     let was = c.loop-taken.invariant in
-    let link = up.recalls.disk_alone.link in
+    let link = up.brings.recalls.disk_alone.link in
     record {
-      stands = up.stands;
+      stands = up.brings.recalls.stands;
       told = ap (λ o. is_some o) link.transcript ∙ c.turn.ensures.told ∙ was.told;
       chosen = link.chosen ∙ c.turn.ensures.chosen ∙ was.chosen;
       link_faults = (let same = link.link_faults in omega (arith, same, c.turn.ensures.link_faults, was.link_faults));
@@ -48,14 +49,15 @@ loop-taken-preserved g c =
           let i = c.loop-taken.taken in
           let two = c.in-Went.ensures.runs one.0.turns.later one.0.turns.serves in (
             turns_next g.S.Disk.seen h i (g.S.Disk.seen.view c.args.site.now).script c.loop-taken.state c.turn.new.state c.loop-taken.site c.turn.new.site
-                c.catch_up-up.new.site one.0 two.0 up.recalls,
+                c.catch_up-up.new.site one.0 two.0 up.brings.recalls,
             none_both (one.0.deals ++ two.0.deals) [] (none_both one.0.deals two.0.deals one.1 (none_went two.0.deals two.1)) tt,
             λ told belongs.
                 turn_shows g.S.Disk.seen c.turns_grow.ensures h one.0.turns.later two.0.turns.later c.args.state.now c.loop-taken.state c.turn.new.state
                 c.args.site.now
                 c.loop-taken.site c.turn.new.site c.catch_up-up.new.site c.loop-taken.writer c.catch_up-up.new.writer c.catch_up-up.result i c.loop-taken.behind
                 (c.loop-taken.behind + c.behind_by-behind.result) c.loop-taken.short (c.loop-taken.short + c.short_by-short.result) serves one.0.turns.serves one.0.turns.since two.0.turns.serves
-                two.0.turns.since (two.1.0, two.0.turns.taken ∙ ap (λ (ds : List Deal). deals_in one.0.turns.later.items ++ ds) two.1.1) up.recalls up.belongs up.whole up.behind told
+                two.0.turns.since (two.1.0, two.0.turns.taken ∙ ap (λ (ds : List Deal). deals_in one.0.turns.later.items ++ ds) two.1.1)
+                up.brings.recalls up.brings.belongs up.whole up.brings.behind told
                 (one.2 told belongs) (ap (λ (k : ℕ). c.loop-taken.behind + k) c.behind_by-behind.ensures.value) (ap (λ (k : ℕ). c.loop-taken.short + k) c.short_by-short.ensures.value),
           );
     }

@@ -2,7 +2,7 @@ use Rattle.std.proofs.Common.{map, string_bytes, Option, Some, ap, sym, ◌∙�
 use Rattle.std.specs.Option.{option_map}
 use Rattle.sm_words.specs.declared.order.Order.{Order}
 use Rattle.sm_words.specs.Orders.{pulling_of, wanted_of}
-use Rattle.sm_tool.proofs.Idling.{idle_lasts, idle_spared}
+use Rattle.sm_tool.proofs.Idling.{idle_stores}
 use Rattle.sm_words.proofs.Sounding.{followable, playable, rehearsable, relayable}
 use Rattle.sm_tool.proofs.command.answer_to.Goals as goal
 
@@ -24,32 +24,32 @@ rehearse-requires-clause-size g c =
     (rehearsable at.number at.size (map string_bytes c.args.words.now)
     (sym (ap (λ (o : Option Order). option_map wanted_of o) (at.field-0-is ∙ ap (λ (o : Order). Some o) at.field-0-0-is)) ∙ at.ensures)).size_fits
 
-pub returns-in-Ok-Some-Pick-clause-lasts : goal.returns-in-Ok-Some-Pick-clause-lasts
-returns-in-Ok-Some-Pick-clause-lasts g c = idle_lasts g.S.Disk.seen g.met.S.Disk.no_later g.met.S.Disk.at_now c.args.site.now
+pub returns-in-Ok-Some-Pick-clause-stores : goal.returns-in-Ok-Some-Pick-clause-stores
+returns-in-Ok-Some-Pick-clause-stores g c = idle_stores g.S.Disk.seen g.met.S.Disk.no_later g.met.S.Disk.at_now c.args.site.now _
 
-pub returns-in-Ok-Some-Push-clause-lasts : goal.returns-in-Ok-Some-Push-clause-lasts
-returns-in-Ok-Some-Push-clause-lasts g c = idle_lasts g.S.Disk.seen g.met.S.Disk.no_later g.met.S.Disk.at_now c.args.site.now
+pub returns-in-Ok-Some-Push-clause-stores : goal.returns-in-Ok-Some-Push-clause-stores
+returns-in-Ok-Some-Push-clause-stores g c = idle_stores g.S.Disk.seen g.met.S.Disk.no_later g.met.S.Disk.at_now c.args.site.now _
 
-pub returns-in-Ok-Some-Play-clause-lasts : goal.returns-in-Ok-Some-Play-clause-lasts
-returns-in-Ok-Some-Play-clause-lasts g c = idle_lasts g.S.Disk.seen g.met.S.Disk.no_later g.met.S.Disk.at_now c.args.site.now
+pub returns-in-Ok-Some-Play-clause-stores : goal.returns-in-Ok-Some-Play-clause-stores
+returns-in-Ok-Some-Play-clause-stores g c = idle_stores g.S.Disk.seen g.met.S.Disk.no_later g.met.S.Disk.at_now c.args.site.now _
 
-pub returns-in-Ok-Some-Rehearse-clause-lasts : goal.returns-in-Ok-Some-Rehearse-clause-lasts
-returns-in-Ok-Some-Rehearse-clause-lasts g c = idle_lasts g.S.Disk.seen g.met.S.Disk.no_later g.met.S.Disk.at_now c.args.site.now
+pub returns-in-Ok-Some-Rehearse-clause-stores : goal.returns-in-Ok-Some-Rehearse-clause-stores
+returns-in-Ok-Some-Rehearse-clause-stores g c = idle_stores g.S.Disk.seen g.met.S.Disk.no_later g.met.S.Disk.at_now c.args.site.now _
 
-pub returns-in-Ok-Some-ServeShown-clause-lasts : goal.returns-in-Ok-Some-ServeShown-clause-lasts
-returns-in-Ok-Some-ServeShown-clause-lasts g c = idle_lasts g.S.Disk.seen g.met.S.Disk.no_later g.met.S.Disk.at_now c.args.site.now
+pub returns-in-Ok-Some-ServeShown-clause-stores : goal.returns-in-Ok-Some-ServeShown-clause-stores
+returns-in-Ok-Some-ServeShown-clause-stores g c = idle_stores g.S.Disk.seen g.met.S.Disk.no_later g.met.S.Disk.at_now c.args.site.now _
 
-pub returns-in-Ok-None-clause-lasts : goal.returns-in-Ok-None-clause-lasts
-returns-in-Ok-None-clause-lasts g c = idle_lasts g.S.Disk.seen g.met.S.Disk.no_later g.met.S.Disk.at_now c.args.site.now
+pub returns-in-Ok-None-clause-stores : goal.returns-in-Ok-None-clause-stores
+returns-in-Ok-None-clause-stores g c = idle_stores g.S.Disk.seen g.met.S.Disk.no_later g.met.S.Disk.at_now c.args.site.now _
 
-pub returns-in-Err-clause-lasts : goal.returns-in-Err-clause-lasts
-returns-in-Err-clause-lasts g c = idle_lasts g.S.Disk.seen g.met.S.Disk.no_later g.met.S.Disk.at_now c.args.site.now
+pub returns-in-Err-clause-stores : goal.returns-in-Err-clause-stores
+returns-in-Err-clause-stores g c = idle_stores g.S.Disk.seen g.met.S.Disk.no_later g.met.S.Disk.at_now c.args.site.now _
 
-pub returns-in-Ok-Some-Help-clause-lasts : goal.returns-in-Ok-Some-Help-clause-lasts
-returns-in-Ok-Some-Help-clause-lasts g c = idle_lasts g.S.Disk.seen g.met.S.Disk.no_later g.met.S.Disk.at_now c.args.site.now
+pub returns-in-Ok-Some-Help-clause-stores : goal.returns-in-Ok-Some-Help-clause-stores
+returns-in-Ok-Some-Help-clause-stores g c = idle_stores g.S.Disk.seen g.met.S.Disk.no_later g.met.S.Disk.at_now c.args.site.now _
 
-pub returns-in-Ok-Some-Version-clause-lasts : goal.returns-in-Ok-Some-Version-clause-lasts
-returns-in-Ok-Some-Version-clause-lasts g c = idle_lasts g.S.Disk.seen g.met.S.Disk.no_later g.met.S.Disk.at_now c.args.site.now
+pub returns-in-Ok-Some-Version-clause-stores : goal.returns-in-Ok-Some-Version-clause-stores
+returns-in-Ok-Some-Version-clause-stores g c = idle_stores g.S.Disk.seen g.met.S.Disk.no_later g.met.S.Disk.at_now c.args.site.now _
 
 pub relay-requires : goal.relay-requires
 relay-requires g c =
@@ -66,30 +66,3 @@ standby-requires g c =
       pullable = followable (pulling_of at.order) (map string_bytes c.args.words.now)
           (sym (ap (λ (o : Option Order). option_map wanted_of o) (at.field-0-is ∙ ap (λ (o : Order). Some o) at.field-0-0-is)) ∙ at.ensures);
     }
-
-pub returns-in-Ok-Some-Pick-clause-spared : goal.returns-in-Ok-Some-Pick-clause-spared
-returns-in-Ok-Some-Pick-clause-spared g c = idle_spared g.S.Disk.seen g.met.S.Disk.no_later c.args.site.now
-
-pub returns-in-Ok-Some-Push-clause-spared : goal.returns-in-Ok-Some-Push-clause-spared
-returns-in-Ok-Some-Push-clause-spared g c = idle_spared g.S.Disk.seen g.met.S.Disk.no_later c.args.site.now
-
-pub returns-in-Ok-Some-Play-clause-spared : goal.returns-in-Ok-Some-Play-clause-spared
-returns-in-Ok-Some-Play-clause-spared g c = idle_spared g.S.Disk.seen g.met.S.Disk.no_later c.args.site.now
-
-pub returns-in-Ok-Some-Rehearse-clause-spared : goal.returns-in-Ok-Some-Rehearse-clause-spared
-returns-in-Ok-Some-Rehearse-clause-spared g c = idle_spared g.S.Disk.seen g.met.S.Disk.no_later c.args.site.now
-
-pub returns-in-Ok-Some-ServeShown-clause-spared : goal.returns-in-Ok-Some-ServeShown-clause-spared
-returns-in-Ok-Some-ServeShown-clause-spared g c = idle_spared g.S.Disk.seen g.met.S.Disk.no_later c.args.site.now
-
-pub returns-in-Ok-None-clause-spared : goal.returns-in-Ok-None-clause-spared
-returns-in-Ok-None-clause-spared g c = idle_spared g.S.Disk.seen g.met.S.Disk.no_later c.args.site.now
-
-pub returns-in-Err-clause-spared : goal.returns-in-Err-clause-spared
-returns-in-Err-clause-spared g c = idle_spared g.S.Disk.seen g.met.S.Disk.no_later c.args.site.now
-
-pub returns-in-Ok-Some-Help-clause-spared : goal.returns-in-Ok-Some-Help-clause-spared
-returns-in-Ok-Some-Help-clause-spared g c = idle_spared g.S.Disk.seen g.met.S.Disk.no_later c.args.site.now
-
-pub returns-in-Ok-Some-Version-clause-spared : goal.returns-in-Ok-Some-Version-clause-spared
-returns-in-Ok-Some-Version-clause-spared g c = idle_spared g.S.Disk.seen g.met.S.Disk.no_later c.args.site.now

@@ -31,11 +31,18 @@ pub returns-clause-means : goal.returns-clause-means
 returns-clause-means g c =
     inr (c.in-Err.fault, c.in-Err.ensures.why, c.in-Err.ensures.unasked, told_if (λ a. Tells c.in-Err.fault a) c.refused.result c.or_starved-in-Err.result c.refused.ensures c.or_starved-in-Err.ensures)
 
-pub returns-in-Ok-clause-untouched : goal.returns-in-Ok-clause-untouched
-returns-in-Ok-clause-untouched g c line is =
-    absurd (relay_is_store c.in-Ok.relay.channel c.in-Ok.relay.report c.relayed.result c.or_starved.result line c.relayed.ensures.told c.or_starved.ensures is)
+pub returns-in-Ok-clause-stores : goal.returns-in-Ok-clause-stores
+returns-in-Ok-clause-stores g c = record {
+  lasts = c.relay_store.ensures.stores.lasts;
+  untouched = λ r. absurd (relay_is_store c.in-Ok.relay.channel c.in-Ok.relay.report c.relayed.result c.or_starved.result r.0 c.relayed.ensures.told c.or_starved.ensures r.1);
+  spared = c.relay_store.ensures.stores.spared;
+}
 
-pub returns-clause-untouched : goal.returns-clause-untouched
-returns-clause-untouched g c line is =
-    let p = placed_by c.in-Err.fault c.refused.result c.or_starved-in-Err.result line c.refused.ensures c.or_starved-in-Err.ensures is in
-    c.in-Err.ensures.untouched p.0 (ap (λ (w : StoreFault). let r : Result StoreRelay StoreFault = Err w in r) p.1)
+pub returns-clause-stores : goal.returns-clause-stores
+returns-clause-stores g c = record {
+  lasts = c.relay_store.ensures.stores.lasts;
+  untouched = λ r.
+      let p = placed_by c.in-Err.fault c.refused.result c.or_starved-in-Err.result r.0 c.refused.ensures c.or_starved-in-Err.ensures r.1 in
+      c.in-Err.ensures.stores.untouched (p.0, ap (λ (w : StoreFault). let r : Result StoreRelay StoreFault = Err w in r) p.1);
+  spared = c.relay_store.ensures.stores.spared;
+}

@@ -12,7 +12,10 @@ pub returns-clause-means : goal.returns-clause-means
 returns-clause-means g c =
     (c.export_store-comes.result, c.export_store-comes.ensures.means, told_so c.export_store-comes.result c.told.result c.or_starved.result c.told.ensures.told c.told.ensures.unwritten c.or_starved.ensures)
 
-pub returns-clause-untouched : goal.returns-clause-untouched
-returns-clause-untouched g c line is =
-    let p = export_placed c.export_store-comes.result c.told.result c.or_starved.result line c.told.ensures.told c.or_starved.ensures is in
-    c.export_store-comes.ensures.untouched p.0 p.1
+pub returns-clause-stores : goal.returns-clause-stores
+returns-clause-stores g c = record {
+  lasts = c.export_store-comes.ensures.stores.lasts;
+  untouched = λ r. c.export_store-comes.ensures.stores.untouched
+      (export_placed c.export_store-comes.result c.told.result c.or_starved.result r.0 c.told.ensures.told c.or_starved.ensures r.1);
+  spared = c.export_store-comes.ensures.stores.spared;
+}

@@ -12,7 +12,14 @@ returns-in-Err-clause-means g c =
     unlisted g.S.Disk.seen c.args.site.now c.list_store.new.site c.in-Err.fault c.refused.result c.or_starved.result c.in-Err.ensures.why
     c.refused.ensures c.or_starved.ensures
 
-pub returns-in-Err-clause-untouched : goal.returns-in-Err-clause-untouched
-returns-in-Err-clause-untouched g c line is =
-    unwritten_listed g.S.Disk.seen c.args.site.now c.list_store.new.site c.in-Err.fault c.refused.result c.or_starved.result line c.in-Err.ensures.why
-    c.refused.ensures c.or_starved.ensures is
+pub returns-in-Err-clause-stores : goal.returns-in-Err-clause-stores
+returns-in-Err-clause-stores g c = record {
+  lasts = c.list_store.ensures.stores.lasts;
+  untouched = λ r.
+      unwritten_listed g.S.Disk.seen c.args.site.now c.list_store.new.site c.in-Err.fault c.refused.result c.or_starved.result r.0 c.in-Err.ensures.why
+      c.refused.ensures c.or_starved.ensures r.1;
+  spared = c.list_store.ensures.stores.spared;
+}
+
+pub returns-in-Ok-clause-stores : goal.returns-in-Ok-clause-stores
+returns-in-Ok-clause-stores g c = record { lasts = c.list_store.ensures.stores.lasts; untouched = λ r. absurd (cc); spared = c.list_store.ensures.stores.spared }

@@ -8,13 +8,21 @@ returns-in-Err-clause-means g c =
     unserved g.S.Disk.seen c.args.order.ladder c.args.order.turns _ _ c.args.site.now c.serve_store.new.site c.in-Err.fault c.refused.result _ c.in-Err.ensures.why
     c.refused.ensures c.or_starved-in-Err.ensures
 
-pub returns-in-Err-clause-untouched : goal.returns-in-Err-clause-untouched
-returns-in-Err-clause-untouched g c line is =
-    unwritten_served g.S.Disk.seen c.args.order.ladder c.args.site.now c.serve_store.new.site c.in-Err.fault c.refused.result c.or_starved-in-Err.result line c.in-Err.ensures.why
-    c.refused.ensures c.or_starved-in-Err.ensures is
+pub returns-in-Err-clause-stores : goal.returns-in-Err-clause-stores
+returns-in-Err-clause-stores g c = record {
+  lasts = c.serve_store.ensures.any_moment;
+  untouched = λ r.
+      unwritten_served g.S.Disk.seen c.args.order.ladder c.args.site.now c.serve_store.new.site c.in-Err.fault c.refused.result c.or_starved-in-Err.result r.0 c.in-Err.ensures.why
+      c.refused.ensures c.or_starved-in-Err.ensures r.1;
+  spared = c.serve_store.ensures.spared;
+}
 
-pub returns-in-Ok-clause-untouched : goal.returns-in-Ok-clause-untouched
-returns-in-Ok-clause-untouched g c line is = absurd (ended_is_store c.in-Ok.end c.ended.result c.or_starved.result line c.ended.ensures c.or_starved.ensures is)
+pub returns-in-Ok-clause-stores : goal.returns-in-Ok-clause-stores
+returns-in-Ok-clause-stores g c = record {
+  lasts = c.serve_store.ensures.any_moment;
+  untouched = λ r. absurd (ended_is_store c.in-Ok.end c.ended.result c.or_starved.result r.0 c.ended.ensures c.or_starved.ensures r.1);
+  spared = c.serve_store.ensures.spared;
+}
 
 pub returns-in-Err-clause-selected : goal.returns-in-Err-clause-selected
 returns-in-Err-clause-selected g c =

@@ -21,7 +21,7 @@ returns c c' =
     let cut = c'.in_ok-multiples-2.field-0 in
     let plays = plays_one _ c'.args.policy c'.args.stream.now count old mid new lost cut tracks c'.play-report.new.tracks c'.in_ok-plan.plan c'.in_ok-vec.field-0.items report
     c'.in_ok-plan.ensures c'.in_ok-vec.ensures.items (ap (λ (t : TracksState). t.tracks) c'.new-tracks.ensures) c'.renumber.ensures.site c'.renumber.ensures.dialing
-    c'.play-report.ensures.served c'.play-report.ensures.goes_on c'.play-report.ensures.dial.answered
+    c'.play-report.ensures.served c'.play-report.ensures.dial.goes_on c'.play-report.ensures.dial.dialed.answered
     in
     let ended : 0 < count → report.end ≡ Done = elim c'.match-report.branch [
       | in-Done w ↦ (λ some. w.in-Done.is)

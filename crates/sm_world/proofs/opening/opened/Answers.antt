@@ -13,8 +13,8 @@ returns-in-Ok-clause-opened g c w stands =
     subst (λ (o : Option State). Stands g.S.Disk.seen w o d) c.in-None.is stands
     in
     opens g.S.Disk.seen c.stores_have_one_reading.ensures.one_list c.bodies_have_one_log.ensures w d e c.in-Ok.state
-    (g.met.S.Crashing.tells d).contents (g.met.S.Disk.contents_pass d) c.in-Ok.ensures.store c.in-Ok.ensures.begins
-    (g.met.S.Crashing.tells e).contents c.in-Ok.ensures.disk_alone.link.transcript closed
+    (g.met.S.Crashing.tells d).contents (g.met.S.Disk.contents_pass d) c.in-Ok.ensures.opens.store c.in-Ok.ensures.begins
+    (g.met.S.Crashing.tells e).contents c.in-Ok.ensures.opens.disk_alone.link.transcript closed
 
 pub returns-in-Err-clause-never : goal.returns-in-Err-clause-never
 returns-in-Err-clause-never g c w stands at is =
@@ -23,4 +23,4 @@ returns-in-Err-clause-never g c w stands at is =
     subst (λ (o : Option State). Stands g.S.Disk.seen w o d) c.in-None.is stands
     in
     never_fails g.S.Disk.seen c.stores_have_one_reading.ensures.one_list c.stores_have_one_reading.ensures.no_fault
-    c.bodies_have_one_log.ensures w d at (g.met.S.Crashing.tells d).contents (g.met.S.Disk.contents_pass d) closed (c.in-Err.ensures.refused at is)
+    c.bodies_have_one_log.ensures w d at (g.met.S.Crashing.tells d).contents (g.met.S.Disk.contents_pass d) closed (c.in-Err.ensures.opens.refused at is)

@@ -13,9 +13,9 @@ returns-in-Ok-clause-stays g c w closed =
     let A = g.S.Disk.seen.may_leave in
     let d = c.args.site.now in
     let holds = holds_log g.S.Disk.seen c.stores_have_one_reading.ensures.one_list c.bodies_have_one_log.ensures w d c.start.new.site c.in-Ok.state
-    (g.met.S.Crashing.tells d).contents (g.met.S.Disk.contents_pass d) c.in-Ok.ensures.store closed in
+    (g.met.S.Crashing.tells d).contents (g.met.S.Disk.contents_pass d) c.in-Ok.ensures.opens.store closed in
     let lent = subst (λ (a : Archive). Holds a w.log None (A c.start.new.site)) (sym c.archive.ensures) holds in
-    closed_again g.S.Disk.seen w d c.keeps_all.new.site (c.keeps_all.ensures.disk_alone.link.transcript ∙ c.in-Ok.ensures.disk_alone.link.transcript)
+    closed_again g.S.Disk.seen w d c.keeps_all.new.site (c.keeps_all.ensures.disk_alone.link.transcript ∙ c.in-Ok.ensures.opens.disk_alone.link.transcript)
     (one_store_of c.archive.result.now w.log (A c.keeps_all.new.site) (c.keeps_all.ensures.stands w.log lent)) closed
 
 pub returns-in-Ok-clause-kept : goal.returns-in-Ok-clause-kept
@@ -27,5 +27,5 @@ returns-in-Ok-clause-kept g c =
     (λ (same : Bool). IsTrue same → (w : World) → IsClosed g.S.Disk.seen w d → w.log ≡ log_of c.args.rounds)
     (λ same kept so w closed. kept so w.log (subst (λ (a : Archive). Holds a w.log None (A c.start.new.site)) (sym c.archive.ensures)
     (holds_log g.S.Disk.seen c.stores_have_one_reading.ensures.one_list c.bodies_have_one_log.ensures w d c.start.new.site c.in-Ok.state
-    (g.met.S.Crashing.tells d).contents (g.met.S.Disk.contents_pass d) c.in-Ok.ensures.store closed)))
+    (g.met.S.Crashing.tells d).contents (g.met.S.Disk.contents_pass d) c.in-Ok.ensures.opens.store closed)))
     c.keeps_all.ensures.kept

@@ -1,29 +1,33 @@
 use Rattle.std.proofs.Common.{◌≡◌, ◌∙◌, sym}
 use Rattle.sm_model.specs.declared.act.Act.TheVariants.{Fragment as Ask}
-use Rattle.sm_site.proofs.Moments.{no_call}
+use Rattle.sm_site.proofs.Moments.{no_call, alone_here}
 use Rattle.sm_archive.specs.declared.fetch.Fetched.TheVariants as fetched
 use Rattle.sm_origin.specs.Answers.{reply_to_fetched}
-use Rattle.sm_origin.proofs.Acts.{told_before, held_told, read_gives}
+use Rattle.sm_origin.proofs.Acts.{Laws}
 use Rattle.sm_origin.proofs.Asked.{kept_if}
 use Rattle.sm_origin.proofs.Fronts.{hit_held}
 use Rattle.sm_origin.proofs.Recalled.{recall_step, again_undamaged, again_unfailed, again_absent, again_held}
+use Rattle.sm_origin.proofs.Whole.{stood, reads_once}
 use Rattle.sm_origin.proofs.origin.Origin.recall.Goals as goal
 
 -- where the cache has it
 
-pub returns-in-Some-clause-step : goal.returns-in-Some-clause-step
-returns-in-Some-clause-step g c = λ has_told m s.
-    let v = g.D.Disk.seen.view in
+pub returns-in-Some-clause-one : goal.returns-in-Some-clause-one
+returns-in-Some-clause-one g c =
+    let laws : Laws g.D.Disk.seen =
+    record { calls = g.met.D.Disk.calls_told; no_later = g.met.D.Disk.no_later; at_now = g.met.D.Disk.at_now; image = c.an_image_fits.ensures } in
+    let site = g.D.Disk.seen in
     let d = c.args.disk.now in
     let a = c.args.address.now in
     let kept = c.in-Some.kept.now in
     let r = c.again.result in
-    read_gives g.D.Disk.seen d d m c.args.self.now c.args.self.now (Ask a) (reply_to_fetched m.log a r) has_told
-    (g.met.D.Disk.calls_told d) (g.met.D.Disk.calls_told d) (λ t x left. g.met.D.Disk.no_later d t x left) (λ x left. g.met.D.Disk.at_now d x left)
-    c.an_image_fits.ensures s
-    (recall_step _ m a r (again_undamaged kept r c.again.ensures) (λ bad. absurd (again_unfailed kept r c.again.ensures bad)))
-    (no_call g.D.Disk.seen d _ (λ t x left. g.met.D.Disk.no_later d t x left))
-    s
+    reads_once site laws d d c.args.self.now c.args.self.now (Ask a) (λ log. reply_to_fetched log a r) (record {
+      some = c.requires.stands;
+      alone = alone_here (site.view d);
+      through = no_call site d _ (g.met.D.Disk.no_later d);
+      stands = λ m s. s;
+      step = λ m s told. recall_step _ m a r (again_undamaged kept r c.again.ensures) (λ bad. absurd (again_unfailed kept r c.again.ensures bad));
+    })
 
 pub returns-in-Some-clause-found : goal.returns-in-Some-clause-found
 returns-in-Some-clause-found g c place f is m s =
@@ -52,41 +56,24 @@ returns-in-Some-clause-fault g c bad = absurd (again_unfailed c.in-Some.kept.now
 
 -- where it doesn't
 
-pub returns-in-None-clause-stands : goal.returns-in-None-clause-stands
-returns-in-None-clause-stands g c =
-    let v = g.D.Disk.seen.view in
-    let old = c.args.disk.now in
-    let new = c.fetch.new.disk in
-    let m = c.requires.stands.0 in
-    let s = c.requires.stands.1 in
-    let told = told_before (v old) (v new) (g.met.D.Disk.calls_told old) (g.met.D.Disk.calls_told new) c.fetch.ensures.recorded in (
-      m,
-      record {
-        archive = s.archive;
-        stands = c.fetch.ensures.stands m.log m.doubt s.stands;
-        cached = held_told _ _ m.log c.args.self.now.cache.entries told s.cached;
-      },
-    )
-
-pub returns-in-None-clause-step : goal.returns-in-None-clause-step
-returns-in-None-clause-step g c = λ has_told m s.
-    let v = g.D.Disk.seen.view in
+pub returns-in-None-clause-one : goal.returns-in-None-clause-one
+returns-in-None-clause-one g c =
+    let laws : Laws g.D.Disk.seen =
+    record { calls = g.met.D.Disk.calls_told; no_later = g.met.D.Disk.no_later; at_now = g.met.D.Disk.at_now; image = c.an_image_fits.ensures } in
+    let site = g.D.Disk.seen in
     let old = c.args.disk.now in
     let new = c.fetch.new.disk in
     let a = c.args.address.now in
-    let r = c.fetch.result in
-    let told = told_before (v old) (v new) (g.met.D.Disk.calls_told old) (g.met.D.Disk.calls_told new) c.fetch.ensures.recorded in
-    let there = c.fetch.ensures.absent m.log m.doubt s.stands in
-    read_gives g.D.Disk.seen old new m c.args.self.now c.args.self.now (Ask a) (reply_to_fetched m.log a r) has_told
-    (g.met.D.Disk.calls_told old) (g.met.D.Disk.calls_told new) (λ t x left. g.met.D.Disk.no_later new t x left) (λ x left. g.met.D.Disk.at_now new x left)
-    c.an_image_fits.ensures s
-    (recall_step _ m a r (λ bad. c.fetch.ensures.damaged bad m.log m.doubt s.stands has_told)
-    (λ bad. (c.fetch.ensures.fault bad, kept_if m.log a c.kept_is_added.ensures.place (λ none. absurd (not_absent (sym bad ∙ there.1 none))))))
-    c.fetch.ensures.any_moment
-    (record {
-      archive = s.archive;
-      stands = c.fetch.ensures.stands m.log m.doubt s.stands;
-      cached = held_told _ _ m.log c.args.self.now.cache.entries told s.cached;
+    let o = c.args.self.now in
+    reads_once site laws old new o o (Ask a) (λ log. reply_to_fetched log a c.fetch.result) (record {
+      some = c.requires.stands;
+      alone = c.fetch.ensures.disk_alone;
+      through = c.fetch.ensures.any_moment;
+      stands = stood site laws old new o c.fetch.ensures.recorded c.fetch.ensures.stands;
+      step = λ m s told.
+          let there = c.fetch.ensures.absent m.log m.doubt s.stands in
+          recall_step _ m a c.fetch.result (λ bad. c.fetch.ensures.damaged bad m.log m.doubt s.stands told)
+          (λ bad. (c.fetch.ensures.fault bad, kept_if m.log a c.kept_is_added.ensures.place (λ none. absurd (not_absent (sym bad ∙ there.1 none)))));
     })
   where
     not_absent : fetched.DiskFault ≡ fetched.Absent → ⊥

@@ -9,6 +9,7 @@ pub returns-clause-runs : goal.returns-clause-runs
 returns-clause-runs g c h serves =
     let d = c.args.site.now in
     let e = c.declare.new.site in
-    let a = acted g.S.Disk.seen g.met.S.Disk.told h d e c.declare.new.self (Header c.args.channel.now) (reply_to_header c.declare.result) None serves.keeps c.declare.ensures.told
-    g.met.S.Disk.now_at g.met.S.Disk.calls_told (λ has. c.declare.ensures.step has h.point.machine serves.rest.stands) c.declare.ensures.stands c.declare.ensures.disk_alone.link c.declare.ensures.disk_alone.no_fewer in
+    let one = c.declare.ensures.one in
+    let a = acted g.S.Disk.seen g.met.S.Disk.told h d e c.declare.new.self (Header c.args.channel.now) (reply_to_header c.declare.result) None serves.keeps one.told
+    g.met.S.Disk.now_at g.met.S.Disk.calls_told (λ has. one.step has h.point.machine serves.rest.stands) one.stands one.disk_alone.link one.disk_alone.no_fewer in
     declares g.S.Disk.seen h c.args.channel.now c.declare.result c.args.self.now _ d e serves refl a

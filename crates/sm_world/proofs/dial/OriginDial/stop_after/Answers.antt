@@ -14,7 +14,7 @@ invariant_of-self g c =
       (
         i.2.0,
         stays g.S.Disk.seen c.fewer_images_stand.ensures i.2.0 d e
-            (same_view (g.S.Disk.seen.view d) (g.S.Disk.seen.view e) c.stop_after.ensures.view) c.stop_after.ensures.crash c.stop_after.ensures.past c.self.inside.state i.2.1,
+            (same_view (g.S.Disk.seen.view d) (g.S.Disk.seen.view e) c.stop_after.ensures.view) c.stop_after.ensures.keeps.crash c.stop_after.ensures.keeps.past c.self.inside.state i.2.1,
       ),
       i.3,
     )
@@ -26,4 +26,4 @@ returns-clause-stands g c =
     subst (λ (v : _). (w : World) → Stands g.S.Disk.seen w v.1.state v.0
     → Stands g.S.Disk.seen w c.self.inside.state e) c.self.view_is
     (λ w stands. stays g.S.Disk.seen c.fewer_images_stand.ensures w d e
-    (same_view (g.S.Disk.seen.view d) (g.S.Disk.seen.view e) c.stop_after.ensures.view) c.stop_after.ensures.crash c.stop_after.ensures.past c.self.inside.state stands)
+    (same_view (g.S.Disk.seen.view d) (g.S.Disk.seen.view e) c.stop_after.ensures.view) c.stop_after.ensures.keeps.crash c.stop_after.ensures.keeps.past c.self.inside.state stands)

@@ -15,7 +15,7 @@ invariant_of-self c =
       (
         i.2.0,
         stays site_seen c.fewer_images_stand.ensures i.2.0 d e
-            (same_view (site_view d) (site_view e) c.stop_after.ensures.view) c.stop_after.ensures.crash c.stop_after.ensures.past c.self.inside.state i.2.1,
+            (same_view (site_view d) (site_view e) c.stop_after.ensures.view) c.stop_after.ensures.keeps.crash c.stop_after.ensures.keeps.past c.self.inside.state i.2.1,
       ),
       i.3,
     )
@@ -27,4 +27,4 @@ returns-clause-stands c =
     subst (λ (v : _). (w : World) → Stands site_seen w v.1.state v.0
     → Stands site_seen w c.self.inside.state e) c.self.view_is
     (λ w stands. stays site_seen c.fewer_images_stand.ensures w d e
-    (same_view (site_view d) (site_view e) c.stop_after.ensures.view) c.stop_after.ensures.crash c.stop_after.ensures.past c.self.inside.state stands)
+    (same_view (site_view d) (site_view e) c.stop_after.ensures.view) c.stop_after.ensures.keeps.crash c.stop_after.ensures.keeps.past c.self.inside.state stands)

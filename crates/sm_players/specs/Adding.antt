@@ -1,0 +1,10 @@
+-- What adding the parts of a player leaves of a crew.
+use Rattle.std.specs.Prelude.{◌≡◌}
+use Rattle.sm_players.specs.declared.crew.Crew.{Crew}
+
+-- the parts alone are others
+pub record PartsAlone {R W F G : Type 0} (old new : Crew R W F G) : Type 0 where
+  pub handles : new.handles ≡ old.handles
+  pub started : new.started ≡ old.started
+  pub faults : new.faults ≡ old.faults
+  pub wiring : new.wiring ≡ old.wiring
