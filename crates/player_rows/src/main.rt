@@ -84,7 +84,7 @@ fn run<R: Threads + Wait + Files + Print + AllocGlobal + Copy + Drop>(
 }
 
 fn main(rt: HostRuntime) -> Result<()> {
-    let mut page = Page::new(rt.alloc());
+    let mut page = Page::new(rt.alloc())?;
     let mut rows = 0usize;
     for name in PAGES {
         rows = rows.saturating_add(run(&rt, &mut page, name)?);

@@ -1,4 +1,4 @@
-pub mod CutLaw
-pub mod Escapes
+mod CutLaw
+mod Escapes
 pub mod Without
 pub mod RoundTrip

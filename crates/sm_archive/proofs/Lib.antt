@@ -1,16 +1,16 @@
 pub mod Lists
-pub mod Logs
-pub mod Doubts
-pub mod Indexes
-pub mod Settling
-pub mod Appending
-pub mod Reservings
+mod Logs
+mod Doubts
+mod Indexes
+mod Settling
+mod Appending
+mod Reservings
 pub mod Keepings
-pub mod Places
-pub mod Readying
-pub mod Declarings
+mod Places
+mod Readying
+mod Declarings
 pub mod Fetching
-pub mod Stores
-pub mod Admitting
-pub mod Walking
-pub mod Looking
+mod Stores
+mod Admitting
+mod Walking
+mod Looking

@@ -1,7 +1,7 @@
-pub mod Runs
-pub mod LineLaw
+mod Runs
+mod LineLaw
 pub mod TextLaw
 pub mod BodyLaw
-pub mod PlainLaw
-pub mod PlaceLaw
-pub mod ReadLaw
+mod PlainLaw
+mod PlaceLaw
+mod ReadLaw

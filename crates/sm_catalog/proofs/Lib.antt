@@ -1,7 +1,7 @@
-pub mod Snoc
-pub mod Listing
+mod Snoc
+mod Listing
 pub mod Counting
 pub mod Lookups
 pub mod Adding
-pub mod Lanes
+mod Lanes
 pub mod Together

@@ -3,9 +3,7 @@ use Rattle.std.proofs.Common.{◌≡◌, ℕ, zero, suc, List, [], ◌∷◌, �
 use Rattle.sm_log.proofs.AllLogs.{kept_stays}
 use Rattle.sm_model.specs.declared.address.Address.{Address}
 use Rattle.sm_model.specs.declared.entry.Entry.{Entry}
-use Rattle.sm_model.specs.declared.entry.Entry.TheVariants.{Keep}
 use Rattle.sm_model.specs.declared.run.RawFragment.{RawFragment}
-use Rattle.sm_manin.specs.declared.listing.StreamListing.{StreamListing}
 use Rattle.sm_fetch.specs.declared.dial.Exchange.{Exchange}
 use Rattle.sm_fetch.specs.declared.got.Got.{Got}
 use Rattle.sm_fetch.specs.declared.got.Got.TheVariants as got
@@ -14,6 +12,8 @@ use Rattle.sm_fetch.specs.Fetched.{FetchedFragment, IsKeptAt, GrowsWith}
 use Rattle.sm_client.specs.declared.plan.Plan.{Plan}
 use Rattle.sm_client.specs.declared.piece.Asked.{Asked}
 use Rattle.sm_client.specs.declared.piece.Asked.TheVariants as asked
+use Rattle.sm_client.specs.declared.piece.Wanted.{Wanted}
+use Rattle.sm_client.specs.declared.stream.Stream.{Stream}
 use Rattle.sm_client.specs.Stands.{Piece, address_at}
 use Rattle.sm_client.specs.Plays.{Part, PartsKept, PartsKeptOn, written_of}
 use Rattle.sm_client.specs.Kept.{IsKept, AreKept, KeepsOn, with_address}
@@ -52,11 +52,10 @@ keeps-more {plan = plan} s t u ps qs k l = record {
 pub keeps-behind : {plan : Plan} {s t u : List Entry → Type 0} {ps : List Piece} → Grows s t → KeepsOn plan t u ps → KeepsOn plan s u ps
 keeps-behind {plan = plan} {s = s} {t = t} {u = u} {ps = ps} g k = keeps-more s t u [] ps (keeps-none plan {s = s} {t = t} g) k
 
-pub asked-behind : (plan : Plan) (name : List ℕ) (stream : StreamListing) (s t u : List Entry → Type 0) (r : Asked) → Grows s t → AskedKept plan name stream t u r
-    → AskedKept plan name stream s u r
-asked-behind plan name stream s t u (asked.Took raw level) g k = keeps-behind g k
-asked-behind plan name stream s t u (asked.Missed outcome) g k = tt
-asked-behind plan name stream s t u asked.NoMemory g k = tt
+pub asked-behind : (st : Stream) (w : Wanted) (s t u : List Entry → Type 0) (r : Asked) → Grows s t → AskedKept st w t u r → AskedKept st w s u r
+asked-behind st w s t u (asked.Took raw level) g k = keeps-behind g k
+asked-behind st w s t u (asked.Missed outcome) g k = tt
+asked-behind st w s t u asked.NoMemory g k = tt
 
 -- ---- parts
 
@@ -107,17 +106,19 @@ parts-more {plan = plan} s t u names parts part number name rest count at k l = 
 named-kept : (plan : Plan) (url : List ℕ) (a b : Address) (log : List Entry) (raw : RawFragment) → a ≡ b → IsKeptAt plan.place url a log (got.Fragment raw) → IsKeptAt plan.place url b log (got.Fragment raw)
 named-kept plan url a b log raw e k = subst (λ (c : Address). IsKeptAt plan.place url c log (got.Fragment raw)) e k
 
-pub asked-kept : (plan : Plan) {name : List ℕ} (s : StreamListing) {start : ℕ} (level : ℕ) {a : Address} {old new : Option (List Exchange)} {g : Got} {bytes : ℕ} (store store' : List Entry → Type 0) (r : Asked)
-    → a ≡ address_at name s start level → FetchedFragment plan.place s.pattern a old new g bytes → GrowsWith plan.place s.pattern a store store' g → IsAskedOf g level r → AskedKept plan name s store store' r
-asked-kept plan {name = name} s {start = start} level {a = a} {g = g} store store' (asked.Took raw place) at f k is =
+pub asked-kept : (st : Stream) (w : Wanted) (level : ℕ) {a : Address} {old new : Option (List Exchange)} {g : Got} {bytes : ℕ} (store store' : List Entry → Type 0) (r : Asked)
+    → a ≡ address_at st.name.now w.listing.now w.start level → FetchedFragment st.plan.now.place w.listing.now.pattern a old new g bytes
+    → GrowsWith st.plan.now.place w.listing.now.pattern a store store' g → IsAskedOf g level r → AskedKept st w store store' r
+asked-kept st w level {a = a} {g = g} store store' (asked.Took raw place) at f k is =
     let spells = spelled-fragment a.time f.answer raw (rw is.0 at f.spells) in
-    let time : raw.time ≡ start = spells.1 ∙ ap (λ (b : Address). b.time) at in
-    let there : a ≡ address_at name s raw.time place =
-    at ∙ (ap (λ n. address_at name s n level) (sym time) ∙ ap (λ n. address_at name s raw.time n) (sym is.1)) in
+    let time : raw.time ≡ w.start = spells.1 ∙ ap (λ (b : Address). b.time) at in
+    let there : a ≡ address_at st.name.now w.listing.now raw.time place =
+    at ∙ (ap (λ n. address_at st.name.now w.listing.now n level) (sym time) ∙ ap (λ n. address_at st.name.now w.listing.now raw.time n) (sym is.1)) in
     record {
       on = λ log told.
           let b = k log told in
-          (b.0, b.1, (named-kept plan s.pattern a (address_at name s raw.time place) (log ++ b.0) raw there (subst (λ (h : Got). IsKeptAt plan.place s.pattern a (log ++ b.0) h) is.0 b.2), tt));
+          let kept = subst (λ (h : Got). IsKeptAt st.plan.now.place w.listing.now.pattern a (log ++ b.0) h) is.0 b.2 in
+          (b.0, b.1, (named-kept st.plan.now w.listing.now.pattern a (address_at st.name.now w.listing.now raw.time place) (log ++ b.0) raw there kept, tt));
     }
-asked-kept plan s level store store' (asked.Missed m) at f k is = tt
-asked-kept plan s level store store' asked.NoMemory at f k is = tt
+asked-kept st w level store store' (asked.Missed m) at f k is = tt
+asked-kept st w level store store' asked.NoMemory at f k is = tt

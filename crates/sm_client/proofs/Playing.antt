@@ -258,19 +258,19 @@ begins : {P : Type 0} (m : Meaning P) {acting now : P} {rest qs : List P} (q : P
 begins m {acting = acting} {rest = rest} q ps first next settled = ap (λ r. settle m q [] r) (sym next) ∙ (ap (λ a. settle m a [] rest) (sym first) ∙ settled)
 
 module _ {P : Type 0} {m : Meaning P} {plan : Plan} {log new : Option (List Exchange)} {held held' : ℕ → Option (List ℕ)} {report : Report} {acting now : P} {rest qs : List P} where
-  pub played-by : (ps : List P) (names : List (List ℕ)) → 0 < length ps → acting ≡ slice_index_or ps 0 acting → rest ≡ remove ps 0 → settle m acting [] rest ≡ fresh now qs → names ≡ plan.streams
-      → PlaysFrom m plan (fresh now qs) 0 names log new held held' report → Played m plan ps log new held held' report
-  played-by [] names some first next settled same p = absurd (omega (arith, some))
-  played-by (q ∷ ps) names some first next settled same p = rw (begins m q ps first next settled) (rw same at p)
+  pub played-by : (ps : List P) → 0 < length ps → acting ≡ slice_index_or ps 0 acting → rest ≡ remove ps 0 → settle m acting [] rest ≡ fresh now qs
+      → PlaysFrom m plan (fresh now qs) 0 plan.streams log new held held' report → Played m plan ps log new held held' report
+  played-by [] some first next settled p = absurd (omega (arith, some))
+  played-by (q ∷ ps) some first next settled p = rw (begins m q ps first next settled) p
 
-  pub kept-by : {store store' : List Entry → Type 0} (ps : List P) (names : List (List ℕ)) → 0 < length ps → acting ≡ slice_index_or ps 0 acting → rest ≡ remove ps 0 → settle m acting [] rest ≡ fresh now qs
-      → names ≡ plan.streams → PlaysKept m plan (fresh now qs) 0 names log new store store' held held' report → PlayedKept m plan ps log new store store' held held' report
-  kept-by [] names some first next settled same p = absurd (omega (arith, some))
-  kept-by (q ∷ ps) names some first next settled same p = rw (begins m q ps first next settled) (rw same at p)
+  pub kept-by : {store store' : List Entry → Type 0} (ps : List P) → 0 < length ps → acting ≡ slice_index_or ps 0 acting → rest ≡ remove ps 0 → settle m acting [] rest ≡ fresh now qs
+      → PlaysKept m plan (fresh now qs) 0 plan.streams log new store store' held held' report → PlayedKept m plan ps log new store store' held held' report
+  kept-by [] some first next settled p = absurd (omega (arith, some))
+  kept-by (q ∷ ps) some first next settled p = rw (begins m q ps first next settled) p
 
-  pub served-by : (ps : List P) (names : List (List ℕ)) → 0 < length ps → acting ≡ slice_index_or ps 0 acting → rest ≡ remove ps 0 → settle m acting [] rest ≡ fresh now qs → names ≡ plan.streams
-      → PlaysFrom m plan (fresh now qs) 0 names log new held held' report → PlayedServed m plan ps log new held held' report
-  served-by [] names some first next settled same p = absurd (omega (arith, some))
-  served-by (q ∷ ps) names some first next settled same p =
-      let begun : PlaysFrom m plan (settle m q [] ps) 0 plan.streams log new held held' report = rw (begins m q ps first next settled) (rw same at p) in
+  pub served-by : (ps : List P) → 0 < length ps → acting ≡ slice_index_or ps 0 acting → rest ≡ remove ps 0 → settle m acting [] rest ≡ fresh now qs
+      → PlaysFrom m plan (fresh now qs) 0 plan.streams log new held held' report → PlayedServed m plan ps log new held held' report
+  served-by [] some first next settled p = absurd (omega (arith, some))
+  served-by (q ∷ ps) some first next settled p =
+      let begun : PlaysFrom m plan (settle m q [] ps) 0 plan.streams log new held held' report = rw (begins m q ps first next settled) p in
       record { plays = begun; kept = from-kept begun; well = from-well begun; whole = from-whole begun }

@@ -1,29 +1,27 @@
 -- A play over an origin that keeps a log: what its manifests and fragments spell, and how it ends.
 use Rattle.std.proofs.Common.{◌≡◌, ◌≢◌, ◌<◌, ◌≤◌, ◌+◌, ◌^◌, ◌⊎◌, ◌||◌, ◌&&◌, ℕ, zero, suc, Bool, true, false, cond, eqb, ltb}
 use Rattle.std.proofs.Common.{List, [], ◌∷◌, ◌++◌, length, slice_get, slice_index, Option, Some, None, Ok, refl, ap, sym, ◌∙◌, subst, arith, inl, inr}
-use Rattle.std.specs.Prelude.{codes, is_some, filter, All, Contains}
+use Rattle.std.specs.Prelude.{codes, is_some, filter, All}
 use Rattle.std.specs.List.{list_any, AllByRecursion}
 use Rattle.std.proofs.lemmas.Bool.{eqb-true}
 use Rattle.std.proofs.lemmas.List.Elements.{recursion_from_All}
 use Rattle.sm_model.specs.declared.address.Address.{Address}
 use Rattle.sm_model.specs.declared.entry.Entry.{Entry}
-use Rattle.sm_model.specs.declared.entry.Entry.TheVariants.{Keep}
 use Rattle.sm_model.specs.declared.fragment.Fragment.{Fragment}
 use Rattle.sm_model.specs.declared.run.RawFragment.{RawFragment}
 use Rattle.sm_model.specs.declared.target.Target.TheVariants as target
 use Rattle.sm_model.specs.declared.track.Track.{Track}
 use Rattle.sm_model.specs.Channels.{IsNarrowTrack}
-use Rattle.sm_model.specs.Entries.{address_of}
 use Rattle.sm_model.specs.Found.{is_kind}
 use Rattle.sm_model.specs.FragText.{moof, mdat, frag_text}
 use Rattle.sm_model.specs.Same.{is_same}
 use Rattle.sm_model.specs.Names.{is_name}
 use Rattle.sm_model.specs.Written.{IsWritten, raw_again}
 use Rattle.sm_model.proofs.WrittenFragment.{moof_whole, mdat_whole, moof_is, frag_read}
-use Rattle.sm_log.specs.Adds.{track_at, tracks_of, is_declared}
+use Rattle.sm_log.specs.Adds.{track_at, tracks_of}
 use Rattle.sm_log.specs.Logs.{channel_of, kept_at, listed_in, ahead_in}
 use Rattle.sm_log.specs.Times.{entry_at}
-use Rattle.sm_log.proofs.AllLogs.{listed_sound, listed_in_stays, kept_there}
+use Rattle.sm_log.proofs.AllLogs.{listed_sound, listed_in_stays}
 use Rattle.sm_log.proofs.ListedKept.{listed_kept, channel_sound, ahead_listed, kept_valid, kept_address}
 use Rattle.sm_manin.specs.declared.listing.Level.{Level}
 use Rattle.sm_manin.specs.declared.listing.Listing.{Listing}
@@ -55,7 +53,7 @@ use Rattle.sm_client.specs.Starts.{has, starts}
 use Rattle.sm_client.specs.Stands.{listed, ladder_of, miss_of}
 use Rattle.sm_fetch.specs.Origins.{IsKeptText, IsUnwell, SaysManifest, SaysFragment, IsOfOrigin, MayBeAsked, FromOrigin}
 use Rattle.sm_client.specs.Origins.{IsQuality, IsListedStream, IsListedAt, IsTheOrigins, again}
-use Rattle.sm_client.specs.Served.{IsMoment, IsPlace, IsWhole, IsUnrefused, IsStream}
+use Rattle.sm_client.specs.Served.{IsMoment, IsPlace, IsWhole, IsUnrefused}
 use Rattle.sm_client.proofs.Rows.{by_bool, or_true}
 use Rattle.sm_client.proofs.Asked.{may-ask, short-manifest, short-fragment}
 

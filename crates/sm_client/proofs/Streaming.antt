@@ -13,13 +13,15 @@ use Rattle.sm_client.specs.declared.plan.Plan.{Plan}
 use Rattle.sm_client.specs.declared.report.Miss.{Miss}
 use Rattle.sm_client.specs.declared.report.End.{End}
 use Rattle.sm_client.specs.declared.report.End.TheVariants as ends
-use Rattle.sm_client.specs.declared.piece.Pieces.TheVariants as pieces
+use Rattle.sm_client.specs.declared.piece.Wanted.{Wanted}
 use Rattle.sm_client.specs.declared.standing.Standing as code
+use Rattle.sm_client.specs.declared.stream.Stream.{Stream}
 use Rattle.sm_client.specs.Turns.{Meaning, Turn}
 use Rattle.sm_client.specs.Starts.{has, AreAfter}
 use Rattle.sm_client.specs.Stands.{Item, Piece, unread, standing, Standing, State, piece_of, wrote, wrote_by, after_piece, written_at}
 use Rattle.sm_client.specs.Ends.{texts, piece_text}
-use Rattle.sm_client.specs.Calls.{PiecesKept, at, Holds, HasLevels, Went, ListEnded, BegunStanding, SoughtFound, MayPiece, PiecesBy, Follows, Streams, StreamsOn, StreamsEnd, StreamsBy, WritesFront}
+use Rattle.sm_client.specs.Kept.{KeepsOn}
+use Rattle.sm_client.specs.Calls.{at, Holds, HasLevels, Went, ListEnded, BegunStanding, SoughtFound, MayPiece, PieceTaken, PieceStopped, Follows, Streams, StreamsOn, StreamsEnd, StreamsBy, WritesFront}
 use Rattle.sm_fetch.specs.Origins.{Grows}
 use Rattle.sm_client.proofs.Went.{went-more, went-took, went-lists}
 use Rattle.sm_client.proofs.Kept.{keeps-none, keeps-more}
@@ -32,12 +34,12 @@ texts-append n (x ∷ xs) ys =
     ap (λ l. piece_text n x ++ l) (texts-append (n + 1) xs ys ∙ ap (λ k. texts (n + 1) xs ++ texts k ys) (omega arith)) ∙ sym (append_assoc (piece_text n x) (texts (n + 1) xs) (texts (n + length (x ∷ xs)) ys))
 
 -- where a stream is listed, and the expected start is known, it may be asked for
-pub may-piece : {plan : Plan} {s : code.Standing} {p : Standing} {listing : StreamListing} (ahead : ℕ) → Holds s p → s.listing ≡ Some listing → length p.written < plan.count → has p.expected p.known ≡ true
-    → ((q : Standing) → Holds s q → has q.expected q.known ≡ true → (after : List ℕ) × AreAfter q.known q.expected after × (length after ≡ ahead))
-    → MayPiece plan p listing s.expected ahead
-may-piece {p = p} ahead h is more known counts = let c = counts p h known in record {
+pub may-piece : {plan : Plan} {s : code.Standing} {p : Standing} {w : Wanted} → Holds s p → s.listing ≡ Some w.listing.now → w.start ≡ s.expected → length p.written < plan.count
+    → has p.expected p.known ≡ true → ((q : Standing) → Holds s q → has q.expected q.known ≡ true → (after : List ℕ) × AreAfter q.known q.expected after × (length after ≡ w.ahead))
+    → MayPiece plan p w
+may-piece {p = p} h is start more known counts = let c = counts p h known in record {
   last = sym h.listing ∙ is;
-  expects = h.expected;
+  expects = start ∙ h.expected;
   known = known;
   more = more;
   after = c.0;
@@ -122,11 +124,12 @@ module _ {P : Type 0} {m : Meaning P} {plan : Plan} {name : List ℕ} where
 
   -- ---- one fragment
 
-  pub ends-gave_up : {s : code.Standing} {p : Standing} (listing : StreamListing) {start now : Turn P} {outcomes : List Miss} {log log' : Option (List Exchange)}
+  pub ends-gave_up : {s : code.Standing} {p : Standing} {start now : Turn P} {outcomes : List Miss} {log log' : Option (List Exchange)}
       {store store' : List Entry → Type 0} {number count : ℕ} (track : Option (List ℕ))
-      → Grows store store' → Holds s p → length p.written < plan.count → has p.expected p.known ≡ true → PiecesBy m plan name p listing start now log log' (pieces.GaveUp outcomes) → count ≡ length p.written
+      → Grows store store' → Holds s p → length p.written < plan.count → has p.expected p.known ≡ true → Went m plan name start now (at (standing p) []) (at (standing p) outcomes) [] log log' × (length outcomes ≡ plan.tries)
+      → count ≡ length p.written
       → StreamsEnd m plan name number (at (standing p) []) start now count (ends.GaveUp s.expected outcomes) log log' store store' track track
-  ends-gave_up {p = p} listing {outcomes = outcomes} track g h more known r is = record {
+  ends-gave_up {p = p} {outcomes = outcomes} track g h more known r is = record {
     to = at (standing p) outcomes;
     last = [];
     tail = [];
@@ -136,21 +139,21 @@ module _ {P : Type 0} {m : Meaning P} {plan : Plan} {name : List ℕ} where
     counted = is;
   }
 
-  pub ends-stopped : {p : Standing} (listing : StreamListing) {start now : Turn P} {log log' : Option (List Exchange)} {store store' : List Entry → Type 0} {number count : ℕ} (track : Option (List ℕ))
-      → Grows store store' → PiecesBy m plan name p listing start now log log' pieces.NoMemory → count ≡ length p.written
+  pub ends-stopped : {p : Standing} {start now : Turn P} {log log' : Option (List Exchange)} {store store' : List Entry → Type 0} {number count : ℕ} (track : Option (List ℕ))
+      → Grows store store' → PieceStopped m plan name p start now log log' → count ≡ length p.written
       → StreamsEnd m plan name number (at (standing p) []) start now count ends.NoMemory log log' store store' track track
-  ends-stopped {p = p} listing track g r is = record { to = at (standing p) r.missed; last = r.last; tail = []; streams = streams-went track g r.went refl; ends = tt; behind = refl; counted = is }
+  ends-stopped {p = p} track g r is = record { to = at (standing p) r.missed; last = r.last; tail = []; streams = streams-went track g r.went refl; ends = tt; behind = refl; counted = is }
 
   -- the fragment came, and memory ran out before its text
   pub ends-untold : {p : Standing} {listing : StreamListing} {start now : Turn P} {raw : RawFragment} {level : ℕ} {log log' : Option (List Exchange)} {store store' : List Entry → Type 0} {number count : ℕ} (track : Option (List ℕ))
-      → Grows store store' → PiecesBy m plan name p listing start now log log' (pieces.Took raw level) → count ≡ length p.written
+      → Grows store store' → PieceTaken m plan name p listing start now log log' raw level → count ≡ length p.written
       → StreamsEnd m plan name number (at (standing p) []) start now count ends.NoMemory log log' store store' track track
   ends-untold {p = p} track g r is = record { to = at (standing p) r.missed; last = _; tail = []; streams = streams-went track g r.went refl; ends = tt; behind = refl; counted = is }
 
   -- its text was written in part, or not at all
   pub ends-unwritten : {p : Standing} {listing : StreamListing} {start now : Turn P} {raw : RawFragment} {level : ℕ} {log log' : Option (List Exchange)}
       {store store' : List Entry → Type 0} {track track' : Option (List ℕ)} {number count : ℕ}
-      (end : End) (seq id : ℕ) (f : Fragment) → Grows store store' → p.listing ≡ Some listing → PiecesBy m plan name p listing start now log log' (pieces.Took raw level)
+      (end : End) (seq id : ℕ) (f : Fragment) → Grows store store' → p.listing ≡ Some listing → PieceTaken m plan name p listing start now log log' raw level
       → seq ≡ length p.written + 1 → id ≡ level + 1 → f ≡ (piece_of name listing level raw).fragment → WritesFront track track' (frag_text seq id f []) end → count ≡ length p.written
       → StreamsEnd m plan name number (at (standing p) []) start now count end log log' store store' track track'
   ends-unwritten {p = p} {listing = listing} {raw = raw} {level = level} {store = store} {store' = store'} {track = track} {track' = track'} ends.WriteFault seq id f g listed r same place one w is =
@@ -188,7 +191,7 @@ module _ {P : Type 0} {m : Meaning P} {plan : Plan} {name : List ℕ} where
 
   -- its text was written
   wrote-streams : {p : Standing} {listing : StreamListing} {start now : Turn P} {raw : RawFragment} {level : ℕ} {log log' : Option (List Exchange)} {store store' : List Entry → Type 0} {track track' : Option (List ℕ)}
-      (seq id : ℕ) (f : Fragment) → p.listing ≡ Some listing → PiecesBy m plan name p listing start now log log' (pieces.Took raw level) → PiecesKept plan name listing store store' (pieces.Took raw level)
+      (seq id : ℕ) (f : Fragment) → p.listing ≡ Some listing → PieceTaken m plan name p listing start now log log' raw level → KeepsOn plan store store' (piece_of name listing level raw ∷ [])
       → seq ≡ length p.written + 1 → id ≡ level + 1 → f ≡ (piece_of name listing level raw).fragment → Appends track track' (frag_text seq id f [])
       → Streams m plan name start now (at (standing p) []) (at (standing (wrote name p listing level raw)) []) [] [] log log' store store' track track'
   wrote-streams {p = p} {listing = listing} {raw = raw} {level = level} {track = track} {track' = track'} seq id f listed r kept same place one w = record {
@@ -201,7 +204,7 @@ module _ {P : Type 0} {m : Meaning P} {plan : Plan} {name : List ℕ} where
 
   pub streams-on : {p : Standing} {listing : StreamListing} {start now : Turn P} {raw : RawFragment} {level : ℕ} {log log' : Option (List Exchange)} {store store' : List Entry → Type 0} {track track' : Option (List ℕ)}
       (new : code.Standing)
-      (seq id : ℕ) (f : Fragment) → p.listing ≡ Some listing → PiecesBy m plan name p listing start now log log' (pieces.Took raw level) → PiecesKept plan name listing store store' (pieces.Took raw level)
+      (seq id : ℕ) (f : Fragment) → p.listing ≡ Some listing → PieceTaken m plan name p listing start now log log' raw level → KeepsOn plan store store' (piece_of name listing level raw ∷ [])
       → seq ≡ length p.written + 1 → id ≡ level + 1 → f ≡ (piece_of name listing level raw).fragment → Appends track track' (frag_text seq id f [])
       → Holds new (wrote name p listing level raw) → StreamsOn m plan name p start now new log log' store store' track track'
   streams-on {p = p} {listing = listing} {raw = raw} {level = level} new seq id f listed r kept same place one w holds = record {
@@ -214,7 +217,7 @@ module _ {P : Type 0} {m : Meaning P} {plan : Plan} {name : List ℕ} where
   -- and memory ran out behind it
   pub ends-written : {p : Standing} {listing : StreamListing} {start now : Turn P} {raw : RawFragment} {level : ℕ} {log log' : Option (List Exchange)} {store store' : List Entry → Type 0} {track track' : Option (List ℕ)}
       {number count : ℕ}
-      (seq id : ℕ) (f : Fragment) → p.listing ≡ Some listing → PiecesBy m plan name p listing start now log log' (pieces.Took raw level) → PiecesKept plan name listing store store' (pieces.Took raw level)
+      (seq id : ℕ) (f : Fragment) → p.listing ≡ Some listing → PieceTaken m plan name p listing start now log log' raw level → KeepsOn plan store store' (piece_of name listing level raw ∷ [])
       → seq ≡ length p.written + 1 → id ≡ level + 1 → f ≡ (piece_of name listing level raw).fragment → Appends track track' (frag_text seq id f []) → count ≡ length p.written + 1
       → StreamsEnd m plan name number (at (standing p) []) start now count ends.NoMemory log log' store store' track track'
   ends-written {p = p} {listing = listing} {raw = raw} {level = level} seq id f listed r kept same place one w is = record {
@@ -234,21 +237,21 @@ sought-streams : {P : Type 0} {plan : Plan} {name : List ℕ} {p : Standing} {s 
     → Streams m plan name t t (at (standing p) []) (at (standing f.to) []) [] [] log log' store store' track track
 sought-streams m t track g f = streams-went track g (went-lists m t f.went) f.written
 
-pub sought-on : {P : Type 0} {plan : Plan} {name : List ℕ} {s : code.Standing} {old log : Option (List Exchange)} (m : Meaning P) (number : ℕ) (then : code.Standing) (t now : Turn P) (new : Option (List Exchange))
-    (store kept store' : List Entry → Type 0) (track track' : Option (List ℕ))
-    (r : Option End) (p : Standing) → Grows store kept → length p.written < plan.count → SoughtFound plan name p s old log
-    → ((q : Standing) → Holds s q → length q.written < plan.count → has q.expected q.known ≡ true → StreamsBy m plan name number q t now then log new kept store' track track' r)
-    → StreamsBy m plan name number p t now then old new store store' track track' r
-sought-on {plan = plan} {name = name} {old = old} {log = log} m number then t now new store kept store' track track' r p g more f added = by r (added f.to f.holds (rw f.written more) f.known)
+pub sought-on : {P C T : Type 0} {s : code.Standing} (m : Meaning P) (st : Stream) (then : code.Standing) (t now : Turn P) (log : C → Option (List Exchange)) (store : C → List Entry → Type 0)
+    (d mid d' : C) (held : T → ℕ → Option (List ℕ)) (tracks tracks' : T)
+    (r : Option End) (p : Standing) → Grows (store d) (store mid) → length p.written < st.plan.now.count → SoughtFound st.plan.now st.name.now p s (log d) (log mid)
+    → ((q : Standing) → Holds s q → length q.written < st.plan.now.count → has q.expected q.known ≡ true → StreamsBy m st q t now then log store mid d' held tracks tracks' r)
+    → StreamsBy m st p t now then log store d d' held tracks tracks' r
+sought-on m st then t now log store d mid d' held tracks tracks' r p g more f added = by r (added f.to f.holds (rw f.written more) f.known)
   where
-    by : (r : Option End) → StreamsBy m plan name number f.to t now then log new kept store' track track' r → StreamsBy m plan name number p t now then old new store store' track track' r
+    by : (r : Option End) → StreamsBy m st f.to t now then log store mid d' held tracks tracks' r → StreamsBy m st p t now then log store d d' held tracks tracks' r
     by None b = record {
       to = b.to;
       holds = b.holds;
       more = b.more ∙ ap (λ l. length l + 1) f.written;
-      streams = streams-more (sought-streams m t track g f) b.streams;
+      streams = streams-more (sought-streams m t (held tracks st.number) g f) b.streams;
     }
-    by (Some end) b = ends-more (sought-streams m t track g f) b
+    by (Some end) b = ends-more (sought-streams m t (held tracks st.number) g f) b
 
 -- ---- the whole stream
 

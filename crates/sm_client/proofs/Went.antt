@@ -17,6 +17,7 @@ use Rattle.sm_client.specs.Stands.{Item, list, piece, Standing, Stand, standing,
 use Rattle.sm_client.specs.Asks.{MayList, MadePiece, Asks, AsksLast, IsRead, got_of, exchange_of, exchanges, heard_of, hears_got, turn_after}
 use Rattle.sm_client.specs.Calls.{at, AsksLists, AsksListLast, ListWent, ListMade, ListFound, ListMissed, ListedOnce, IsListedOf, Went, MayPiece, PieceMade, PieceHeard}
 use Rattle.sm_model.specs.declared.run.RawFragment.{RawFragment}
+use Rattle.sm_client.specs.declared.piece.Wanted.{Wanted}
 use Rattle.sm_client.specs.declared.list.Listed.{Listed}
 use Rattle.sm_client.specs.declared.list.Listed.TheVariants as listed_once
 use Rattle.sm_client.proofs.Levels.{spelled-levels}
@@ -209,16 +210,16 @@ hears-read m t (got.Unreadable at) x level r = refl
 hears-read m t got.Lost x level r = refl
 hears-read m t got.NoMemory x level r = absurd r
 
-pub made-piece : {P : Type 0} {m : Meaning P} {plan : Plan} {name : List ℕ} {s : StreamListing} {start ahead : ℕ} {who : P} {old new : Option (List Exchange)} {g : Got} {level : ℕ}
-    (p : Standing) (missed : List Miss) (ps : List P) → MayPiece plan p s start ahead → length missed < plan.tries
-    → (made : PieceMade m plan name s start ahead who old new g level) → MadePiece m plan name (fresh who ps) (at (standing p) missed) made.exchange g level
-made-piece {m = m} {name = name} {s = s} {who = who} {level = level} p missed ps may tries made = record {
+pub made-piece : {P : Type 0} {m : Meaning P} {plan : Plan} {name : List ℕ} {w : Wanted} {who : P} {old new : Option (List Exchange)} {g : Got} {level : ℕ}
+    (p : Standing) (missed : List Miss) (ps : List P) → MayPiece plan p w → length missed < plan.tries
+    → (made : PieceMade m plan name w who old new g level) → MadePiece m plan name (fresh who ps) (at (standing p) missed) made.exchange g level
+made-piece {m = m} {name = name} {w = w} {who = who} {level = level} p missed ps may tries made = record {
   at = p;
   stands = refl;
   more = may.more;
   known = may.known;
   tries = tries;
-  listing = s;
+  listing = w.listing.now;
   last = may.last;
   after = may.after;
   behind = may.behind;
@@ -230,9 +231,9 @@ made-piece {m = m} {name = name} {s = s} {who = who} {level = level} p missed ps
 }
 
 -- it was heard, and the next policy acts where that one has retired
-pub piece-last : {P : Type 0} {m : Meaning P} {plan : Plan} {name : List ℕ} {s : StreamListing} {start ahead : ℕ} {who then : P} {old new : Option (List Exchange)} {g : Got} {level : ℕ} {now : P} {qs : List P}
-    (p : Standing) (missed : List Miss) (ps kept : List P) → MayPiece plan p s start ahead → length missed < plan.tries
-    → (heard : PieceHeard m plan name s start ahead who then old new g level) → IsRead g → kept ≡ ps → settle m then [] kept ≡ fresh now qs
+pub piece-last : {P : Type 0} {m : Meaning P} {plan : Plan} {name : List ℕ} {w : Wanted} {who then : P} {old new : Option (List Exchange)} {g : Got} {level : ℕ} {now : P} {qs : List P}
+    (p : Standing) (missed : List Miss) (ps kept : List P) → MayPiece plan p w → length missed < plan.tries
+    → (heard : PieceHeard m plan name w who then old new g level) → IsRead g → kept ≡ ps → settle m then [] kept ≡ fresh now qs
     → Went m plan name (fresh who ps) (fresh now qs) (at (standing p) missed) (at (standing p) missed) (piece heard.made.exchange g level ∷ []) old new
 piece-last {m = m} {who = who} {old = old} {g = g} {level = level} p missed ps kept may tries heard read same settled = record {
   made = [];

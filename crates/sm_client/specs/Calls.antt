@@ -26,6 +26,8 @@ use Rattle.sm_client.specs.declared.standing.Standing as code
 use Rattle.sm_client.specs.declared.seek.Begun.{Begun}
 use Rattle.sm_client.specs.declared.seek.Begun.TheVariants as begun_as
 use Rattle.sm_client.specs.declared.piece.Pieces.{Pieces}
+use Rattle.sm_client.specs.declared.piece.Wanted.{Wanted}
+use Rattle.sm_client.specs.declared.stream.Stream.{Stream}
 use Rattle.sm_client.specs.declared.piece.Pieces.TheVariants as pieces
 use Rattle.sm_client.specs.Turns.{Meaning, Turn, Continues, Behaves}
 use Rattle.sm_client.specs.Starts.{has, starts, Falls, AreAfter}
@@ -175,39 +177,38 @@ Sought plan name number p new log log' (Some end) = ListEnded plan name number (
 -- ---- a fragment
 
 -- it was asked for once, as the policy chose
-pub record PieceMade {P : Type 0} (m : Meaning P) (plan : Plan) (name : List ℕ) (s : StreamListing) (start ahead : ℕ) (who : P) (old new : Option (List Exchange))
+pub record PieceMade {P : Type 0} (m : Meaning P) (plan : Plan) (name : List ℕ) (w : Wanted) (who : P) (old new : Option (List Exchange))
     (g : Got) (level : ℕ) : Type 0 where
   pub exchange : Exchange
   pub log : new ≡ with_one old exchange
-  pub chosen : level ≡ m.pick who [] (ladder_of s.levels) ahead
-  pub within : level < length s.levels
-  pub request : exchange.request ≡ fragment_request plan.place s.pattern (address_at name s start level)
+  pub chosen : level ≡ m.pick who [] (ladder_of w.listing.now.levels) w.ahead
+  pub within : level < length w.listing.now.levels
+  pub request : exchange.request ≡ fragment_request plan.place w.listing.now.pattern (address_at name w.listing.now w.start level)
   pub limit : exchange.limit ≡ fragment_limit
-  pub spells : SpellsFragment start exchange.answer g
+  pub spells : SpellsFragment w.start exchange.answer g
 
 -- and the policy has heard of it
-pub record PieceHeard {P : Type 0} (m : Meaning P) (plan : Plan) (name : List ℕ) (s : StreamListing) (start ahead : ℕ) (who now : P) (old new : Option
-    (List Exchange)) (g : Got) (level : ℕ) : Type 0 where
-  pub made : PieceMade m plan name s start ahead who old new g level
+pub record PieceHeard {P : Type 0} (m : Meaning P) (plan : Plan) (name : List ℕ) (w : Wanted) (who now : P)
+    (old new : Option (List Exchange)) (g : Got) (level : ℕ) : Type 0 where
+  pub made : PieceMade m plan name w who old new g level
   pub heard : Continues m who now (heard_of g made.exchange level)
 
-pub record PieceMissed {P : Type 0} (m : Meaning P) (plan : Plan) (name : List ℕ) (s : StreamListing) (start ahead : ℕ) (who now : P) (old new : Option
-    (List Exchange)) (miss : Miss) : Type 0 where
+pub record PieceMissed {P : Type 0} (m : Meaning P) (plan : Plan) (name : List ℕ) (w : Wanted) (who now : P)
+    (old new : Option (List Exchange)) (miss : Miss) : Type 0 where
   pub came : Got
   pub level : ℕ
-  pub heard : PieceHeard m plan name s start ahead who now old new came level
+  pub heard : PieceHeard m plan name w who now old new came level
   pub is : miss_of came ≡ Some miss
 
-pub record PieceLost {P : Type 0} (m : Meaning P) (plan : Plan) (name : List ℕ) (s : StreamListing) (start ahead : ℕ) (who now : P) (old new : Option
-    (List Exchange)) : Type 0 where
+pub record PieceLost {P : Type 0} (m : Meaning P) (plan : Plan) (name : List ℕ) (w : Wanted) (who now : P)
+    (old new : Option (List Exchange)) : Type 0 where
   pub same : now ≡ who
-  pub made : (new ≡ old) ⊎ ((level : ℕ) × PieceMade m plan name s start ahead who old new got.NoMemory level)
+  pub made : (new ≡ old) ⊎ ((level : ℕ) × PieceMade m plan name w who old new got.NoMemory level)
 
-abbrev pub PieceOnce : {P : Type 0} → Meaning P → Plan → List ℕ → StreamListing → ℕ → ℕ → P → P
-    → Option (List Exchange) → Option (List Exchange) → Asked → Type 0
-PieceOnce m plan name s start ahead who now old new (asked.Took raw level) = PieceHeard m plan name s start ahead who now old new (got.Fragment raw) level
-PieceOnce m plan name s start ahead who now old new (asked.Missed outcome) = PieceMissed m plan name s start ahead who now old new outcome
-PieceOnce m plan name s start ahead who now old new asked.NoMemory = PieceLost m plan name s start ahead who now old new
+abbrev pub PieceOnce : {P : Type 0} → Meaning P → Stream → Wanted → P → P → Option (List Exchange) → Option (List Exchange) → Asked → Type 0
+PieceOnce m s w who now old new (asked.Took raw level) = PieceHeard m s.plan.now s.name.now w who now old new (got.Fragment raw) level
+PieceOnce m s w who now old new (asked.Missed outcome) = PieceMissed m s.plan.now s.name.now w who now old new outcome
+PieceOnce m s w who now old new asked.NoMemory = PieceLost m s.plan.now s.name.now w who now old new
 
 -- what a request for a fragment got, for the caller
 abbrev pub IsAskedOf : Got → ℕ → Asked → Type 0
@@ -215,15 +216,15 @@ IsAskedOf g level (asked.Took raw place) = (g ≡ got.Fragment raw) × (place �
 IsAskedOf g level (asked.Missed outcome) = miss_of g ≡ Some outcome
 IsAskedOf g level asked.NoMemory = (g ≡ got.NoMemory) ⊎ ((l : Listing) × (g ≡ got.Manifest l))
 
--- this start of this stream is to be asked for, and so many starts are known behind it
-pub record MayPiece (plan : Plan) (p : Standing) (s : StreamListing) (start ahead : ℕ) : Type 0 where
-  pub last : p.listing ≡ Some s
-  pub expects : start ≡ p.expected
+-- this fragment is to be asked for, and so many starts are known behind it
+pub record MayPiece (plan : Plan) (p : Standing) (w : Wanted) : Type 0 where
+  pub last : p.listing ≡ Some w.listing.now
+  pub expects : w.start ≡ p.expected
   pub known : has p.expected p.known ≡ true
   pub more : length p.written < plan.count
   pub after : List ℕ
   pub behind : AreAfter p.known p.expected after
-  pub counted : length after ≡ ahead
+  pub counted : length after ≡ w.ahead
 
 -- Exchanges lead from one turn and state to another, where a last one may have come to nothing.
 pub record Went {P : Type 0} (m : Meaning P) (plan : Plan) (name : List ℕ) (start now : Turn P) (from to : State) (last : List Item) (old new : Option
@@ -250,30 +251,29 @@ pub record PieceStopped {P : Type 0} (m : Meaning P) (plan : Plan) (name : List 
   pub last : List Item
   pub went : Went m plan name start now (at (standing p) []) (at (standing p) missed) last old new
 
-abbrev pub PiecesBy : {P : Type 0} → Meaning P → Plan → List ℕ → Standing → StreamListing → Turn P → Turn P
-    → Option (List Exchange) → Option (List Exchange)
-    → Pieces → Type 0
-PiecesBy m plan name p s start now old new (pieces.Took raw level) = PieceTaken m plan name p s start now old new raw level
-PiecesBy m plan name p s start now old new (pieces.GaveUp outcomes) =
-    Went m plan name start now (at (standing p) []) (at (standing p) outcomes) [] old new × (length outcomes ≡ plan.tries)
-PiecesBy m plan name p s start now old new pieces.NoMemory = PieceStopped m plan name p start now old new
+abbrev pub PiecesBy : {P : Type 0} → Meaning P → Stream → Standing → Wanted → Turn P → Turn P
+    → Option (List Exchange) → Option (List Exchange) → Pieces → Type 0
+PiecesBy m s p w start now old new (pieces.Took raw level) = PieceTaken m s.plan.now s.name.now p w.listing.now start now old new raw level
+PiecesBy m s p w start now old new (pieces.GaveUp outcomes) =
+    Went m s.plan.now s.name.now start now (at (standing p) []) (at (standing p) outcomes) [] old new × (length outcomes ≡ s.plan.now.tries)
+PiecesBy m s p w start now old new pieces.NoMemory = PieceStopped m s.plan.now s.name.now p start now old new
 
 -- a fragment that was taken is valid, of the time asked, and at a place of the ladder
-abbrev pub TookValid : StreamListing → ℕ → Pieces → Type 0
-TookValid s start (pieces.Took raw level) = (level < length s.levels) × IsValid (given [] 0 raw) × (raw.time ≡ start)
-TookValid s start (pieces.GaveUp outcomes) = Unit {0}
-TookValid s start pieces.NoMemory = Unit {0}
+abbrev pub TookValid : Wanted → Pieces → Type 0
+TookValid w (pieces.Took raw level) = (level < length w.listing.now.levels) × IsValid (given [] 0 raw) × (raw.time ≡ w.start)
+TookValid w (pieces.GaveUp outcomes) = Unit {0}
+TookValid w pieces.NoMemory = Unit {0}
 
 -- a fragment that was taken is kept
-abbrev pub AskedKept : Plan → List ℕ → StreamListing → (List Entry → Type 0) → (List Entry → Type 0) → Asked → Type 0
-AskedKept plan name s store store' (asked.Took raw level) = KeepsOn plan store store' (piece_of name s level raw ∷ [])
-AskedKept plan name s store store' (asked.Missed outcome) = Unit {0}
-AskedKept plan name s store store' asked.NoMemory = Unit {0}
+abbrev pub AskedKept : Stream → Wanted → (List Entry → Type 0) → (List Entry → Type 0) → Asked → Type 0
+AskedKept s w store store' (asked.Took raw level) = KeepsOn s.plan.now store store' (piece_of s.name.now w.listing.now level raw ∷ [])
+AskedKept s w store store' (asked.Missed outcome) = Unit {0}
+AskedKept s w store store' asked.NoMemory = Unit {0}
 
-abbrev pub PiecesKept : Plan → List ℕ → StreamListing → (List Entry → Type 0) → (List Entry → Type 0) → Pieces → Type 0
-PiecesKept plan name s store store' (pieces.Took raw level) = KeepsOn plan store store' (piece_of name s level raw ∷ [])
-PiecesKept plan name s store store' (pieces.GaveUp outcomes) = Unit {0}
-PiecesKept plan name s store store' pieces.NoMemory = Unit {0}
+abbrev pub PiecesKept : Stream → Wanted → (List Entry → Type 0) → (List Entry → Type 0) → Pieces → Type 0
+PiecesKept s w store store' (pieces.Took raw level) = KeepsOn s.plan.now store store' (piece_of s.name.now w.listing.now level raw ∷ [])
+PiecesKept s w store store' (pieces.GaveUp outcomes) = Unit {0}
+PiecesKept s w store store' pieces.NoMemory = Unit {0}
 
 -- ---- the first manifest of a stream
 
@@ -283,9 +283,9 @@ pub record BegunStanding (plan : Plan) (name : List ℕ) (new : code.Standing) (
   pub written : to.written ≡ []
   pub went : ListWent plan name (at unread []) (at (standing to) []) [] log log'
 
-abbrev pub Began : Plan → List ℕ → ℕ → Option (List Exchange) → Option (List Exchange) → Begun → Type 0
-Began plan name number log log' (begun_as.Stands new) = BegunStanding plan name new log log'
-Began plan name number log log' (begun_as.Ended end) = ListEnded plan name number (at unread []) end log log'
+abbrev pub Began : Stream → Option (List Exchange) → Option (List Exchange) → Begun → Type 0
+Began s log log' (begun_as.Stands new) = BegunStanding s.plan.now s.name.now new log log'
+Began s log log' (begun_as.Ended end) = ListEnded s.plan.now s.name.now s.number (at unread []) end log log'
 
 -- ---- a stream goes on
 
@@ -318,12 +318,14 @@ pub record StreamsEnd {P : Type 0} (m : Meaning P) (plan : Plan) (name : List �
   pub behind : IsTail plan name end to last tail
   pub counted : count ≡ length (written_at to.stand)
 
-abbrev pub StreamsBy : {P : Type 0} → Meaning P → Plan → List ℕ → ℕ → Standing → Turn P → Turn P → code.Standing
-    → Option (List Exchange) → Option (List Exchange) → (List Entry → Type 0) → (List Entry → Type 0)
-    → Option (List ℕ) → Option (List ℕ) → Option End → Type 0
-StreamsBy m plan name number p start now new log log' store store' track track' None = StreamsOn m plan name p start now new log log' store store' track track'
-StreamsBy m plan name number p start now new log log' store store' track track' (Some end) = StreamsEnd m plan name number (at
-    (standing p) []) start now new.written end log log' store store' track track'
+-- one or the other, as a dial and tracks tell it
+abbrev pub StreamsBy : {P C T : Type 0} → Meaning P → Stream → Standing → Turn P → Turn P → code.Standing
+    → (C → Option (List Exchange)) → (C → List Entry → Type 0) → C → C → (T → ℕ → Option (List ℕ)) → T → T → Option End → Type 0
+StreamsBy m s p start now new log store dial dial' held tracks tracks' None =
+    StreamsOn m s.plan.now s.name.now p start now new (log dial) (log dial') (store dial) (store dial') (held tracks s.number) (held tracks' s.number)
+StreamsBy m s p start now new log store dial dial' held tracks tracks' (Some end) =
+    StreamsEnd m s.plan.now s.name.now s.number (at (standing p) []) start now new.written end
+    (log dial) (log dial') (store dial) (store dial') (held tracks s.number) (held tracks' s.number)
 
 -- what writing a text may end with: the track got a front of it and failed, or memory ran out before
 abbrev pub WritesFront : Option (List ℕ) → Option (List ℕ) → List ℕ → End → Type 0
@@ -336,9 +338,14 @@ WritesFront track track' text (ends.GaveUp time outcomes) = ⊥
 WritesFront track track' text (ends.NoManifest outcomes) = ⊥
 WritesFront track track' text (ends.NoStream index) = ⊥
 
+-- a text is written, or that is how it ends
+abbrev pub Writes : Option (List ℕ) → Option (List ℕ) → List ℕ → Option End → Type 0
+Writes track track' text None = Appends track track' text
+Writes track track' text (Some end) = WritesFront track track' text end
+
 -- the play of one stream, from its first exchange to its end
-abbrev pub Streamed : {P : Type 0} → Meaning P → Plan → List ℕ → ℕ → Turn P → Turn P → ℕ → End
-    → Option (List Exchange) → Option (List Exchange) → (List Entry → Type 0) → (List Entry → Type 0) → Option (List ℕ)
-    → Option (List ℕ) → Type 0
-Streamed m plan name number start now count end log log' store store' track track' =
-    StreamsEnd m plan name number (at unread []) start now count end log log' store store' track track'
+abbrev pub Streamed : {P C T : Type 0} → Meaning P → Stream → Turn P → Turn P → ℕ → End
+    → (C → Option (List Exchange)) → (C → List Entry → Type 0) → C → C → (T → ℕ → Option (List ℕ)) → T → T → Type 0
+Streamed m s start now count end log store dial dial' held tracks tracks' =
+    StreamsEnd m s.plan.now s.name.now s.number (at unread []) start now count end
+    (log dial) (log dial') (store dial) (store dial') (held tracks s.number) (held tracks' s.number)

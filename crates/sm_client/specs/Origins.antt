@@ -1,6 +1,6 @@
 -- What is read of an origin that keeps a log is the log's.
-use Rattle.std.specs.Prelude.{◌≡◌, ◌⊎◌, ℕ, true, List, Option, Some, All, is_some}
-use Rattle.std.specs.List.{list_any, AllByRecursion}
+use Rattle.std.specs.Prelude.{◌≡◌, ℕ, true, List, Some, All, is_some}
+use Rattle.std.specs.List.{AllByRecursion}
 use Rattle.sm_model.specs.declared.address.Address.{Address}
 use Rattle.sm_model.specs.declared.entry.Entry.{Entry}
 use Rattle.sm_model.specs.declared.fragment.Fragment.{Fragment}

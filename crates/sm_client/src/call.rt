@@ -7,38 +7,43 @@ ghost use Rattle.sm_client.specs.Dials.{LeavesDial, carried};
 ghost use Rattle.sm_client.specs.Served.{PlayedServed};
 
 use crate::policies::Policies;
-use crate::stream::play_stream;
+use crate::stream::Stream;
 use crate::{End, Plan, Report};
 use sm_ends::Tracks;
 use sm_fetch::Dial;
-use sm_model::Name;
 use sm_policy::Policy;
 use std::alloc::Global;
 
-// The streams of these names.
+// The streams of a plan.
 fn play_all<C: Dial, T: Tracks>(
     alloc: Global,
     dial: &mut C,
     tracks: &mut T,
     policies: &mut Policies,
     plan: &Plan,
-    names: &[Name],
 ) -> Report
+    requires streams { length plan.now.streams ≤ 16 }
     requires count { plan.now.count ≤ 2 ^ 32 - 1 }
     requires tries { 0 < plan.now.tries }
     requires refresh { 0 < plan.now.refresh }
-    requires few { length names.now ≤ 16 }
-    ensures plays { PlaysKept (meant pick_after retired_after) plan.now (fresh policies.old.acting policies.old.rest.items) 0 names.now
+    ensures plays { PlaysKept (meant pick_after retired_after) plan.now (fresh policies.old.acting policies.old.rest.items) 0 plan.now.streams
         (C.log dial.old) (C.log dial.new) (C.store dial.old) (C.store dial.new) (T.held tracks.old) (T.held tracks.new) result }
     ensures cause { HasCause (T.faults tracks.old) (T.faults tracks.new) (Some result.end) }
     ensures dial { LeavesDial C.log C.store C.later C.dial_faults C.chosen dial.old dial.new (carried result.end) }
 {
     let mut played: u64 = 0;
     let mut number: u32 = 0;
+    let names = plan.streams.as_slice();
     for name in names {
-        let stream = play_stream(alloc, dial, tracks, policies, plan, name, number);
-        played += stream.written;
-        match stream.end {
+        let stream = Stream {
+            alloc,
+            plan,
+            name,
+            number,
+        };
+        let count = stream.play(dial, tracks, policies);
+        played += count.written;
+        match count.end {
             End::Done => {}
             end => return Report { played, end },
         }
@@ -77,12 +82,5 @@ pub fn play<C: Dial, T: Tracks>(
 {
     let mut policies = Policies::new(policies);
     policies.settle();
-    play_all(
-        alloc,
-        dial,
-        tracks,
-        &mut policies,
-        plan,
-        plan.streams.as_slice(),
-    )
+    play_all(alloc, dial, tracks, &mut policies, plan)
 }

@@ -1,5 +1,5 @@
 //! Starts that are known.
-ghost use Rattle.std.specs.Prelude.{◌≡◌, ◌≤◌, ◌<◌, ◌+◌, ◌==◌, ◌||◌, ◌&&◌, ℕ, true, false, [], length, nat_le, IfSome, IfNone, IfErr, IsOk, OnOk, OnErr};
+ghost use Rattle.std.specs.Prelude.{◌≡◌, ◌≤◌, ◌<◌, ◌==◌, ◌||◌, ◌&&◌, ℕ, true, false, [], length, nat_le, IfSome, IfNone, IfErr, IsOk, OnOk, OnErr};
 ghost use Rattle.sm_client.specs.Starts.{has, Falls, place_in};
 
 use sm_model::NoMemory;

@@ -6,11 +6,11 @@ ghost use Rattle.sm_client.specs.Calls.{ListedOnce, ListedBy, IsListedOf};
 ghost use Rattle.sm_client.specs.Dials.{LeavesDial, carried_listed, carried_manifest};
 
 use crate::rest::rest;
-use crate::{Miss, Outcomes, Plan, miss_of};
+use crate::stream::Stream;
+use crate::{Miss, Outcomes, miss_of};
 use sm_fetch::{Dial, Got, get_manifest};
 use sm_manin::{Listing, StreamListing};
 use sm_model::Name;
-use std::alloc::Global;
 
 /// What one request for the manifest gave of a stream.
 #[derive(Drop)]
@@ -55,32 +55,34 @@ fn listed_of(got: Got, name: &Name) -> Listed
     }
 }
 
-// One request, after a while where one was made already.
-fn list_once<C: Dial>(alloc: Global, dial: &mut C, plan: &Plan, name: &Name, again: bool) -> Listed
-    ensures listed { ListedOnce plan.now name.now (C.log dial.old) (C.log dial.new) result }
-    ensures dial { LeavesDial C.log C.store C.later C.dial_faults C.chosen dial.old dial.new (carried_listed result) }
-{
-    rest(dial, again);
-    let got = get_manifest(alloc, dial, &plan.place);
-    listed_of(got, name)
-}
-
-/// As many requests as there are tries, a while between them, until a manifest is read.
-pub fn list<C: Dial>(alloc: Global, dial: &mut C, plan: &Plan, name: &Name) -> Manifest
-    ensures listed { (stand : Stand) → MayList plan.now stand → ListedBy plan.now name.now stand (C.log dial.old) (C.log dial.new) result }
-    ensures dial { LeavesDial C.log C.store C.later C.dial_faults C.chosen dial.old dial.new (carried_manifest result) }
-{
-    let mut outcomes = Outcomes::new(alloc);
-    for done in 0..plan.tries {
-        match list_once(alloc, dial, plan, name, done > 0) {
-            Listed::Found(found) => return Manifest::Read(found),
-            Listed::Missed(miss) => {
-                let Ok(()) = outcomes.push(miss) else {
-                    return Manifest::NoMemory;
-                };
-            }
-            Listed::NoMemory => return Manifest::NoMemory,
-        }
+impl Stream<'_> {
+    // One request, after a while where one was made already.
+    fn list_once<C: Dial>(&self, dial: &mut C, again: bool) -> Listed
+        ensures listed { ListedOnce self.now.plan.now self.now.name.now (C.log dial.old) (C.log dial.new) result }
+        ensures dial { LeavesDial C.log C.store C.later C.dial_faults C.chosen dial.old dial.new (carried_listed result) }
+    {
+        rest(dial, again);
+        let got = get_manifest(self.alloc, dial, &self.plan.place);
+        listed_of(got, self.name)
     }
-    Manifest::GaveUp(outcomes)
+
+    /// As many requests as there are tries, a while between them, until a manifest is read.
+    pub fn list<C: Dial>(&self, dial: &mut C) -> Manifest
+        ensures listed { (s : Stand) → MayList self.now.plan.now s → ListedBy self.now.plan.now self.now.name.now s (C.log dial.old) (C.log dial.new) result }
+        ensures dial { LeavesDial C.log C.store C.later C.dial_faults C.chosen dial.old dial.new (carried_manifest result) }
+    {
+        let mut outcomes = Outcomes::new(self.alloc);
+        for done in 0..self.plan.tries {
+            match self.list_once(dial, done > 0) {
+                Listed::Found(found) => return Manifest::Read(found),
+                Listed::Missed(miss) => {
+                    let Ok(()) = outcomes.push(miss) else {
+                        return Manifest::NoMemory;
+                    };
+                }
+                Listed::NoMemory => return Manifest::NoMemory,
+            }
+        }
+        Manifest::GaveUp(outcomes)
+    }
 }

@@ -11,12 +11,23 @@ ghost use Rattle.sm_client.specs.Dials.{LeavesDial, carried_asked, carried_piece
 
 use crate::policies::Policies;
 use crate::rest::rest;
-use crate::{Miss, Outcomes, Plan, miss_of};
+use crate::stream::Stream;
+use crate::{Miss, Outcomes, miss_of};
 use sm_fetch::{Dial, Fetched, Got, fetch_fragment};
 use sm_manin::{Level, StreamListing};
-use sm_model::{Address, Name, NoMemory, RawFragment};
+use sm_model::{Address, NoMemory, RawFragment};
 use sm_policy::{Heard, Outcome};
 use std::alloc::Global;
+
+/// The fragment that is asked for.
+#[derive(Clone, Copy)]
+pub struct Wanted<'a> {
+    /// What the last manifest lists of its stream.
+    pub listing: &'a StreamListing,
+    pub start: u64,
+    /// How many starts are known behind this one.
+    pub ahead: u64,
+}
 
 /// What one request for a fragment gave.
 #[derive(Drop)]
@@ -70,100 +81,77 @@ fn asked_of(got: Got, level: usize) -> Asked
     }
 }
 
-// One request for that start, after a while where one was made already, at the place of the ladder that the policy chooses, which hears
-// what came of it.
-fn ask_once<C: Dial>(
-    alloc: Global,
-    dial: &mut C,
-    policies: &mut Policies,
-    plan: &Plan,
-    name: &Name,
-    stream: &StreamListing,
-    start: u64,
-    ahead: u64,
-    again: bool,
-) -> Asked
-    requires { 0 < length stream.now.levels }
-    ensures once { PieceOnce (meant pick_after retired_after) plan.now name.now stream.now start ahead
-        policies.old.acting policies.new.acting (C.log dial.old) (C.log dial.new) result }
-    ensures rest { policies.new.rest.items ≡ policies.old.rest.items }
-    ensures dial { LeavesDial C.log C.store C.later C.dial_faults C.chosen dial.old dial.new (carried_asked result) }
-    ensures kept { AskedKept plan.now name.now stream.now (C.store dial.old) (C.store dial.new) result }
-{
-    rest(dial, again);
-    let Ok(ladder) = ladder_of(alloc, stream.levels.as_slice()) else {
-        return Asked::NoMemory;
-    };
-    let level = policies.choose(ladder.as_slice(), ahead);
-    let Ok(stream_name) = name.copy(alloc) else {
-        return Asked::NoMemory;
-    };
-    let address = Address {
-        stream: stream_name,
-        bitrate: ladder[level],
-        time: start,
-    };
-    let Fetched { got, bytes } = fetch_fragment(
-        alloc,
-        dial,
-        &plan.place,
-        stream.pattern.as_slice(),
-        &address,
-    );
-    if let Got::NoMemory = &got {
-        return Asked::NoMemory;
-    }
-    let outcome = outcome_of(&got, bytes);
-    policies.hear(Heard { level, outcome });
-    asked_of(got, level)
-}
-
-/// As many requests for that start as there are tries, a while between them, until the fragment is read. Between them a policy that
-/// has retired makes room for the next one.
-pub fn ask<C: Dial>(
-    alloc: Global,
-    dial: &mut C,
-    policies: &mut Policies,
-    plan: &Plan,
-    name: &Name,
-    stream: &StreamListing,
-    start: u64,
-    ahead: u64,
-) -> Pieces
-    requires { 0 < length stream.now.levels }
-    ensures took { TookValid stream.now start result }
-    ensures made { (p : Standing) → MayPiece plan.now p stream.now start ahead →
-        PiecesBy (meant pick_after retired_after) plan.now name.now p stream.now
-        (fresh policies.old.acting policies.old.rest.items) (fresh policies.new.acting policies.new.rest.items)
-        (C.log dial.old) (C.log dial.new) result }
-    ensures dial { LeavesDial C.log C.store C.later C.dial_faults C.chosen dial.old dial.new (carried_pieces result) }
-    ensures kept { PiecesKept plan.now name.now stream.now (C.store dial.old) (C.store dial.new) result }
-{
-    let mut outcomes = Outcomes::new(alloc);
-    for done in 0..plan.tries {
-        match ask_once(
-            alloc,
-            dial,
-            policies,
-            plan,
-            name,
+impl Stream<'_> {
+    // One request for it, after a while where one was made already, at the place of the ladder that the policy chooses, which hears
+    // what came of it.
+    fn ask_once<C: Dial>(
+        &self,
+        dial: &mut C,
+        policies: &mut Policies,
+        wanted: &Wanted<'_>,
+        again: bool,
+    ) -> Asked
+        requires { 0 < length wanted.now.listing.now.levels }
+        ensures once { PieceOnce (meant pick_after retired_after) self.now wanted.now
+            policies.old.acting policies.new.acting (C.log dial.old) (C.log dial.new) result }
+        ensures rest { policies.new.rest.items ≡ policies.old.rest.items }
+        ensures dial { LeavesDial C.log C.store C.later C.dial_faults C.chosen dial.old dial.new (carried_asked result) }
+        ensures kept { AskedKept self.now wanted.now (C.store dial.old) (C.store dial.new) result }
+    {
+        rest(dial, again);
+        let Ok(ladder) = ladder_of(self.alloc, wanted.listing.levels.as_slice()) else {
+            return Asked::NoMemory;
+        };
+        let level = policies.choose(ladder.as_slice(), wanted.ahead);
+        let Ok(stream) = self.name.copy(self.alloc) else {
+            return Asked::NoMemory;
+        };
+        let address = Address {
             stream,
-            start,
-            ahead,
-            done > 0,
-        ) {
-            Asked::Took(raw, level) => {
-                policies.settle();
-                return Pieces::Took(raw, level);
-            }
-            Asked::Missed(miss) => {
-                policies.settle();
-                let Ok(()) = outcomes.push(miss) else {
-                    return Pieces::NoMemory;
-                };
-            }
-            Asked::NoMemory => return Pieces::NoMemory,
+            bitrate: ladder[level],
+            time: wanted.start,
+        };
+        let Fetched { got, bytes } = fetch_fragment(
+            self.alloc,
+            dial,
+            &self.plan.place,
+            wanted.listing.pattern.as_slice(),
+            &address,
+        );
+        if let Got::NoMemory = &got {
+            return Asked::NoMemory;
         }
+        let outcome = outcome_of(&got, bytes);
+        policies.hear(Heard { level, outcome });
+        asked_of(got, level)
     }
-    Pieces::GaveUp(outcomes)
+
+    /// As many requests for it as there are tries, a while between them, until the fragment is read. Between them a policy that
+    /// has retired makes room for the next one.
+    pub fn ask<C: Dial>(&self, dial: &mut C, policies: &mut Policies, wanted: &Wanted<'_>) -> Pieces
+        requires { 0 < length wanted.now.listing.now.levels }
+        ensures took { TookValid wanted.now result }
+        ensures made { (p : Standing) → MayPiece self.now.plan.now p wanted.now → PiecesBy (meant pick_after retired_after) self.now p wanted.now
+            (fresh policies.old.acting policies.old.rest.items) (fresh policies.new.acting policies.new.rest.items) (C.log dial.old) (C.log dial.new) result }
+        ensures dial { LeavesDial C.log C.store C.later C.dial_faults C.chosen dial.old dial.new (carried_pieces result) }
+        ensures kept { PiecesKept self.now wanted.now (C.store dial.old) (C.store dial.new) result }
+    {
+        let mut outcomes = Outcomes::new(self.alloc);
+        for done in 0..self.plan.tries {
+            match self.ask_once(dial, policies, wanted, done > 0) {
+                Asked::Took(raw, level) => {
+                    policies.settle();
+                    return Pieces::Took(raw, level);
+                }
+                Asked::Missed(miss) => {
+                    policies.settle();
+                    let Ok(()) = outcomes.push(miss) else {
+                        return Pieces::NoMemory;
+                    };
+                }
+                Asked::NoMemory => return Pieces::NoMemory,
+            }
+        }
+        Pieces::GaveUp(outcomes)
+    }
 }

@@ -1,5 +1,5 @@
 //! Where a stream stands, once its first manifest was read.
-ghost use Rattle.std.specs.Prelude.{◌≡◌, ◌≤◌, ◌<◌, ◌+◌, ◌-◌, ◌^◌, ℕ, List, [], ◌∷◌, ◌++◌, true, false, length, Some, None, IfOk, IfSome, OnOk, IsTrue, ◌↔◌};
+ghost use Rattle.std.specs.Prelude.{◌≡◌, ◌<◌, ◌+◌, ◌-◌, ◌^◌, ℕ, List, [], ◌∷◌, ◌++◌, true, length, Some, None, IfOk, OnOk};
 ghost use Rattle.sm_manin.specs.declared.listing.StreamListing.{StreamListing};
 ghost use Rattle.sm_client.specs.Starts.{has, starts, AreAfter};
 ghost use Rattle.sm_client.specs.Stands as stand;

@@ -16,7 +16,7 @@ use Rattle.sm_origin.specs.Shown.{Claim}
 use Rattle.sm_origin.specs.Stores.{Fits}
 use Rattle.sm_origin.proofs.Acts.{if_some, some_of}
 use Rattle.sm_serve.specs.Shown.{Shown, replies}
-use Rattle.sm_command.specs.Lasting.{AtEachMoment, IsSilent, KeepsStores, Lasts, NoFewer, OnlyChosen, Outlasts, Spared, Untouched}
+use Rattle.sm_command.specs.Lasting.{AtEachMoment, IsSilent, KeepsStores, NoFewer, OnlyChosen, Outlasts, Spared, Untouched}
 
 -- ---- one part, and then another
 

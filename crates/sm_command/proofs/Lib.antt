@@ -1,6 +1,6 @@
 pub mod Chosen
 pub mod Lasting
-pub mod Lines
+mod Lines
 pub mod Opened
-pub mod Real
+mod Real
 pub mod Starting

@@ -111,12 +111,9 @@ no_place declared.NoMemory at e = cc
 
 pub never_placed : {D : Type 0} (site : Seen D) (input input' : End) (log : List Entry) (archive : Archive) (old new : D) (why : StoreFault)
     → Agrees site input.told input'.told log archive old new (Err why) ⊎ (NotRead input input' (Err why) × (new ≡ old)) → (at : ℕ)
-    → (let r : Result Archive StoreFault = Err why in r) ≡ Err (fault.NotAStore at) → ⊥
-never_placed site input input' log archive old new why h at is = by_cause (subst (λ (w : StoreFault). Agrees site input.told input'.told log archive old new (Err w) ⊎ (NotRead input input' (Err w) × (new ≡ old))) same h)
+    → why ≡ fault.NotAStore at → ⊥
+never_placed site input input' log archive old new why h at same = by_cause (subst (λ (w : StoreFault). Agrees site input.told input'.told log archive old new (Err w) ⊎ (NotRead input input' (Err w) × (new ≡ old))) same h)
   where
-    same : why ≡ fault.NotAStore at
-    same = cc
-
     by_cause : Agrees site input.told input'.told log archive old new (Err (fault.NotAStore at)) ⊎ (NotRead input input' (Err (fault.NotAStore at)) × (new ≡ old)) → ⊥
     by_cause (inl agrees) = no_place agrees.answer at agrees.comes_to
     by_cause (inr unread) = unread.0

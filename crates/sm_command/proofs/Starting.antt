@@ -1,7 +1,7 @@
 -- How a store comes to be served.
 use Rattle.std.proofs.Common.{inl, inr, ◌≡◌, ℕ, Bool, true, false, List, [], ◌∷◌, ◌++◌, Option, Some, None, Result, Ok, Err, ◌≤◌, refl, sym, ap, subst, ◌∙◌, arith}
 use Rattle.std.proofs.lemmas.List.{append-nil}
-use Rattle.std.specs.Prelude.{IfSome, IsSome, IfOk, IfErr, IsErrOf, OnErr}
+use Rattle.std.specs.Prelude.{IfSome, IsSome, IfOk, IfErr, IsErrAnd, IsErrOf, OnErr}
 use Rattle.sm_model.specs.declared.entry.Entry.{Entry}
 use Rattle.sm_model.specs.declared.track.Track.{Track}
 use Rattle.sm_site.specs.Clauses.{Both, Rose}
@@ -70,8 +70,14 @@ later_rose a b c le rose =
     let later = rose.later in
     record { later = omega (arith, le, later); rose = λ last. (let now = rose.rose last in omega (arith, le, now)) }
 
-pub stated_is : (why other : StoreFault) → (let r : Result State StoreFault = Err why in r) ≡ Err other → why ≡ other
-stated_is why other e = cc
+-- a fault that was passed on
+pub stated_is : {T : Type 0} (r : Result T StoreFault) (why other : StoreFault) → IsErrAnd r (λ y. y ≡ why) → r ≡ Err other → why ≡ other
+stated_is (Ok x) why other same e = absurd same
+stated_is (Err y) why other same e = cc
+
+pub passed_on : {T : Type 0} (r : Result T StoreFault) (P : StoreFault → Type 0) (why : StoreFault) → IsErrAnd r (λ y. y ≡ why) → P why → IfErr r P
+passed_on (Ok x) P why same p = tt
+passed_on (Err y) P why same p = subst P (sym same) p
 
 -- the same fault of another call
 pub stated_again : {T U : Type 0} (why other : StoreFault) → (let r : Result T StoreFault = Err why in r) ≡ Err other → (let r : Result U StoreFault = Err why in r) ≡ Err other

@@ -150,10 +150,8 @@ fn list_disk<D: Disk>(alloc: Global, disk: &mut D) -> Result<Bytes, StoreFault>
     ensures spared { Spared D.seen disk.old disk.new }
     ensures disk_alone { DiskAlone (D.seen.view disk.old) (D.seen.view disk.new) }
 {
-    match open_archive(alloc, disk) {
-        Ok(archive) => lines(alloc, disk, &archive),
-        Err(fault) => Err(fault),
-    }
+    let archive = open_archive(alloc, disk)?;
+    lines(alloc, disk, &archive)
 }
 
 /// The list of what is kept in the store in that folder: for each fragment, in the order of the log, a line with its place, its
@@ -179,8 +177,6 @@ pub fn list_store<S: Site>(alloc: Global, site: &mut S, store: String) -> Result
         bind: None,
         journal: None,
     };
-    match choose(site, folder) {
-        Ok(()) => list_disk(alloc, site),
-        Err(fault) => Err(fault),
-    }
+    choose(site, folder)?;
+    list_disk(alloc, site)
 }

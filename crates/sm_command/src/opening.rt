@@ -85,10 +85,8 @@ fn declare_input<I: Source, D: Disk>(
     ensures limits { limits_of archive.new ≡ limits_of archive.old }
     ensures disk_alone { DiskAlone (D.seen.view disk.old) (D.seen.view disk.new) }
 {
-    match ladder_of(alloc, input) {
-        Ok(channel) => declare_to(alloc, disk, archive, &channel),
-        Err(fault) => Err(fault),
-    }
+    let channel = ladder_of(alloc, input)?;
+    declare_to(alloc, disk, archive, &channel)
 }
 
 /// Opens the store of a disk whose folder was chosen, as `open_archive` does, reads the input to its end as a ladder, at most
@@ -114,8 +112,6 @@ pub fn open_declared<I: Source, D: Disk>(
     bodies_have_one_log();
     stores_have_one_reading();
     let mut archive = open_archive(alloc, disk)?;
-    match declare_input(alloc, input, disk, &mut archive) {
-        Ok(()) => Ok(archive),
-        Err(fault) => Err(fault),
-    }
+    declare_input(alloc, input, disk, &mut archive)?;
+    Ok(archive)
 }

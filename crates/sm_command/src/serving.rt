@@ -39,10 +39,8 @@ fn serve_state<I: Source, S: Site>(
     ensures lasts { (h : History) → Serves S.Disk.seen h state.old site.old → RunLasts S.Disk.seen h site.new }
 {
     crashes_hold_what_was_shown();
-    match prepare(alloc, input, site, state, ladder) {
-        Ok(()) => Ok(serve(site, state, turns)),
-        Err(fault) => Err(fault),
-    }
+    prepare(alloc, input, site, state, ladder)?;
+    Ok(serve(site, state, turns))
 }
 
 /// Serves the store of a selection, until nothing more comes or so many events were taken.
@@ -72,8 +70,6 @@ pub fn serve_store<I: Source, S: Site>(
 {
     bodies_have_one_log();
     stores_have_one_reading();
-    match open_state(alloc, site, selection) {
-        Ok(mut state) => serve_state(alloc, input, site, &mut state, ladder, turns),
-        Err(fault) => Err(fault),
-    }
+    let mut state = open_state(alloc, site, selection)?;
+    serve_state(alloc, input, site, &mut state, ladder, turns)
 }

@@ -65,10 +65,8 @@ pub fn open_state<S: Site>(
     ensures why { IfErr result (λ why. WhyUnopened (S.Disk.seen.view site.old) (S.Disk.seen.view site.new) why) }
     ensures silent { IsSilent (S.Disk.seen.view site.old) (S.Disk.seen.view site.new) }
 {
-    match choose(site, selection) {
-        Ok(()) => start(alloc, site),
-        Err(fault) => Err(fault),
-    }
+    choose(site, selection)?;
+    start(alloc, site)
 }
 
 // The channel of the ladder that the input is.
@@ -133,10 +131,8 @@ fn declare_ladder<I: Source, S: Site>(
     ensures disk_alone { DiskAlone (S.Disk.seen.view site.old) (S.Disk.seen.view site.new) }
     ensures counted { I.faults input.old ≤ I.faults input.new }
 {
-    match ladder_of(alloc, input) {
-        Ok(channel) => declare(site, state, &channel),
-        Err(fault) => Err(fault),
-    }
+    let channel = ladder_of(alloc, input)?;
+    declare(site, state, &channel)
 }
 
 /// Declares the ladder that the input is, if one is asked for.

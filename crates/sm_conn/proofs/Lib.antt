@@ -1,3 +1,3 @@
-pub mod PartsLaw
-pub mod ActLaw
-pub mod FrontLaw
+mod PartsLaw
+mod ActLaw
+mod FrontLaw

@@ -8,7 +8,7 @@ use sm_model::NoMemory;
 use sm_players::{Crew, Finished, NoGate, Parts, Played, SpawnError, Spawner, Stop, Wiring};
 use sm_real::{Doing, OpenFault, Sharing, TcpLink, Trouble, Viewers};
 use std::alloc::Global;
-use std::io;
+use std::io::{self, ErrorKind};
 use std::net::{Net, TcpListener, TcpStream};
 use std::thread::{JoinHandle, Threads};
 use std::time::Clock;
@@ -52,7 +52,7 @@ impl<R: Threads + Net<Listener = TcpListener, Stream = TcpStream> + Clock + Copy
         })
     }
 
-    /// What the system refused when wires were wanted.
+    /// What the system refused when wires were wanted, or the thread of a player.
     pub fn trouble(&self) -> Option<Trouble>
         ensures { result ≡ self.now.trouble }
     {
@@ -191,6 +191,8 @@ impl<
     }
 
     fn count_fault(&mut self) {
+        let refused = io::Error::new(ErrorKind::Other, "the system makes no thread more");
+        self.trouble = Some(Trouble::new(Doing::Starting, refused));
         self.crew.count_fault();
     }
 

@@ -5,6 +5,7 @@ ghost use Rattle.std.specs.Io.KnownBytes.{WriteAppends};
 ghost use Rattle.sm_ends.specs.Faults.{HasCause};
 ghost use Rattle.sm_ends.specs.Memory.{one_more};
 
+use crate::calls::is_to_fail;
 use crate::{Calls, Failed, Sink};
 use std::alloc::Global;
 use std::marker::Model;
@@ -85,7 +86,7 @@ impl Sink for MemorySink {
         ensures stays { IsTrue self.old.starved → IsTrue self.new.starved }
     {
         self.calls = self.calls.saturating_add(1);
-        if self.failing.contains(self.calls) {
+        if is_to_fail(&self.failing, self.calls) {
             self.faults = self.faults.saturating_add(1);
             return Err(Failed);
         }

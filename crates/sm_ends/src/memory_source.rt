@@ -5,6 +5,7 @@ ghost use Rattle.std.specs.Io.KnownBytes.{ReadConsumes};
 ghost use Rattle.sm_ends.specs.Faults.{HasCause};
 ghost use Rattle.sm_ends.specs.Memory.{one_more};
 
+use crate::calls::is_to_fail;
 use crate::{Calls, Failed, Source};
 use sm_model::Bytes;
 use std::marker::Model;
@@ -99,7 +100,7 @@ impl Source for MemorySource {
         ensures fails { IsErr result ↔ Contains self.old.failing self.new.calls }
     {
         self.calls = self.calls.saturating_add(1);
-        if self.failing.contains(self.calls) {
+        if is_to_fail(&self.failing, self.calls) {
             self.faults = self.faults.saturating_add(1);
             return Err(Failed);
         }

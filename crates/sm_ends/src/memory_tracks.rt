@@ -6,6 +6,7 @@ ghost use Rattle.sm_ends.specs.Memory.{one_more};
 ghost use Rattle.sm_ends.specs.Moves.{AppendsFront};
 ghost use Rattle.sm_ends.specs.TracksHeld.{held_at};
 
+use crate::calls::is_to_fail;
 use crate::{Calls, Failed, Tracks};
 use sm_model::NoMemory;
 use std::alloc::Global;
@@ -175,7 +176,7 @@ impl Tracks for MemoryTracks {
         ensures stays { IsTrue self.old.starved → IsTrue self.new.starved }
     {
         self.calls = self.calls.saturating_add(1);
-        if self.failing.contains(self.calls) {
+        if is_to_fail(&self.failing, self.calls) {
             self.faults = self.faults.saturating_add(1);
             return Err(Failed);
         }

@@ -1,17 +1,17 @@
-pub mod Framing
-pub mod Heads
-pub mod Filling
-pub mod Chunks
-pub mod Pairs
-pub mod Fronts
+mod Framing
+mod Heads
+mod Filling
+mod Chunks
+mod Pairs
+mod Fronts
 pub mod Origin
 pub mod Answering
 pub mod Alone
 pub mod OneReply
 pub mod OneGot
-pub mod Listed
-pub mod CutFronts
-pub mod Fields
-pub mod Hex
-pub mod Pushes
+mod Listed
+mod CutFronts
+mod Fields
+mod Hex
+mod Pushes
 pub mod Urls

@@ -1,12 +1,12 @@
-pub mod Tolds
-pub mod Windows
-pub mod Records
-pub mod Outcomes
+mod Tolds
+mod Windows
+mod Records
+mod Outcomes
 pub mod Sound
 pub mod Steps
-pub mod OneReading
-pub mod Walks
-pub mod Bodies
+mod OneReading
+mod Walks
+mod Bodies
 pub mod Settling
 pub mod Heads
 pub mod FreshOutcomes

@@ -46,7 +46,7 @@ fn is_bad_length(get: bool, length: Lookup<'_>) -> bool
     }
 }
 
-// Whether the fields are bad.
+// Whether the fields are bad. All of it is at hand, so that `|` and `&` decide without a branch, and the proof is one equation.
 fn is_bad(get: bool, bytes: &[u8], fields: &[HeaderSpan]) -> bool
     requires { All (IsHeaderWithin (length bytes.now)) fields.now }
     ensures { result ≡ spec.is_bad get (map (header_bytes bytes.now) fields.now) }

@@ -48,7 +48,7 @@ pub fn has_value(bytes: &[u8], fields: &[HeaderSpan], name: &[u8], text: &[u8]) 
     let mut found = false;
     for field in fields {
         if same_text(field.name.of(bytes), name) {
-            found = found | same_text(field.value.of(bytes), text);
+            found |= same_text(field.value.of(bytes), text);
         }
     }
     found

@@ -5,8 +5,8 @@ pub mod Added
 pub mod Snoc
 pub mod New
 pub mod AllAdds
-pub mod OlderAdds
-pub mod Lists
+mod OlderAdds
+mod Lists
 pub mod AllLogs
-pub mod PlainLemmas
+mod PlainLemmas
 pub mod ListedKept

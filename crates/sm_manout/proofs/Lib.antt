@@ -1,22 +1,22 @@
-pub mod Joined
-pub mod StreamLemmas
-pub mod Escapes
-pub mod ReadValues
-pub mod ReadLines
-pub mod ReadRuns
-pub mod ReadLevels
-pub mod ReadStreams
+mod Joined
+mod StreamLemmas
+mod Escapes
+mod ReadValues
+mod ReadLines
+mod ReadRuns
+mod ReadLevels
+mod ReadStreams
 pub mod ReadManifest
-pub mod FewestRuns
-pub mod Among
-pub mod ShownPieces
-pub mod ShownLines
-pub mod ShownRuns
-pub mod ShownLevels
-pub mod ShownOpening
-pub mod ShownLevelsRead
-pub mod ShownTimes
+mod FewestRuns
+mod Among
+mod ShownPieces
+mod ShownLines
+mod ShownRuns
+mod ShownLevels
+mod ShownOpening
+mod ShownLevelsRead
+mod ShownTimes
 pub mod ShownDeclared
-pub mod ShownStream
-pub mod ShownManifest
-pub mod Whole
+mod ShownStream
+mod ShownManifest
+mod Whole

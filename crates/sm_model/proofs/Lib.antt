@@ -1,19 +1,19 @@
-pub mod NameLemmas
+mod NameLemmas
 pub mod BoxLemmas
 pub mod BoxTexts
-pub mod BoxJoins
+mod BoxJoins
 pub mod OrderLemmas
-pub mod PassLemmas
+mod PassLemmas
 pub mod WrittenBoxes
-pub mod WrittenRows
-pub mod WrittenFields
-pub mod WrittenTraf
+mod WrittenRows
+mod WrittenFields
+mod WrittenTraf
 pub mod WrittenFragment
-pub mod WrittenUserBoxes
+mod WrittenUserBoxes
 pub mod TextLengths
 pub mod DigitLemmas
-pub mod TrackIdLemmas
-pub mod SoundLemmas
-pub mod ItemLemmas
-pub mod PartLemmas
-pub mod CutLemmas
+mod TrackIdLemmas
+mod SoundLemmas
+mod ItemLemmas
+mod PartLemmas
+mod CutLemmas

@@ -85,7 +85,7 @@ abbrev pub place_text : Bool → ℕ → List ℕ
 place_text true at = codes " at " ++ decimal at
 place_text false at = []
 
--- number, name, the values, the place where one is telling, and a line feed
+-- number, name, the values, the place where one is told, and a line feed
 abbrev pub cause_line : ℕ → Cause → List ℕ
 cause_line at cause =
     decimal (cause_number cause)

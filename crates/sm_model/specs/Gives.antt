@@ -1,19 +1,37 @@
 -- What a reader answers, where memory may be wanting.
-use Rattle.std.specs.Prelude.{◌≡◌, ℕ, Result, Ok, Err}
+use Rattle.std.specs.Prelude.{◌≡◌, ℕ, Option, Some, None, Result, Ok, Err}
 use Rattle.sm_model.specs.declared.cause.Cause.{Cause}
 use Rattle.sm_model.specs.declared.fault.ReadFault.{ReadFault}
 use Rattle.sm_model.specs.declared.fault.ReadFault.TheVariants as read
 use Rattle.sm_model.specs.declared.fault.TextFault.{TextFault}
 use Rattle.sm_model.specs.declared.fault.TextFault.TheVariants as text
 
+-- what a fault says of the text, which is nothing where memory ran out
+abbrev pub Says : {Y : Type 0} → Option Y → (Y → Type 0) → Type 0
+Says (Some said) R = R said
+Says None R = Unit {0}
+
+-- A value is what the relation gives, seen by value, and a fault what it gives, as the fault says it; want of memory alone is free.
+abbrev pub AnswersAs : {X E Y : Type 0} → (X → Y) → (E → Option Y) → Result X E → (Y → Type 0) → Type 0
+AnswersAs value fault (Ok x) R = R (value x)
+AnswersAs value fault (Err e) R = Says (fault e) R
+
+-- the same where one reading is defined
+abbrev pub GivesAs : {X E Y : Type 0} → (X → Y) → (E → Option Y) → Result X E → Y → Type 0
+GivesAs value fault result defined = AnswersAs value fault result (λ said. defined ≡ said)
+
+abbrev pub refused : {A : Type 0} → ReadFault → Option (Result A Cause)
+refused (read.Refused cause) = Some (Err cause)
+refused read.NoMemory = None
+
+abbrev pub bad_at : {A : Type 0} → TextFault → Option (Result A ℕ)
+bad_at (text.Bad at) = Some (Err at)
+bad_at text.NoMemory = None
+
 -- the value that the definition gives, or its cause, and nothing else but want of memory
 abbrev pub Gives : {A : Type 0} → Result A ReadFault → Result A Cause → Type 0
-Gives (Ok value) defined = defined ≡ Ok value
-Gives (Err (read.Refused cause)) defined = defined ≡ Err cause
-Gives (Err read.NoMemory) defined = Unit {0}
+Gives result defined = GivesAs Ok refused result defined
 
 -- the value or the place of a fault that the relation gives, and nothing else but want of memory
 abbrev pub Answers : {A : Type 0} → Result A TextFault → (Result A ℕ → Type 0) → Type 0
-Answers (Ok value) R = R (Ok value)
-Answers (Err (text.Bad at)) R = R (Err at)
-Answers (Err text.NoMemory) R = Unit {0}
+Answers result R = AnswersAs Ok bad_at result R

@@ -1,6 +1,6 @@
 pub mod FrontLemmas
-pub mod JoinLemmas
+mod JoinLemmas
 pub mod WholeLemmas
-pub mod TrackLemmas
-pub mod ShownLemmas
+mod TrackLemmas
+mod ShownLemmas
 pub mod SequenceLemmas

@@ -1,10 +1,10 @@
-pub mod ChildLemmas
-pub mod GatherLemmas
-pub mod DefaultLemmas
-pub mod RepeatLemmas
-pub mod TimescaleLemmas
-pub mod MoovLemmas
-pub mod NumberedLemmas
-pub mod BareTrak
-pub mod BareMoov
+mod ChildLemmas
+mod GatherLemmas
+mod DefaultLemmas
+mod RepeatLemmas
+mod TimescaleLemmas
+mod MoovLemmas
+mod NumberedLemmas
+mod BareTrak
+mod BareMoov
 mod PlainLemmas

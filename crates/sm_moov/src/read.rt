@@ -1,7 +1,8 @@
 //! A `moov` read (ISO/IEC 14496-12, 8.2.1).
-ghost use Rattle.std.specs.Prelude.{◌≡◌, IfOk, map};
+ghost use Rattle.std.specs.Prelude.{◌≡◌, IfOk, map, ok_or};
+ghost use Rattle.sm_model.specs.declared.cause.Cause.TheVariants.{BadMoov};
 ghost use Rattle.sm_model.specs.Moov.{moov, repeats, settled};
-ghost use Rattle.sm_moov.specs.Gives.{Gives};
+ghost use Rattle.sm_model.specs.Gives.{Gives};
 
 use crate::defaults::with_defaults;
 use crate::heads::read_heads;
@@ -24,7 +25,7 @@ fn repeats(alloc: Global, heads: &[TrackHead]) -> Result<bool, NoMemory>
 
 #[tactic(auto, unfolding(sm_model::specs::Moov::settled))]
 fn settle(alloc: Global, trexes: &[Trex], heads: &[TrackHead]) -> Result<Heads, ReadFault>
-    ensures { Gives result (settled trexes.now heads.now) }
+    ensures { Gives result (ok_or (settled trexes.now heads.now) BadMoov) }
 {
     if repeats(alloc, heads)? {
         return Err(ReadFault::Refused(Cause::BadMoov));
@@ -40,7 +41,7 @@ fn settle(alloc: Global, trexes: &[Trex], heads: &[TrackHead]) -> Result<Heads, 
 /// where a `trex` is too short; and where two tracks have one track_ID. It takes memory in proportion to the body, and
 /// time in proportion to that and the logarithm of the number of tracks.
 pub fn read_moov(alloc: Global, body: &[u8]) -> Result<Heads, ReadFault>
-    ensures { Gives result (moov body.now) }
+    ensures { Gives result (ok_or (moov body.now) BadMoov) }
 {
     let Some(trexes) = read_trexes(alloc, body)? else {
         return Err(ReadFault::Refused(Cause::BadMoov));

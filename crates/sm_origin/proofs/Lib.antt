@@ -1,13 +1,13 @@
-pub mod Ahead
-pub mod Places
-pub mod Steps
+mod Ahead
+mod Places
+mod Steps
 pub mod Acts
-pub mod Asked
-pub mod Replied
-pub mod Fronts
-pub mod Telling
-pub mod KeptNow
+mod Asked
+mod Replied
+mod Fronts
+mod Telling
+mod KeptNow
 pub mod Real
-pub mod Showing
-pub mod Recalled
-pub mod Whole
+mod Showing
+mod Recalled
+mod Whole

@@ -1,4 +1,4 @@
-pub mod Searching
-pub mod Looking
-pub mod Picking
-pub mod OneAnswer
+mod Searching
+mod Looking
+mod Picking
+mod OneAnswer

@@ -1,6 +1,6 @@
-pub mod Going
-pub mod Lists
-pub mod Replies
-pub mod Seeing
-pub mod Handling
-pub mod Ending
+mod Going
+mod Lists
+mod Replies
+mod Seeing
+mod Handling
+mod Ending

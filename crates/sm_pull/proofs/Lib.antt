@@ -2,7 +2,7 @@ pub mod Dials
 pub mod Tried
 pub mod Disks
 pub mod Judging
-pub mod Finding
+mod Finding
 pub mod BelowStays
 pub mod Offered
 pub mod Moments

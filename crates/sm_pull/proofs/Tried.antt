@@ -1,5 +1,5 @@
 -- Tries at one thing.
-use Rattle.std.proofs.Common.{◌≡◌, ◌<◌, ◌≤◌, ◌+◌, ℕ, List, [], ◌∷◌, ◌++◌, length, length-append, Option, Some, None, refl, ap, sym, ◌∙◌, subst, arith}
+use Rattle.std.proofs.Common.{◌≡◌, ◌<◌, ◌≤◌, ◌+◌, ℕ, List, [], ◌∷◌, ◌++◌, length, length-append, Option, Some, None, refl, ap, sym, ◌∙◌, subst, append-nil, arith}
 use Rattle.std.specs.List.{AllByRecursion}
 use Rattle.sm_model.specs.declared.address.Address.{Address}
 use Rattle.sm_model.specs.declared.entry.Entry.{Entry}
@@ -86,6 +86,12 @@ module _ {C G : Type 0} {log : C → Option (List Exchange)} {store : C → List
         (subst (Misses asks miss (t.made ++ x.0 ∷ [])) (sym more) (misses_more asks miss t.made outcomes x.0 m g t.misses x.2 is));
     count = let all = length-append t.made one in let single = ap length x.1 in let so_far = t.count in omega (arith, all, single, so_far, next);
   }
+
+  -- and a while passed since
+  pub tried_rested : {d e f : C} {outcomes : List Miss} {tries : ℕ} → ((d e f : C) → later d e → later e f → later d f)
+      → Tried log store later faults chosen asks miss d e outcomes tries → Asks log store later faults chosen e f [] → Tried log store later faults chosen asks miss d f outcomes tries
+  tried_rested {d = d} {f = f} then t rest =
+      record { made = t.made; asked = subst (Asks log store later faults chosen d f) (append-nil t.made) (asks_then then t.asked rest); misses = t.misses; count = t.count }
 
   pub tried_gave : {d e f : C} {outcomes : List Miss} {tries : ℕ} {one : List Exchange} {g : G} (most : ℕ) → ((d e f : C) → later d e → later e f → later d f)
       → Tried log store later faults chosen asks miss d e outcomes tries → tries < most → Asks log store later faults chosen e f one → (x : Exchange) × (one ≡ x ∷ []) × asks x g

@@ -49,7 +49,8 @@ pub fn keep<D: Disk>(
     requires absent { (log : List Entry) → Stands archive.old log None (D.seen.may_leave disk.old) → kept_at log (address_of fragment.now) ≡ None }
     ensures ok { OnOk result ((log : List Entry) → Stands archive.old log None (D.seen.may_leave disk.old) → (verdict_on log fragment.now ≡ New)
         × Adds D.seen disk.old disk.new archive.old archive.new log (fragment.now ∷ []) []) }
-    ensures err { IfErr result (λ why. (log : List Entry) → Stands archive.old log None (D.seen.may_leave disk.old) → NotKept archive.new log fragment.now address why
+    ensures err { IfErr result (λ why. (log : List Entry) → Stands archive.old log None (D.seen.may_leave disk.old)
+        → NotKept archive.new log fragment.now address why
         × Adds D.seen disk.old disk.new archive.old archive.new log [] (fragment.now ∷ [])) }
     ensures fault { IsErrOf result stop.DiskFault → Rose (D.seen.view disk.old).disk_faults (D.seen.view disk.new).disk_faults }
 {

@@ -3,6 +3,7 @@ ghost use Rattle.std.specs.Prelude.{List};
 ghost use Rattle.sm_fetch.specs.declared.dial.Exchange.{Exchange};
 ghost use Rattle.sm_pull.specs.Asks.{Asks, ReadsListing};
 
+use crate::rest;
 use sm_client::{Outcomes, miss_of};
 use sm_fetch::{Dial, Got, Place, get_manifest};
 use sm_manin::Listing;
@@ -18,12 +19,13 @@ pub enum Manifest {
     NoMemory,
 }
 
-/// As many requests for the manifest of a place as there are tries, until one is read ([MS-SSTR] 2.2.1, 2.2.2).
+/// As many requests for the manifest of a place as there are tries, a while between them, until one is read ([MS-SSTR] 2.2.1, 2.2.2).
 pub fn read_listing<C: Dial>(alloc: Global, dial: &mut C, place: &Place, tries: u32) -> Manifest
     ensures { (made : List Exchange) × Asks C.log C.store C.later C.dial_faults C.chosen dial.old dial.new made × ReadsListing place.now tries made result }
 {
     let mut outcomes = Outcomes::new(alloc);
-    for _done in 0..tries {
+    for done in 0..tries {
+        rest(dial, done > 0);
         match get_manifest(alloc, dial, place) {
             Got::Manifest(listing) => return Manifest::Read(listing),
             other => match miss_of(&other) {

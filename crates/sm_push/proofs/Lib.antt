@@ -1,19 +1,19 @@
-pub mod HeadLemmas
-pub mod Fronts
-pub mod Stable
-pub mod Walking
-pub mod Steps
-pub mod Counts
-pub mod HeaderLemmas
-pub mod HeaderValid
-pub mod Boxes
-pub mod Splits
-pub mod Limits
-pub mod Valid
+mod HeadLemmas
+mod Fronts
+mod Stable
+mod Walking
+mod Steps
+mod Counts
+mod HeaderLemmas
+mod HeaderValid
+mod Boxes
+mod Splits
+mod Limits
+mod Valid
 mod MoofLemmas
-pub mod WrittenHeader
-pub mod RuleHeads
-pub mod RuleSteps
+mod WrittenHeader
+mod RuleHeads
+mod RuleSteps
 pub mod RuleBodies
-pub mod Joined
+mod Joined
 mod HeaderApart

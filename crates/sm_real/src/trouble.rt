@@ -23,6 +23,8 @@ pub enum Doing {
     Syncing(u32),
     #[error("listening at port {0}")]
     Listening(u16),
+    #[error("starting a player")]
+    Starting,
     #[error("waiting for connections")]
     Waiting,
     #[error("finding the host")]

@@ -29,10 +29,12 @@
 //! - `repeat N ( .. )`, and `numbered N ( .. )`, where each `#` is the number of the turn, from 0;
 //! - `( .. )`, and behind it or anything else within it `at N ( .. )`, which puts bytes over those at that place, `cut N`,
 //!   which leaves N bytes, and `skip N`, which drops N bytes in front;
-//! - `$NAME` with its arguments, for what a `let` above says.
+//! - `$NAME` with its arguments, for what a `let` above says, or one of the names that the rows of every program know
+//!   (`common.rt`).
 #![tactic(auto)]
 
 mod case;
+mod common;
 mod definition;
 pub mod disks;
 mod expression;

@@ -1,6 +1,7 @@
 //! A text of rows, read.
 use crate::RowFault;
 use crate::case::Case;
+use crate::common::COMMON;
 use crate::definition::{Definition, expanded};
 use crate::line::{Line, lines_of};
 use crate::row::Row;
@@ -32,13 +33,15 @@ enum Place {
 }
 
 impl Page {
-    /// A page without names and rows.
-    pub fn new(alloc: Global) -> Page {
-        Page {
+    /// A page without rows, which knows the names and blocks that all programs have in common.
+    pub fn new(alloc: Global) -> Result<Page, RowFault> {
+        let mut page = Page {
             definitions: Vec::new(alloc),
             blocks: Vec::new(alloc),
             rows: Vec::new(alloc),
-        }
+        };
+        page.read(alloc, COMMON)?;
+        Ok(page)
     }
 
     /// Lets `$name` stand for these bytes, as those of a file.

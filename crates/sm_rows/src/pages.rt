@@ -50,7 +50,7 @@ fn run_file<C: Caller>(
 /// Makes the calls of all rows of these files, prints how what they give differs from what they have to give, and in a last line how
 /// many rows there are. Names and blocks of one file are known in those behind it.
 pub fn run_pages<C: Caller>(rt: &(impl Files + Print + AllocGlobal), names: &[&str]) -> Result<()> {
-    let mut page = Page::new(rt.alloc());
+    let mut page = Page::new(rt.alloc())?;
     let mut rows = 0usize;
     for name in names {
         rows = rows.saturating_add(run_file::<C>(rt, &mut page, name)?);

@@ -1,2 +1,2 @@
-pub mod Beginning
-pub mod Ending
+mod Beginning
+mod Ending

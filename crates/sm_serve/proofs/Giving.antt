@@ -18,16 +18,15 @@ use Rattle.sm_wire.specs.declared.item.WireItem.{WireItem}
 use Rattle.sm_wire.specs.declared.item.WireItem.TheVariants.{Get, Continue, End}
 use Rattle.sm_wire.specs.Wire.{wire, Left, shown}
 use Rattle.sm_wire.proofs.WireLaw.{left_unique, got_left, got_close, continue_left, ended_left, ended_close}
-use Rattle.sm_origin.specs.declared.origin.Origin.{Origin}
 use Rattle.sm_serve.specs.Items.{shown_item, ItemIsValid}
-use Rattle.sm_serve.specs.Run.{Counts, idle, acting}
-use Rattle.sm_serve.specs.Standing.{History, Keeps, Reaches}
-use Rattle.sm_serve.specs.Resting.{PlaceIs}
-use Rattle.sm_serve.specs.Standing.{StandsOn, stays_open}
+use Rattle.sm_serve.specs.Run.{idle, acting}
+use Rattle.sm_serve.specs.Standing.{History}
+use Rattle.sm_serve.specs.Resting.{PlaceIs, counts_of}
+use Rattle.sm_serve.specs.declared.handler.Handler.{Handler}
 use Rattle.sm_serve.specs.declared.still.Still.{Still}
 use Rattle.sm_serve.specs.declared.still.Still.TheVariants.{Open, Closed}
-use Rattle.sm_serve.proofs.Reaching.{reaches_here, reach_then}
-use Rattle.sm_serve.specs.Giving.{FedPush, StaysOpen, PartGives}
+use Rattle.sm_serve.proofs.Reaching.{reach_then, comes_here, comes_at}
+use Rattle.sm_serve.specs.Giving.{FedPush, IsAt, Comes, StaysOpen, PartGives}
 
 pub fed_place : (b piece : List ℕ) (push : Option Standing) (items : List Given) → FedPush b piece push (Ok items) → PlaceIs push (Some (b ++ piece)) × ((body false (b ++ piece)).items ≡ (body false b).items ++ items)
 fed_place b piece None items fed = absurd fed
@@ -59,31 +58,31 @@ pub shown_vec : (items : List Item) (gs : List Given) (rest : List WireItem) →
 shown_vec items gs rest is = ap (λ (xs : List Item). map shown_item xs ++ rest) is ∙ ap (λ (ws : List WireItem). ws ++ rest) (shown_items gs)
 
 module _ {D : Type 0} (site : Seen D) where
-  pub open_gives : (h : History) (n : ℕ) (r : Still) (push : Option Standing) (counts : Counts) (before after : Option (List ℕ)) (parts more : List PartItem) (given left : List WireItem) (origin : Origin) (d : D)
-      → Reaches site h n (stays_open r) (if stays_open r then acting n left else idle) counts origin d → PlaceIs push after → Left after more left
-      → ((qs : List PartItem) (ws : List WireItem) → Left after qs ws → Left before (parts ++ qs) (given ++ ws)) → PartGives site h n (stays_open r) push counts before parts more origin d
-  open_gives h n Open push counts before after parts more given left origin d reaches place left_is on =
-      record { after = after; after_is = place; given = given; on = on; left = left; left_is = left_is; reaches = reaches }
-  open_gives h n Closed push counts before after parts more given left origin d reaches place left_is on = reaches
+  pub open_gives : (h : History) (n : ℕ) (r : Still) (before after : Option (List ℕ)) (parts more : List PartItem) (given left : List WireItem) (new : Handler D)
+      → Comes site h n r left new → PlaceIs new.live.now.push after → Left after more left
+      → ((qs : List PartItem) (ws : List WireItem) → Left after qs ws → Left before (parts ++ qs) (given ++ ws)) → PartGives site h n r before parts more new
+  open_gives h n Open before after parts more given left new comes place left_is on =
+      record { after = after; after_is = place; given = given; on = on; left = left; left_is = left_is; reaches = comes }
+  open_gives h n Closed before after parts more given left new comes place left_is on = comes
 
-  pub closed_gives : (h : History) (n : ℕ) (r : Still) (push : Option Standing) (counts : Counts) (before : Option (List ℕ)) (parts more : List PartItem) (left : List WireItem) (origin : Origin) (d : D)
-      → r ≡ Closed → Reaches site h n (stays_open r) (if stays_open r then acting n left else idle) counts origin d → PartGives site h n (stays_open r) push counts before parts more origin d
-  closed_gives h n Open push counts before parts more left origin d is reaches = absurd (cc)
-  closed_gives h n Closed push counts before parts more left origin d is reaches = reaches
+  pub closed_gives : (h : History) (n : ℕ) (r : Still) (before : Option (List ℕ)) (parts more : List PartItem) (left : List WireItem) (new : Handler D)
+      → r ≡ Closed → Comes site h n r left new → PartGives site h n r before parts more new
+  closed_gives h n Open before parts more left new is comes = absurd (cc)
+  closed_gives h n Closed before parts more left new is comes = comes
 
-  pub starved_gives : (h : History) (n : ℕ) (r : Still) (push : Option Standing) (counts : Counts) (before : Option (List ℕ)) (parts more : List PartItem) (origin : Origin) (d : D)
-      → r ≡ Closed → Reaches site h n false idle counts origin d → PartGives site h n (stays_open r) push counts before parts more origin d
-  starved_gives h n Open push counts before parts more origin d is reaches = absurd (cc)
-  starved_gives h n Closed push counts before parts more origin d is reaches = reaches
+  pub starved_gives : (h : History) (n : ℕ) (r : Still) (before : Option (List ℕ)) (parts more : List PartItem) (new : Handler D)
+      → r ≡ Closed → Comes site h n Closed [] new → PartGives site h n r before parts more new
+  starved_gives h n Open before parts more new is comes = absurd (cc)
+  starved_gives h n Closed before parts more new is comes = comes
 
   -- an end of a push
-  pub end_gives : (h : History) (n : ℕ) (close : Bool) (r : Still) (push : Option Standing) (counts : Counts) (b : List ℕ) (more : List PartItem) (origin : Origin) (d : D) → body_end false b ≡ None
-      → (close ≡ true → r ≡ Closed) → (r ≡ Open → push ≡ None) → Reaches site h n (stays_open r) (if stays_open r then acting n (if close then [] else wire None more) else idle) counts origin d
-      → PartGives site h n (stays_open r) push counts (Some b) (ended close ∷ []) more origin d
-  end_gives h n true r push counts b more origin d clear closes none reaches = closed_gives h n r push counts (Some b) (ended true ∷ []) more [] origin d (closes refl) reaches
-  end_gives h n false Closed push counts b more origin d clear closes none reaches = reaches
-  end_gives h n false Open push counts b more origin d clear closes none reaches =
-      open_gives h n Open push counts (Some b) None (ended false ∷ []) more (End false ∷ []) (wire None more) origin d reaches (subst (λ (p : Option Standing). PlaceIs p None) (sym (none refl)) tt) refl
+  pub end_gives : (h : History) (n : ℕ) (close : Bool) (r : Still) (b : List ℕ) (more : List PartItem) (new : Handler D) → body_end false b ≡ None
+      → (close ≡ true → r ≡ Closed) → (r ≡ Open → new.live.now.push ≡ None) → Comes site h n r (if close then [] else wire None more) new
+      → PartGives site h n r (Some b) (ended close ∷ []) more new
+  end_gives h n true r b more new clear closes none comes = closed_gives h n r (Some b) (ended true ∷ []) more [] new (closes refl) comes
+  end_gives h n false Closed b more new clear closes none comes = comes
+  end_gives h n false Open b more new clear closes none comes =
+      open_gives h n Open (Some b) None (ended false ∷ []) more (End false ∷ []) (wire None more) new comes (subst (λ (p : Option Standing). PlaceIs p None) (sym (none refl)) tt) refl
       (λ qs ws left. ended_left b qs clear ∙ ap (λ (us : List WireItem). map shown (body false b).items ++ End false ∷ us) left)
 
   pub end_items : (b : List ℕ) (close : Bool) (more : List PartItem) (items : List WireItem) → body_end false b ≡ None → Left (Some b) (ended close ∷ more) items → items ≡ End close ∷ (if close then [] else wire None more)
@@ -91,23 +90,23 @@ module _ {D : Type 0} (site : Seen D) where
   end_items b false more items clear left = left_unique (Some b) (ended false ∷ more) items _ left (ended_left b more clear)
 
   -- a request for what is there
-  pub get_gives : (h : History) (n : ℕ) (t : Target) (close : Bool) (r : Still) (push : Option Standing) (counts : Counts) (more : List PartItem) (origin : Origin) (d : D)
-      → (close ≡ true → r ≡ Closed) → PlaceIs push None → Reaches site h n (stays_open r) (if stays_open r then acting n (if close then [] else wire None more) else idle) counts origin d
-      → PartGives site h n (stays_open r) push counts None (got t close ∷ []) more origin d
-  get_gives h n t true r push counts more origin d closes none reaches = closed_gives h n r push counts None (got t true ∷ []) more [] origin d (closes refl) reaches
-  get_gives h n t false Closed push counts more origin d closes none reaches = reaches
-  get_gives h n t false Open push counts more origin d closes none reaches =
-      open_gives h n Open push counts None None (got t false ∷ []) more (Get t false ∷ []) (wire None more) origin d reaches none refl
+  pub get_gives : (h : History) (n : ℕ) (t : Target) (close : Bool) (r : Still) (more : List PartItem) (new : Handler D)
+      → (close ≡ true → r ≡ Closed) → PlaceIs new.live.now.push None → Comes site h n r (if close then [] else wire None more) new
+      → PartGives site h n r None (got t close ∷ []) more new
+  get_gives h n t true r more new closes none comes = closed_gives h n r None (got t true ∷ []) more [] new (closes refl) comes
+  get_gives h n t false Closed more new closes none comes = comes
+  get_gives h n t false Open more new closes none comes =
+      open_gives h n Open None None (got t false ∷ []) more (Get t false ∷ []) (wire None more) new comes none refl
       (λ qs ws left. got_left t qs ∙ ap (λ (us : List WireItem). Get t false ∷ us) left)
 
   pub get_items : (t : Target) (close : Bool) (more : List PartItem) (items : List WireItem) → Left None (got t close ∷ more) items → items ≡ Get t close ∷ (if close then [] else wire None more)
   get_items t true more items left = left_unique None (got t true ∷ more) items _ left (got_close t more)
   get_items t false more items left = left_unique None (got t false ∷ more) items _ left (got_left t more)
 
-  pub continue_gives : (h : History) (n : ℕ) (r : Still) (push : Option Standing) (counts : Counts) (more : List PartItem) (origin : Origin) (d : D) → PlaceIs push None
-      → Reaches site h n (stays_open r) (if stays_open r then acting n (wire None more) else idle) counts origin d → PartGives site h n (stays_open r) push counts None (continued ∷ []) more origin d
-  continue_gives h n r push counts more origin d none reaches =
-      open_gives h n r push counts None None (continued ∷ []) more (Continue ∷ []) (wire None more) origin d reaches none refl
+  pub continue_gives : (h : History) (n : ℕ) (r : Still) (more : List PartItem) (new : Handler D) → PlaceIs new.live.now.push None
+      → Comes site h n r (wire None more) new → PartGives site h n r None (continued ∷ []) more new
+  continue_gives h n r more new none comes =
+      open_gives h n r None None (continued ∷ []) more (Continue ∷ []) (wire None more) new comes none refl
       (λ qs ws left. continue_left qs ∙ ap (λ (us : List WireItem). Continue ∷ us) left)
 
 pub place_clear : (push : Option Standing) (b : List ℕ) → PlaceIs push (Some b) → (body false b).refusal ≡ None
@@ -126,39 +125,41 @@ place_none (Some p) place none is = absurd (cc)
 
 module _ {D : Type 0} (site : Seen D) where
   -- nothing was taken
-  pub open_here : (h : History) (n : ℕ) (d : D) (push : Option Standing) (counts : Counts) (place : Option (List ℕ)) (more : List PartItem) (items : List WireItem) (origin : Origin)
-      → Keeps site h d → StandsOn site h.point.machine origin d → PlaceIs push place → Left place more items → h.point.phase ≡ acting n items → h.point.counts n ≡ counts
-      → StaysOpen site h n push counts place [] more origin d
-  open_here h n d push counts place more items origin keeps stands is left phase same = record {
+  pub open_here : (h : History) (place : Option (List ℕ)) (more : List PartItem) (items : List WireItem) (old : Handler D)
+      → IsAt site h items old → PlaceIs old.live.now.push place → Left place more items → StaysOpen site h old.live.now.number place [] more old
+  open_here h place more items old at is left = record {
     after = place;
     after_is = is;
     given = [];
     on = λ qs ws l. l;
     left = items;
     left_is = left;
-    reaches = reaches_here site h n d (acting n items) counts origin keeps stands phase same;
+    reaches = comes_here site h items old at;
   }
 
+  -- what is given behind parts that were taken
+  joined_gives : (h : History) (n : ℕ) (r : Still) (before : Option (List ℕ)) (ps qs more : List PartItem) (mid new : Handler D) → (one : StaysOpen site h n before ps (qs ++ more) mid)
+      → PartGives site one.reaches.later n r one.after qs more new → PartGives site h n r before (ps ++ qs) more new
+  joined_gives h n Open before ps qs more mid new one two = record {
+    after = two.after;
+    after_is = two.after_is;
+    given = one.given ++ two.given;
+    on = λ rs ws l.
+        subst (λ (xs : List PartItem). Left before xs ((one.given ++ two.given) ++ ws)) (sym (append_assoc ps qs rs))
+        (subst (λ (us : List WireItem). Left before (ps ++ (qs ++ rs)) us) (sym (append_assoc one.given two.given ws)) (one.on (qs ++ rs) (two.given ++ ws) (two.on rs ws l)));
+    left = two.left;
+    left_is = two.left_is;
+    reaches = reach_then site h one.reaches.later n true (acting n two.left) (counts_of new.live.now) (counts_of new.live.now) new.origin.now new.site.now one.reaches.follows two.reaches (λ t. refl);
+  }
+  joined_gives h n Closed before ps qs more mid new one two =
+      reach_then site h one.reaches.later n false idle (counts_of new.live.now) (counts_of new.live.now) new.origin.now new.site.now one.reaches.follows two (λ t. refl)
+
   -- parts, and then further ones
-  pub then_gives : (h : History) (n : ℕ) (r : Bool) (push push' : Option Standing) (counts counts' : Counts) (before : Option (List ℕ)) (ps qs more : List PartItem) (origin origin' : Origin) (d e : D)
-      → (one : StaysOpen site h n push counts before ps (qs ++ more) origin d)
-      → ((k : History) → Keeps site k d → StandsOn site k.point.machine origin d → k.point.phase ≡ acting n one.left → k.point.counts n ≡ counts
-      → PartGives site k n r push' counts' one.after qs more origin' e)
-      → PartGives site h n r push' counts' before (ps ++ qs) more origin' e
-  then_gives h n true push push' counts counts' before ps qs more origin origin' d e one so =
-      let was = one.reaches in
-      let two = so was.later was.keeps was.stands was.phase_is (was.counts_are refl) in
-      record {
-        after = two.after;
-        after_is = two.after_is;
-        given = one.given ++ two.given;
-        on = λ rs ws l.
-            subst (λ (xs : List PartItem). Left before xs ((one.given ++ two.given) ++ ws)) (sym (append_assoc ps qs rs))
-            (subst (λ (us : List WireItem). Left before (ps ++ (qs ++ rs)) us) (sym (append_assoc one.given two.given ws)) (one.on (qs ++ rs) (two.given ++ ws) (two.on rs ws l)));
-        left = two.left;
-        left_is = two.left_is;
-        reaches = reach_then site h was.later n true (acting n two.left) counts' counts' origin' e was.follows two.reaches (λ t. refl);
-      }
-  then_gives h n false push push' counts counts' before ps qs more origin origin' d e one so =
-      let was = one.reaches in
-      reach_then site h was.later n false idle counts' counts' origin' e was.follows (so was.later was.keeps was.stands was.phase_is (was.counts_are refl)) (λ t. refl)
+  pub then_gives : (h : History) (n : ℕ) (r : Still) (before : Option (List ℕ)) (ps qs more : List PartItem) (mid new : Handler D) → mid.live.now.number ≡ n
+      → (one : StaysOpen site h n before ps (qs ++ more) mid)
+      → ((k : History) → IsAt site k one.left mid → PartGives site k mid.live.now.number r one.after qs more new)
+      → PartGives site h n r before (ps ++ qs) more new
+  then_gives h n r before ps qs more mid new same one so =
+      let k = one.reaches.later in
+      joined_gives h n r before ps qs more mid new one
+      (subst (λ (m : ℕ). PartGives site k m r one.after qs more new) same (so k (comes_at site h n one.left mid same one.reaches)))

@@ -1,31 +1,31 @@
 pub mod Transcripts
-pub mod Between
-pub mod Steps
+mod Between
+mod Steps
 pub mod Lasting
 pub mod Going
-pub mod Sending
-pub mod Reaching
+mod Sending
+mod Reaching
 pub mod Lists
-pub mod Validity
-pub mod Giving
-pub mod Pieces
+mod Validity
+mod Giving
+mod Pieces
 pub mod Lives
-pub mod Taking
+mod Taking
 pub mod Events
 pub mod Ending
 pub mod Adding
 pub mod Growing
-pub mod Later
+mod Later
 pub mod Answering
-pub mod Requests
+mod Requests
 pub mod Fronts
-pub mod Onward
+mod Onward
 pub mod Quiet
-pub mod Moving
+mod Moving
 pub mod Stepping
-pub mod Along
-pub mod Laws
-pub mod Replying
-pub mod Crashing
-pub mod Counting
-pub mod Saying
+mod Along
+mod Laws
+mod Replying
+mod Crashing
+mod Counting
+mod Saying

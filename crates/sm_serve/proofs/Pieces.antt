@@ -1,5 +1,5 @@
 -- A piece that was taken.
-use Rattle.std.proofs.Common.{◌≡◌, ℕ, Bool, true, false, List, [], ◌++◌, Option, Some, None, refl, sym, ◌∙◌, ap, append_assoc}
+use Rattle.std.proofs.Common.{◌≡◌, ℕ, Bool, true, false, List, [], ◌++◌, Option, Some, None, refl, sym, ◌∙◌, ap, subst, append_assoc}
 use Rattle.std.proofs.lemmas.List.{append-nil}
 use Rattle.std.specs.Prelude.{map}
 use Rattle.sm_site.specs.Meanings.{Seen}
@@ -18,7 +18,10 @@ use Rattle.sm_serve.specs.declared.live.Live.{Live}
 use Rattle.sm_head.specs.declared.reply.TheConstants.{NO_MEMORY}
 use Rattle.sm_serve.specs.Connections.{received, is_open}
 use Rattle.sm_serve.specs.Run.{Counts, Moves, idle, acting, sending, came, unread, done, at, at_event, in_phase}
-use Rattle.sm_serve.specs.Standing.{History, Keeps, Pending, moved, Reaches, is_told}
+use Rattle.sm_serve.specs.declared.handler.Handler.{Handler}
+use Rattle.sm_serve.specs.declared.still.Still.{Still}
+use Rattle.sm_serve.specs.declared.still.Still.TheVariants.{Open, Closed}
+use Rattle.sm_serve.specs.Standing.{History, Keeps, Pending, moved, Reaches, is_told, stays_open}
 use Rattle.sm_serve.specs.Resting.{counts_of, PlaceIs, Rests}
 use Rattle.sm_serve.specs.Giving.{PartGives, PieceGives}
 use Rattle.sm_serve.proofs.Going.{silent_move, paused}
@@ -71,20 +74,28 @@ module _ {D : Type 0} (site : Seen D) where
       → Keeps site (moved h (at m (Came n piece)) (at_event h.point (sending n NO_MEMORY.now true []) m)) d
   unread_move h m n piece d pending phase is_live = pending (at_event h.point (sending n NO_MEMORY.now true []) m) (unread m n piece phase is_live refl refl refl) refl refl refl refl
 
+  -- what a handler leaves is what its connection, origin and site are then
+  pub piece_left : (h : History) (m n : ℕ) (piece : List ℕ) (is_open : Bool) {live now : Live} {origin after : Origin} {d e : D} → live ≡ now → origin ≡ after → d ≡ e
+      → PieceGives site h m piece n is_open live origin d → PieceGives site h m piece n is_open now after e
+  piece_left h m n piece is_open {live} {now} {origin} {after} {d} {e} same_live same_origin same_site gives =
+      subst (λ (x : D). PieceGives site h m piece n is_open now after x) same_site
+      (subst (λ (o : Origin). PieceGives site h m piece n is_open now o d) same_origin
+      (subst (λ (l : Live). PieceGives site h m piece n is_open l origin d) same_live gives))
+
   -- the connection rests behind the piece
-  pub piece_gives : (h : History) (m n : ℕ) (piece : List ℕ) (old new : Live) (r : Bool) (ps : List PartItem) (items : List WireItem) (origin : Origin) (d : D) (rests : Rests old (received n h.items))
-      → Gave new.conn (received n h.items ++ piece) (rests.parts ++ ps) → Moves false h.items h.point (at m (Came n piece)) [] (at_event h.point (acting n items) m)
-      → PartGives site (moved h (at m (Came n piece)) (at_event h.point (acting n items) m)) n r new.push (counts_of new) rests.place ps [] origin d
-      → PieceGives site h m piece n r new origin d
-  piece_gives h m n piece old new false ps items origin d rests gave move gives = record {
+  pub piece_gives : (h : History) (m n : ℕ) (piece : List ℕ) (old : Live) (r : Still) (ps : List PartItem) (items : List WireItem) (new : Handler D) (rests : Rests old (received n h.items))
+      → Gave new.live.now.conn (received n h.items ++ piece) (rests.parts ++ ps) → Moves false h.items h.point (at m (Came n piece)) [] (at_event h.point (acting n items) m)
+      → PartGives site (moved h (at m (Came n piece)) (at_event h.point (acting n items) m)) n r rests.place ps [] new
+      → PieceGives site h m piece n (stays_open r) new.live.now new.origin.now new.site.now
+  piece_gives h m n piece old Closed ps items new rests gave move gives = record {
     from = at_event h.point (acting n items) m;
     from_counts = refl;
     move = move;
     reaches = gives;
     rests = λ t. absurd (cc);
   }
-  piece_gives h m n piece old new true ps items origin d rests gave move gives =
-      let none : gives.left ≡ [] = none_left new.push gives.after gives.left gives.after_is gives.left_is in
+  piece_gives h m n piece old Open ps items new rests gave move gives =
+      let none : gives.left ≡ [] = none_left new.live.now.push gives.after gives.left gives.after_is gives.left_is in
       let all : wire None (rests.parts ++ ps) ≡ wire None rests.parts ++ gives.given =
       ap (λ (qs : List PartItem). wire None (rests.parts ++ qs)) (sym (append-nil ps))
       ∙ rests.later (ps ++ []) (gives.given ++ gives.left) (gives.on [] gives.left gives.left_is)
@@ -93,7 +104,7 @@ module _ {D : Type 0} (site : Seen D) where
         from = at_event h.point (acting n items) m;
         from_counts = refl;
         move = move;
-        reaches = rests_now (moved h (at m (Came n piece)) (at_event h.point (acting n items) m)) n gives.left (counts_of new) origin d none gives.reaches;
+        reaches = rests_now (moved h (at m (Came n piece)) (at_event h.point (acting n items) m)) n gives.left (counts_of new.live.now) new.origin.now new.site.now none gives.reaches;
         rests = λ t. record {
           parts = rests.parts ++ ps;
           stands = gave;

@@ -8,10 +8,15 @@ use Rattle.sm_wire.specs.declared.item.WireItem.{WireItem}
 use Rattle.sm_wire.specs.declared.item.WireItem.TheVariants.{Continue}
 use Rattle.sm_origin.specs.declared.origin.Origin.{Origin}
 use Rattle.sm_serve.specs.Standing.{StandsOn}
-use Rattle.sm_serve.specs.Run.{Counts, Point, Phase, Moves, acting, sending, in_phase, wants, continues, acts_on, act_of, closes, counts_after, set_counts, phase_after, sent_of, behind_step}
+use Rattle.sm_serve.specs.Run.{Counts, Point, Phase, Moves, idle, acting, sending, in_phase, wants, continues, acts_on, act_of, closes, counts_after, set_counts, phase_after, sent_of, behind_step}
 use Rattle.std.proofs.lemmas.Bool.{eq-eqb, ne_eqb}
 use Rattle.sm_serve.specs.Connections.{received, live, deals_in}
-use Rattle.sm_serve.specs.Standing.{History, GoesOn, Keeps, Follows, Reaches, is_told}
+use Rattle.sm_serve.specs.Standing.{History, GoesOn, Keeps, Follows, Reaches, is_told, stays_open}
+use Rattle.sm_serve.specs.Resting.{counts_of}
+use Rattle.sm_serve.specs.Giving.{IsAt, Comes}
+use Rattle.sm_serve.specs.declared.handler.Handler.{Handler}
+use Rattle.sm_serve.specs.declared.still.Still.{Still}
+use Rattle.sm_serve.specs.declared.still.Still.TheVariants.{Open}
 use Rattle.sm_serve.proofs.Lasting.{on_itself, on_paused, on_stepped}
 use Rattle.sm_serve.proofs.Sending.{follows_then}
 use Rattle.sm_head.specs.declared.reply.TheConstants.{NO_MEMORY, CONTINUE}
@@ -105,34 +110,6 @@ module _ {D : Type 0} (site : Seen D) where
   pub paused_follows : (h : History) (n : ℕ) (phase : Phase) → Moves false h.items h.point [] [] (in_phase h.point phase) → Follows n true h (paused site h (in_phase h.point phase))
   paused_follows h n phase move = follows_itself n h (paused site h (in_phase h.point phase)) refl refl refl refl refl (on_paused false h (in_phase h.point phase) move) (λ j other. refl)
 
-  -- a run that reached a phase goes on from there
-  pub goes_then : (h : History) (n : ℕ) (from phase : Phase) (counts all : Counts) (origin after : Origin) (d e : D) (is_open : Bool) → Reaches site h n true from counts origin d
-      → ((k : History) → Keeps site k d → StandsOn site k.point.machine origin d → k.point.phase ≡ from → k.point.counts n ≡ counts → Reaches site k n is_open phase all after e)
-      → Reaches site h n is_open phase all after e
-  goes_then h n from phase counts all origin after d e is_open was so =
-      reach_then h was.later n is_open phase all all after e was.follows (so was.later was.keeps was.stands was.phase_is (was.counts_are refl)) (λ t. refl)
-
-  -- what is said of a connection's number is said of an equal one
-  pub go_from : (m n : ℕ) (d e : D) (origin after : Origin) (from to : ℕ → Phase) (counts all : Counts) (is_open : Bool) → m ≡ n
-      → ((k : History) → Keeps site k d → StandsOn site k.point.machine origin d → k.point.phase ≡ from m → k.point.counts m ≡ counts → Reaches site k m is_open (to m) all after e)
-      → (k : History) → Keeps site k d → StandsOn site k.point.machine origin d → k.point.phase ≡ from n → k.point.counts n ≡ counts → Reaches site k n is_open (to n) all after e
-  go_from m n d e origin after from to counts all is_open same so =
-      subst (λ (i : ℕ). (k : History) → Keeps site k d → StandsOn site k.point.machine origin d → k.point.phase ≡ from i → k.point.counts i ≡ counts
-      → Reaches site k i is_open (to i) all after e) same so
-
-  -- nothing was done
-  pub reaches_here : (h : History) (n : ℕ) (d : D) (phase : Phase) (counts : Counts) (origin : Origin) → Keeps site h d → StandsOn site h.point.machine origin d → h.point.phase ≡ phase
-      → h.point.counts n ≡ counts
-      → Reaches site h n true phase counts origin d
-  reaches_here h n d phase counts origin keeps stands at is = record {
-    later = h;
-    keeps = keeps;
-    stands = stands;
-    follows = follows_itself n h h refl refl refl refl refl (on_itself h) (λ j other. refl);
-    phase_is = at;
-    counts_are = λ t. is;
-  }
-
   -- the head 100 is due
   pub continuing : (h : History) (d : D) (n : ℕ) (more : List WireItem) → Keeps site h d → h.point.phase ≡ acting n (Continue ∷ more)
       → Keeps site (paused site h (in_phase h.point (sending n CONTINUE.now false more))) d
@@ -160,3 +137,27 @@ reached_here site h n phase counts origin d keeps stands phase_is counts_are = r
   phase_is = phase_is;
   counts_are = λ t. counts_are;
 }
+
+-- ---- what a handler comes to
+
+module _ {D : Type 0} (site : Seen D) where
+  -- nothing was done
+  pub comes_here : (h : History) (items : List WireItem) (old : Handler D) → IsAt site h items old → Comes site h old.live.now.number Open items old
+  comes_here h items old at =
+      reached_here site h old.live.now.number (acting old.live.now.number items) (counts_of old.live.now) old.origin.now old.site.now at.keeps at.stands at.phase at.counts
+
+  -- the run stands in front of the items that it came to
+  pub comes_at : (h : History) (n : ℕ) (items : List WireItem) (mid : Handler D) → mid.live.now.number ≡ n → (was : Comes site h n Open items mid) → IsAt site was.later items mid
+  comes_at h n items mid same was = record {
+    keeps = was.keeps;
+    stands = was.stands;
+    phase = was.phase_is ∙ ap (λ (m : ℕ). acting m items) (sym same);
+    counts = ap was.later.point.counts same ∙ was.counts_are refl;
+  }
+
+  -- and goes on from there
+  pub comes_then : (h : History) (n : ℕ) (r : Still) (items more : List WireItem) (mid new : Handler D) → mid.live.now.number ≡ n → Comes site h n Open items mid
+      → ((k : History) → IsAt site k items mid → Comes site k mid.live.now.number r more new) → Comes site h n r more new
+  comes_then h n r items more mid new same was so =
+      reach_then site h was.later n (stays_open r) (if stays_open r then acting n more else idle) (counts_of new.live.now) (counts_of new.live.now) new.origin.now new.site.now was.follows
+      (subst (λ (m : ℕ). Comes site was.later m r more new) same (so was.later (comes_at h n items mid same was))) (λ t. refl)

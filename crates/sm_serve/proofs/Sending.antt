@@ -157,7 +157,8 @@ module _ {D : Type 0} (site link : Seen D)
         point_is = refl;
       }
 
-  pub then_shut : (h : History) (d e : D) (n : ℕ) (q : Point) → (a : After h n true d q) → q.phase ≡ shutting n → LinkAlone link d e → Adds (Shut n) (link.view d) (link.view e) → (link.view e).send_faults ≡ (link.view d).send_faults
+  pub then_shut : (h : History) (d e : D) (n : ℕ) (q : Point) → (a : After h n true d q) → q.phase ≡ shutting n → LinkAlone link d e
+      → Adds (Shut n) (link.view d) (link.view e) → (link.view e).send_faults ≡ (link.view d).send_faults
       → After h n false e (in_phase q idle)
   then_shut h d e n q a phase call adds faults =
       let s = shut_after a.later d e n a.keeps call (ap (λ (p : Point). p.phase) a.point_is ∙ phase) adds faults in

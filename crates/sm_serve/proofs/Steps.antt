@@ -1,12 +1,12 @@
 -- What steps on a connection leave, put together.
-use Rattle.std.proofs.Common.{◌≡◌, ◌∙◌, ℕ, IsSome, is_some, refl, sym, ap, subst}
+use Rattle.std.proofs.Common.{◌≡◌, ◌∙◌, ℕ, IsSome, is_some, refl, sym, subst}
 use Rattle.sm_site.specs.Image.{Image}
 use Rattle.sm_site.specs.Meanings.{Seen}
 use Rattle.sm_site.specs.Clauses.{AreOne, LinkAlone, NoMore}
 use Rattle.sm_site.proofs.Views.{same_here}
 use Rattle.sm_origin.specs.declared.origin.Origin.{Origin}
 use Rattle.sm_origin.specs.Machine.{Machine}
-use Rattle.sm_wire.specs.declared.item.WireItem.{WireItem}
+use Rattle.sm_serve.specs.declared.handler.Handler.{Handler}
 use Rattle.sm_serve.specs.declared.live.Live.{Live}
 use Rattle.sm_serve.specs.declared.still.Still.{Still}
 use Rattle.sm_serve.specs.declared.still.Still.TheVariants.{Open, Closed}
@@ -21,17 +21,22 @@ not_open e = cc
 
 -- ---- connections
 
-pub conn_then : (a b c : Live) → SameConn a b → SameConn b c → SameConn a c
-conn_then a b c one two = record { number = two.number ∙ one.number; conn = two.conn ∙ one.conn }
+-- what stays the same over two steps where it does over each, and so does the number
+pub record Lasts (Same : Live → Live → Type 0) : Type 0 where
+  pub then : (a b c : Live) → Same a b → Same b c → Same a c
+  pub number : (a b : Live) → Same a b → b.number ≡ a.number
 
-pub conn_number : (a b : Live) → SameConn a b → b.number ≡ a.number
-conn_number a b same = same.number
+pub conn_lasts : Lasts SameConn
+conn_lasts = record {
+  then = λ a b c one two. record { number = two.number ∙ one.number; conn = two.conn ∙ one.conn };
+  number = λ a b same. same.number;
+}
 
-pub but_then : (a b c : Live) → SameBut a b → SameBut b c → SameBut a c
-but_then a b c one two = record { number = two.number ∙ one.number; conn = two.conn ∙ one.conn; push = two.push ∙ one.push }
-
-pub but_number : (a b : Live) → SameBut a b → b.number ≡ a.number
-but_number a b same = same.number
+pub but_lasts : Lasts SameBut
+but_lasts = record {
+  then = λ a b c one two. record { number = two.number ∙ one.number; conn = two.conn ∙ one.conn; push = two.push ∙ one.push };
+  number = λ a b same. same.number;
+}
 
 -- ---- calls of the link
 
@@ -64,56 +69,66 @@ module _ {D : Type 0} (site : Seen D) where
 
   -- ---- steps
 
-  -- nothing was done
-  pub here_leaves : (Same : Live → Live → Type 0) (before after : Live) (o : Origin) (d : D) (r : Still) → Same before after → MayAct site o before.number d
-      → Leaves site Same before after o d d r
-  here_leaves Same before after o d r same may = record { stands = may.stands; live = λ open_. may.live; same = same; link = none_taken (site.view d) }
+  -- the connection is another, and nothing else was done
+  abbrev pub with_live : Handler D → Live → Handler D
+  with_live old live = record old { live = record old.live { now = live } }
 
-  -- something was sent
-  pub sent_leaves : (before after : Live) (o : Origin) (d e : D) (r : Still) → SameConn before after → MayAct site o before.number d → OnlySent site d e
-      → (r ≡ Open → IsLiveOn site before.number e) → Leaves site SameConn before after o d e r
-  sent_leaves before after o d e r same may sent live = record {
-    stands = (may.stands.0, sent.stands may.stands.0 o may.stands.1);
-    live = live;
+  pub here_leaves : (Same : Live → Live → Type 0) (old : Handler D) (live : Live) (r : Still) → Same old.live.now live → MayAct site old
+      → Leaves site Same old (with_live old live) r
+  here_leaves Same old live r same may = record {
+    borrows = record { site = refl; origin = refl; live = refl };
+    stands = may.stands;
+    live = λ open_. may.live;
+    same = same;
+    link = none_taken (site.view old.site.now);
+  }
+
+  -- something was sent, and the connection may be another
+  abbrev pub with_site : Handler D → Live → D → Handler D
+  with_site old live e = record (with_live old live) { site = record old.site { now = e } }
+
+  pub sent_leaves : (old : Handler D) (live : Live) (e : D) (r : Still) → SameConn old.live.now live → MayAct site old → OnlySent site old.site.now e
+      → (r ≡ Open → IsLiveOn site old.live.now.number e) → Leaves site SameConn old (with_site old live e) r
+  sent_leaves old live e r same may sent is_live = record {
+    borrows = record { site = refl; origin = refl; live = refl };
+    stands = (may.stands.0, sent.stands may.stands.0 old.origin.now may.stands.1);
+    live = is_live;
     same = same;
     link = sent.link;
   }
 
   -- it was closed behind that
-  pub shut_leaves : (before after : Live) (o : Origin) (d e : D) (r : Still) → SameConn before after → MayAct site o before.number d → OnlySent site d e → r ≡ Closed
-      → Leaves site SameConn before after o d e r
-  shut_leaves before after o d e r same may sent closed =
-      sent_leaves before after o d e r same may sent (λ open_. absurd (not_open (sym closed ∙ open_)))
+  pub shut_leaves : (old : Handler D) (live : Live) (e : D) (r : Still) → SameConn old.live.now live → MayAct site old → OnlySent site old.site.now e → r ≡ Closed
+      → Leaves site SameConn old (with_site old live e) r
+  shut_leaves old live e r same may sent closed = sent_leaves old live e r same may sent (λ open_. absurd (not_open (sym closed ∙ open_)))
 
   -- where more may differ
-  pub less_same : (before after : Live) (o : Origin) (d e : D) (r : Still) → Leaves site SameBut before after o d e r → Leaves site SameConn before after o d e r
-  less_same before after o d e r l = record { stands = l.stands; live = l.live; same = record { number = l.same.number; conn = l.same.conn }; link = l.link }
-
-  -- a step behind a change of the push that is open
-  pub behind_push : (before mid after : Live) (o : Origin) (d e : D) (r : Still) → SameConn before mid → Leaves site SameConn mid after o d e r
-      → Leaves site SameConn before after o d e r
-  behind_push before mid after o d e r same l = record {
-    stands = l.stands;
-    live = λ open_. subst (λ (n : ℕ). IsLiveOn site n e) same.number (l.live open_);
-    same = conn_then before mid after same l.same;
-    link = l.link;
-  }
+  pub less_same : {old new : Handler D} {r : Still} → Leaves site SameBut old new r → Leaves site SameConn old new r
+  less_same l = record { borrows = l.borrows; stands = l.stands; live = l.live; same = record { number = l.same.number; conn = l.same.conn }; link = l.link }
 
   -- a step behind a step
-  pub both_leave : (Same : Live → Live → Type 0) → ((a b c : Live) → Same a b → Same b c → Same a c) → ((a b : Live) → Same a b → b.number ≡ a.number)
-      → (before mid after : Live) (p o : Origin) (d e f : D) (r s : Still) → Leaves site Same before mid p d e r → Leaves site Same mid after o e f s
-      → Leaves site Same before after o d f s
-  both_leave Same then number before mid after p o d e f r s first second = record {
+  pub both_leave : {Same : Live → Live → Type 0} {old mid new : Handler D} {r s : Still} → Lasts Same → Leaves site Same old mid r → Leaves site Same mid new s
+      → Leaves site Same old new s
+  both_leave {old = old} {mid} {new} lasts first second = record {
+    borrows = record {
+      site = second.borrows.site ∙ first.borrows.site;
+      origin = second.borrows.origin ∙ first.borrows.origin;
+      live = second.borrows.live ∙ first.borrows.live;
+    };
     stands = second.stands;
-    live = λ open_. subst (λ (n : ℕ). IsLiveOn site n f) (number before mid first.same) (second.live open_);
-    same = then before mid after first.same second.same;
-    link = none_then (site.view d) (site.view e) (site.view f) first.link second.link;
+    live = λ open_. subst (λ (n : ℕ). IsLiveOn site n new.site.now) (lasts.number old.live.now mid.live.now first.same) (second.live open_);
+    same = lasts.then old.live.now mid.live.now new.live.now first.same second.same;
+    link = none_then (site.view old.site.now) (site.view mid.site.now) (site.view new.site.now) first.link second.link;
   }
 
+  -- a step behind a change of the push that is open
+  pub behind_push : (old : Handler D) (live : Live) {new : Handler D} {r : Still} → SameConn old.live.now live → MayAct site old
+      → Leaves site SameConn (with_live old live) new r → Leaves site SameConn old new r
+  behind_push old live same may l = both_leave conn_lasts (here_leaves SameConn old live Open same may) l
+
   -- one more may be taken behind a step that leaves the connection open
-  pub may_still : (Same : Live → Live → Type 0) → ((a b : Live) → Same a b → b.number ≡ a.number) → (before after : Live) (o : Origin) (d e : D)
-      → Leaves site Same before after o d e Open → MayAct site o after.number e
-  may_still Same number before after o d e l = record {
+  pub may_still : {Same : Live → Live → Type 0} {old new : Handler D} → Lasts Same → Leaves site Same old new Open → MayAct site new
+  may_still {old = old} {new} lasts l = record {
     stands = l.stands;
-    live = subst (λ (n : ℕ). IsLiveOn site n e) (sym (number before after l.same)) (l.live refl);
+    live = subst (λ (n : ℕ). IsLiveOn site n new.site.now) (sym (lasts.number old.live.now new.live.now l.same)) (l.live refl);
   }

@@ -7,16 +7,14 @@ ghost use Rattle.sm_serve.specs.Resting.{PlaceIs, SameConn};
 ghost use Rattle.sm_serve.specs.Giving.{FedPush, EndedPush};
 ghost use Rattle.sm_serve.specs.Steps.{MayAct, Leaves, TakesItems, TakesParts};
 
-use crate::answer::answer;
-use crate::item::{act_on, starve, take_items};
+use crate::OpenPush;
+use crate::handler::Handler;
+use crate::item::starve;
 use crate::still::Still;
-use crate::{Live, OpenPush};
 use sm_model::{Act, Items};
-use sm_origin::Origin;
 use sm_push::PushFault;
 use sm_site::Site;
 use sm_wire::law::wire_of_front;
-use std::alloc::Global;
 
 // Feeds the push that is open.
 fn feed(push: &mut Option<OpenPush>, bytes: &[u8]) -> Result<Items, PushFault>
@@ -53,114 +51,88 @@ fn due(push: &Option<OpenPush>, count: usize) -> usize
     }
 }
 
-// Takes some of the bytes of a part.
-fn take_chunk<S: Site>(
-    alloc: Global,
-    site: &mut S,
-    origin: &mut Origin,
-    live: &mut Live,
-    bytes: &[u8],
-) -> Still
-    requires may { MayAct S.Disk.seen origin.old live.old.number site.old }
-    requires open { is_some live.old.push ≡ true }
-    ensures goes_on { (b : List ℕ) → TakesParts S.Disk.seen (Some b) (map (λ x. byte x) bytes.now) live.old live.new origin.old origin.new site.old site.new result }
-    ensures leaves { Leaves S.Disk.seen SameConn live.old live.new origin.new site.old site.new result }
-    ensures push { result ≡ Still.Open → is_some live.new.push ≡ true }
-{
-    wire_of_front();
-    match feed(&mut live.push, bytes) {
-        Ok(items) => take_items(alloc, site, origin, live, items.into_vec()),
-        Err(PushFault::Refused { before, refusal }) => {
-            match take_items(alloc, site, origin, live, before.into_vec()) {
-                Still::Open => act_on(alloc, site, origin, live, &Act::Refuse(refusal), true),
-                Still::Closed => Still::Closed,
+impl<S: Site> Handler<'_, S> {
+    // Takes some of the bytes of a part.
+    fn take_chunk(&mut self, bytes: &[u8]) -> Still
+        requires may { MayAct S.Disk.seen self.old }
+        requires open { is_some self.old.live.now.push ≡ true }
+        ensures goes_on { (b : List ℕ) → TakesParts S.Disk.seen (Some b) (map (λ x. byte x) bytes.now) self.old self.new result }
+        ensures leaves { Leaves S.Disk.seen SameConn self.old self.new result }
+        ensures push { result ≡ Still.Open → is_some self.new.live.now.push ≡ true }
+    {
+        wire_of_front();
+        match feed(&mut self.live.push, bytes) {
+            Ok(items) => self.take_items(items.into_vec()),
+            Err(PushFault::Refused { before, refusal }) => {
+                match self.take_items(before.into_vec()) {
+                    Still::Open => self.act_on(&Act::Refuse(refusal), true),
+                    Still::Closed => Still::Closed,
+                }
             }
+            Err(PushFault::Failed) => starve(self.site, self.live.number),
+            Err(PushFault::NoMemory) => starve(self.site, self.live.number),
         }
-        Err(PushFault::Failed) => starve(site, live.number),
-        Err(PushFault::NoMemory) => starve(site, live.number),
     }
-}
 
-// Takes bytes of the push that is open. They are handed on in parts that complete one item at the most, so that no more is held at
-// once than one item and what the push holds.
-pub(crate) fn take_body<S: Site>(
-    alloc: Global,
-    site: &mut S,
-    origin: &mut Origin,
-    live: &mut Live,
-    bytes: &[u8],
-) -> Still
-    requires may { MayAct S.Disk.seen origin.old live.old.number site.old }
-    requires open { is_some live.old.push ≡ true }
-    ensures goes_on { (b : List ℕ) → TakesParts S.Disk.seen (Some b) (map (λ x. byte x) bytes.now) live.old live.new origin.old origin.new site.old site.new result }
-    ensures leaves { Leaves S.Disk.seen SameConn live.old live.new origin.new site.old site.new result }
-    ensures push { result ≡ Still.Open → is_some live.new.push ≡ true }
-{
-    let mut done = 0;
-    while done < bytes.len() {
-        let rest = &bytes[done..];
-        let count = due(&live.push, rest.len());
-        match take_chunk(alloc, site, origin, live, &rest[..count]) {
-            Still::Open => {}
-            Still::Closed => return Still::Closed,
+    // Takes bytes of the push that is open. They are handed on in parts that complete one item at the most, so that no more is held at
+    // once than one item and what the push holds.
+    pub(crate) fn take_body(&mut self, bytes: &[u8]) -> Still
+        requires may { MayAct S.Disk.seen self.old }
+        requires open { is_some self.old.live.now.push ≡ true }
+        ensures goes_on { (b : List ℕ) → TakesParts S.Disk.seen (Some b) (map (λ x. byte x) bytes.now) self.old self.new result }
+        ensures leaves { Leaves S.Disk.seen SameConn self.old self.new result }
+        ensures push { result ≡ Still.Open → is_some self.new.live.now.push ≡ true }
+    {
+        let mut done = 0;
+        while done < bytes.len() {
+            let rest = &bytes[done..];
+            let count = due(&self.live.push, rest.len());
+            match self.take_chunk(&rest[..count]) {
+                Still::Open => {}
+                Still::Closed => return Still::Closed,
+            }
+            done += count;
         }
-        done += count;
+        Still::Open
     }
-    Still::Open
-}
 
-// Ends the push that is open.
-pub(crate) fn take_end<S: Site>(
-    alloc: Global,
-    site: &mut S,
-    origin: &mut Origin,
-    live: &mut Live,
-    close: bool,
-) -> Still
-    requires may { MayAct S.Disk.seen origin.old live.old.number site.old }
-    ensures goes_on { (b : List ℕ) → TakesParts S.Disk.seen (Some b) (ended close ∷ []) live.old live.new origin.old origin.new site.old site.new result }
-    ensures leaves { Leaves S.Disk.seen SameConn live.old live.new origin.new site.old site.new result }
-{
-    match end(&mut live.push) {
-        Ok(()) => end_push(alloc, site, origin, live, close),
-        Err(PushFault::Refused { before: _, refusal }) => act_on(
-            alloc,
-            site,
-            origin,
-            live,
-            &Act::Refuse(refusal),
-            true,
-        ),
-        Err(PushFault::Failed) => starve(site, live.number),
-        Err(PushFault::NoMemory) => starve(site, live.number),
-    }
-}
-
-// Acts on the end of a push: its counts are told, and set to 0.
-fn end_push<S: Site>(
-    alloc: Global,
-    site: &mut S,
-    origin: &mut Origin,
-    live: &mut Live,
-    close: bool,
-) -> Still
-    requires may { MayAct S.Disk.seen origin.old live.old.number site.old }
-    ensures goes_on { TakesItems S.Disk.seen (λ more. End close ∷ more) live.old live.new origin.old origin.new site.old site.new result }
-    ensures closed { IsTrue close → result ≡ Still.Closed }
-    ensures push { result ≡ Still.Open → live.new.push ≡ None }
-    ensures leaves { Leaves S.Disk.seen SameConn live.old live.new origin.new site.old site.new result }
-{
-    let act = Act::End {
-        kept: live.kept,
-        known: live.known,
-    };
-    match answer(alloc, site, origin, live.number, &act, close) {
-        Some(_) => {
-            live.kept = 0;
-            live.known = 0;
-            live.push = None;
-            Still::Open
+    // Ends the push that is open.
+    pub(crate) fn take_end(&mut self, close: bool) -> Still
+        requires may { MayAct S.Disk.seen self.old }
+        ensures goes_on { (b : List ℕ) → TakesParts S.Disk.seen (Some b) (ended close ∷ []) self.old self.new result }
+        ensures leaves { Leaves S.Disk.seen SameConn self.old self.new result }
+    {
+        match end(&mut self.live.push) {
+            Ok(()) => self.end_push(close),
+            Err(PushFault::Refused { before: _, refusal }) => self.act_on(
+                &Act::Refuse(refusal),
+                true,
+            ),
+            Err(PushFault::Failed) => starve(self.site, self.live.number),
+            Err(PushFault::NoMemory) => starve(self.site, self.live.number),
         }
-        None => Still::Closed,
+    }
+
+    // Acts on the end of a push: its counts are told, and set to 0.
+    fn end_push(&mut self, close: bool) -> Still
+        requires may { MayAct S.Disk.seen self.old }
+        ensures goes_on { TakesItems S.Disk.seen (λ more. End close ∷ more) self.old self.new result }
+        ensures closed { IsTrue close → result ≡ Still.Closed }
+        ensures push { result ≡ Still.Open → self.new.live.now.push ≡ None }
+        ensures leaves { Leaves S.Disk.seen SameConn self.old self.new result }
+    {
+        let act = Act::End {
+            kept: self.live.kept,
+            known: self.live.known,
+        };
+        match self.answer(&act, close) {
+            Some(_) => {
+                self.live.kept = 0;
+                self.live.known = 0;
+                self.live.push = None;
+                Still::Open
+            }
+            None => Still::Closed,
+        }
     }
 }

@@ -11,41 +11,12 @@ ghost use Rattle.sm_serve.specs.Resting.{counts_of, SameBut};
 ghost use Rattle.sm_serve.specs.Items.{shown_item, ItemIsValid};
 ghost use Rattle.sm_serve.specs.Steps.{IsLiveOn, MayAct, OnlySent, Leaves, TakesItems};
 
-use crate::Live;
-use crate::answer::answer;
+use crate::handler::Handler;
 use crate::still::Still;
 use crate::tell::tell;
 use sm_head::NO_MEMORY;
 use sm_model::{Act, Item};
-use sm_origin::Origin;
 use sm_site::Site;
-use std::alloc::Global;
-
-// Acts on an item that is no end of a push.
-pub(crate) fn act_on<S: Site>(
-    alloc: Global,
-    site: &mut S,
-    origin: &mut Origin,
-    live: &mut Live,
-    act: &Act,
-    close: bool,
-) -> Still
-    requires valid { IsValidAct act.now }
-    requires may { MayAct S.Disk.seen origin.old live.old.number site.old }
-    ensures goes_on { (item : WireItem) → act_of (counts_of live.old) item ≡ Some act.now → closes item ≡ close
-        → ((c : Counted) (counts : Counts) → counts_after item c counts ≡ counts_by c counts)
-        → TakesItems S.Disk.seen (λ more. item ∷ more) live.old live.new origin.old origin.new site.old site.new result }
-    ensures closed { IsTrue close → result ≡ Still.Closed }
-    ensures leaves { Leaves S.Disk.seen SameBut live.old live.new origin.new site.old site.new result }
-{
-    match answer(alloc, site, origin, live.number, act, close) {
-        Some(counted) => {
-            live.count(counted);
-            Still::Open
-        }
-        None => Still::Closed,
-    }
-}
 
 // Sends 500 in place of what comes next, and closes.
 pub(crate) fn starve<S: Site>(site: &mut S, number: u64) -> Still
@@ -57,23 +28,6 @@ pub(crate) fn starve<S: Site>(site: &mut S, number: u64) -> Still
     ensures sent { OnlySent S.Disk.seen site.old site.new }
 {
     tell(site, number, NO_MEMORY, true)
-}
-
-// Acts on one item of a push.
-fn take_item<S: Site>(
-    alloc: Global,
-    site: &mut S,
-    origin: &mut Origin,
-    live: &mut Live,
-    item: Item,
-) -> Still
-    requires valid { ItemIsValid item }
-    requires may { MayAct S.Disk.seen origin.old live.old.number site.old }
-    ensures goes_on { TakesItems S.Disk.seen (λ more. shown_item item ∷ more) live.old live.new origin.old origin.new site.old site.new result }
-    ensures leaves { Leaves S.Disk.seen SameBut live.old live.new origin.new site.old site.new result }
-{
-    let act = act_for_item(item);
-    act_on(alloc, site, origin, live, &act, false)
 }
 
 fn act_for_item(item: Item) -> Act
@@ -88,24 +42,50 @@ fn act_for_item(item: Item) -> Act
     }
 }
 
-// Acts on items of a push, one after the other.
-pub(crate) fn take_items<S: Site>(
-    alloc: Global,
-    site: &mut S,
-    origin: &mut Origin,
-    live: &mut Live,
-    items: Vec<Item>,
-) -> Still
-    requires valid { AllByRecursion ItemIsValid items.items }
-    requires may { MayAct S.Disk.seen origin.old live.old.number site.old }
-    ensures goes_on { TakesItems S.Disk.seen (λ more. map shown_item items.items ++ more) live.old live.new origin.old origin.new site.old site.new result }
-    ensures leaves { Leaves S.Disk.seen SameBut live.old live.new origin.new site.old site.new result }
-{
-    for item in items {
-        match take_item(alloc, site, origin, live, item) {
-            Still::Open => {}
-            Still::Closed => return Still::Closed,
+impl<S: Site> Handler<'_, S> {
+    // Acts on an item that is no end of a push.
+    pub(crate) fn act_on(&mut self, act: &Act, close: bool) -> Still
+        requires valid { IsValidAct act.now }
+        requires may { MayAct S.Disk.seen self.old }
+        ensures goes_on { (item : WireItem) → act_of (counts_of self.old.live.now) item ≡ Some act.now → closes item ≡ close
+            → ((c : Counted) (counts : Counts) → counts_after item c counts ≡ counts_by c counts)
+            → TakesItems S.Disk.seen (λ more. item ∷ more) self.old self.new result }
+        ensures closed { IsTrue close → result ≡ Still.Closed }
+        ensures leaves { Leaves S.Disk.seen SameBut self.old self.new result }
+    {
+        match self.answer(act, close) {
+            Some(counted) => {
+                self.live.count(counted);
+                Still::Open
+            }
+            None => Still::Closed,
         }
     }
-    Still::Open
+
+    // Acts on one item of a push.
+    fn take_item(&mut self, item: Item) -> Still
+        requires valid { ItemIsValid item }
+        requires may { MayAct S.Disk.seen self.old }
+        ensures goes_on { TakesItems S.Disk.seen (λ more. shown_item item ∷ more) self.old self.new result }
+        ensures leaves { Leaves S.Disk.seen SameBut self.old self.new result }
+    {
+        let act = act_for_item(item);
+        self.act_on(&act, false)
+    }
+
+    // Acts on items of a push, one after the other.
+    pub(crate) fn take_items(&mut self, items: Vec<Item>) -> Still
+        requires valid { AllByRecursion ItemIsValid items.items }
+        requires may { MayAct S.Disk.seen self.old }
+        ensures goes_on { TakesItems S.Disk.seen (λ more. map shown_item items.items ++ more) self.old self.new result }
+        ensures leaves { Leaves S.Disk.seen SameBut self.old self.new result }
+    {
+        for item in items {
+            match self.take_item(item) {
+                Still::Open => {}
+                Still::Closed => return Still::Closed,
+            }
+        }
+        Still::Open
+    }
 }

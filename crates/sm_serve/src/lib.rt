@@ -3,6 +3,7 @@
 
 mod answer;
 mod body;
+mod handler;
 mod item;
 pub mod law;
 mod live;

@@ -8,10 +8,10 @@ ghost use Rattle.sm_serve.specs.Between.{TakesNone};
 ghost use Rattle.sm_serve.specs.Standing.{History, StandsOn, StandsForSome, Pending, stays_open};
 ghost use Rattle.sm_serve.specs.Resting.{counts_of, SameConn, Rests};
 ghost use Rattle.sm_serve.specs.Giving.{PieceGives};
-ghost use Rattle.sm_serve.specs.Steps.{MayAct, Leaves, TakesParts};
+ghost use Rattle.sm_serve.specs.Steps.{IsLiveOn, MayAct, Leaves, TakesParts};
 
 use crate::Live;
-use crate::part::take_part;
+use crate::handler::Handler;
 use crate::still::Still;
 use crate::tell::tell;
 use sm_conn::Part;
@@ -21,25 +21,21 @@ use sm_site::Site;
 use sm_wire::law::wire_of_front;
 use std::alloc::Global;
 
-// Takes parts, one after the other.
-fn take_parts<S: Site>(
-    alloc: Global,
-    site: &mut S,
-    origin: &mut Origin,
-    live: &mut Live,
-    parts: Vec<Part>,
-) -> Still
-    requires may { MayAct S.Disk.seen origin.old live.old.number site.old }
-    ensures goes_on { (place : Option (List ℕ)) → TakesParts S.Disk.seen place (joined parts.items) live.old live.new origin.old origin.new site.old site.new result }
-    ensures leaves { Leaves S.Disk.seen SameConn live.old live.new origin.new site.old site.new result }
-{
-    for part in parts {
-        match take_part(alloc, site, origin, live, part) {
-            Still::Open => {}
-            Still::Closed => return Still::Closed,
+impl<S: Site> Handler<'_, S> {
+    // Takes parts, one after the other.
+    fn take_parts(&mut self, parts: Vec<Part>) -> Still
+        requires may { MayAct S.Disk.seen self.old }
+        ensures goes_on { (place : Option (List ℕ)) → TakesParts S.Disk.seen place (joined parts.items) self.old self.new result }
+        ensures leaves { Leaves S.Disk.seen SameConn self.old self.new result }
+    {
+        for part in parts {
+            match self.take_part(part) {
+                Still::Open => {}
+                Still::Closed => return Still::Closed,
+            }
         }
+        Still::Open
     }
-    Still::Open
 }
 
 // Takes a piece that came on a live connection.
@@ -50,7 +46,8 @@ pub(crate) fn take_piece<S: Site>(
     live: &mut Live,
     piece: &[u8],
 ) -> Still
-    requires may { MayAct S.Disk.seen origin.old live.old.number site.old }
+    requires stands { StandsForSome S.Disk.seen origin.old site.old }
+    requires live { IsLiveOn S.Disk.seen live.old.number site.old }
     ensures goes_on { (h : History) (m : ℕ) → Pending S.Disk.seen h m (Came live.old.number piece.now) site.old
         → StandsOn S.Disk.seen h.point.machine origin.old site.old → h.point.phase ≡ idle → is_open live.old.number h.items ≡ true
         → h.point.counts live.old.number ≡ counts_of live.old
@@ -62,7 +59,15 @@ pub(crate) fn take_piece<S: Site>(
 {
     wire_of_front();
     match live.conn.feed(piece) {
-        Ok(parts) => take_parts(alloc, site, origin, live, parts.into_vec()),
+        Ok(parts) => {
+            let mut handler = Handler {
+                alloc,
+                site,
+                origin,
+                live,
+            };
+            handler.take_parts(parts.into_vec())
+        }
         Err(_) => tell(site, live.number, NO_MEMORY, true),
     }
 }

@@ -1,5 +1,5 @@
 //! The loop.
-ghost use Rattle.std.specs.Prelude.{◌≡◌, ◌≢◌, ◌↔◌, ◌⊎◌, ◌∷◌, ◌++◌, [], ℕ, true, false, Some, IfSome, IfNone, IsSome, OnOk, OnErr, is_some, length, ◌<◌, ◌≤◌, slice_index};
+ghost use Rattle.std.specs.Prelude.{◌≡◌, ◌≢◌, ◌↔◌, ◌⊎◌, ◌∷◌, ◌++◌, [], ℕ, true, Some, IfSome, IfNone, IsSome, OnOk, OnErr, is_some, length, ◌<◌, ◌≤◌, slice_index};
 ghost use Rattle.sm_site.specs.Meanings.Deal.{Over};
 ghost use Rattle.sm_site.specs.Clauses.{Rose, Adds};
 ghost use Rattle.sm_serve.specs.declared.live.Live.{Live};
@@ -142,11 +142,13 @@ pub fn turn<S: Site>(site: &mut S, state: &mut State) -> Turn
     ensures told { is_some (S.Disk.seen.view site.new).transcript ≡ is_some (S.Disk.seen.view site.old).transcript }
     // Exactly where the event says so; whether it does is told by the transcript.
     ensures ended { result ≡ Turn.Ended → Adds Over (S.Link.seen.view site.old) (S.Link.seen.view site.new) }
-    ensures over { IsSome (S.Disk.seen.view site.old).transcript → Adds Over (S.Link.seen.view site.old) (S.Link.seen.view site.new) → result ≡ Turn.Ended }
+    ensures over { IsSome (S.Disk.seen.view site.old).transcript
+        → Adds Over (S.Link.seen.view site.old) (S.Link.seen.view site.new) → result ≡ Turn.Ended }
     ensures link_faults { (S.Disk.seen.view site.old).link_faults ≤ (S.Disk.seen.view site.new).link_faults }
     ensures link_fault { result ≡ Turn.LinkFault → Rose (S.Disk.seen.view site.old).link_faults (S.Disk.seen.view site.new).link_faults }
     ensures chosen { (S.Disk.seen.view site.new).chosen ≡ (S.Disk.seen.view site.old).chosen }
-    ensures none_taken { (result ≡ Turn.LinkFault) ⊎ (result ≡ Turn.NoMemory) → (S.Disk.seen.view site.new).transcript ≡ (S.Disk.seen.view site.old).transcript }
+    ensures none_taken { (result ≡ Turn.LinkFault) ⊎ (result ≡ Turn.NoMemory)
+        → (S.Disk.seen.view site.new).transcript ≡ (S.Disk.seen.view site.old).transcript }
 {
     fewer_images_stand::<S>();
     match site.next() {

@@ -34,7 +34,7 @@ pub struct State {
 }
 
 impl State {
-    ghost use Rattle.sm_serve.specs.Serving.{Begins, Serves, Known, DeclaresIn, RecallsIn};
+    ghost use Rattle.sm_serve.specs.Serving.{Begins, Serves, DeclaresIn, RecallsIn};
 
     /// Opens the store of a site under these limits, with no connection. A file that is fresh is made; nothing else is written.
     pub fn start<S: Site>(alloc: Global, site: &mut S, limits: Limits) -> Result<State, OpenFault>

@@ -1,13 +1,13 @@
-pub mod Rises
-pub mod Grows
-pub mod Steps
-pub mod Windows
+mod Rises
+mod Grows
+mod Steps
+mod Windows
 pub mod Places
-pub mod Ahead
-pub mod Fronts
-pub mod Logs
+mod Ahead
+mod Fronts
+mod Logs
 pub mod Heights
-pub mod Answered
-pub mod Reading
-pub mod Filling
-pub mod Going
+mod Answered
+mod Reading
+mod Filling
+mod Going

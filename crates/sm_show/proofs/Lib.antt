@@ -1,4 +1,4 @@
 pub mod Resting
-pub mod Readings
-pub mod Marked
-pub mod Going
+mod Readings
+mod Marked
+mod Going

@@ -1,16 +1,16 @@
-pub mod Least
-pub mod Over
-pub mod Joined
-pub mod Fit
-pub mod Valid
-pub mod ValidAnswers
-pub mod WalkLemmas
-pub mod WalkPlaced
-pub mod WalkRuled
-pub mod WrittenLines
-pub mod OneAnswer
+mod Least
+mod Over
+mod Joined
+mod Fit
+mod Valid
+mod ValidAnswers
+mod WalkLemmas
+mod WalkPlaced
+mod WalkRuled
+mod WrittenLines
+mod OneAnswer
 pub mod WrittenValues
-pub mod WrittenTracks
-pub mod WrittenChannel
-pub mod OneReading
+mod WrittenTracks
+mod WrittenChannel
+mod OneReading
 mod PlainLemmas

@@ -1,15 +1,15 @@
-pub mod TagLengths
+mod TagLengths
 pub mod TagTotals
-pub mod AttributeLemmas
-pub mod Pieces
-pub mod MarkupLemmas
-pub mod NameSets
+mod AttributeLemmas
+mod Pieces
+mod MarkupLemmas
+mod NameSets
 pub mod Zeros
 pub mod Unique
 pub mod WrittenTags
 pub mod WrittenNext
-pub mod GrammarSound
-pub mod GrammarRead
-pub mod Standing
-pub mod Wrong
+mod GrammarSound
+mod GrammarRead
+mod Standing
+mod Wrong
 mod PlainLemmas

@@ -1,4 +1,4 @@
-pub mod Sorted
-pub mod Apart
-pub mod Counts
-pub mod Cells
+mod Sorted
+mod Apart
+mod Counts
+mod Cells

@@ -1,5 +1,5 @@
 pub mod Storing
 pub mod Idling
-pub mod Turning
-pub mod Telling
-pub mod Pulling
+mod Turning
+mod Telling
+mod Pulling

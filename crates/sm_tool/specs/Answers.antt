@@ -43,10 +43,10 @@ line_of (Undone line) = line
 line_of Damaged = codes "error: 32 Damaged\nWhat was read of the store is not what was written there.\n"
 line_of DiskFault = codes "error: disk\nThe system refused a call on the folder of the store or on a file in it.\n"
 line_of Unread = codes "error: read\nReading the input failed.\n"
-line_of LinkFault = codes "error: link\nThe port cannot be listened at, or a connection was refused or lost.\n"
+line_of LinkFault = codes "error: link\nThe port cannot be listened at, a thread cannot be made, or a connection was refused or lost.\n"
 line_of TrackFault = []
 line_of Starved = codes "error: memory\nThere was not enough memory.\n"
-line_of Full = codes "error: full\nA limit of the store is met: its bytes, its entries, or the times of a stream.\n"
+line_of Full = codes "error: full\nA limit is met: the store's bytes, its entries, or a stream's times.\n"
 line_of (NotAStore line) = line
 line_of (Unfinished stop) = []
 

@@ -32,7 +32,8 @@ pub record Dialing (C : Type 0) : Type 1 where
   pub faults : C → ℕ
   pub chosen : C → Option Peer
 
-abbrev pub dialing : {C : Type 0} → (C → Option (List Exchange)) → (C → List Entry → Type 0) → (C → C → Type 0) → (C → ℕ) → (C → Option Peer) → Dialing C
+abbrev pub dialing : {C : Type 0} → (C → Option (List Exchange)) → (C → List Entry → Type 0) → (C → C → Type 0)
+    → (C → ℕ) → (C → Option Peer) → Dialing C
 dialing log store later faults chosen = record { log = log; store = store; later = later; faults = faults; chosen = chosen }
 
 -- the folder of the words, which is made where it isn't there, and no port
@@ -54,7 +55,7 @@ followed_line kept = codes "followed " ++ (decimal kept ++ codes "\n")
 abbrev pub no_track_line : Option Track → List ℕ
 no_track_line None = codes "error: NoTrack\nThe ladder has no such track.\n"
 no_track_line (Some t) = codes "error: NoTrack " ++ (t.name
-    ++ (codes " " ++ (decimal t.bitrate ++ codes "\nThe ladder has a track of this name and bitrate, and the origin does not list one.\n")))
+    ++ (codes " " ++ (decimal t.bitrate ++ codes "\nThe ladder has a track of this name and bitrate, and the origin lists none, or one with another timescale.\n")))
 
 -- the place that comes next, and the least one that waits
 abbrev pub gap_line : ℕ → ℕ → List ℕ

@@ -134,11 +134,3 @@ pub record IsRun {D C P : Type 0} (site : Seen D) (t : Dialing C)
   pub prints : Prints answer written output' status
   -- whatever the command, and however it ended, no store was hurt
   pub stores : KeepsStores site d d' ((line : List ℕ) × (answer ≡ NotAStore line))
-
--- A program ended with the status of a run; where there was no memory for its words, that alone was told.
-abbrev pub EndsAs : {D C P : Type 0} (site : Seen D) (t : Dialing C)
-    → Meaning P → List P → Option (List (List ℕ)) → Around → Around → End → End → D → D → C → C → ℕ → Type 0
-EndsAs site t m policies None old new output output' d d' c c' status =
-    Prints Starved output output' status × IsIdle old new d d' c c'
-EndsAs site t m policies (Some words) old new output output' d d' c c' status =
-    IsRun site t m policies words old new output output' d d' c c' status

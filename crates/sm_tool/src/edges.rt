@@ -56,7 +56,7 @@ fn no_track_line(alloc: Global, channel: &Channel, index: u32) -> Result<Bytes, 
     let name = track.name.as_str();
     let bitrate = track.bitrate;
     let line = format!(in alloc;
-        "error: NoTrack {name} {bitrate}\nThe ladder has a track of this name and bitrate, and the origin does not list one.\n"
+        "error: NoTrack {name} {bitrate}\nThe ladder has a track of this name and bitrate, and the origin lists none, or one with another timescale.\n"
     )?;
     Ok(Bytes::from_vec(line.into_bytes()))
 }

@@ -33,11 +33,11 @@ fn line(answer: &Answer) -> &[u8]
         Answer::DiskFault =>
             b"error: disk\nThe system refused a call on the folder of the store or on a file in it.\n",
         Answer::LinkFault =>
-            b"error: link\nThe port cannot be listened at, or a connection was refused or lost.\n",
+            b"error: link\nThe port cannot be listened at, a thread cannot be made, or a connection was refused or lost.\n",
         Answer::TrackFault | Answer::Unfinished(_) => b"",
         Answer::Starved => b"error: memory\nThere was not enough memory.\n",
         Answer::Full =>
-            b"error: full\nA limit of the store is met: its bytes, its entries, or the times of a stream.\n",
+            b"error: full\nA limit is met: the store's bytes, its entries, or a stream's times.\n",
     }
 }
 

@@ -1,2 +1,2 @@
-pub mod Facts
-pub mod RowLemmas
+mod Facts
+mod RowLemmas

@@ -1,3 +1,3 @@
 pub mod WireLaw
-pub mod PlainLaw
-pub mod PartLaw
+mod PlainLaw
+mod PartLaw

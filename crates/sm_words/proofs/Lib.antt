@@ -1,12 +1,12 @@
-pub mod Lexing
-pub mod Rows
-pub mod Walking
-pub mod Reading
-pub mod Adding
-pub mod Agreeing
-pub mod Finding
-pub mod Telling
-pub mod Taking
-pub mod Playing
-pub mod Naming
+mod Lexing
+mod Rows
+mod Walking
+mod Reading
+mod Adding
+mod Agreeing
+mod Finding
+mod Telling
+mod Taking
+mod Playing
+mod Naming
 pub mod Sounding

@@ -1,12 +1,12 @@
-pub mod Chains
-pub mod Sources
-pub mod Entries
-pub mod Runs
-pub mod Pieces
-pub mod Stores
-pub mod Standing
-pub mod NoFault
-pub mod Calls
+mod Chains
+mod Sources
+mod Entries
+mod Runs
+mod Pieces
+mod Stores
+mod Standing
+mod NoFault
+mod Calls
 mod Logs
 mod Numbering
 mod ReadBack
@@ -14,13 +14,13 @@ mod Staging
 mod Bodies
 mod Heading
 mod Empty
-pub mod ManifestSize
-pub mod GetText
-pub mod OriginReplies
-pub mod Fronts
-pub mod Steps
-pub mod OneRequest
-pub mod Speaking
+mod ManifestSize
+mod GetText
+mod OriginReplies
+mod Fronts
+mod Steps
+mod OneRequest
+mod Speaking
 mod Numbers
 mod Trio
 mod Rehearsing

@@ -81,14 +81,16 @@ module _ {D : Type 0} (site : Seen D) where
           let x = a.on within log at in
           let y = b.on (omega (arith, long, since, within)) x.0 x.1 in
           let first : AreByNumber (site.view d.0) (site.view f.0) d.1.lost d.1.cut (next_number d.1) log a.more x.0 =
-          by_wider (site.view d.0) (site.view d.0) (site.view e.0) (site.view f.0) (tells_same (site.view d.0)) behind d.1.lost d.1.cut (next_number d.1) log a.more x.0 x.2
+          by_wider (site.view d.0) (site.view d.0) (site.view e.0) (site.view f.0) (tells_same (site.view d.0)) behind d.1.lost d.1.cut
+          (next_number d.1) log a.more x.0 x.2
           in
           let then : AreByNumber (site.view e.0) (site.view f.0) d.1.lost d.1.cut (next_number e.1) x.0 b.more y.0 =
           subst (λ (l : List ℕ). AreByNumber (site.view e.0) (site.view f.0) l d.1.cut (next_number e.1) x.0 b.more y.0) lost
           (subst (λ (l : List ℕ). AreByNumber (site.view e.0) (site.view f.0) e.1.lost l (next_number e.1) x.0 b.more y.0) cut y.2)
           in
           let second : AreByNumber (site.view d.0) (site.view f.0) d.1.lost d.1.cut (next_number e.1) x.0 b.more y.0 =
-          by_wider (site.view d.0) (site.view e.0) (site.view f.0) (site.view f.0) before (tells_same (site.view f.0)) d.1.lost d.1.cut (next_number e.1) x.0 b.more y.0 then
+          by_wider (site.view d.0) (site.view e.0) (site.view f.0) (site.view f.0) before (tells_same (site.view f.0)) d.1.lost d.1.cut
+          (next_number e.1) x.0 b.more y.0 then
           in (
             y.0,
             y.1,

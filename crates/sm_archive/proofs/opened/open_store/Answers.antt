@@ -32,7 +32,8 @@ returns-in-Ok-walk-clause-has g c =
     let d2 = c.walk.new.disk in
     let r = c.in-Ok-walk.ensures.read in
     let a : Archive = record { log = c.in-Ok.log; limits = c.args.limits; used = c.in-Ok-walk.used; index = c.in-Ok-walk.index; doubt = None } in
-    let walked : IsSome (g.D.Disk.seen.view d0).contents → (bodies : List (List ℕ)) → seg.Stands c.in-Ok.log bodies None (g.D.Disk.seen.may_leave d1) → (log : List Entry) × Spell bodies log × Stands a log None (g.D.Disk.seen.may_leave d2) =
+    let walked : IsSome (g.D.Disk.seen.view d0).contents → (bodies : List (List ℕ))
+    → seg.Stands c.in-Ok.log bodies None (g.D.Disk.seen.may_leave d1) → (log : List Entry) × Spell bodies log × Stands a log None (g.D.Disk.seen.may_leave d2) =
     λ some bodies s.
     let some1 = c.open_log.ensures.told ∙ some in (
       r.log,
@@ -50,7 +51,8 @@ returns-in-Ok-walk-clause-store g c =
     let d2 = c.walk.new.disk in
     let r = c.in-Ok-walk.ensures.read in
     let a : Archive = record { log = c.in-Ok.log; limits = c.args.limits; used = c.in-Ok-walk.used; index = c.in-Ok-walk.index; doubt = None } in
-    let walked : IsSome (g.D.Disk.seen.view d0).contents → (bodies : List (List ℕ)) → seg.Stands c.in-Ok.log bodies None (g.D.Disk.seen.may_leave d1) → (log : List Entry) × Spell bodies log × Stands a log None (g.D.Disk.seen.may_leave d2) =
+    let walked : IsSome (g.D.Disk.seen.view d0).contents → (bodies : List (List ℕ))
+    → seg.Stands c.in-Ok.log bodies None (g.D.Disk.seen.may_leave d1) → (log : List Entry) × Spell bodies log × Stands a log None (g.D.Disk.seen.may_leave d2) =
     λ some bodies s.
     let some1 = c.open_log.ensures.told ∙ some in (
       r.log,

@@ -3,12 +3,12 @@ use Rattle.sm_client.proofs.call.play.Goals as goal
 
 pub returns-clause-played : goal.returns-clause-played
 returns-clause-played g c =
-    played-by c.args.policies.items c.as_slice.result.now c.requires.policy c.new-policies.ensures.first c.new-policies.ensures.rest c.settle.ensures c.as_slice.ensures c.play_all.ensures.plays.plays
+    played-by c.args.policies.items c.requires.policy c.new-policies.ensures.first c.new-policies.ensures.rest c.settle.ensures c.play_all.ensures.plays.plays
 
 pub returns-clause-kept : goal.returns-clause-kept
 returns-clause-kept g c =
-    kept-by c.args.policies.items c.as_slice.result.now c.requires.policy c.new-policies.ensures.first c.new-policies.ensures.rest c.settle.ensures c.as_slice.ensures c.play_all.ensures.plays
+    kept-by c.args.policies.items c.requires.policy c.new-policies.ensures.first c.new-policies.ensures.rest c.settle.ensures c.play_all.ensures.plays
 
 pub returns-clause-served : goal.returns-clause-served
 returns-clause-served g c =
-    served-by c.args.policies.items c.as_slice.result.now c.requires.policy c.new-policies.ensures.first c.new-policies.ensures.rest c.settle.ensures c.as_slice.ensures c.play_all.ensures.plays.plays
+    served-by c.args.policies.items c.requires.policy c.new-policies.ensures.first c.new-policies.ensures.rest c.settle.ensures c.play_all.ensures.plays.plays

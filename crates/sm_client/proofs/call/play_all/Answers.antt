@@ -15,9 +15,9 @@ loop-name-init g c = record {
 pub loop-name-preserved : goal.loop-name-preserved
 loop-name-preserved g c =
     let i = c.loop-name.invariant in
-    let e = c.play_stream-stream.ensures in
+    let e = c.play-count.ensures in
     record {
-      playing = playing-more (g.T.Tracks.held c.play_stream-stream.new.tracks) i.playing (omega (arith, c.loop-name-test.true, i.place)) (rw i.place (sym c.name-item.is))
+      playing = playing-more (g.T.Tracks.held c.play-count.new.tracks) i.playing (omega (arith, c.loop-name-test.true, i.place)) (rw i.place (sym c.name-item.is))
           (part-by c.requires.tries c.requires.refresh e.streamed) c.in-Done.is e.others;
       place = omega (arith, i.place);
       few = omega (arith, i.few, e.few, c.requires.count);
@@ -26,14 +26,15 @@ loop-name-preserved g c =
     }
 
 pub returns-clause-plays : goal.returns-clause-plays
-returns-clause-plays g c = playing-done c.loop-name.invariant.playing (omega (arith, c.loop-name-test.false, c.loop-name.invariant.place))
+returns-clause-plays g c = rw c.as_slice-names.ensures at (playing-done c.loop-name.invariant.playing (omega (arith, c.loop-name-test.false, c.loop-name.invariant.place)))
 
 pub returns-in_default-clause-plays : goal.returns-in_default-clause-plays
 returns-in_default-clause-plays g c =
     let i = c.loop-name.invariant in
-    let e = c.play_stream-stream.ensures in
-    playing-ended (g.T.Tracks.held c.play_stream-stream.new.tracks) i.playing (omega (arith, c.loop-name-test.true, i.place)) (rw i.place (sym c.name-item.is))
-    (part-by c.requires.tries c.requires.refresh e.streamed) c.in_default.not-Done e.others
+    let e = c.play-count.ensures in
+    rw c.as_slice-names.ensures at
+    (playing-ended (g.T.Tracks.held c.play-count.new.tracks) i.playing (omega (arith, c.loop-name-test.true, i.place)) (rw i.place (sym c.name-item.is))
+    (part-by c.requires.tries c.requires.refresh e.streamed) c.in_default.not-Done e.others)
 
 pub returns-in_default-clause-dial : goal.returns-in_default-clause-dial
-returns-in_default-clause-dial g c = left-then g.met.C.Dial.later_then c.loop-name.invariant.dial c.play_stream-stream.ensures.dial
+returns-in_default-clause-dial g c = left-then g.met.C.Dial.later_then c.loop-name.invariant.dial c.play-count.ensures.dial

@@ -1,4 +1,4 @@
-use Rattle.std.proofs.Common.{◌≡◌, true, false, if◌then◌else◌, List, [], ◌++◌, refl, sym, ◌∙◌, ap, subst}
+use Rattle.std.proofs.Common.{rules, ◌≡◌, true, false, if◌then◌else◌, List, [], ◌++◌, refl, sym, ◌∙◌, ap, subst}
 use Rattle.sm_site.specs.Meanings.Deal.{Came}
 use Rattle.sm_conn.specs.declared.conn.Conn.{Conn}
 use Rattle.sm_conn.specs.declared.part.Part.{Part}
@@ -11,7 +11,7 @@ use Rattle.sm_serve.specs.declared.still.Still.{Still}
 use Rattle.sm_serve.specs.Standing.{moved, Reaches, stays_open}
 use Rattle.sm_serve.specs.Resting.{counts_of}
 use Rattle.sm_serve.proofs.Reaching.{closed_counts}
-use Rattle.sm_serve.proofs.Pieces.{came_move, read_move, unread_move, piece_gives}
+use Rattle.sm_serve.proofs.Pieces.{came_move, read_move, unread_move, piece_left, piece_gives}
 use Rattle.sm_serve.proofs.piece.take_piece.Goals as goal
 
 pub returns-in-Ok-clause-goes_on : goal.returns-in-Ok-clause-goes_on
@@ -23,10 +23,12 @@ returns-in-Ok-clause-goes_on g c h m pending stands phase is_live counts rests =
     (c.in-Ok.ensures.stands (received n h.items) rests.parts rests.stands) in
     let items = c.wire_of_front.ensures.left rests.place (ps ++ []) in
     let keeps = read_move g.S.Disk.seen h m n piece c.args.live.now c.feed.new.self ps c.args.site.now pending phase is_live rests gave items.0 items.1 in
-    let gives = c.take_parts.ensures.goes_on rests.place (moved h (at m (Came n piece)) (at_event h.point (acting n items.0) m)) [] items.0 keeps stands rests.place_is items.1 refl counts in
-    piece_gives g.S.Disk.seen h m n piece c.args.live.now c.take_parts.new.live (stays_open c.take_parts.result) ps items.0 c.take_parts.new.origin c.take_parts.new.site rests
+    let gives = c.take_parts.ensures.goes_on rests.place (moved h (at m (Came n piece)) (at_event h.point (acting n items.0) m)) [] items.0
+    (record { keeps = keeps; stands = stands; phase = refl; counts = counts }) rests.place_is items.1 in
+    piece_left g.S.Disk.seen h m n piece (stays_open c.take_parts.result) (search rules) (search rules) (search rules)
+    (piece_gives g.S.Disk.seen h m n piece c.args.live.now c.take_parts.result ps items.0 c.take_parts.new.self rests
     (subst (λ (k : Conn). Gave k (received n h.items ++ piece) (rests.parts ++ ps)) (sym c.take_parts.ensures.leaves.same.conn) gave)
-    (came_move g.S.Disk.seen false h m n piece c.args.live.now c.feed.new.self ps phase is_live rests gave items.0 items.1) gives
+    (came_move g.S.Disk.seen false h m n piece c.args.live.now c.feed.new.self ps phase is_live rests gave items.0 items.1) gives)
 
 pub returns-in-Err-clause-goes_on : goal.returns-in-Err-clause-goes_on
 returns-in-Err-clause-goes_on g c h m pending stands phase is_live counts rests =
@@ -48,17 +50,8 @@ returns-in-Err-clause-goes_on g c h m pending stands phase is_live counts rests 
 
 pub returns-in-Err-clause-stands : goal.returns-in-Err-clause-stands
 returns-in-Err-clause-stands g c =
-    let m = c.requires.may.stands in
+    let m = c.requires.stands in
     (m.0, c.tell.ensures.sent.stands m.0 c.args.origin.now m.1)
-
-pub returns-in-Ok-clause-stands : goal.returns-in-Ok-clause-stands
-returns-in-Ok-clause-stands g c = c.take_parts.ensures.leaves.stands
-
-pub returns-in-Ok-clause-same : goal.returns-in-Ok-clause-same
-returns-in-Ok-clause-same g c = c.take_parts.ensures.leaves.same.number
-
-pub returns-in-Ok-clause-link : goal.returns-in-Ok-clause-link
-returns-in-Ok-clause-link g c = c.take_parts.ensures.leaves.link
 
 pub returns-in-Err-clause-link : goal.returns-in-Err-clause-link
 returns-in-Err-clause-link g c = c.tell.ensures.sent.link

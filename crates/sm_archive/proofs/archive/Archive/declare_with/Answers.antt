@@ -69,7 +69,8 @@ returns-in-Ok-settle-clause-any_moment g c = λ log doubt s told.
     and_then g.D.Disk.seen _ _ _ P first second
 
 pub returns-in-Ok-settle-clause-recorded : goal.returns-in-Ok-settle-clause-recorded
-returns-in-Ok-settle-clause-recorded g c = recorded_then (g.D.Disk.seen.view c.args.disk.now) (g.D.Disk.seen.view c.settle.new.disk) (g.D.Disk.seen.view c.declare_settled.new.disk) c.settle.ensures.recorded c.declare_settled.ensures.recorded
+returns-in-Ok-settle-clause-recorded g c = recorded_then (g.D.Disk.seen.view c.args.disk.now) (g.D.Disk.seen.view c.settle.new.disk)
+    (g.D.Disk.seen.view c.declare_settled.new.disk) c.settle.ensures.recorded c.declare_settled.ensures.recorded
 
 pub returns-in-Err-clause-recorded : goal.returns-in-Err-clause-recorded
 returns-in-Err-clause-recorded g c = recorded_none (g.D.Disk.seen.view c.args.disk.now)
