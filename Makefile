@@ -21,9 +21,11 @@ build:
 	rm -f $(PROGRAM)
 	cd crates/smooth && { rt run < /dev/null > /dev/null; test -x out/smooth; }
 
-# The program, its manual page and the units for systemd, for one event, for many, for an edge and for a standby.
+# The program, the tools that watch it and that push to it for ever, its manual page and the four units for systemd: for one event, for
+# many, for an edge and for a standby.
 install: build
 	install -D -m 755 $(PROGRAM) $(DESTDIR)$(PREFIX)/bin/smooth
+	install -m 755 examples/smooth-watch examples/smooth-encode $(DESTDIR)$(PREFIX)/bin
 	install -D -m 644 docs/smooth.1 $(DESTDIR)$(PREFIX)/share/man/man1/smooth.1
 	install -d $(DESTDIR)$(PREFIX)/lib/systemd/system
 	sed 's|@PREFIX@|$(PREFIX)|' examples/smooth.service > $(DESTDIR)$(PREFIX)/lib/systemd/system/smooth.service

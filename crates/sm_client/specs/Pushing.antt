@@ -1,11 +1,10 @@
 -- What pushing an input comes to.
-use Rattle.std.specs.Prelude.{◌≡◌, ◌<◌, ◌≤◌, ◌+◌, ℕ, List, length, Option, IfSome}
+use Rattle.std.specs.Prelude.{◌≡◌, ◌≤◌, ℕ, List, length, Option}
 use Rattle.std.specs.Io.KnownBytes.{Consumes, IsAtEnd}
 use Rattle.sm_ends.specs.Faults.{Rose}
-use Rattle.sm_ends.specs.Moves.{TakesCount, TakesAtMost}
 use Rattle.sm_ends.specs.declared.input.InputFault.{InputFault}
 use Rattle.sm_ends.specs.declared.input.InputFault.TheVariants as input_fault
-use Rattle.sm_ends.specs.Ended.{End}
+use Rattle.sm_ends.specs.Ended.{End, WhyUnread, input_most}
 use Rattle.sm_fetch.specs.declared.dial.DialError.{DialError}
 use Rattle.sm_fetch.specs.declared.dial.DialError.TheVariants as dial_fault
 use Rattle.sm_fetch.specs.declared.dial.Exchange.{Exchange}
@@ -26,9 +25,6 @@ pub record Line : Type 0 where
 abbrev pub line_of : {C : Type 0} → (C → Option (List Exchange)) → (C → ℕ) → (C → Option Peer) → C → Line
 line_of log faults chosen c = record { log = log c; faults = faults c; chosen = chosen c }
 
-abbrev pub push_most : ℕ
-push_most = 268435456
-
 abbrev pub fault_of_dial : DialError → VisitFault
 fault_of_dial dial_fault.Failed = fault.LinkFault
 fault_of_dial dial_fault.NoMemory = fault.NoMemory
@@ -43,7 +39,7 @@ pub record HasPushed (host : List ℕ) (place : Place) (id : List ℕ) (input in
   pub body : List ℕ
   pub consumed : Consumes input.told input'.told body
   pub ended : IsAtEnd input'.told
-  pub short : length body ≤ push_most
+  pub short : length body ≤ input_most
   pub turned : IsTurnedTo dial'.chosen host place.port
   pub asked : PushedBody place id body dial.log dial'.log p
   -- a dial that lost the exchange counted it
@@ -54,21 +50,14 @@ pub record IsUnasked (input input' : End) (dial dial' : Line) : Type 0 where
   pub input_is : input' ≡ input
   pub log_is : dial'.log ≡ dial.log
 
--- more bytes came than the limit, of which one more than that was taken
-pub record IsTooLong (input input' : End) (dial dial' : Line) : Type 0 where
-  pub long : IfSome input.told (λ text. push_most < length text)
-  pub taken : TakesCount input.told input'.told (push_most + 1)
-  pub log_is : dial'.log ≡ dial.log
-
--- the source failed
-pub record IsUnread (input input' : End) (dial dial' : Line) : Type 0 where
-  pub rose : Rose input.faults input'.faults
-  pub taken : TakesAtMost input.told input'.told push_most
+-- the input was not read for this reason, and nothing was sent
+pub record IsUnread (why : InputFault) (input input' : End) (dial dial' : Line) : Type 0 where
+  pub unread : WhyUnread input_most input input' why
   pub log_is : dial'.log ≡ dial.log
 
 -- Memory ran out before or while the input was read, of which at most the limit was taken. Nothing was sent, and no count fell.
 pub record IsStarved (input input' : End) (dial dial' : Line) : Type 0 where
-  pub taken : TakesAtMost input.told input'.told push_most
+  pub unread : WhyUnread input_most input input' input_fault.NoMemory
   pub no_fewer : input.faults ≤ input'.faults
   pub later : dial.faults ≤ dial'.faults
   pub log_is : dial'.log ≡ dial.log
@@ -76,6 +65,6 @@ pub record IsStarved (input input' : End) (dial dial' : Line) : Type 0 where
 -- why nothing was pushed
 abbrev pub WhyUnpushed : End → End → Line → Line → VisitFault → Type 0
 WhyUnpushed input input' dial dial' fault.LinkFault = IsUnasked input input' dial dial' × Rose dial.faults dial'.faults
-WhyUnpushed input input' dial dial' fault.Unread = IsUnread input input' dial dial'
-WhyUnpushed input input' dial dial' fault.TooLong = IsTooLong input input' dial dial'
+WhyUnpushed input input' dial dial' fault.Unread = IsUnread input_fault.Failed input input' dial dial'
+WhyUnpushed input input' dial dial' fault.TooLong = IsUnread input_fault.TooLong input input' dial dial'
 WhyUnpushed input input' dial dial' fault.NoMemory = IsStarved input input' dial dial'

@@ -5,13 +5,10 @@ ghost use Rattle.sm_client.specs.Pushing.{HasPushed, WhyUnpushed, line_of};
 ghost use Rattle.sm_ends.specs.Ended.{end_of};
 
 use crate::VisitFault;
-use sm_ends::{Source, read_input};
+use sm_ends::{INPUT_MOST, Source, read_input};
 use sm_fetch::{Dial, Place, Pushed, push_body};
 use sm_model::Name;
 use std::alloc::Global;
-
-// The most bytes that an input may have.
-const MOST: u64 = 268_435_456;
 
 /// Turns to the host and port of a place, reads the input to its end, at most 268,435,456 bytes, and pushes it whole to the channel
 /// there, as a stream of that name. A fault says that nothing was sent.
@@ -35,6 +32,6 @@ pub fn push_input<I: Source, C: Dial>(
     ensures answered { Answered (C.log dial.old) (C.log dial.new) (C.store dial.old) (C.store dial.new) }
 {
     dial.select(host, place.port)?;
-    let body = read_input(alloc, input, MOST)?;
+    let body = read_input(alloc, input, INPUT_MOST)?;
     Ok(push_body(alloc, dial, place, id, body.as_slice()))
 }

@@ -35,9 +35,12 @@ use Rattle.sm_command.specs.declared.fault.StoreFault.{StoreFault}
 use Rattle.sm_command.specs.declared.fault.StoreFault.TheVariants as fault
 use Rattle.sm_command.specs.Choosing.{WhyUnchosen}
 use Rattle.sm_command.specs.Lasting.{AtEachMoment, Lasts, NoFewer, Untouched}
-use Rattle.sm_command.specs.Serving.{Found, DeclaresTo, GoesUnseen, HasRun, IsBegun, PrepareMeans, ReadsLadder, RunLasts, RunsFrom, StopsFrom, WhyUnopened, WhyUnready, LadderMeans, outcome_of, standard}
+use Rattle.sm_command.specs.Serving.{Found, DeclaresTo, GoesUnseen, HasRun, IsBegun, PrepareMeans, ReadsLadder, RunLasts, RunsFrom, StopsFrom, WhyUnopened, WhyUnread, WhyUnready, LadderMeans, fault_of_input, ladder_limit, outcome_of, standard}
 use Rattle.sm_command.proofs.Lasting.{fits_found, log_is, store_since}
+use Rattle.sm_ends.specs.declared.input.InputFault.{InputFault}
+use Rattle.sm_ends.specs.declared.input.InputFault.TheVariants as input
 use Rattle.sm_ends.specs.Ended.{End}
+use Rattle.sm_ends.specs.Ended as ended
 
 pub found : {D : Type 0} (site : Seen D) (state : State) (old new : D)
     → ((m : Machine) × (m.doubt ≡ None) × StandsOn site m state.origin new)
@@ -404,3 +407,9 @@ why_unopened site ladder input old new why cause silent few untouched = record {
   counted = omega arith;
   untouched = λ at is. untouched at (ap (λ (x : StoreFault). let r : Result State StoreFault = Err x in r) is);
 }
+
+-- why an input was not read is why no ladder was
+pub no_ladder : (old new : End) (why : InputFault) → ended.WhyUnread ladder_limit old new why → WhyUnread old new (fault_of_input why)
+no_ladder old new input.Failed unread = unread
+no_ladder old new input.TooLong unread = unread
+no_ladder old new input.NoMemory unread = unread

@@ -1,8 +1,9 @@
 -- What serving a store comes to.
 use Rattle.std.specs.Prelude.{◌≡◌, ◌⊎◌, ◌<◌, ◌≤◌, ◌+◌, ◌++◌, ℕ, Bool, true, false, IsTrue, List, [], ◌∷◌, length, Option, Some, None, IfSome, IsSome, Result, Ok, Err}
 use Rattle.std.specs.Io.KnownBytes.{Consumes, IsAtEnd}
-use Rattle.sm_ends.specs.Faults.{Rose}
-use Rattle.sm_ends.specs.Moves.{TakesAtMost, TakesCount}
+use Rattle.sm_ends.specs.declared.input.InputFault.{InputFault}
+use Rattle.sm_ends.specs.declared.input.InputFault.TheVariants as input
+use Rattle.sm_ends.specs.Ended as ended
 use Rattle.sm_model.specs.declared.entry.Entry.{Entry}
 use Rattle.sm_model.specs.declared.track.Track.{Track}
 use Rattle.sm_model.specs.declared.act.Act.TheVariants.{Header}
@@ -57,13 +58,18 @@ abbrev pub WhyUnread : End → End → StoreFault → Type 0
 WhyUnread old new fault.DiskFault = ⊥
 WhyUnread old new fault.LinkFault = ⊥
 WhyUnread old new (fault.NotAStore at) = ⊥
-WhyUnread old new fault.Unread = Rose old.faults new.faults × TakesAtMost old.told new.told ladder_limit
-WhyUnread old new fault.LongLadder = IfSome old.told (λ text. ladder_limit < length text) × TakesCount old.told new.told (ladder_limit + 1)
+WhyUnread old new fault.Unread = ended.WhyUnread ladder_limit old new input.Failed
+WhyUnread old new fault.LongLadder = ended.WhyUnread ladder_limit old new input.TooLong
 WhyUnread old new (fault.BadLadder at) = IsLadderInput old.told new.told (Err at)
 WhyUnread old new (fault.Refused cause) = ⊥
 WhyUnread old new fault.Full = ⊥
 WhyUnread old new fault.Damaged = ⊥
-WhyUnread old new fault.NoMemory = TakesAtMost old.told new.told ladder_limit
+WhyUnread old new fault.NoMemory = ended.WhyUnread ladder_limit old new input.NoMemory
+
+abbrev pub fault_of_input : InputFault → StoreFault
+fault_of_input input.Failed = fault.Unread
+fault_of_input input.TooLong = fault.LongLadder
+fault_of_input input.NoMemory = fault.NoMemory
 
 -- what an answer to a ladder comes to
 abbrev pub outcome_of : Declared → Result (Unit {0}) StoreFault

@@ -1,6 +1,7 @@
 //! Why a command on a store is not done.
 
-use sm_model::Cause;
+use sm_ends::InputFault;
+use sm_model::{Cause, NoMemory};
 use thiserror::Error;
 
 /// Why a store is not served or not listed.
@@ -35,4 +36,31 @@ pub enum StoreFault {
     Damaged,
     #[error("out of memory")]
     NoMemory,
+}
+
+impl From<NoMemory> for StoreFault {
+    ghost use Rattle.std.specs.Prelude.{◌≡◌};
+    ghost use Rattle.sm_command.specs.declared.fault.StoreFault.TheVariants as fault;
+
+    ghost from_gives = { λ _ e. e ≡ fault.NoMemory };
+
+    fn from(_: NoMemory) -> StoreFault {
+        StoreFault::NoMemory
+    }
+}
+
+// What a ladder that wasn't read comes to.
+impl From<InputFault> for StoreFault {
+    ghost use Rattle.std.specs.Prelude.{◌≡◌};
+    ghost use Rattle.sm_command.specs.Serving.{fault_of_input};
+
+    ghost from_gives = { λ d e. e ≡ fault_of_input d };
+
+    fn from(fault: InputFault) -> StoreFault {
+        match fault {
+            InputFault::Failed => StoreFault::Unread,
+            InputFault::TooLong => StoreFault::LongLadder,
+            InputFault::NoMemory => StoreFault::NoMemory,
+        }
+    }
 }

@@ -96,16 +96,11 @@ fn line_of<D: Disk>(
     ensures disk_alone { DiskAlone (D.seen.view disk.old) (D.seen.view disk.new) }
 {
     kept_is_added();
-    let address = match address_at(alloc, archive, place) {
-        Err(NoMemory) => return Err(StoreFault::NoMemory),
-        Ok(None) => return Ok(String::new(alloc)),
-        Ok(Some(address)) => address,
+    let Some(address) = address_at(alloc, archive, place)? else {
+        return Ok(String::new(alloc));
     };
     match archive.fetch(alloc, disk, &address) {
-        Fetched::Found { place: _, fragment } => match put_line(alloc, place, &fragment) {
-            Ok(line) => Ok(line),
-            Err(NoMemory) => Err(StoreFault::NoMemory),
-        },
+        Fetched::Found { place: _, fragment } => Ok(put_line(alloc, place, &fragment)?),
         Fetched::Absent => Err(StoreFault::Damaged),
         Fetched::Damaged => Err(StoreFault::Damaged),
         Fetched::DiskFault => Err(StoreFault::DiskFault),
@@ -131,10 +126,7 @@ fn lines<D: Disk>(alloc: Global, disk: &mut D, archive: &Archive) -> Result<Byte
     let mut text = String::new(alloc);
     for place in 0..archive.len() {
         let line = line_of(alloc, disk, archive, place)?;
-        match put_behind(&mut text, &line) {
-            Ok(()) => {}
-            Err(NoMemory) => return Err(StoreFault::NoMemory),
-        }
+        put_behind(&mut text, &line)?;
     }
     Ok(bytes_of(text))
 }

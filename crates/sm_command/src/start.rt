@@ -17,7 +17,7 @@ ghost use Rattle.sm_ends.specs.Ended.{end_of};
 use crate::StoreFault;
 use crate::choosing::choose;
 use sm_archive::{Declared, Limits, OpenFault};
-use sm_ends::{InputFault, Source, read_input};
+use sm_ends::{Source, read_input};
 use sm_model::Channel;
 use sm_serve::State;
 use sm_site::{Selection, Site};
@@ -76,12 +76,7 @@ pub(crate) fn ladder_of<I: Source>(alloc: Global, input: &mut I) -> Result<Chann
     ensures why { IfErr result (λ why. WhyUnread (end_of I.left I.faults input.old) (end_of I.left I.faults input.new) why) }
     ensures counted { I.faults input.old ≤ I.faults input.new }
 {
-    let text = match read_input(alloc, input, LADDER) {
-        Ok(text) => text,
-        Err(InputFault::Failed) => return Err(StoreFault::Unread),
-        Err(InputFault::TooLong) => return Err(StoreFault::LongLadder),
-        Err(InputFault::NoMemory) => return Err(StoreFault::NoMemory),
-    };
+    let text = read_input(alloc, input, LADDER)?;
     match read_ladder(alloc, text.as_slice()) {
         Ok(channel) => Ok(channel),
         Err(SmilFault::Bad { at }) => Err(StoreFault::BadLadder { at }),

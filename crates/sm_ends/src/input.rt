@@ -1,9 +1,10 @@
 //! Reading an input to its end.
-ghost use Rattle.std.specs.Prelude.{◌≡◌, ◌≤◌, ◌<◌, ◌+◌, ℕ, length, take, drop, vec_len, Err, IfOk, IfSome, OnOk, OnErr, IsErrOf, []};
+ghost use Rattle.std.specs.Prelude.{◌≡◌, ◌≤◌, ◌<◌, ◌+◌, ℕ, length, take, drop, vec_len, Err, IfOk, IfErr, OnOk, OnErr, IsErrOf, []};
 ghost use Rattle.std.specs.Io.{ReadsAtMost};
 ghost use Rattle.std.specs.Io.KnownBytes.{Consumes, IsAtEnd, Keeps, ReadConsumes};
 ghost use Rattle.sm_ends.specs.Faults.{HasCause, Rose};
-ghost use Rattle.sm_ends.specs.Moves.{TakesCount, TakesAtMost};
+ghost use Rattle.sm_ends.specs.Ended.{WhyUnread, end_of};
+ghost use Rattle.sm_ends.specs.Moves.{TakesCount};
 ghost use Rattle.sm_ends.specs.declared.input.InputFault.TheVariants.{Failed as ReadFailed, NoMemory as NoRoom, TooLong};
 
 use crate::{Failed, Source};
@@ -39,6 +40,9 @@ impl From<NoMemory> for InputFault {
         InputFault::NoMemory
     }
 }
+
+/// The most bytes that the input of a command may have.
+pub const INPUT_MOST: u64 = 268_435_456;
 
 // What is read into at first. Then the room doubles.
 const FIRST_ROOM: usize = 65_536;
@@ -79,11 +83,8 @@ fn read_behind<I: Source>(
 fn end_at_limit<I: Source>(source: &mut I, room: Vec<u8>) -> Result<Bytes, InputFault>
     ensures all { IfOk result (λ b. Consumes (I.left source.old) (I.left source.new) [] × (b ≡ room.items)) }
     ensures end { OnOk result (IsAtEnd (I.left source.new)) }
-    ensures long { IsErrOf result TooLong → TakesCount (I.left source.old) (I.left source.new) 1 }
-    ensures failed { IsErrOf result ReadFailed → Keeps (I.left source.old) (I.left source.new) }
-    ensures memory { IsErrOf result NoRoom → ⊥ }
+    ensures why { IfErr result (WhyUnread 0 (end_of I.left I.faults source.old) (end_of I.left I.faults source.new)) }
     ensures later { I.faults source.old ≤ I.faults source.new }
-    ensures cause { IsErrOf result ReadFailed → Rose (I.faults source.old) (I.faults source.new) }
 {
     let mut probe = [0];
     if source.read(&mut probe)? == 0 {
@@ -103,12 +104,7 @@ pub fn read_input<I: Source>(alloc: Global, source: &mut I, limit: u64) -> Resul
     ensures end { OnOk result (IsAtEnd (I.left source.new)) }
     ensures short { IfOk result (λ b. length b ≤ limit) }
 
-    // These are the faults.
-    ensures long { IsErrOf result TooLong → IfSome (I.left source.old) (λ xs. limit < length xs) }
-    ensures passed { IsErrOf result TooLong → TakesCount (I.left source.old) (I.left source.new) (limit + 1) }
-    ensures failed { IsErrOf result ReadFailed → TakesAtMost (I.left source.old) (I.left source.new) limit }
-    ensures memory { IsErrOf result NoRoom → TakesAtMost (I.left source.old) (I.left source.new) limit }
-    ensures cause { IsErrOf result ReadFailed → Rose (I.faults source.old) (I.faults source.new) }
+    ensures why { IfErr result (WhyUnread limit (end_of I.left I.faults source.old) (end_of I.left I.faults source.new)) }
     ensures later { I.faults source.old ≤ I.faults source.new }
 {
     let mut room = Vec::new(alloc);

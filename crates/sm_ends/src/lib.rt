@@ -16,7 +16,7 @@ mod tracks;
 pub use calls::Calls;
 pub use counted::CountedSource;
 pub use ends::{Failed, Sink, Source};
-pub use input::{InputFault, read_input};
+pub use input::{INPUT_MOST, InputFault, read_input};
 pub use memory_sink::MemorySink;
 pub use memory_source::MemorySource;
 pub use memory_tracks::MemoryTracks;

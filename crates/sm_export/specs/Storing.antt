@@ -1,10 +1,7 @@
 -- What exporting from the store in a folder comes to.
-use Rattle.std.specs.Prelude.{◌≡◌, ◌⊎◌, ◌<◌, ◌≤◌, ◌+◌, ℕ, List, length, Option, None, Some, IfSome, IsSome}
+use Rattle.std.specs.Prelude.{◌≡◌, ◌⊎◌, ◌≤◌, ℕ, List, length, Option, None, Some, IfSome, IsSome}
 use Rattle.std.specs.Io.KnownBytes.{Consumes, IsAtEnd}
 use Rattle.sm_ends.specs.Faults.{Rose as FaultsRose}
-use Rattle.sm_ends.specs.Moves.{TakesAtMost, TakesCount}
-use Rattle.sm_ends.specs.declared.input.InputFault.{InputFault}
-use Rattle.sm_ends.specs.declared.input.InputFault.TheVariants as input
 use Rattle.sm_model.specs.declared.entry.Entry.{Entry}
 use Rattle.sm_site.specs.Clauses.{Rose}
 use Rattle.sm_site.specs.Meanings.{Chosen, View}
@@ -15,24 +12,14 @@ use Rattle.sm_export.specs.declared.exported.Exported.TheVariants as answers
 use Rattle.sm_export.specs.declared.exported.StoreExport.{StoreExport}
 use Rattle.sm_export.specs.declared.exported.StoreExport.TheVariants as ends
 use Rattle.sm_export.specs.Exporting.{ExportedAs}
-use Rattle.sm_ends.specs.Ended.{End}
-
--- the most bytes that an input may have
-abbrev pub most : ℕ
-most = 268435456
-
--- why the input was not read, and how much of it was taken
-abbrev pub WhyUnread : End → End → InputFault → Type 0
-WhyUnread old new input.Failed = FaultsRose old.faults new.faults × TakesAtMost old.told new.told most
-WhyUnread old new input.TooLong = IfSome old.told (λ text. most < length text) × TakesCount old.told new.told (most + 1)
-WhyUnread old new input.NoMemory = TakesAtMost old.told new.told most
+use Rattle.sm_ends.specs.Ended.{End, WhyUnread, input_most}
 
 -- the input was read to its end, and this came of it and of the log; a fault of the disk or of the output was counted
 pub record IsTaken (told : Type 0) (log : List Entry) (name : List ℕ) (bitrate : ℕ) (old new : View) (input input' output output' : End) (e : Exported) : Type 0 where
   pub text : List ℕ
   pub consumed : Consumes input.told input'.told text
   pub ended : IsAtEnd input'.told
-  pub short : length text ≤ most
+  pub short : length text ≤ input_most
   pub exported : ExportedAs told log text name bitrate output.told output'.told e
   pub disk_fault : e ≡ answers.DiskFault → Rose old.disk_faults new.disk_faults
   pub fault : e ≡ answers.WriteFault → FaultsRose output.faults output'.faults
@@ -41,7 +28,7 @@ pub record IsTaken (told : Type 0) (log : List Entry) (name : List ℕ) (bitrate
 abbrev pub TakesTo : Type 0 → List Entry → List ℕ → ℕ → View → View → End → End → End → End → StoreExport → Type 0
 TakesTo told log name bitrate old new input input' output output' (ends.Ended e) = IsTaken told log name bitrate old new input input' output output' e
 TakesTo told log name bitrate old new input input' output output' (ends.Unopened why) = ⊥
-TakesTo told log name bitrate old new input input' output output' (ends.Unread fault) = WhyUnread input input' fault × (output' ≡ output)
+TakesTo told log name bitrate old new input input' output output' (ends.Unread fault) = WhyUnread input_most input input' fault × (output' ≡ output)
 
 -- What a store comes to: a log, which is the store's where the disk tells its contents, and what came of it; or why no store was opened, in
 -- which case nothing was read, or why the input was not read. In both cases nothing was written.
@@ -49,7 +36,7 @@ abbrev pub ComesTo : List ℕ → ℕ → View → View → End → End → End 
 ComesTo name bitrate old new input input' output output' (ends.Ended e) =
     (log : List Entry) × IfSome old.contents (IsStore log) × IsTaken (IsSome old.contents) log name bitrate old new input input' output output' e
 ComesTo name bitrate old new input input' output output' (ends.Unopened why) = WhyUnopened old new why × (input' ≡ input) × (output' ≡ output)
-ComesTo name bitrate old new input input' output output' (ends.Unread fault) = WhyUnread input input' fault × (output' ≡ output)
+ComesTo name bitrate old new input input' output output' (ends.Unread fault) = WhyUnread input_most input input' fault × (output' ≡ output)
 
 -- the site is selected with this; where no store was opened, with nothing else than this
 abbrev pub IsChosenFor : StoreExport → Chosen → View → Type 0

@@ -16,13 +16,10 @@ ghost use Rattle.sm_ends.specs.Ended.{end_of};
 use crate::{StoreExport, export};
 use sm_archive::Archive;
 use sm_command::{choose, open_archive};
-use sm_ends::{Sink, Source, read_input};
+use sm_ends::{INPUT_MOST, Sink, Source, read_input};
 use sm_model::Name;
 use sm_site::{Disk, Selection, Site};
 use std::alloc::Global;
-
-// The most bytes that an input may have.
-const MOST: u64 = 268_435_456;
 
 // Reads the input, and exports from an archive.
 fn export_input<I: Source, O: Sink, D: Disk>(
@@ -43,7 +40,7 @@ fn export_input<I: Source, O: Sink, D: Disk>(
     ensures later { O.faults out.old ≤ O.faults out.new }
     ensures read { IsOnlyRead D.seen archive.now disk.old disk.new }
 {
-    match read_input(alloc, input, MOST) {
+    match read_input(alloc, input, INPUT_MOST) {
         Ok(text) => {
             let exported = export(alloc, disk, archive, text.as_slice(), name, bitrate, out);
             StoreExport::Ended(exported)

@@ -2,24 +2,10 @@
 use Rattle.std.proofs.Common.{◌≡◌, ℕ, zero, suc, ◌+◌, ◌*◌, ◌-◌, ◌<◌, ◌≤◌, ◌^◌, ◌++◌, None, is_some, cond, leb, ltb, ◌&&◌, append_assoc, Bool, true}
 use Rattle.std.proofs.Common.{false, List, [], ◌∷◌, Option, Some, Result, Ok, Err, length, take, drop, get_or, drop-cons, refl, sym, arith, ap, ◌∙◌, add-one}
 use Rattle.sm_manin.specs.declared.raw.RawTime.{RawTime}
-use Rattle.sm_manin.specs.Patterns.{begins_with}
 use Rattle.std.proofs.Math.Nat.{mul-le-mul_left}
 use Rattle.std.proofs.lemmas.Bool.{leb-true, and_parts}
 use Rattle.std.specs.Option.{unwrap_or}
 use Rattle.sm_manin.specs.RunTimes.{time_in, times_in, fault_in, with_times, or_fault, expand, start_in, duration_in, count_in, fits, checked_time, is_unsettled, unsettled_time}
-
-none_left : (i : ℕ) (ws : List ℕ) → i < length ws → begins_with (drop i ws) [] ≡ false
-none_left i [] l = absurd (omega arith)
-none_left zero (w ∷ ws) l = refl
-none_left (suc i) (w ∷ ws) l = none_left i ws (omega arith)
-
--- a text that ends sooner doesn't begin with it
-pub short : (i : ℕ) (ws cs : List ℕ) → i < length ws → length cs ≤ i → begins_with (drop i ws) (drop i cs) ≡ false
-short i [] cs l m = absurd (omega arith)
-short zero (w ∷ ws) [] l m = refl
-short zero (w ∷ ws) (c ∷ cs) l m = absurd (omega arith)
-short (suc i) (w ∷ ws) [] l m = none_left i ws (omega arith)
-short (suc i) (w ∷ ws) (c ∷ cs) l m = short i ws cs (omega arith) (omega arith)
 
 fault_with : (xs : List (ℕ × ℕ)) (r : Result (List (ℕ × ℕ)) ℕ) → fault_in (with_times xs r) ≡ fault_in r
 fault_with xs (Ok more) = refl

@@ -1,16 +1,12 @@
 -- The addresses of fragments, with their two fields.
-use Rattle.std.specs.Prelude.{ℕ, ◌-◌, ◌==◌, ◌&&◌, ◌||◌, not, Bool, true, false, List, [], ◌∷◌, Option, Some, None, nat_lt, nat_le, if◌then◌else◌, codes}
-
-abbrev pub begins_with : List ℕ → List ℕ → Bool
-begins_with [] b = true
-begins_with (w ∷ ws) [] = false
-begins_with (w ∷ ws) (c ∷ cs) = w == c && begins_with ws cs
+use Rattle.std.specs.Prelude.{ℕ, ◌-◌, ◌==◌, ◌&&◌, ◌||◌, not, Bool, true, false, List, [], ◌∷◌, Option, Some, None, nat_lt, nat_le, nat_eq, if◌then◌else◌, codes}
+use Rattle.std.specs.List.{starts_with}
 
 abbrev pub is_bitrate_field : List ℕ → Bool
-is_bitrate_field b = begins_with (codes "{bitrate}") b || begins_with (codes "{Bitrate}") b
+is_bitrate_field b = starts_with nat_eq b (codes "{bitrate}") || starts_with nat_eq b (codes "{Bitrate}")
 
 abbrev pub is_start_field : List ℕ → Bool
-is_start_field b = begins_with (codes "{start time}") b || begins_with (codes "{start_time}") b
+is_start_field b = starts_with nat_eq b (codes "{start time}") || starts_with nat_eq b (codes "{start_time}")
 
 -- a byte that may stand beside the fields: no brace, and none that would end a request's target
 abbrev pub is_target_byte : ℕ → Bool

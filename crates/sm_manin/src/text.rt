@@ -1,7 +1,7 @@
 //! What the values of attributes say.
 ghost use Rattle.std.specs.Prelude.{◌≡◌, option_map};
 ghost use Rattle.sm_manin.specs.Values.{wide_in, narrow_in, narrow_or, kind_of, kind_in_type};
-ghost use Rattle.sm_manin.specs.Patterns.{begins_with, is_bitrate_field, is_start_field, is_target_byte, pattern_step, is_pattern};
+ghost use Rattle.sm_manin.specs.Patterns.{is_bitrate_field, is_start_field, is_target_byte, pattern_step, is_pattern};
 
 use sm_model::{Bytes, Kind, number_of, wide_number_of};
 
@@ -58,33 +58,18 @@ pub fn kind_in_type(text: &Option<Bytes>) -> Option<Kind>
     }
 }
 
-// Whether these bytes, up to 12, stand at the front of a text.
-fn begins_with(head: &[u8], text: &[u8]) -> bool
-    ensures { result ≡ begins_with head.now text.now }
-{
-    for i in 0..head.len() {
-        if i >= text.len() {
-            return false;
-        }
-        if head[i] != text[i] {
-            return false;
-        }
-    }
-    true
-}
-
 /// Whether the field of the bitrate stands at the front of a text, as a Url has it ([MS-SSTR] 2.2.2.5): `{bitrate}` or `{Bitrate}`.
 pub fn is_bitrate_field(text: &[u8]) -> bool
     ensures { result ≡ is_bitrate_field text.now }
 {
-    begins_with(b"{bitrate}", text) || begins_with(b"{Bitrate}", text)
+    text.starts_with(b"{bitrate}") || text.starts_with(b"{Bitrate}")
 }
 
 /// Whether the field of the time stands at the front of a text: `{start time}` or `{start_time}`.
 pub fn is_start_field(text: &[u8]) -> bool
     ensures { result ≡ is_start_field text.now }
 {
-    begins_with(b"{start time}", text) || begins_with(b"{start_time}", text)
+    text.starts_with(b"{start time}") || text.starts_with(b"{start_time}")
 }
 
 fn is_target_byte(c: u8) -> bool

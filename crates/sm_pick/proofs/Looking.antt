@@ -14,7 +14,7 @@ use Rattle.sm_push.specs.Standing.{Standing, Stands, Answers}
 use Rattle.sm_push.specs.declared.fault.PushFault.{PushFault}
 use Rattle.sm_push.specs.declared.fault.PushFault.TheVariants.{Refused, Failed, NoMemory}
 use Rattle.sm_pick.specs.declared.search.Search.{Search}
-use Rattle.sm_pick.specs.Due.{limit}
+use Rattle.sm_ends.specs.Ended.{input_most}
 use Rattle.sm_pick.specs.Search.{fragments_in, IsLooking, LooksBy, Looks, RefusedBy}
 use Rattle.sm_pick.proofs.Searching.{fragments-append, fragments_few, first-append, found_valid}
 
@@ -44,7 +44,7 @@ stays_refused front s b piece some h = by_refusal s.refusal some h
 
 pub all_fit : ((headerless : Bool) (b : List ℕ) → length (body headerless b).items ≤ length b)
     → (s : Search) (b piece : List ℕ) (items : List Given) → IsLooking s b → (body true (b ++ piece)).items ≡ (body true b).items ++ items
-    → length b + length piece ≤ limit → s.count + length items < 4294967296
+    → length b + length piece ≤ input_most → s.count + length items < 4294967296
 all_fit few s b piece items h e short =
     omega (arith, few true (b ++ piece), length-append b piece, ap length e, length-append (body true b).items items, h.count, fragments_few (body true b).items, short)
 

@@ -6,7 +6,7 @@ use Rattle.std.proofs.KnownBytes.{Consumes-trans}
 use Rattle.std.proofs.lemmas.List.{length-append, length-take-le}
 use Rattle.sm_ends.specs.Moves.{TakesCount, TakesAtMost}
 use Rattle.sm_pick.specs.declared.search.Search.{Search}
-use Rattle.sm_pick.specs.Due.{limit}
+use Rattle.sm_ends.specs.Ended.{input_most}
 use Rattle.sm_pick.specs.Search.{Looks}
 
 -- these bytes were taken so far, and the search knows them, unless they are too many
@@ -14,8 +14,8 @@ pub record IsReadUpTo (track time : ℕ) (old new : Option (List ℕ)) (search :
   pub bytes : List ℕ
   pub taken : Consumes old new bytes
   pub total_is : total ≡ length bytes
-  pub within : total ≤ limit + 1
-  pub looks : total ≤ limit → Looks search bytes
+  pub within : total ≤ input_most + 1
+  pub looks : total ≤ input_most → Looks search bytes
   pub track_is : search.track ≡ track
   pub time_is : search.time ≡ time
 
@@ -23,7 +23,7 @@ pub record IsReadUpTo (track time : ℕ) (old new : Option (List ℕ)) (search :
 pub record IsPiece (old new : Option (List ℕ)) (total n : ℕ) (room : List ℕ) : Type 0 where
   pub taken : Consumes old new (take n room)
   pub inside : n ≤ length room
-  pub within : total + n ≤ limit + 1
+  pub within : total + n ≤ input_most + 1
 
 pub piece_taken : (track time : ℕ) (old mid new : Option (List ℕ)) (s : Search) (total n : ℕ) (room : List ℕ) → IsReadUpTo track time old mid s total → IsPiece mid new total n room → TakesCount old new (total + n)
 piece_taken track time old mid new s total n room h p =
@@ -32,7 +32,7 @@ piece_taken track time old mid new s total n room h p =
 
 -- and the search took it
 pub read_on : (track time : ℕ) (old mid new : Option (List ℕ)) (s s' : Search) (total n : ℕ) (room : List ℕ) → IsReadUpTo track time old mid s total → IsPiece mid new total n room
-    → total ≤ limit → ((b : List ℕ) → Looks s b → Looks s' (b ++ take n room)) → s'.track ≡ s.track → s'.time ≡ s.time → IsReadUpTo track time old new s' (total + n)
+    → total ≤ input_most → ((b : List ℕ) → Looks s b → Looks s' (b ++ take n room)) → s'.track ≡ s.track → s'.time ≡ s.time → IsReadUpTo track time old new s' (total + n)
 unfolding piece_taken
 read_on track time old mid new s s' total n room h p few looks e f =
     let all = piece_taken track time old mid new s total n room h p in
@@ -48,7 +48,7 @@ read_on track time old mid new s s' total n room h p few looks e f =
 
 -- or the bytes are too many
 pub read_over : (track time : ℕ) (old mid new : Option (List ℕ)) (s : Search) (total n : ℕ) (room : List ℕ) → IsReadUpTo track time old mid s total → IsPiece mid new total n room
-    → limit < total + n → IsReadUpTo track time old new s (total + n)
+    → input_most < total + n → IsReadUpTo track time old new s (total + n)
 read_over track time old mid new s total n room h p many =
     let all = piece_taken track time old mid new s total n room h p in
     record {
@@ -60,12 +60,3 @@ read_over track time old mid new s total n room h p many =
       track_is = h.track_is;
       time_is = h.time_is;
     }
-
-pub at_most : (old new : Option (List ℕ)) (n : ℕ) → TakesCount old new n → n ≤ limit → TakesAtMost old new limit
-at_most old new n h le = (h.0, h.1, omega (arith, h.2))
-
--- more bytes came than the limit
-pub long : (old new : Option (List ℕ)) (bytes : List ℕ) → Consumes old new bytes → limit < length bytes → IfSome old (λ all. limit < length all)
-long None new bytes h lt = tt
-long (Some xs) None bytes h lt = absurd h
-long (Some xs) (Some ys) bytes h lt = omega (arith, ap length h, length-append bytes ys)

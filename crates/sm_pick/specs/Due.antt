@@ -1,6 +1,7 @@
 -- The answer that is due to an input.
 use Rattle.std.specs.Prelude.{◌≡◌, ◌≤◌, ◌++◌, ℕ, true, List, [], length, codes, decimal, Option, Some, None}
 use Rattle.std.specs.Io.KnownBytes.{Consumes, IsAtEnd}
+use Rattle.sm_ends.specs.Ended.{input_most}
 use Rattle.sm_model.specs.declared.cause.Refusal.{Refusal}
 use Rattle.sm_model.specs.declared.fragment.Fragment.{Fragment}
 use Rattle.sm_model.specs.Causes.{cause_number, cause_name}
@@ -37,9 +38,6 @@ pub record IsRefused (input line : List ℕ) : Type 0 where
   pub refused : body_end true input ≡ Some refusal
   pub line_is : line ≡ refusal_line refusal
 
-abbrev pub limit : ℕ
-limit = 268435456
-
 -- the answer to an input that was read; an input that is too long isn't read
 abbrev pub IsDue : ℕ → ℕ → List ℕ → Picked → Type 0
 IsDue track time input (picked.Found text) = IsPicked input track time text
@@ -51,5 +49,5 @@ pub record IsAnswered (track time : ℕ) (old new : Option (List ℕ)) (answer :
   pub input : List ℕ
   pub read : Consumes old new input
   pub ended : IsAtEnd new
-  pub short : length input ≤ limit
+  pub short : length input ≤ input_most
   pub due : IsDue track time input answer

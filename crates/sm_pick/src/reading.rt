@@ -1,19 +1,15 @@
 //! Picking a fragment out of an input.
-ghost use Rattle.std.specs.Prelude.{◌≡◌, ◌≤◌, ◌<◌, ◌+◌, length, vec_len, IfOk, IfSome, IsErrOf};
+ghost use Rattle.std.specs.Prelude.{◌≡◌, ◌≤◌, ◌<◌, length, vec_len, IfErr, IfOk};
 ghost use Rattle.std.specs.Io.KnownBytes.{ReadConsumes};
-ghost use Rattle.sm_ends.specs.Faults.{HasCause, Rose};
-ghost use Rattle.sm_ends.specs.Moves.{TakesCount, TakesAtMost};
-ghost use Rattle.sm_ends.specs.declared.input.InputFault.TheVariants.{Failed as ReadFailed, NoMemory as NoRoom, TooLong};
-ghost use Rattle.sm_pick.specs.Due.{IsAnswered, limit};
+ghost use Rattle.sm_ends.specs.Ended.{WhyUnread, end_of, input_most};
+ghost use Rattle.sm_ends.specs.Faults.{HasCause};
+ghost use Rattle.sm_pick.specs.Due.{IsAnswered};
 
 use crate::picked::Picked;
 use crate::search::Search;
-use sm_ends::{Failed, InputFault, Source};
+use sm_ends::{Failed, INPUT_MOST, InputFault, Source};
 use sm_model::NoMemory;
 use std::alloc::Global;
-
-// The most bytes that an input may have.
-const LIMIT: u64 = 268_435_456;
 
 // So many bytes are read at once.
 const PIECE: usize = 65_536;
@@ -55,24 +51,19 @@ pub fn pick<I: Source>(
     time: u64,
 ) -> Result<Picked, InputFault>
     ensures answer { IfOk result (λ answer. IsAnswered track time (I.left input.old) (I.left input.new) answer) }
-
-    ensures long { IsErrOf result TooLong → IfSome (I.left input.old) (λ bytes. limit < length bytes) }
-    ensures passed { IsErrOf result TooLong → TakesCount (I.left input.old) (I.left input.new) (limit + 1) }
-    ensures failed { IsErrOf result ReadFailed → TakesAtMost (I.left input.old) (I.left input.new) limit }
-    ensures memory { IsErrOf result NoRoom → TakesAtMost (I.left input.old) (I.left input.new) limit }
-    ensures cause { IsErrOf result ReadFailed → Rose (I.faults input.old) (I.faults input.new) }
+    ensures why { IfErr result (WhyUnread input_most (end_of I.left I.faults input.old) (end_of I.left I.faults input.new)) }
     ensures later { I.faults input.old ≤ I.faults input.new }
 {
     let mut search = Search::new(alloc, track, time);
     let mut room = room(alloc)?;
     let mut total = 0;
-    while total <= LIMIT {
-        let count = read_piece(input, &mut room, LIMIT + 1 - total)?;
+    while total <= INPUT_MOST {
+        let count = read_piece(input, &mut room, INPUT_MOST + 1 - total)?;
         if count == 0 {
             return Ok(search.answer(alloc)?);
         }
         total += count as u64;
-        if total <= LIMIT {
+        if total <= INPUT_MOST {
             search.take(&room[..count])?;
         }
     }

@@ -3,7 +3,8 @@ ghost use Rattle.std.specs.Prelude.{◌≡◌, ◌≤◌, ◌<◌, ◌+◌, ◌+
 ghost use Rattle.std.specs.Option.{option_or};
 ghost use Rattle.sm_model.specs.Items.{Given, first_from};
 ghost use Rattle.sm_push.specs.Body.{body_end};
-ghost use Rattle.sm_pick.specs.Due.{IsDue, limit, refusal_line};
+ghost use Rattle.sm_ends.specs.Ended.{input_most};
+ghost use Rattle.sm_pick.specs.Due.{IsDue, refusal_line};
 ghost use Rattle.sm_pick.specs.Search.{fragments_in, fragment_of, Hits, IsAmong, Looks, RefusedBy};
 
 use crate::picked::Picked;
@@ -105,7 +106,7 @@ impl Search {
 
     // Takes a part of a piece.
     fn take_part(&mut self, piece: &[u8]) -> Result<(), NoMemory>
-        requires { (b : List ℕ) × Looks self.old b × (length b + length piece.now ≤ limit) }
+        requires { (b : List ℕ) × Looks self.old b × (length b + length piece.now ≤ input_most) }
         ensures looks { (b : List ℕ) → Looks self.old b → OnOk result (Looks self.new (b ++ piece.now)) }
         ensures asked { (self.new.track ≡ self.old.track) × (self.new.time ≡ self.old.time) }
     {
@@ -127,7 +128,7 @@ impl Search {
     /// Takes the next piece. It hands it on in parts that complete one item at the most, so that no more than one fragment
     /// beside the one found is held.
     pub fn take(&mut self, piece: &[u8]) -> Result<(), NoMemory>
-        requires { (b : List ℕ) × Looks self.old b × (length b + length piece.now ≤ limit) }
+        requires { (b : List ℕ) × Looks self.old b × (length b + length piece.now ≤ input_most) }
         ensures looks { (b : List ℕ) → Looks self.old b → OnOk result (Looks self.new (b ++ piece.now)) }
         ensures asked { (self.new.track ≡ self.old.track) × (self.new.time ≡ self.old.time) }
     {

@@ -12,7 +12,7 @@ use Rattle.sm_tool.specs.declared.answer.Answer.{Answer}
 use Rattle.sm_tool.specs.declared.answer.Answer.TheVariants.{Found, Words, Unread, TooLong, LongLadder, Refused, NotKept, Clash, Undone}
 use Rattle.sm_tool.specs.declared.answer.Answer.TheVariants.{Damaged, DiskFault, LinkFault, TrackFault, Starved, Full, NotAStore, Unfinished}
 use Rattle.sm_words.specs.Words.{Wanted, Pick, Serve, ServeShown, Push, Play, Relay, Standby, Listing, Rehearse, Export, Help, Version, asked}
-use Rattle.sm_pick.specs.Due.{IsAnswered, limit}
+use Rattle.sm_pick.specs.Due.{IsAnswered}
 use Rattle.sm_tool.specs.Answers.{status_of, unwritten_status_of, line_of}
 use Rattle.sm_client.specs.Pushing.{Line}
 use Rattle.sm_tool.specs.Edges.{Dialing, RelayMeans, StandbyMeans, at_edge}
@@ -23,19 +23,10 @@ use Rattle.sm_tool.specs.Stores.{IsSelected, ListMeans, ServeMeans, at_folder, c
 use Rattle.sm_tool.specs.Origins.{PushMeans}
 use Rattle.sm_tool.specs.Plays.{PlayMeans, Tape}
 use Rattle.sm_tool.specs.Rehearsals.{RehearseMeans}
-use Rattle.sm_ends.specs.Ended.{End}
+use Rattle.sm_ends.specs.Ended.{End, WhyUnread, input_most}
+use Rattle.sm_ends.specs.declared.input.InputFault.TheVariants as input
 
 -- ---- pick
-
--- more bytes came than the limit, and one more than that was taken
-pub record IsTooLong (old new : End) : Type 0 where
-  pub long : IfSome old.told (λ input. limit < length input)
-  pub taken : TakesCount old.told new.told (limit + 1)
-
--- the source failed
-pub record IsUnread (old new : End) : Type 0 where
-  pub rose : Rose old.faults new.faults
-  pub taken : TakesAtMost old.told new.told limit
 
 -- the answer that an input has, where a fragment of it is asked for
 abbrev pub PickMeans : ℕ → ℕ → End → End → Answer → Type 0
@@ -43,16 +34,16 @@ PickMeans track time old new (Found text) = IsAnswered track time old.told new.t
 PickMeans track time old new (Refused line) = IsAnswered track time old.told new.told (picked.Refused line)
 PickMeans track time old new NotKept = IsAnswered track time old.told new.told picked.NotKept
 PickMeans track time old new (Words text) = ⊥
-PickMeans track time old new TooLong = IsTooLong old new
+PickMeans track time old new TooLong = WhyUnread input_most old new input.TooLong
 PickMeans track time old new LongLadder = ⊥
 PickMeans track time old new (Clash line) = ⊥
 PickMeans track time old new (Undone line) = ⊥
 PickMeans track time old new Damaged = ⊥
 PickMeans track time old new DiskFault = ⊥
-PickMeans track time old new Unread = IsUnread old new
+PickMeans track time old new Unread = WhyUnread input_most old new input.Failed
 PickMeans track time old new LinkFault = ⊥
 PickMeans track time old new TrackFault = ⊥
-PickMeans track time old new Starved = TakesAtMost old.told new.told limit
+PickMeans track time old new Starved = WhyUnread input_most old new input.NoMemory
 PickMeans track time old new Full = ⊥
 PickMeans track time old new (NotAStore line) = ⊥
 PickMeans track time old new (Unfinished stop) = ⊥

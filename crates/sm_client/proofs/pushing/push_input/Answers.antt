@@ -1,5 +1,8 @@
+use Rattle.std.proofs.Common.{subst, sym}
 use Rattle.sm_fetch.proofs.Alone.{on_then}
 use Rattle.sm_fetch.proofs.Answering.{answered_none, answered_then}
+use Rattle.sm_client.specs.Pushing.{WhyUnpushed}
+use Rattle.sm_client.proofs.Unpushed.{unpushed}
 use Rattle.sm_client.proofs.pushing.push_input.Goals as goal
 
 pub returns-in_err-select-clause-answered : goal.returns-in_err-select-clause-answered
@@ -15,3 +18,7 @@ pub returns-clause-dial : goal.returns-clause-dial
 returns-clause-dial g c =
     let e = c.select.ensures in
     on_then g.met.C.Dial.later_then (record { goes_on = e.goes_on; no_fewer = e.later; grows = e.store }) c.push_body.ensures.dial.on
+
+pub returns-in_err-body-clause-why : goal.returns-in_err-body-clause-why
+returns-in_err-body-clause-why g c =
+    subst (WhyUnpushed _ _ _ _) (sym c.from_residual.ensures.1) (unpushed _ _ _ _ c.in_err-body.fault c.in_err-body.ensures.why c.read_input.ensures.later c.select.ensures.later c.select.ensures.log)

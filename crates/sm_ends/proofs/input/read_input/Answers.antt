@@ -1,12 +1,14 @@
 use Rattle.std.proofs.Common.{rules, arith, ◌≡◌, length, take}
+use Rattle.std.proofs.lemmas.Result.{IfErr-weaker}
 use Rattle.std.proofs.lemmas.Grind.{common_steps}
-use Rattle.sm_ends.proofs.Known.{Consumes-front, TakesCount-more}
+use Rattle.sm_ends.proofs.Known.{Consumes-front}
+use Rattle.sm_ends.proofs.Unread.{unread_behind}
 use Rattle.sm_ends.proofs.input.read_input.Goals as goal
 
-pub returns-clause-passed : goal.returns-clause-passed
-returns-clause-passed g c =
+pub returns-clause-why : goal.returns-clause-why
+returns-clause-why g c =
     let full : length (take c.loop-filled.filled c.loop-filled.room.items) ≡ c.args.limit = grind (arith, common_steps) in
-    λ fault. TakesCount-more _ _ _ _ _ _ full c.loop-filled.invariant.2 (c.end_at_limit.ensures.long fault)
+    IfErr-weaker c.end_at_limit.result _ _ (λ fault. unread_behind c.args.limit _ _ _ _ fault full c.loop-filled.invariant.2 c.loop-filled.invariant.3) c.end_at_limit.ensures.why
 
 pub loop-filled-preserved : goal.loop-filled-preserved
 loop-filled-preserved g c = (

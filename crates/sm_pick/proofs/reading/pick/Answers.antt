@@ -1,8 +1,9 @@
 use Rattle.std.proofs.Common.{◌≤◌, ◌+◌, ◌++◌, ℕ, List, take, subst, arith}
 use Rattle.std.proofs.KnownBytes.{Consumes-kept}
-use Rattle.sm_pick.specs.Due.{limit}
+use Rattle.sm_ends.specs.Ended.{input_most}
 use Rattle.sm_pick.specs.Search.{Looks}
-use Rattle.sm_pick.proofs.Picking.{IsPiece, piece_taken, read_on, read_over, at_most, long}
+use Rattle.sm_ends.proofs.Unread.{at_most, long}
+use Rattle.sm_pick.proofs.Picking.{IsPiece, piece_taken, read_on, read_over}
 use Rattle.sm_pick.proofs.reading.pick.Goals as goal
 
 pub loop-total-preserved-in_ok-take : goal.loop-total-preserved-in_ok-take
@@ -18,8 +19,8 @@ loop-total-preserved-in_ok-take g c =
       later = omega (arith, c.loop-total.invariant.later, c.read_piece.ensures.cause.later);
     }
 
-pub returns-in_err-take-clause-memory : goal.returns-in_err-take-clause-memory
-returns-in_err-take-clause-memory g c =
+pub returns-in_err-take-clause-why : goal.returns-in_err-take-clause-why
+returns-in_err-take-clause-why g c =
     let room : List ℕ = c.read_piece.new.room.items in
     let piece : IsPiece (g.I.Source.left c.loop-total.input) (g.I.Source.left c.read_piece.new.input) c.loop-total.total c.in_ok-count.count room
     = record { taken = c.in_ok-count.ensures.bytes.0; inside = c.in_ok-count.ensures.bound; within = omega (arith, c.in_ok-count.ensures.most) } in
@@ -36,11 +37,11 @@ loop-total-preserved g c =
       later = omega (arith, c.loop-total.invariant.later, c.read_piece.ensures.cause.later);
     }
 
-pub returns-clause-long : goal.returns-clause-long
-returns-clause-long g c = λ _. long _ _ c.loop-total.invariant.read.bytes c.loop-total.invariant.read.taken (omega (arith, c.loop-total.invariant.read.total_is))
+pub returns-clause-why : goal.returns-clause-why
+returns-clause-why g c = λ _. long _ _ c.loop-total.invariant.read.bytes c.loop-total.invariant.read.taken (omega (arith, c.loop-total.invariant.read.total_is))
 
-pub returns-in_err-count-clause-failed : goal.returns-in_err-count-clause-failed
-returns-in_err-count-clause-failed g c = λ _.
+pub returns-in_err-count-clause-why : goal.returns-in_err-count-clause-why
+returns-in_err-count-clause-why g c = λ _.
     let read = c.loop-total.invariant.read in
-    let few : c.loop-total.total ≤ limit = omega arith in
+    let few : c.loop-total.total ≤ input_most = omega arith in
     (read.bytes, Consumes-kept _ _ _ read.bytes read.taken c.in_err-count.ensures.bytes, omega (arith, few, read.total_is))

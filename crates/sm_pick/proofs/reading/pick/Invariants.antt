@@ -1,5 +1,5 @@
 use Rattle.std.proofs.Common.{◌≤◌, ◌<◌, ◌+◌, ◌-◌, vec_len}
-use Rattle.sm_pick.specs.Due.{limit}
+use Rattle.sm_ends.specs.Ended.{input_most}
 use Rattle.sm_pick.proofs.Picking.{IsReadUpTo}
 use Rattle.sm_pick.proofs.reading.pick.Given as goal
 
@@ -11,4 +11,4 @@ invariant-loop-total g l = record {
 }
 
 abbrev pub decreases-loop-total : goal.decreases-loop-total
-decreases-loop-total g l = limit + 1 - l.total
+decreases-loop-total g l = input_most + 1 - l.total
