@@ -24,6 +24,7 @@ use std::alloc::Global;
 pub struct Wanted<'a> {
     /// What the last manifest lists of its stream.
     pub listing: &'a StreamListing,
+    /// Its start, in ticks of the stream's timescale.
     pub start: u64,
     /// How many starts are known behind this one.
     pub ahead: u64,

@@ -35,7 +35,7 @@ use Rattle.sm_command.specs.declared.fault.StoreFault.{StoreFault}
 use Rattle.sm_command.specs.declared.fault.StoreFault.TheVariants as fault
 use Rattle.sm_command.specs.Choosing.{WhyUnchosen}
 use Rattle.sm_command.specs.Lasting.{AtEachMoment, Lasts, NoFewer, Untouched}
-use Rattle.sm_command.specs.Serving.{Found, DeclaresTo, GoesUnseen, HasRun, IsBegun, PrepareMeans, ReadsLadder, RunLasts, RunsFrom, StopsFrom, WhyUnopened, WhyUnread, WhyUnready, LadderMeans, fault_of_input, ladder_limit, outcome_of, standard}
+use Rattle.sm_command.specs.Serving.{Found, DeclaresTo, GoesUnseen, HasRun, IsBegun, PrepareMeans, ReadsLadder, RunLasts, RunsFrom, StopsFrom, WhyUnopened, WhyNoLadder, WhyUnready, LadderMeans, fault_of_input, ladder_limit, outcome_of, standard}
 use Rattle.sm_command.proofs.Lasting.{fits_found, log_is, store_since}
 use Rattle.sm_ends.specs.declared.input.InputFault.{InputFault}
 use Rattle.sm_ends.specs.declared.input.InputFault.TheVariants as input
@@ -77,10 +77,6 @@ later_rose a b c le rose =
 pub stated_is : {T : Type 0} (r : Result T StoreFault) (why other : StoreFault) → IsErrAnd r (λ y. y ≡ why) → r ≡ Err other → why ≡ other
 stated_is (Ok x) why other same e = absurd same
 stated_is (Err y) why other same e = cc
-
-pub passed_on : {T : Type 0} (r : Result T StoreFault) (P : StoreFault → Type 0) (why : StoreFault) → IsErrAnd r (λ y. y ≡ why) → P why → IfErr r P
-passed_on (Ok x) P why same p = tt
-passed_on (Err y) P why same p = subst P (sym same) p
 
 -- the same fault of another call
 pub stated_again : {T U : Type 0} (why other : StoreFault) → (let r : Result T StoreFault = Err why in r) ≡ Err other → (let r : Result U StoreFault = Err why in r) ≡ Err other
@@ -409,7 +405,7 @@ why_unopened site ladder input old new why cause silent few untouched = record {
 }
 
 -- why an input was not read is why no ladder was
-pub no_ladder : (old new : End) (why : InputFault) → ended.WhyUnread ladder_limit old new why → WhyUnread old new (fault_of_input why)
+pub no_ladder : (old new : End) (why : InputFault) → ended.WhyUnread ladder_limit old new why → WhyNoLadder old new (fault_of_input why)
 no_ladder old new input.Failed unread = unread
 no_ladder old new input.TooLong unread = unread
 no_ladder old new input.NoMemory unread = unread

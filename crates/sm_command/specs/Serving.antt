@@ -1,5 +1,5 @@
 -- What serving a store comes to.
-use Rattle.std.specs.Prelude.{◌≡◌, ◌⊎◌, ◌<◌, ◌≤◌, ◌+◌, ◌++◌, ℕ, Bool, true, false, IsTrue, List, [], ◌∷◌, length, Option, Some, None, IfSome, IsSome, Result, Ok, Err}
+use Rattle.std.specs.Prelude.{◌≡◌, ◌⊎◌, ◌≤◌, ◌++◌, ℕ, Bool, true, false, IsTrue, List, [], ◌∷◌, length, Option, Some, None, IfSome, IsSome, Result, Ok, Err}
 use Rattle.std.specs.Io.KnownBytes.{Consumes, IsAtEnd}
 use Rattle.sm_ends.specs.declared.input.InputFault.{InputFault}
 use Rattle.sm_ends.specs.declared.input.InputFault.TheVariants as input
@@ -54,17 +54,17 @@ ReadsLadder true old new None = ⊥
 ReadsLadder true old new (Some channel) = IsLadderInput old new (Ok channel)
 
 -- why no ladder was read, and how much of the input was taken
-abbrev pub WhyUnread : End → End → StoreFault → Type 0
-WhyUnread old new fault.DiskFault = ⊥
-WhyUnread old new fault.LinkFault = ⊥
-WhyUnread old new (fault.NotAStore at) = ⊥
-WhyUnread old new fault.Unread = ended.WhyUnread ladder_limit old new input.Failed
-WhyUnread old new fault.LongLadder = ended.WhyUnread ladder_limit old new input.TooLong
-WhyUnread old new (fault.BadLadder at) = IsLadderInput old.told new.told (Err at)
-WhyUnread old new (fault.Refused cause) = ⊥
-WhyUnread old new fault.Full = ⊥
-WhyUnread old new fault.Damaged = ⊥
-WhyUnread old new fault.NoMemory = ended.WhyUnread ladder_limit old new input.NoMemory
+abbrev pub WhyNoLadder : End → End → StoreFault → Type 0
+WhyNoLadder old new fault.DiskFault = ⊥
+WhyNoLadder old new fault.LinkFault = ⊥
+WhyNoLadder old new (fault.NotAStore at) = ⊥
+WhyNoLadder old new fault.Unread = ended.WhyUnread ladder_limit old new input.Failed
+WhyNoLadder old new fault.LongLadder = ended.WhyUnread ladder_limit old new input.TooLong
+WhyNoLadder old new (fault.BadLadder at) = IsLadderInput old.told new.told (Err at)
+WhyNoLadder old new (fault.Refused cause) = ⊥
+WhyNoLadder old new fault.Full = ⊥
+WhyNoLadder old new fault.Damaged = ⊥
+WhyNoLadder old new fault.NoMemory = ended.WhyUnread ladder_limit old new input.NoMemory
 
 abbrev pub fault_of_input : InputFault → StoreFault
 fault_of_input input.Failed = fault.Unread
@@ -104,7 +104,7 @@ pub record GoesUnseen {D : Type 0} (site : Seen D) (h : History) (state : State)
 
 abbrev pub NotRead : End → End → Result (Unit {0}) StoreFault → Type 0
 NotRead old new (Ok x) = ⊥
-NotRead old new (Err why) = WhyUnread old new why
+NotRead old new (Err why) = WhyNoLadder old new why
 
 -- no ladder was read, and nothing was done
 pub record ReadsNone {D : Type 0} (input input' : End) (state : State) (d : D) (state' : State) (d' : D) (result : Result (Unit {0}) StoreFault) : Type 0 where

@@ -11,7 +11,7 @@ ghost use Rattle.sm_serve.specs.Standing.{History, StandsForSome};
 ghost use Rattle.sm_command.specs.declared.fault.StoreFault.TheVariants as fault;
 ghost use Rattle.sm_command.specs.Choosing.{IsChosen};
 ghost use Rattle.sm_command.specs.Lasting.{AtEachMoment, IsSilent, Spared, Untouched};
-ghost use Rattle.sm_command.specs.Serving.{Found, IsLadderInput, DeclaresTo, GoesUnseen, LadderMeans, PrepareMeans, WhyUnopened, WhyUnread, outcome_of};
+ghost use Rattle.sm_command.specs.Serving.{Found, IsLadderInput, DeclaresTo, GoesUnseen, LadderMeans, PrepareMeans, WhyUnopened, WhyNoLadder, outcome_of};
 ghost use Rattle.sm_ends.specs.Ended.{end_of};
 
 use crate::StoreFault;
@@ -73,7 +73,7 @@ pub fn open_state<S: Site>(
 pub(crate) fn ladder_of<I: Source>(alloc: Global, input: &mut I) -> Result<Channel, StoreFault>
     ensures read { IfOk result (λ channel. IsLadderInput (I.left input.old) (I.left input.new) (Ok channel)) }
     ensures valid { IfOk result IsChannel }
-    ensures why { IfErr result (λ why. WhyUnread (end_of I.left I.faults input.old) (end_of I.left I.faults input.new) why) }
+    ensures why { IfErr result (λ why. WhyNoLadder (end_of I.left I.faults input.old) (end_of I.left I.faults input.new) why) }
     ensures counted { I.faults input.old ≤ I.faults input.new }
 {
     let text = read_input(alloc, input, LADDER)?;

@@ -190,6 +190,7 @@ impl<
         self.crew.keep(handle);
     }
 
+    // A thread that isn't started comes without a word of the system's, so these are the program's own.
     fn count_fault(&mut self) {
         let refused = io::Error::new(ErrorKind::Other, "the system makes no thread more");
         self.trouble = Some(Trouble::new(Doing::Starting, refused));

@@ -1,2 +1,2 @@
-pub mod Edges
-pub mod Outlasting
+mod Edges
+mod Outlasting

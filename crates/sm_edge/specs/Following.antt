@@ -26,4 +26,4 @@ pub record HasFollowed {S C : Type 0} (site : Seen S)
   pub turned_to : IsTurnedTo (chosen turned) host plan.place.port
   pub quiet : told turned ≡ told dial
   -- what was kept, how often, and that it stands at its places
-  pub followed : Followed site told store later faults opened new turned dial' plan channel archive after edge.store.log report
+  pub followed : Followed site told store later faults chosen opened new turned dial' plan channel archive after edge.store.log report

@@ -113,11 +113,7 @@ pub fn open_edge<I: Source, S: Site, C: Dial>(
     ensures spared { Spared S.Disk.seen site.old site.new }
     ensures silent { IsSilent (S.Disk.seen.view site.old) (S.Disk.seen.view site.new) }
 {
-    match choose(site, selection) {
-        Ok(()) => match turn(dial, host, port) {
-            Ok(()) => open_beside(alloc, input, site),
-            Err(fault) => Err(fault),
-        },
-        Err(fault) => Err(fault),
-    }
+    choose(site, selection)?;
+    turn(dial, host, port)?;
+    open_beside(alloc, input, site)
 }

@@ -1,6 +1,7 @@
 -- Why an input was not read.
-use Rattle.std.proofs.Common.{◌≡◌, ◌≤◌, ◌<◌, ◌+◌, ℕ, List, ◌++◌, length, Option, Some, None, ap, arith}
-use Rattle.std.specs.Prelude.{IfSome}
+use Rattle.std.proofs.Common.{◌≡◌, ◌≤◌, ◌<◌, ◌+◌, ℕ, List, ◌++◌, length, Option, Some, None, Result, Ok, Err, ap, subst, sym, arith}
+use Rattle.std.specs.Prelude.{IfErr, IfSome, IsErrAnd}
+use Rattle.sm_ends.specs.Faults.{Rose}
 use Rattle.std.specs.Io.KnownBytes.{Consumes}
 use Rattle.std.proofs.KnownBytes.{Consumes-trans}
 use Rattle.std.proofs.lemmas.List.{length-append}
@@ -9,6 +10,15 @@ use Rattle.sm_ends.specs.Moves.{TakesAtMost, TakesCount}
 use Rattle.sm_ends.specs.declared.input.InputFault.{InputFault}
 use Rattle.sm_ends.specs.declared.input.InputFault.TheVariants as input
 use Rattle.sm_ends.proofs.Known.{TakesCount-more}
+
+-- what an error is that was passed on by `?`
+pub passed_on : {T E : Type 0} (r : Result T E) (P : E → Type 0) (why : E) → IsErrAnd r (λ y. y ≡ why) → P why → IfErr r P
+passed_on (Ok x) P why same p = tt
+passed_on (Err y) P why same p = subst P (sym same) p
+
+-- a count that rose since a moment rose since one before it
+pub rose_since : (first then now : ℕ) → first ≤ then → Rose then now → Rose first now
+rose_since first then now later rose = omega (arith, later, rose)
 
 pub at_most : (old new : Option (List ℕ)) (n most : ℕ) → TakesCount old new n → n ≤ most → TakesAtMost old new most
 at_most old new n most h le = (h.0, h.1, omega (arith, h.2))

@@ -13,7 +13,7 @@ pub record End : Type 0 where
 abbrev pub end_of : {E : Type 0} → (E → Option (List ℕ)) → (E → ℕ) → E → End
 end_of told faults e = record { told = told e; faults = faults e }
 
--- the most bytes that the input of a command may have
+-- the most bytes that the input of `pick`, `push` or `export` may have
 abbrev pub input_most : ℕ
 input_most = 268435456
 

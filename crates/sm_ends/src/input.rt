@@ -41,7 +41,7 @@ impl From<NoMemory> for InputFault {
     }
 }
 
-/// The most bytes that the input of a command may have.
+/// The most bytes that the input of `pick`, `push` or `export` may have. That of a ladder may have fewer.
 pub const INPUT_MOST: u64 = 268_435_456;
 
 // What is read into at first. Then the room doubles.

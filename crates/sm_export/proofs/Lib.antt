@@ -1,12 +1,12 @@
-pub mod Heads
-pub mod Gathered
-pub mod Passing
-pub mod Reading
-pub mod Texts
-pub mod Kept
-pub mod Answering
-pub mod Ordered
-pub mod OneHead
-pub mod BareHead
-pub mod ReadBack
-pub mod Opened
+mod Heads
+mod Gathered
+mod Passing
+mod Reading
+mod Texts
+mod Kept
+mod Answering
+mod Ordered
+mod OneHead
+mod BareHead
+mod ReadBack
+mod Opened

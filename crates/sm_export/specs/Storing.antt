@@ -1,5 +1,5 @@
 -- What exporting from the store in a folder comes to.
-use Rattle.std.specs.Prelude.{◌≡◌, ◌⊎◌, ◌≤◌, ℕ, List, length, Option, None, Some, IfSome, IsSome}
+use Rattle.std.specs.Prelude.{◌≡◌, ◌⊎◌, ◌≤◌, ℕ, List, length, None, Some, IfSome, IsSome}
 use Rattle.std.specs.Io.KnownBytes.{Consumes, IsAtEnd}
 use Rattle.sm_ends.specs.Faults.{Rose as FaultsRose}
 use Rattle.sm_model.specs.declared.entry.Entry.{Entry}
@@ -15,7 +15,8 @@ use Rattle.sm_export.specs.Exporting.{ExportedAs}
 use Rattle.sm_ends.specs.Ended.{End, WhyUnread, input_most}
 
 -- the input was read to its end, and this came of it and of the log; a fault of the disk or of the output was counted
-pub record IsTaken (told : Type 0) (log : List Entry) (name : List ℕ) (bitrate : ℕ) (old new : View) (input input' output output' : End) (e : Exported) : Type 0 where
+pub record IsTaken (told : Type 0) (log : List Entry) (name : List ℕ) (bitrate : ℕ) (old new : View)
+    (input input' output output' : End) (e : Exported) : Type 0 where
   pub text : List ℕ
   pub consumed : Consumes input.told input'.told text
   pub ended : IsAtEnd input'.told

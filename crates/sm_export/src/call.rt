@@ -18,7 +18,7 @@ use crate::gathering::Broken;
 use crate::head::{Unread, read_head};
 use crate::writing::write_times;
 use sm_archive::Archive;
-use sm_ends::{Failed, Sink, write_all};
+use sm_ends::{Sink, write_all};
 use sm_model::{Cause, Name};
 use sm_site::Disk;
 use std::alloc::Global;
@@ -49,10 +49,8 @@ fn write_file<D: Disk, O: Sink>(
     ensures cause { WhyBroken (D.seen.view disk.old) (D.seen.view disk.new) (O.faults out.old) (O.faults out.new) result }
     ensures read { IsOnlyRead D.seen archive.now disk.old disk.new }
 {
-    match write_all(out, header) {
-        Ok(()) => write_times(alloc, disk, archive, name, bitrate, times, id, out),
-        Err(Failed) => Err(Broken::WriteFault),
-    }
+    write_all(out, header)?;
+    write_times(alloc, disk, archive, name, bitrate, times, id, out)
 }
 
 /// Writes the quality of that name and bitrate as a fragmented file (ISO/IEC 14496-12, 8.8): the header of a pushed input, which is its

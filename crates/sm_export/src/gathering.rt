@@ -1,8 +1,10 @@
 //! Gathering what goes out, so that one write takes many small texts.
 ghost use Rattle.std.specs.Prelude.{◌≡◌, []};
 ghost use Rattle.sm_export.specs.Gathering.{IsPassedOn};
+ghost use Rattle.sm_export.specs.declared.gathering.Broken.TheVariants as broken;
 
 use sm_ends::{Failed, Sink, write_all};
+use sm_model::NoMemory;
 
 // Why a file ends too early.
 #[derive(Clone, Copy, Debug, PartialEq, Eq)]
@@ -11,6 +13,22 @@ pub(crate) enum Broken {
     Damaged,
     WriteFault,
     NoMemory,
+}
+
+impl From<Failed> for Broken {
+    ghost from_gives = { λ _ e. e ≡ broken.WriteFault };
+
+    fn from(_: Failed) -> Broken {
+        Broken::WriteFault
+    }
+}
+
+impl From<NoMemory> for Broken {
+    ghost from_gives = { λ _ e. e ≡ broken.NoMemory };
+
+    fn from(_: NoMemory) -> Broken {
+        Broken::NoMemory
+    }
 }
 
 // How many bytes are gathered before they are written. Those of 20 texts of 6 kB go out by one call then, which costs little beside them,
@@ -34,10 +52,7 @@ pub(crate) fn write_gathered<O: Sink>(gathered: &mut Vec<u8>, out: &mut O) -> Re
 {
     let written = write_all(out, gathered.as_slice());
     gathered.clear();
-    match written {
-        Ok(()) => Ok(()),
-        Err(Failed) => Err(Broken::WriteFault),
-    }
+    Ok(written?)
 }
 
 // Writes all that is gathered where it is full.
@@ -55,13 +70,8 @@ pub(crate) fn write_if_full<O: Sink>(gathered: &mut Vec<u8>, out: &mut O) -> Res
 fn write_behind<O: Sink>(bytes: &[u8], gathered: &mut Vec<u8>, out: &mut O) -> Result<(), Broken>
     ensures { IsPassedOn (O.held out.old) (O.held out.new) (O.faults out.old) (O.faults out.new) gathered.old.items gathered.new.items bytes.now result }
 {
-    match write_gathered(gathered, out) {
-        Ok(()) => match write_all(out, bytes) {
-            Ok(()) => Ok(()),
-            Err(Failed) => Err(Broken::WriteFault),
-        },
-        Err(broken) => Err(broken),
-    }
+    write_gathered(gathered, out)?;
+    Ok(write_all(out, bytes)?)
 }
 
 // Passes bytes on: a small piece is gathered, and a longer one written, behind all that is gathered.

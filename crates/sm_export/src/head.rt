@@ -33,6 +33,18 @@ pub(crate) enum Unread {
     NoMemory,
 }
 
+impl From<PushFault> for Unread {
+    ghost from_gives = { λ fault why. (r : Refusal) → why ≡ unread.Refused r → (before : List Given) × (fault ≡ pushes.Refused before r) };
+
+    // A push that failed before is never fed here.
+    fn from(fault: PushFault) -> Unread {
+        match fault {
+            PushFault::Refused { before: _, refusal } => Unread::Refused(refusal),
+            PushFault::Failed | PushFault::NoMemory => Unread::NoMemory,
+        }
+    }
+}
+
 fn is_header(item: &Item) -> bool
     ensures { result ≡ is_header item.now }
 {
@@ -65,16 +77,6 @@ fn first_header(items: Items) -> Option<Channel>
     channel_in(find_header(items))
 }
 
-// Why a push gave nothing more. One that failed before is never fed here.
-fn told_by(fault: PushFault) -> Unread
-    ensures { (r : Refusal) → result ≡ unread.Refused r → (before : List Given) × (fault ≡ pushes.Refused before r) }
-{
-    match fault {
-        PushFault::Refused { before: _, refusal } => Unread::Refused(refusal),
-        PushFault::Failed | PushFault::NoMemory => Unread::NoMemory,
-    }
-}
-
 // Where the piece begins that has the first header, behind a piece that began there and gave these items.
 fn seen_after(seen: Option<usize>, items: Items, at: usize) -> Option<usize>
     ensures { result ≡ seen_after seen items at }
@@ -100,10 +102,8 @@ fn feed_all(push: &mut Push, input: &[u8]) -> Result<Option<usize>, Unread>
     let mut seen = None;
     while at < input.len() {
         let end = input.len().min(at.saturating_add(PIECE));
-        match push.feed(&input[at..end]) {
-            Ok(items) => seen = seen_after(seen, items, at),
-            Err(fault) => return Err(told_by(fault)),
-        }
+        let items = push.feed(&input[at..end])?;
+        seen = seen_after(seen, items, at);
         at = end;
     }
     Ok(seen)
@@ -117,13 +117,9 @@ fn judge(alloc: Global, input: &[u8]) -> Result<Option<usize>, Unread>
 {
     front();
     let mut push = Push::new(alloc);
-    match feed_all(&mut push, input) {
-        Ok(seen) => match push.end() {
-            Ok(()) => Ok(seen),
-            Err(fault) => Err(told_by(fault)),
-        },
-        Err(unread) => Err(unread),
-    }
+    let seen = feed_all(&mut push, input)?;
+    push.end()?;
+    Ok(seen)
 }
 
 // Feeds one byte after another from there on, up to the end of the first header.
@@ -143,18 +139,13 @@ fn feed_bytes(
 {
     front();
     for at in from..input.len() {
-        match push.feed(&input[at..at + 1]) {
-            Err(fault) => return Err(told_by(fault)),
-            Ok(items) => match first_header(items) {
-                Some(channel) => {
-                    return Ok(Some(Head {
-                        len: at + 1,
-                        channel,
-                        id: push.track_id(name, bitrate),
-                    }));
-                }
-                None => {}
-            },
+        let items = push.feed(&input[at..at + 1])?;
+        if let Some(channel) = first_header(items) {
+            return Ok(Some(Head {
+                len: at + 1,
+                channel,
+                id: push.track_id(name, bitrate),
+            }));
         }
     }
     Ok(None)
@@ -176,13 +167,10 @@ fn head_behind(
 {
     front();
     let mut push = Push::new(alloc);
-    match feed_all(&mut push, &input[..from]) {
-        Err(unread) => Err(unread),
-        Ok(_) => match feed_bytes(&mut push, input, from, name, bitrate) {
-            Ok(Some(head)) => Ok(head),
-            Ok(None) => unreachable!(),
-            Err(unread) => Err(unread),
-        },
+    feed_all(&mut push, &input[..from])?;
+    match feed_bytes(&mut push, input, from, name, bitrate)? {
+        Some(head) => Ok(head),
+        None => unreachable!(),
     }
 }
 
@@ -198,10 +186,9 @@ pub(crate) fn read_head(
     ensures clear { OnOk result (input_refusal input.now ≡ None) }
     ensures refused { (r : Refusal) → result ≡ Err (unread.Refused r) → input_refusal input.now ≡ Some r }
 {
-    match judge(alloc, input) {
-        Err(unread) => Err(unread),
-        Ok(Some(from)) => head_behind(alloc, input, from, name, bitrate),
-        Ok(None) => Err(Unread::Refused(Refusal {
+    match judge(alloc, input)? {
+        Some(from) => head_behind(alloc, input, from, name, bitrate),
+        None => Err(Unread::Refused(Refusal {
             at: input.len() as u64,
             cause: Cause::NoHeader,
         })),

@@ -60,10 +60,8 @@ fn write_text<O: Sink>(
     ensures { IsPassedOn (O.held out.old) (O.held out.new) (O.faults out.old) (O.faults out.new)
         gathered.old.items gathered.new.items (frag_text seq id fragment.now []) result }
 {
-    match put_fragment(alloc, seq, id, fragment, &[]) {
-        Ok(text) => pass_on(text.as_slice(), gathered, out),
-        Err(NoMemory) => Err(Broken::NoMemory),
-    }
+    let text = put_fragment(alloc, seq, id, fragment, &[])?;
+    pass_on(text.as_slice(), gathered, out)
 }
 
 // The text of one fragment, behind all that is gathered.
@@ -79,12 +77,10 @@ fn write_fragment<O: Sink>(
     ensures { IsPassedOn (O.held out.old) (O.held out.new) (O.faults out.old) (O.faults out.new)
         gathered.old.items gathered.new.items (frag_text seq id fragment.now []) result }
 {
-    match write_if_full(gathered, out) {
-        Ok(()) => match fragment.samples.joined() {
-            Some(body) => write_joined(fragment, body, seq, id, gathered, out),
-            None => write_text(alloc, fragment, seq, id, gathered, out),
-        },
-        Err(broken) => Err(broken),
+    write_if_full(gathered, out)?;
+    match fragment.samples.joined() {
+        Some(body) => write_joined(fragment, body, seq, id, gathered, out),
+        None => write_text(alloc, fragment, seq, id, gathered, out),
     }
 }
 
@@ -114,12 +110,10 @@ fn write_at<D: Disk, O: Sink>(
 {
     kept_is_added();
     match archive.fetch(alloc, disk, address) {
-        Fetched::Found { place: _, fragment } => match write_fragment(
-            alloc, &fragment, seq, id, gathered, out,
-        ) {
-            Ok(()) => Ok(1),
-            Err(broken) => Err(broken),
-        },
+        Fetched::Found { place: _, fragment } => {
+            write_fragment(alloc, &fragment, seq, id, gathered, out)?;
+            Ok(1)
+        }
         Fetched::Absent => Ok(0),
         Fetched::DiskFault => Err(Broken::DiskFault),
         Fetched::Damaged => Err(Broken::Damaged),
@@ -147,22 +141,20 @@ fn gather_times<D: Disk, O: Sink>(
         × (written ≡ length (kept_among log name.now bitrate times.now))) }
     ensures err { OnErr result ((log : List Entry) (doubt : Option Entry) → Stands archive.now log doubt (D.seen.may_leave disk.old)
         → IsSome (D.seen.view disk.old).contents
-        → LeavesFront (O.held out.old) (O.held out.new) (gathered.old.items ++ texts_from 1 id (kept_among log name.now bitrate times.now)) gathered.new.items) }
+        → LeavesFront (O.held out.old) (O.held out.new) (gathered.old.items ++ texts_from 1 id (kept_among log name.now bitrate times.now))
+        gathered.new.items) }
     ensures cause { WhyBroken (D.seen.view disk.old) (D.seen.view disk.new) (O.faults out.old) (O.faults out.new) result }
     ensures read { IsOnlyRead D.seen archive.now disk.old disk.new }
 {
-    let Ok(stream) = name.copy(alloc) else {
-        return Err(Broken::NoMemory);
-    };
     let mut address = Address {
-        stream,
+        stream: name.copy(alloc)?,
         bitrate,
         time: 0,
     };
     let mut written: u32 = 0;
     for time in times {
         address.time = time.0;
-        match write_at(
+        written += write_at(
             alloc,
             disk,
             archive,
@@ -171,10 +163,7 @@ fn gather_times<D: Disk, O: Sink>(
             id,
             gathered,
             out,
-        ) {
-            Ok(wrote) => written += wrote,
-            Err(broken) => return Err(broken),
-        }
+        )?;
     }
     Ok(written as u64)
 }
@@ -217,8 +206,6 @@ pub(crate) fn write_times<D: Disk, O: Sink>(
         &mut gathered,
         out,
     );
-    match write_gathered(&mut gathered, out) {
-        Ok(()) => ended,
-        Err(broken) => Err(broken),
-    }
+    write_gathered(&mut gathered, out)?;
+    ended
 }

@@ -1,10 +1,9 @@
 -- How far an input was read.
-use Rattle.std.proofs.Common.{◌≡◌, ◌≤◌, ◌<◌, ◌+◌, ℕ, List, ◌++◌, length, take, Option, Some, None, sym, ap, ◌∙◌, arith}
-use Rattle.std.specs.Prelude.{IfSome}
+use Rattle.std.proofs.Common.{◌≡◌, ◌≤◌, ◌<◌, ◌+◌, ℕ, List, ◌++◌, length, take, Option, sym, ◌∙◌, arith}
 use Rattle.std.specs.Io.KnownBytes.{Consumes}
 use Rattle.std.proofs.KnownBytes.{Consumes-trans}
 use Rattle.std.proofs.lemmas.List.{length-append, length-take-le}
-use Rattle.sm_ends.specs.Moves.{TakesCount, TakesAtMost}
+use Rattle.sm_ends.specs.Moves.{TakesCount}
 use Rattle.sm_pick.specs.declared.search.Search.{Search}
 use Rattle.sm_ends.specs.Ended.{input_most}
 use Rattle.sm_pick.specs.Search.{Looks}

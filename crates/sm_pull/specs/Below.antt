@@ -6,7 +6,7 @@ use Rattle.sm_model.specs.declared.fragment.Fragment.{Fragment}
 use Rattle.sm_model.specs.Entries.{address_of}
 use Rattle.sm_log.specs.Logs.{kept_at}
 
--- the log keeps it, at its address, with equal duration, field of the time and samples
+-- the log keeps it, at its address, with equal duration and samples, whose composition offsets are signed in both or in neither
 pub record IsKeptIn (up : List Entry) (f : Fragment) : Type 0 where
   pub place : ℕ
   pub there : Fragment

@@ -27,8 +27,6 @@ mod talk;
 mod tally;
 mod tcp_dial;
 mod tcp_link;
-#[cfg(test)]
-mod tests;
 mod trickle;
 mod trouble;
 mod viewers;

@@ -1,8 +1,8 @@
-pub mod Wanted
-pub mod Walked
-pub mod Rounding
-pub mod Upstream
-pub mod Origin
-pub mod EndingWell
-pub mod Whole
-pub mod Reading
+mod Wanted
+mod Walked
+mod Rounding
+mod Upstream
+mod Origin
+mod EndingWell
+mod Whole
+mod Reading

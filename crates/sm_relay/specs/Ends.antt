@@ -73,11 +73,13 @@ pub record IsStopped (plan : PullPlan) (channel : List Track) (new : Archive) (l
 
 abbrev pub EndsWith : PullPlan → List Track → Archive → List Entry → ℕ → List Exchange → List Fragment → List Fragment → RelayEnd → Type 0
 EndsWith plan channel new log count made added tried ends.Done = IsDone plan count made added tried
-EndsWith plan channel new log count made added tried (ends.NoManifest outcomes) = IsStopped plan channel new log count made added tried (ends.NoManifest outcomes)
+EndsWith plan channel new log count made added tried (ends.NoManifest outcomes) = IsStopped plan channel new log count made added tried
+    (ends.NoManifest outcomes)
 EndsWith plan channel new log count made added tried (ends.NoTrack index) = IsStopped plan channel new log count made added tried (ends.NoTrack index)
 EndsWith plan channel new log count made added tried (ends.GaveUp address outcomes) = IsStopped plan channel new log count made added tried
     (ends.GaveUp address outcomes)
-EndsWith plan channel new log count made added tried (ends.Refused address cause) = IsStopped plan channel new log count made added tried (ends.Refused address cause)
+EndsWith plan channel new log count made added tried (ends.Refused address cause) = IsStopped plan channel new log count made added tried
+    (ends.Refused address cause)
 EndsWith plan channel new log count made added tried ends.Full = IsStopped plan channel new log count made added tried ends.Full
 EndsWith plan channel new log count made added tried ends.DiskFault = IsStopped plan channel new log count made added tried ends.DiskFault
 EndsWith plan channel new log count made added tried ends.NoMemory = IsStopped plan channel new log count made added tried ends.NoMemory

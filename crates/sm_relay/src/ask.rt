@@ -7,7 +7,7 @@ ghost use Rattle.sm_relay.specs.Asked.{ReadsFragment};
 use sm_client::{Outcomes, miss_of};
 use sm_fetch::{Dial, Got, get_fragment};
 use sm_model::{Address, RawFragment};
-use sm_pull::PullPlan;
+use sm_pull::{PullPlan, rest};
 use std::alloc::Global;
 
 /// What all tries at a fragment gave.
@@ -20,8 +20,8 @@ pub enum Asked {
     NoMemory,
 }
 
-/// As many requests for the fragment at an address as there are tries, until it is read ([MS-SSTR] 2.2.3, 2.2.4). The Url is that of its
-/// stream in the manifest.
+/// As many requests for the fragment at an address as there are tries, a while between them, until it is read ([MS-SSTR] 2.2.3, 2.2.4).
+/// The Url is that of its stream in the manifest.
 pub fn ask<C: Dial>(
     alloc: Global,
     dial: &mut C,
@@ -33,7 +33,8 @@ pub fn ask<C: Dial>(
         × ReadsFragment plan.now url.now address.now made result }
 {
     let mut outcomes = Outcomes::new(alloc);
-    for _done in 0..plan.tries {
+    for done in 0..plan.tries {
+        rest(dial, done > 0);
         match get_fragment(alloc, dial, &plan.place, url, address) {
             Got::Fragment(raw) => return Asked::Took(raw),
             other => match miss_of(&other) {

@@ -1,9 +1,8 @@
 //! A relay, whole.
-ghost use Rattle.std.specs.Prelude.{◌≡◌, ◌<◌, ◌++◌, List, Option, None, Some, IfOk, IsSome, Contains, length};
+ghost use Rattle.std.specs.Prelude.{◌≡◌, ◌<◌, ◌++◌, List, Option, None, Some, IsSome, Contains, length};
 ghost use Rattle.std.specs.List.{AllByRecursion};
 ghost use Rattle.sm_model.specs.declared.entry.Entry.{Entry};
 ghost use Rattle.sm_model.specs.declared.track.Track.{Track};
-ghost use Rattle.sm_model.specs.Channels.{IsChannel};
 ghost use Rattle.sm_log.specs.Logs.{channel_of};
 ghost use Rattle.sm_archive.specs.Stands.{Stands};
 ghost use Rattle.sm_site.specs.Clauses.{Rose, Throughout};
@@ -25,23 +24,10 @@ use crate::rounds::pull_rounds;
 use crate::{RelayEnd, RelayReport};
 use sm_archive::Archive;
 use sm_fetch::Dial;
-use sm_model::{Channel, NoMemory};
-use sm_pull::PullPlan;
+use sm_model::NoMemory;
+use sm_pull::{PullPlan, channel_of};
 use sm_site::Disk;
 use std::alloc::Global;
-
-// The channel of an archive that has one.
-fn channel_of<D: Disk>(alloc: Global, disk: &D, archive: &Archive) -> Result<Channel, NoMemory>
-    requires { (log : List Entry) × (channel : List Track) × Stands archive.now log None (D.seen.may_leave disk.now) × (channel_of log ≡ Some channel) }
-    ensures valid { IfOk result IsChannel }
-    ensures same { IfOk result (λ own. (log : List Entry) (channel : List Track) → Stands archive.now log None (D.seen.may_leave disk.now)
-        → channel_of log ≡ Some channel → own ≡ channel) }
-{
-    match archive.catalog() {
-        Some(catalog) => catalog.channel().copy(alloc),
-        None => unreachable!(),
-    }
-}
 
 // As many rounds as the plan has, or until one breaks off.
 fn relay_all<C: Dial, D: Disk>(
@@ -58,7 +44,7 @@ fn relay_all<C: Dial, D: Disk>(
         log result }
     ensures fault { result ≡ ends.DiskFault → Rose (D.seen.view disk.old).disk_faults (D.seen.view disk.new).disk_faults }
 {
-    match channel_of(alloc, disk, archive) {
+    match channel_of(alloc, archive) {
         Ok(channel) => {
             match pull_rounds(alloc, dial, disk, archive, plan, channel.as_slice()) {
                 Ok(()) => RelayEnd::Done,

@@ -17,8 +17,9 @@ ghost use Rattle.sm_relay.specs.Read.{WasRead};
 pub fn what_is_kept_was_read()
     ensures round { (plan : PullPlan) (channel : List Track) (log : List Entry) (r : Round) → IsRound plan channel log r
         → AllByRecursion (WasRead plan.place (wants_of channel r.listing) r.pulled) r.kept }
-    ensures broken { (plan : PullPlan) (channel : List Track) (new : Archive) (log : List Entry) (made : List Exchange) (added tried : List Fragment) (why : Stop)
-        → (b : IsBroken plan channel new log made added tried why) → AllByRecursion (WasRead plan.place (wants_of channel b.listing) b.pulled) (added ++ tried) }
+    ensures broken { (plan : PullPlan) (channel : List Track) (new : Archive) (log : List Entry) (made : List Exchange)
+        (added tried : List Fragment) (why : Stop) → (b : IsBroken plan channel new log made added tried why)
+        → AllByRecursion (WasRead plan.place (wants_of channel b.listing) b.pulled) (added ++ tried) }
 {}
 
 /// A round makes at most as many exchanges for each thing that it asks for, the manifest and what that lists of the channel's tracks, as
@@ -26,6 +27,7 @@ pub fn what_is_kept_was_read()
 pub fn rounds_are_short()
     ensures round { (plan : PullPlan) (channel : List Track) (log : List Entry) (r : Round) → IsRound plan channel log r
         → length r.asked + length r.pulled ≤ plan.tries * (1 + length (wants_of channel r.listing)) }
-    ensures broken { (plan : PullPlan) (channel : List Track) (new : Archive) (log : List Entry) (made : List Exchange) (added tried : List Fragment) (why : Stop)
-        → (b : IsBroken plan channel new log made added tried why) → length made ≤ plan.tries * (1 + length (wants_of channel b.listing)) }
+    ensures broken { (plan : PullPlan) (channel : List Track) (new : Archive) (log : List Entry) (made : List Exchange)
+        (added tried : List Fragment) (why : Stop) → (b : IsBroken plan channel new log made added tried why)
+        → length made ≤ plan.tries * (1 + length (wants_of channel b.listing)) }
 {}

@@ -70,12 +70,9 @@ fn pull_listing<C: Dial, D: Disk>(
 {
     for (at, track) in channel.iter().enumerate() {
         let (before, _) = channel.split_at(at);
-        match pull_name(
+        pull_name(
             alloc, dial, disk, archive, plan, channel, before, track, listing,
-        ) {
-            Ok(()) => {}
-            Err(stop) => return Err(stop),
-        }
+        )?;
     }
     Ok(())
 }

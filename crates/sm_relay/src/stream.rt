@@ -73,10 +73,7 @@ fn pull_time<C: Dial, D: Disk>(
     ensures fault { IsErrOf result stop.DiskFault → Rose (D.seen.view disk.old).disk_faults (D.seen.view disk.new).disk_faults }
 {
     for track in channel {
-        match pull_track(alloc, dial, disk, archive, plan, track, stream, time) {
-            Ok(()) => {}
-            Err(stop) => return Err(stop),
-        }
+        pull_track(alloc, dial, disk, archive, plan, track, stream, time)?;
     }
     Ok(())
 }
@@ -101,10 +98,7 @@ pub fn pull_stream<C: Dial, D: Disk>(
     ensures fault { IsErrOf result stop.DiskFault → Rose (D.seen.view disk.old).disk_faults (D.seen.view disk.new).disk_faults }
 {
     for time in stream.times.as_slice() {
-        match pull_time(alloc, dial, disk, archive, plan, channel, stream, time.0) {
-            Ok(()) => {}
-            Err(stop) => return Err(stop),
-        }
+        pull_time(alloc, dial, disk, archive, plan, channel, stream, time.0)?;
     }
     Ok(())
 }

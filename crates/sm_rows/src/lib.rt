@@ -16,9 +16,9 @@
 //!     gives-hex u32 7
 //!
 //! A blank line ends a row and a block, and a line that begins with a blank goes on with the one before. A line is a key and
-//! its value; keys may stand several times, and their order counts. `use` puts the lines of a block in its place. What the
-//! values of `gives` lines are, joined by line feeds, is what the call has to give; `gives-hex` has the bytes of an
-//! expression in hexadecimal digits instead, and `gives-text` their text.
+//! its value; keys may stand several times, and their order counts. A name and a block are said once. `use` puts the lines of
+//! a block in its place. What the values of `gives` lines are, joined by line feeds, is what the call has to give; `gives-hex`
+//! has the bytes of an expression in hexadecimal digits instead, and `gives-text` their text.
 //!
 //! An expression is a sequence of these, whose bytes stand one behind another:
 //!

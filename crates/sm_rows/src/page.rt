@@ -95,10 +95,13 @@ impl Page {
             }
             "block" => {
                 let Line {
-                    number: _,
+                    number,
                     key: _,
                     value,
                 } = line;
+                if self.has_block(value.as_str()) {
+                    return Err(RowFault::new(number, "there is such a block already"));
+                }
                 self.blocks.push(Block {
                     name: value,
                     lines: Vec::new(alloc),
@@ -123,6 +126,17 @@ impl Page {
         }
     }
 
+    fn has_block(&self, name: &str) -> bool {
+        self.blocks.iter().any(|block| block.name.as_str() == name)
+    }
+
+    fn has_definition(&self, name: &Token) -> bool {
+        let name = name.bytes.as_slice();
+        self.definitions
+            .iter()
+            .any(|definition| definition.name.as_slice() == name)
+    }
+
     fn add_definition(&mut self, alloc: Global, line: &Line) -> Result<(), RowFault> {
         let mut head = Vec::new(alloc);
         let mut body = Vec::new(alloc);
@@ -140,6 +154,9 @@ impl Page {
             return Err(line.fault("a name without a meaning"));
         }
         let name = head.remove(0);
+        if self.has_definition(&name) {
+            return Err(line.fault("the name stands for something already"));
+        }
         let body = expanded(
             alloc,
             line.number,

@@ -24,7 +24,7 @@ use Rattle.sm_pull.proofs.Tried.{Tried, tried_gave, tried_stopped, try_made, try
 use Rattle.sm_pull.proofs.Dials.{asks_one, made_by}
 use Rattle.sm_standby.specs.Turns.{AsksPlaced, missed}
 use Rattle.sm_standby.proofs.Opens.{by_bool}
-use Rattle.sm_standby.specs.Asked.{unsaid, IsRead, Finds, found_of}
+use Rattle.sm_standby.specs.Asked.{IsRead, Finds, found_of}
 
 pub placed_wanting : (time : ℕ) (p : Placed) → SpellsPlaced time answers.NoMemory p → p ≡ placed.NoMemory
 placed_wanting time p is = is
@@ -34,16 +34,11 @@ placed_lost time (answers.Bytes bytes) p spelled is = absurd (cc)
 placed_lost time answers.Lost p spelled is = spelled
 placed_lost time answers.NoMemory p spelled is = absurd (cc)
 
--- what the dial is turned to isn't said
-pub alone_unsaid : {C : Type 0} {log : C → Option (List Exchange)} {store : C → List Entry → Type 0} {later : C → C → Type 0} {faults : C → ℕ} {chosen : C → Option Peer} {d e : C}
-    → DialAlone log store later faults chosen d e → DialAlone log store later faults unsaid d e
-alone_unsaid a = record { on = a.on; turned = refl; answered = a.answered }
-
-pub placed_asked : {C : Type 0} {log : C → Option (List Exchange)} {store : C → List Entry → Type 0} {later : C → C → Type 0} {faults : C → ℕ} {chosen : C → Option Peer} {d e : C} {place : Place} {url : List ℕ} {address : Address} {p : Placed}
-    (f : FetchedPlaced place url address (log d) (log e) p) → DialAlone log store later faults chosen d e
-    → (p ≡ placed.Lost → Rose (faults d) (faults e)) → Asks log store later faults unsaid d e (made_by (fragment_request place url address) fragment_limit f.answer)
+pub placed_asked : {C : Type 0} {log : C → Option (List Exchange)} {store : C → List Entry → Type 0} {later : C → C → Type 0} {faults : C → ℕ} {chosen : C → Option Peer} {d e : C}
+    {place : Place} {url : List ℕ} {address : Address} {p : Placed} (f : FetchedPlaced place url address (log d) (log e) p) → DialAlone log store later faults chosen d e
+    → (p ≡ placed.Lost → Rose (faults d) (faults e)) → Asks log store later faults chosen d e (made_by (fragment_request place url address) fragment_limit f.answer)
 placed_asked {place = place} {url = url} {address = address} {p = p} f alone lost =
-    asks_one (fragment_request place url address) fragment_limit f.answer f.log (alone_unsaid alone) (λ is. lost (placed_lost address.time f.answer p f.spells is))
+    asks_one (fragment_request place url address) fragment_limit f.answer f.log alone (λ is. lost (placed_lost address.time f.answer p f.spells is))
 
 miss_some : (m : Miss) → None ≡ Some m → ⊥
 miss_some m e = cc
@@ -87,10 +82,10 @@ is_404 status m e = by_bool (eqb status 404) (λ t. cond t None (Some m) ≡ Non
 -- what the tries gave where the last one was no miss
 pub found_answer : {C : Type 0} {log : C → Option (List Exchange)} {store : C → List Entry → Type 0} {later : C → C → Type 0} {faults : C → ℕ} {chosen : C → Option Peer} {c d e : C}
     {place : Place} {url : List ℕ} {a : Address} {outcomes : List Miss} {tries : ℕ}
-    (most : ℕ) (p : Placed) → Passes later → missed p ≡ None → Tried log store later faults unsaid (AsksPlaced place url a) missed c d outcomes tries → tries < most
+    (most : ℕ) (p : Placed) → Passes later → missed p ≡ None → Tried log store later faults chosen (AsksPlaced place url a) missed c d outcomes tries → tries < most
     → FetchedPlaced place url a (log d) (log e) p → DialAlone log store later faults chosen d e → (p ≡ placed.Lost → Rose (faults d) (faults e))
     → GrowsPlaced place url a (store d) (store e) p
-    → (made : List Exchange) × Asks log store later faults unsaid c e made × Finds place most url a made (store c) (store e) (found_of p)
+    → (made : List Exchange) × Asks log store later faults chosen c e made × Finds place most url a made (store c) (store e) (found_of p)
 found_answer {store = store} {c = c} {d = d} {e = e} {place = place} {url = url} {a = a} most (placed.Fragment n raw) then none t fits f alone lost there =
     let r = tried_gave most then t fits (placed_asked f alone lost)
     (try_made (fragment_request place url a) fragment_limit (SpellsPlaced a.time) placed.NoMemory (placed_wanting a.time) f.answer (placed.Fragment n raw) f.spells (fragment_other n raw)) in

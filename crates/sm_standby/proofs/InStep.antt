@@ -34,7 +34,8 @@ use Rattle.sm_standby.specs.Followed.{at}
 use Rattle.sm_standby.specs.Rounds as rounds
 use Rattle.sm_standby.specs.Rounds.{addresses_of, Round, AreRounds}
 use Rattle.sm_standby.specs.Turns as turns
-use Rattle.sm_standby.specs.Turns.{AsksPlaced, missed, url_of, Whose, candidate, again as anew, Came, absent, kept, later, dropped, Turn, passed, asked, Standing, address_for, placed_of, IsTurnOf, FitsPlace, MayTurn, kept_by, waits_by, behind, after, Turns, made_in}
+use Rattle.sm_standby.specs.Turns.{AsksPlaced, missed, url_of, Whose, candidate, again as anew, Came, absent, kept, later, dropped, Turn, passed, asked, Standing, address_for, placed_of, IsTurnOf, FitsPlace}
+use Rattle.sm_standby.specs.Turns.{MayTurn, kept_by, waits_by, behind, after, Turns, made_in}
 use Rattle.sm_standby.specs.Waiting.{due, without}
 use Rattle.sm_standby.proofs.Askable.{all_to, leads_to_askable, url_there}
 use Rattle.sm_standby.proofs.Logs.{get_more, places_push, kept_there, fits_next}

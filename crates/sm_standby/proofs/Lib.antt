@@ -1,17 +1,17 @@
-pub mod Waits
-pub mod Opens
-pub mod Founds
-pub mod Putting
-pub mod Taking
-pub mod Plans
-pub mod Rounding
-pub mod Logs
-pub mod Bounds
-pub mod Spelling
-pub mod Primary
-pub mod Askable
-pub mod InStep
-pub mod Fronts
-pub mod Reached
-pub mod EndingWell
-pub mod Whole
+mod Waits
+mod Opens
+mod Founds
+mod Putting
+mod Taking
+mod Plans
+mod Rounding
+mod Logs
+mod Bounds
+mod Spelling
+mod Primary
+mod Askable
+mod InStep
+mod Fronts
+mod Reached
+mod EndingWell
+mod Whole

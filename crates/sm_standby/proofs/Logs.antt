@@ -17,6 +17,7 @@ use Rattle.sm_manin.specs.declared.listing.Listing.{Listing}
 use Rattle.sm_fetch.specs.declared.dial.Exchange.{Exchange}
 use Rattle.sm_fetch.specs.declared.place.Place.{Place}
 use Rattle.sm_fetch.specs.declared.placed.Placed.TheVariants as placed
+use Rattle.sm_fetch.specs.Exchanges.{Peer}
 use Rattle.sm_fetch.specs.Placing.{IsPlacedAt}
 use Rattle.sm_fetch.specs.Spelt.{given}
 use Rattle.sm_pull.specs.declared.plan.PullPlan.{PullPlan}
@@ -254,8 +255,8 @@ places_grow log up more all = λ p f e. get_more up more p (Keep f) (all p f e)
 
 -- at each moment of a call
 pub stays_placed : {D C : Type 0} {site : Seen D} {told : C → Option (List Exchange)}
-    {store : C → List Entry → Type 0} {goes_on : C → C → Type 0} {faults : C → ℕ}
-    {d e : D} {x y : C} {plan : PullPlan} {channel : List Track} {a b : Archive} (before : List Entry) (end : FollowEnd) → (c : Called site told store goes_on faults d e x y plan channel a b before end)
+    {store : C → List Entry → Type 0} {goes_on : C → C → Type 0} {faults : C → ℕ} {chosen : C → Option Peer}
+    {d e : D} {x y : C} {plan : PullPlan} {channel : List Track} {a b : Archive} (before : List Entry) (end : FollowEnd) → (c : Called site told store goes_on faults chosen d e x y plan channel a b before end)
     → StaysPlaced site store d e x y plan.place before c.rounds c.part
 stays_placed {site = site} {d = d} {e = e} {plan = plan} {channel = channel} {b = b} before end c = λ up told.
     let u = c.up up told in (

@@ -1,6 +1,6 @@
 -- Addresses that wait once each, where nothing is kept.
-use Rattle.std.proofs.Common.{◌≡◌, ◌<◌, ◌||◌, ◌&&◌, ℕ, suc, Bool, true, false, cond, eqb, List, [], ◌∷◌, ◌++◌, length, Option, Some, None, refl, ap, sym, ◌∙◌, subst, arith}
-use Rattle.std.specs.Prelude.{bytes_eq}
+use Rattle.std.proofs.Common.{◌≡◌, ◌<◌, ◌||◌, ◌&&◌, ℕ, suc, Bool, true, false, cond, eqb, List, [], ◌∷◌, ◌++◌, length, Option, Some, None, Result, Ok, Err, refl, ap, sym, ◌∙◌, subst, arith}
+use Rattle.std.specs.Prelude.{bytes_eq, OnOk, IfErr, IsErrAnd}
 use Rattle.std.proofs.lemmas.Bool.{eqb-true}
 use Rattle.std.proofs.lemmas.Slice.Eq.{bytes_eq-Decides}
 use Rattle.sm_model.specs.declared.address.Address.{Address}
@@ -29,6 +29,18 @@ or_right false b e = e
 pub or_both : (a b : Bool) → a ≡ false → b ≡ false → (a || b) ≡ false
 or_both true b e f = e
 or_both false b e f = f
+
+-- ---- answers
+
+-- what holds of an answer by two of its clauses
+pub on_both : {T E P Q R : Type 0} (r : Result T E) → (P → Q → R) → OnOk r P → OnOk r Q → OnOk r R
+on_both (Ok x) so p q = so p q
+on_both (Err e) so p q = tt
+
+-- the error that is passed on
+pub passed_on : {T E : Type 0} (r : Result T E) (P : E → Type 0) (why : E) → IsErrAnd r (λ e. e ≡ why) → P why → IfErr r P
+passed_on (Ok x) P why same p = tt
+passed_on (Err e) P why same p = subst P (sym same) p
 
 -- ---- one address
 

@@ -19,6 +19,7 @@ use Rattle.sm_fetch.specs.declared.dial.Exchange.{Exchange}
 use Rattle.sm_fetch.specs.declared.place.Place.{Place}
 use Rattle.sm_fetch.specs.declared.placed.Placed.{Placed}
 use Rattle.sm_fetch.specs.declared.placed.Placed.TheVariants as placed
+use Rattle.sm_fetch.specs.Exchanges.{Peer}
 use Rattle.sm_fetch.specs.Placing.{IsPlacedAt}
 use Rattle.sm_fetch.specs.Spelt.{given}
 use Rattle.sm_pull.specs.declared.plan.PullPlan.{PullPlan}
@@ -34,7 +35,7 @@ use Rattle.sm_standby.specs.declared.report.FollowEnd.{FollowEnd}
 use Rattle.sm_standby.specs.declared.report.FollowEnd.TheVariants as ends
 use Rattle.sm_standby.specs.Ends.{end_of}
 use Rattle.sm_standby.specs.Turns.{AsksPlaced, missed, Came, absent, kept, later, dropped, placed_of}
-use Rattle.sm_standby.specs.Asked.{unsaid, IsRead, IsPut, CameUpstream, Went, IsUnkept, UnputBy, IsUnput, IsTried, TriedUpstream, StopsAt, Stopped}
+use Rattle.sm_standby.specs.Asked.{IsRead, IsPut, CameUpstream, Went, IsUnkept, UnputBy, IsUnput, IsTried, TriedUpstream, StopsAt, Stopped}
 
 -- ---- tries
 
@@ -101,7 +102,8 @@ module _ {D : Type 0} {site : Seen D} where
       → IsUnput site d d channel a x x log n raw ends.NoMemory
   unput_wanting no_later d x log channel a n raw stands = record { tried = []; by = inl refl; adds = adds_none no_later d x log stands }
 
-  pub unput_other : ((d : D) (t : ℕ) (c : Image) → site.left_at d t c → t ≤ (site.view d).moment) → (d : D) (x : Archive) (log : List Entry) (channel : List Track) (a : Address) (n : ℕ) (raw : RawFragment) → Stands x log None (site.may_leave d)
+  pub unput_other : ((d : D) (t : ℕ) (c : Image) → site.left_at d t c → t ≤ (site.view d).moment)
+      → (d : D) (x : Archive) (log : List Entry) (channel : List Track) (a : Address) (n : ℕ) (raw : RawFragment) → Stands x log None (site.may_leave d)
       → raw.id ≢ id_in channel a → IsUnput site d d channel a x x log n raw (ends.OtherId a raw.id)
   unput_other no_later d x log channel a n raw stands other = record { tried = []; by = (refl, refl, other, refl); adds = adds_none no_later d x log stands }
 
@@ -168,10 +170,11 @@ unput_up place url channel a new log n raw tried (ends.NoManifest outcomes) up u
 unput_up place url channel a new log n raw tried (ends.NoTrack index) up u at = absurd u
 
 module _ {D C : Type 0} {site : Seen D} {told : C → Option (List Exchange)} {store : C → List Entry → Type 0}
-    {goes_on : C → C → Type 0} {faults : C → ℕ} {plan : PullPlan} {channel : List Track} where
-  pub went_absent : ((d : D) (t : ℕ) (c : Image) → site.left_at d t c → t ≤ (site.view d).moment) → (d : D) {x y : C} (url : List ℕ) (a : Address) (z : Archive) (log : List Entry) (made : List Exchange) → Stands z log None (site.may_leave d)
-      → Asks told store goes_on faults unsaid x y made → Gives (AsksPlaced plan.place url a) missed plan.tries made (placed.Status 404)
-      → Went site told store goes_on faults d d x y plan channel url a z z log step.Passed
+    {goes_on : C → C → Type 0} {faults : C → ℕ} {chosen : C → Option Peer} {plan : PullPlan} {channel : List Track} where
+  pub went_absent : ((d : D) (t : ℕ) (c : Image) → site.left_at d t c → t ≤ (site.view d).moment)
+      → (d : D) {x y : C} (url : List ℕ) (a : Address) (z : Archive) (log : List Entry) (made : List Exchange) → Stands z log None (site.may_leave d)
+      → Asks told store goes_on faults chosen x y made → Gives (AsksPlaced plan.place url a) missed plan.tries made (placed.Status 404)
+      → Went site told store goes_on faults chosen d d x y plan channel url a z z log step.Passed
   went_absent no_later d url a z log made stands asks gives = record {
     made = made;
     came = absent;
@@ -184,8 +187,8 @@ module _ {D C : Type 0} {site : Seen D} {told : C → Option (List Exchange)} {s
   }
 
   pub went_put : {d e : D} {x y : C} (url : List ℕ) (a : Address) (z w : Archive) (log : List Entry) (made : List Exchange) (n m : ℕ) (raw : RawFragment) (s : Step) → m ≡ n
-      → Asks told store goes_on faults unsaid x y made → IsRead plan.place plan.tries url a made (store x) (store y) n raw → IsPut site d e channel a z w log m raw s
-      → Went site told store goes_on faults d e x y plan channel url a z w log s
+      → Asks told store goes_on faults chosen x y made → IsRead plan.place plan.tries url a made (store x) (store y) n raw → IsPut site d e channel a z w log m raw s
+      → Went site told store goes_on faults chosen d e x y plan channel url a z w log s
   went_put url a z w log made n m raw s same asks r p =
       let is : placed_of p.came ≡ placed.Fragment n raw = p.came_is ∙ ap (λ (k : ℕ). placed.Fragment k raw) same in
       record {
@@ -201,8 +204,8 @@ module _ {D C : Type 0} {site : Seen D} {told : C → Option (List Exchange)} {s
 
   pub stopped_bare : ((d : D) (t : ℕ) (c : Image) → site.left_at d t c → t ≤ (site.view d).moment) → (d : D) {x y : C} (url : List ℕ) (a : Address) (z : Archive) (log : List Entry) (made : List Exchange) (end
       : FollowEnd) → Stands z log None (site.may_leave d)
-      → Asks told store goes_on faults unsaid x y made → StopsAt plan channel url a z log made [] end
-      → Stopped site told store goes_on faults d d x y plan channel url a z z log end
+      → Asks told store goes_on faults chosen x y made → StopsAt plan channel url a z log made [] end
+      → Stopped site told store goes_on faults chosen d d x y plan channel url a z z log end
   stopped_bare no_later d url a z log made end stands asks stops = record {
     made = made;
     tried = [];
@@ -213,8 +216,8 @@ module _ {D C : Type 0} {site : Seen D} {told : C → Option (List Exchange)} {s
   }
 
   pub stopped_unput : {d e : D} {x y : C} (url : List ℕ) (a : Address) (z w : Archive) (log : List Entry) (made : List Exchange) (n m : ℕ) (raw : RawFragment) (end : FollowEnd) → m ≡ n
-      → Asks told store goes_on faults unsaid x y made → IsRead plan.place plan.tries url a made (store x) (store y) n raw → IsUnput site d e channel a z w log m raw end
-      → Stopped site told store goes_on faults d e x y plan channel url a z w log end
+      → Asks told store goes_on faults chosen x y made → IsRead plan.place plan.tries url a made (store x) (store y) n raw → IsUnput site d e channel a z w log m raw end
+      → Stopped site told store goes_on faults chosen d e x y plan channel url a z w log end
   stopped_unput {d = d} {e = e} url a z w log made n m raw end same asks r p =
       let by : UnputBy channel a w log n raw p.tried end = subst (λ (k : ℕ). UnputBy channel a w log k raw p.tried end) same p.by in
       record {

@@ -26,10 +26,9 @@ use Rattle.sm_standby.specs.declared.report.FollowEnd.{FollowEnd}
 use Rattle.sm_standby.specs.declared.report.FollowEnd.TheVariants as ends
 use Rattle.sm_standby.specs.Waiting.{due, AreOpen}
 use Rattle.sm_standby.specs.Turns.{url_of, address_for, Turn, Standing, made_in, kept_in, IsUpstream, OnUpstream}
-use Rattle.sm_standby.specs.Asked.{unsaid, StopsAt}
+use Rattle.sm_standby.specs.Asked.{StopsAt}
 use Rattle.sm_standby.specs.Followed.{at, Follows, EndsTurns, Ends}
 use Rattle.sm_standby.specs.Rounds.{addresses_of, Round, AreRounds, made_by, kept_by, RoundsUpstream, Part, nothing_listed, no_part, IsBare, StopsRound, Rounds, RoundEnds, EndsCall, Called}
-use Rattle.sm_standby.proofs.Founds.{alone_unsaid}
 use Rattle.sm_standby.proofs.Taking.{both_all, all_grown}
 
 -- ---- lists of rounds
@@ -86,11 +85,6 @@ missing_few listing channel index m few =
 
 -- ---- calls
 
--- what the dial is turned to isn't said
-pub asks_unsaid : {C : Type 0} {log : C → Option (List Exchange)} {store : C → List Entry → Type 0} {later : C → C → Type 0} {faults : C → ℕ} {chosen : C → Option Peer} {d e : C} {made : List Exchange}
-    → Asks log store later faults chosen d e made → Asks log store later faults unsaid d e made
-asks_unsaid a = record { told_is = a.told_is; alone = alone_unsaid a.alone; lost = a.lost }
-
 pub bare : (reads : List Exchange) (listing : Listing) → IsBare (record { reads = reads; listing = listing; turns = []; last = []; tried = [] })
 bare reads listing = record { turns = refl; last = refl; tried = refl }
 
@@ -129,14 +123,14 @@ ends_early plan channel rounds log held new p to ends.DiskFault few stops = (few
 ends_early plan channel rounds log held new p to ends.NoMemory few stops = (few, stops)
 
 module _ {D C : Type 0} {site : Seen D} {told : C → Option (List Exchange)} {store : C → List Entry → Type 0}
-    {goes_on : C → C → Type 0} {faults : C → ℕ} {plan : PullPlan} {channel : List Track} where
-  pub rounds_stand : {d e : D} {x y : C} {a b : Archive} {log : List Entry} {held held' : List Later} {n : ℕ} → (r : Rounds site told store goes_on faults d e x y plan channel a b log held held' n)
+    {goes_on : C → C → Type 0} {faults : C → ℕ} {chosen : C → Option Peer} {plan : PullPlan} {channel : List Track} where
+  pub rounds_stand : {d e : D} {x y : C} {a b : Archive} {log : List Entry} {held held' : List Later} {n : ℕ} → (r : Rounds site told store goes_on faults chosen d e x y plan channel a b log held held' n)
       → Stands b r.log None (site.may_leave e)
   rounds_stand {e = e} {b = b} r = subst (λ (l : List Entry). Stands b l None (site.may_leave e)) (sym r.log_is) r.adds.stands
 
   -- no round yet
   pub rounds_none : ((d : D) (t : ℕ) (c : Image) → site.left_at d t c → t ≤ (site.view d).moment) → ((x : C) → goes_on x x) → (d : D) (x : C) (a : Archive) (log : List Entry) (held : List Later)
-      → Stands a log None (site.may_leave d) → AreOpen log held → Rounds site told store goes_on faults d d x x plan channel a a log held held 0
+      → Stands a log None (site.may_leave d) → AreOpen log held → Rounds site told store goes_on faults chosen d d x x plan channel a a log held held 0
   rounds_none no_later same d x a log held stands waiting = record {
     log = log;
     rounds = [];
@@ -149,23 +143,23 @@ module _ {D C : Type 0} {site : Seen D} {told : C → Option (List Exchange)} {s
     waiting = waiting;
   }
 
-  pub rounds_at : {d e : D} {x y : C} {a b : Archive} {log : List Entry} {held held' : List Later} (n m : ℕ) → n ≡ m → Rounds site told store goes_on faults d e x y plan channel a b log held held' n
-      → Rounds site told store goes_on faults d e x y plan channel a b log held held' m
+  pub rounds_at : {d e : D} {x y : C} {a b : Archive} {log : List Entry} {held held' : List Later} (n m : ℕ) → n ≡ m → Rounds site told store goes_on faults chosen d e x y plan channel a b log held held' n
+      → Rounds site told store goes_on faults chosen d e x y plan channel a b log held held' m
   rounds_at {d = d} {e = e} {x = x} {y = y} {a = a} {b = b} {log = log} {held = held} {held' = held'} n m is r =
-      subst (λ (k : ℕ). Rounds site told store goes_on faults d e x y plan channel a b log held held' k) is r
+      subst (λ (k : ℕ). Rounds site told store goes_on faults chosen d e x y plan channel a b log held held' k) is r
 
   -- a manifest was read, and all of its addresses had their turns
   pub rounds_one : {d e : D} {x y z : C} {a b : Archive} {log : List Entry} {held held' : List Later} (listing : Listing) (reads : List Exchange) → ((x y z : C) → goes_on x y → goes_on y z → goes_on x z)
-      → Asks told store goes_on faults unsaid x y reads → Gives (AsksManifest plan.place) miss_of plan.tries reads (got.Manifest listing) → HasTracks listing channel
-      → (f : Follows site told store goes_on faults d e y z plan channel listing a b (at log held (addresses_of channel listing)) held' []) → due (length f.log) held' ≡ None
-      → Rounds site told store goes_on faults d e x z plan channel a b log held held' 1
+      → Asks told store goes_on faults chosen x y reads → Gives (AsksManifest plan.place) miss_of plan.tries reads (got.Manifest listing) → HasTracks listing channel
+      → (f : Follows site told store goes_on faults chosen d e y z plan channel listing a b (at log held (addresses_of channel listing)) held' []) → due (length f.log) held' ≡ None
+      → Rounds site told store goes_on faults chosen d e x z plan channel a b log held held' 1
   rounds_one {d = d} {e = e} {x = x} {y = y} {z = z} {a = a} {b = b} {log = log} {held = held} {held' = held'} listing reads on asked gives tracks f nothing = record {
     log = f.log;
     rounds = (record { reads = reads; listing = listing; turns = f.turns }) ∷ [];
     legal = (f.log, held', record { reads = gives; tracks = tracks; turns = f.legal; nothing = nothing }, (refl, refl));
     count_is = refl;
     log_is = f.log_is ∙ ap (λ (fs : List Fragment). log ++ keeps_of fs) (sym (append-nil (kept_in f.turns)));
-    asks = subst (λ (xs : List Exchange). Asks told store goes_on faults unsaid x z xs) (sym (append-nil (reads ++ made_in f.turns))) (asks_then on asked f.asks);
+    asks = subst (λ (xs : List Exchange). Asks told store goes_on faults chosen x z xs) (sym (append-nil (reads ++ made_in f.turns))) (asks_then on asked f.asks);
     up = λ up is.
         let g = asked.alone.on.grows up is in
         let u = f.up (up ++ g.0) g.1 in
@@ -177,9 +171,9 @@ module _ {D C : Type 0} {site : Seen D} {told : C → Option (List Exchange)} {s
 
   -- some rounds, and then others
   pub rounds_then : {d e f : D} {x y z : C} {a b c : Archive} {log : List Entry} {held wait held' : List Later} {n m : ℕ} (k : ℕ) → ((x y z : C) → goes_on x y → goes_on y z → goes_on x z)
-      → (first : Rounds site told store goes_on faults d e x y plan channel a b log held wait n)
-      → Rounds site told store goes_on faults e f y z plan channel b c first.log wait held' m → k ≡ n + m
-      → Rounds site told store goes_on faults d f x z plan channel a c log held held' k
+      → (first : Rounds site told store goes_on faults chosen d e x y plan channel a b log held wait n)
+      → Rounds site told store goes_on faults chosen e f y z plan channel b c first.log wait held' m → k ≡ n + m
+      → Rounds site told store goes_on faults chosen d f x z plan channel a c log held held' k
   rounds_then {d = d} {e = e} {f = f} {x = x} {y = y} {z = z} {a = a} {b = b} {c = c} {log = log} {held = held} {wait = wait} {held' = held'} k on first second count = record {
     log = second.log;
     rounds = first.rounds ++ second.rounds;
@@ -187,7 +181,7 @@ module _ {D C : Type 0} {site : Seen D} {told : C → Option (List Exchange)} {s
     count_is = let both = length-append first.rounds second.rounds in let one = first.count_is in let two = second.count_is in omega (arith, both, one, two, count);
     log_is = second.log_is ∙ (ap (λ (l : List Entry). l ++ keeps_of (kept_by second.rounds)) first.log_is
         ∙ (log_both log (kept_by first.rounds) (kept_by second.rounds) ∙ ap (λ (fs : List Fragment). log ++ keeps_of fs) (sym (kept_more first.rounds second.rounds))));
-    asks = subst (λ (xs : List Exchange). Asks told store goes_on faults unsaid x z xs) (sym (made_more first.rounds second.rounds)) (asks_then on first.asks second.asks);
+    asks = subst (λ (xs : List Exchange). Asks told store goes_on faults chosen x z xs) (sym (made_more first.rounds second.rounds)) (asks_then on first.asks second.asks);
     up = on_weak (store x) (store z) (λ up. RoundsUpstream plan.place first.rounds up × RoundsUpstream plan.place second.rounds up) (RoundsUpstream plan.place (first.rounds ++ second.rounds))
         (λ up both. both_all (λ (r : Round). AllByRecursion (IsUpstream plan.place r.listing up) r.turns) first.rounds second.rounds both.0 both.1)
         (on_then (store x) (store y) (store z) (RoundsUpstream plan.place first.rounds) (RoundsUpstream plan.place second.rounds) (λ up more all. rounds_grown plan.place up more first.rounds all) first.up second.up);
@@ -198,8 +192,8 @@ module _ {D C : Type 0} {site : Seen D} {told : C → Option (List Exchange)} {s
 
   -- a pause, and then rounds
   pub rounds_paused : {d e : D} {x y z : C} {a b : Archive} {log : List Entry} {held held' : List Later} {n : ℕ} → ((x y z : C) → goes_on x y → goes_on y z → goes_on x z)
-      → Asks told store goes_on faults unsaid x y [] → Rounds site told store goes_on faults d e y z plan channel a b log held held' n
-      → Rounds site told store goes_on faults d e x z plan channel a b log held held' n
+      → Asks told store goes_on faults chosen x y [] → Rounds site told store goes_on faults chosen d e y z plan channel a b log held held' n
+      → Rounds site told store goes_on faults chosen d e x z plan channel a b log held held' n
   rounds_paused {x = x} {y = y} {z = z} on paused r = record {
     log = r.log;
     rounds = r.rounds;
@@ -217,15 +211,15 @@ module _ {D C : Type 0} {site : Seen D} {told : C → Option (List Exchange)} {s
 
   -- no manifest was read, or it lacks a track
   pub ends_bare : {x y : C} → ((d : D) (t : ℕ) (c : Image) → site.left_at d t c → t ≤ (site.view d).moment) → (d : D) (a : Archive) (log : List Entry) (held : List Later) (reads : List Exchange) (listing : Listing) (end : FollowEnd)
-      → Stands a log None (site.may_leave d) → Asks told store goes_on faults unsaid x y reads
+      → Stands a log None (site.may_leave d) → Asks told store goes_on faults chosen x y reads
       → StopsRound plan channel log held a (record { reads = reads; listing = listing; turns = []; last = []; tried = [] }) (at log held []) end → (end ≡ ends.DiskFault → ⊥)
-      → RoundEnds site told store goes_on faults d d x y plan channel a a log held end
+      → RoundEnds site told store goes_on faults chosen d d x y plan channel a a log held end
   ends_bare {x = x} {y = y} no_later d a log held reads listing end stands asked stops never = record {
     part = record { reads = reads; listing = listing; turns = []; last = []; tried = [] };
     to = at log held [];
     stops = stops;
     log_is = sym (append-nil log);
-    asks = subst (λ (xs : List Exchange). Asks told store goes_on faults unsaid x y xs) (sym (append-nil reads)) asked;
+    asks = subst (λ (xs : List Exchange). Asks told store goes_on faults chosen x y xs) (sym (append-nil reads)) asked;
     up = on_none (store x) (store y) asked.alone.on.grows;
     adds = adds_none no_later d a log stands;
     fault = λ is. absurd (never is);
@@ -233,9 +227,9 @@ module _ {D C : Type 0} {site : Seen D} {told : C → Option (List Exchange)} {s
 
   -- a manifest was read, and a turn ended the call
   pub ends_turns : {d e : D} {x y z : C} {a b : Archive} {log : List Entry} {held : List Later} (listing : Listing) (reads : List Exchange) (end : FollowEnd) → ((x y z : C) → goes_on x y → goes_on y z → goes_on x z)
-      → Asks told store goes_on faults unsaid x y reads → Gives (AsksManifest plan.place) miss_of plan.tries reads (got.Manifest listing) → HasTracks listing channel
-      → Ends site told store goes_on faults d e y z plan channel listing a b (at log held (addresses_of channel listing)) end
-      → RoundEnds site told store goes_on faults d e x z plan channel a b log held end
+      → Asks told store goes_on faults chosen x y reads → Gives (AsksManifest plan.place) miss_of plan.tries reads (got.Manifest listing) → HasTracks listing channel
+      → Ends site told store goes_on faults chosen d e y z plan channel listing a b (at log held (addresses_of channel listing)) end
+      → RoundEnds site told store goes_on faults chosen d e x z plan channel a b log held end
   ends_turns {x = x} {y = y} {z = z} listing reads end on asked gives tracks f = record {
     part = record { reads = reads; listing = listing; turns = f.turns; last = f.last; tried = f.tried };
     to = f.to;
@@ -249,8 +243,8 @@ module _ {D C : Type 0} {site : Seen D} {told : C → Option (List Exchange)} {s
   }
 
   pub ends_paused : {d e : D} {x y z : C} {a b : Archive} {log : List Entry} {held : List Later} (end : FollowEnd) → ((x y z : C) → goes_on x y → goes_on y z → goes_on x z)
-      → Asks told store goes_on faults unsaid x y [] → RoundEnds site told store goes_on faults d e y z plan channel a b log held end
-      → RoundEnds site told store goes_on faults d e x z plan channel a b log held end
+      → Asks told store goes_on faults chosen x y [] → RoundEnds site told store goes_on faults chosen d e y z plan channel a b log held end
+      → RoundEnds site told store goes_on faults chosen d e x z plan channel a b log held end
   ends_paused {x = x} {y = y} {z = z} end on paused r = record {
     part = r.part;
     to = r.to;
@@ -268,9 +262,9 @@ module _ {D C : Type 0} {site : Seen D} {told : C → Option (List Exchange)} {s
   -- ---- whole calls
 
   pub called_early : {d e f : D} {x y z : C} {a b c : Archive} {log : List Entry} {wait : List Later} {n : ℕ} (end : FollowEnd) → ((x y z : C) → goes_on x y → goes_on y z → goes_on x z)
-      → (first : Rounds site told store goes_on faults d e x y plan channel a b log [] wait n) → n < plan.rounds
-      → RoundEnds site told store goes_on faults e f y z plan channel b c first.log wait end
-      → Called site told store goes_on faults d f x z plan channel a c log end
+      → (first : Rounds site told store goes_on faults chosen d e x y plan channel a b log [] wait n) → n < plan.rounds
+      → RoundEnds site told store goes_on faults chosen e f y z plan channel b c first.log wait end
+      → Called site told store goes_on faults chosen d f x z plan channel a c log end
   called_early {d = d} {e = e} {f = f} {x = x} {y = y} {z = z} {a = a} {b = b} {c = c} {log = log} {wait = wait} end on first few r = record {
     rounds = first.rounds;
     log = first.log;
@@ -288,9 +282,9 @@ module _ {D C : Type 0} {site : Seen D} {told : C → Option (List Exchange)} {s
 
   -- all rounds ended
   pub called_whole : {d e : D} {x y : C} {a b : Archive} {log : List Entry} {wait : List Later} {n : ℕ} (end : FollowEnd)
-      → (first : Rounds site told store goes_on faults d e x y plan channel a b log [] wait n)
+      → (first : Rounds site told store goes_on faults chosen d e x y plan channel a b log [] wait n)
       → EndsCall plan channel first.rounds first.log wait b no_part (at first.log wait []) end → (end ≡ ends.DiskFault → ⊥)
-      → Called site told store goes_on faults d e x y plan channel a b log end
+      → Called site told store goes_on faults chosen d e x y plan channel a b log end
   called_whole {d = d} {e = e} {x = x} {y = y} {a = a} {b = b} {log = log} {wait = wait} end first stops never = record {
     rounds = first.rounds;
     log = first.log;
@@ -299,7 +293,7 @@ module _ {D C : Type 0} {site : Seen D} {told : C → Option (List Exchange)} {s
     to = at first.log wait [];
     legal = first.legal;
     ended = stops;
-    asks = subst (λ (xs : List Exchange). Asks told store goes_on faults unsaid x y xs) (sym (append-nil (made_by first.rounds))) first.asks;
+    asks = subst (λ (xs : List Exchange). Asks told store goes_on faults chosen x y xs) (sym (append-nil (made_by first.rounds))) first.asks;
     up = on_weak (store x) (store y) (RoundsUpstream plan.place first.rounds) (λ up. RoundsUpstream plan.place first.rounds up × Unit {0}) (λ up all. (all, tt)) first.up;
     adds = subst (λ (fs : List Fragment). Adds site d e a b log fs []) (sym (append-nil (kept_by first.rounds))) first.adds;
     fault = λ is. absurd (never is);
@@ -308,8 +302,8 @@ module _ {D C : Type 0} {site : Seen D} {told : C → Option (List Exchange)} {s
   -- memory was wanted before anything was asked
   pub called_none : ((d : D) (t : ℕ) (c : Image) → site.left_at d t c → t ≤ (site.view d).moment) → ((x : C) → goes_on x x)
       → ((x y z : C) → goes_on x y → goes_on y z → goes_on x z) → (d : D) (x : C) (a : Archive) (log : List Entry)
-      → 0 < plan.rounds → Stands a log None (site.may_leave d) → Called site told store goes_on faults d d x x plan channel a a log ends.NoMemory
+      → 0 < plan.rounds → Stands a log None (site.may_leave d) → Called site told store goes_on faults chosen d d x x plan channel a a log ends.NoMemory
   called_none no_later same on d x a log some stands =
-      let r : Rounds site told store goes_on faults d d x x plan channel a a log [] [] 0 = rounds_none no_later same d x a log [] stands tt in
+      let r : Rounds site told store goes_on faults chosen d d x x plan channel a a log [] [] 0 = rounds_none no_later same d x a log [] stands tt in
       called_early ends.NoMemory on r some
       (ends_bare no_later d a r.log [] [] nothing_listed ends.NoMemory (rounds_stand r) (asks_same same x) (inl (record { each = tt; few = omega arith }, bare [] nothing_listed)) (λ is. cc))

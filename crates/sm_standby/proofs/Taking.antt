@@ -21,6 +21,7 @@ use Rattle.sm_fetch.specs.declared.dial.Answer.TheVariants as answers
 use Rattle.sm_fetch.specs.declared.dial.Exchange.{Exchange}
 use Rattle.sm_fetch.specs.declared.place.Place.{Place}
 use Rattle.sm_fetch.specs.declared.placed.Placed.TheVariants as placed
+use Rattle.sm_fetch.specs.Exchanges.{Peer}
 use Rattle.sm_fetch.specs.Origins.{Grows}
 use Rattle.sm_fetch.specs.Placing.{SpellsPlaced, IsPlacedAt}
 use Rattle.sm_fetch.specs.Spelt.{given}
@@ -37,7 +38,7 @@ use Rattle.sm_standby.specs.declared.report.FollowEnd.TheVariants as ends
 use Rattle.sm_standby.specs.Waiting.{due, without, waits, AreOpen}
 use Rattle.sm_standby.specs.Turns.{AsksPlaced, missed, url_of, Whose, candidate, again, Came, absent, kept, later, dropped, Turn, passed, asked, Standing, address_for, placed_of, IsTurnOf, FitsPlace, HasId}
 use Rattle.sm_standby.specs.Turns.{kept_by, waits_by, after, Turns, made_by, made_in, kept_of, kept_in, IsUpstream, AreUpstream}
-use Rattle.sm_standby.specs.Asked.{unsaid, IsStep, CameUpstream, Went, tried_by, TriedUpstream, Stopped}
+use Rattle.sm_standby.specs.Asked.{IsStep, CameUpstream, Went, tried_by, TriedUpstream, Stopped}
 use Rattle.sm_standby.specs.Followed.{at, Follows, tried_turn, Ends}
 use Rattle.sm_standby.proofs.Putting.{tries_of}
 use Rattle.sm_standby.proofs.Opens.{or_left, or_right, due_open, due_add, open_add, open_without, open_kept}
@@ -217,35 +218,35 @@ open_turn log held c more nothing open' = (nothing, (more, refl), no_some (kept_
 -- ---- calls
 
 module _ {D C : Type 0} {site : Seen D} {told : C → Option (List Exchange)} {store : C → List Entry → Type 0}
-    {goes_on : C → C → Type 0} {faults : C → ℕ} {plan : PullPlan} {channel : List Track} where
+    {goes_on : C → C → Type 0} {faults : C → ℕ} {chosen : C → Option Peer} {plan : PullPlan} {channel : List Track} where
   -- of the same address
   pub went_at : {d e : D} {x y : C} {a b : Archive} {log : List Entry} {s t : Step} (listing : Listing) (url : List ℕ) (c n : Address) → c ≡ n → url ≡ url_of listing n → s ≡ t
-      → Went site told store goes_on faults d e x y plan channel url c a b log s → Went site told store goes_on faults d e x y plan channel (url_of listing n) n a b log t
+      → Went site told store goes_on faults chosen d e x y plan channel url c a b log s → Went site told store goes_on faults chosen d e x y plan channel (url_of listing n) n a b log t
   went_at {d = d} {e = e} {x = x} {y = y} {a = a} {b = b} {log = log} {s = s} {t = t} listing url c n same named is w =
-      subst (λ (p : Step). Went site told store goes_on faults d e x y plan channel (url_of listing n) n a b log p) is (
-      subst (λ (u : List ℕ). Went site told store goes_on faults d e x y plan channel u n a b log s) named
-      (subst (λ (z : Address). Went site told store goes_on faults d e x y plan channel url z a b log s) same w))
+      subst (λ (p : Step). Went site told store goes_on faults chosen d e x y plan channel (url_of listing n) n a b log p) is (
+      subst (λ (u : List ℕ). Went site told store goes_on faults chosen d e x y plan channel u n a b log s) named
+      (subst (λ (z : Address). Went site told store goes_on faults chosen d e x y plan channel url z a b log s) same w))
 
   pub stopped_at : {d e : D} {x y : C} {a b : Archive} {log : List Entry} {end : FollowEnd} (listing : Listing) (url : List ℕ) (c n : Address) → c ≡ n → url ≡ url_of listing n
-      → Stopped site told store goes_on faults d e x y plan channel url c a b log end → Stopped site told store goes_on faults d e x y plan channel (url_of listing n) n a b log end
+      → Stopped site told store goes_on faults chosen d e x y plan channel url c a b log end → Stopped site told store goes_on faults chosen d e x y plan channel (url_of listing n) n a b log end
   stopped_at {d = d} {e = e} {x = x} {y = y} {a = a} {b = b} {log = log} {end = end} listing url c n same named w =
-      subst (λ (u : List ℕ). Stopped site told store goes_on faults d e x y plan channel u n a b log end) named
-      (subst (λ (z : Address). Stopped site told store goes_on faults d e x y plan channel url z a b log end) same w)
+      subst (λ (u : List ℕ). Stopped site told store goes_on faults chosen d e x y plan channel u n a b log end) named
+      (subst (λ (z : Address). Stopped site told store goes_on faults chosen d e x y plan channel url z a b log end) same w)
 
   pub later_kept : {d e : D} {x y : C} {a b : Archive} {log : List Entry} {url : List ℕ} {c : Address} {m : ℕ} {n : Address}
-      → (w : Went site told store goes_on faults d e x y plan channel url c a b log (step.Later m n)) → kept_by c w.came ≡ []
+      → (w : Went site told store goes_on faults chosen d e x y plan channel url c a b log (step.Later m n)) → kept_by c w.came ≡ []
   later_kept {log = log} {c = c} {m = m} {n = n} w = (step_later (length log) c w.came m n w.step).kept
 
 module _ {D C : Type 0} {site : Seen D} {told : C → Option (List Exchange)} {store : C → List Entry → Type 0}
-    {goes_on : C → C → Type 0} {faults : C → ℕ} {plan : PullPlan} {channel : List Track} {listing : Listing} where
+    {goes_on : C → C → Type 0} {faults : C → ℕ} {chosen : C → Option Peer} {plan : PullPlan} {channel : List Track} {listing : Listing} where
   -- the log that the archive stands for once these turns were taken
   pub follows_stands : {d e : D} {x y : C} {a b : Archive} {s : Standing} {held : List Later} {rest : List Address}
-      → (f : Follows site told store goes_on faults d e x y plan channel listing a b s held rest) → Stands b f.log None (site.may_leave e)
+      → (f : Follows site told store goes_on faults chosen d e x y plan channel listing a b s held rest) → Stands b f.log None (site.may_leave e)
   follows_stands {e = e} {b = b} f = subst (λ (l : List Entry). Stands b l None (site.may_leave e)) (sym f.log_is) f.adds.stands
 
   -- nothing was done
   pub follows_none : ((d : D) (t : ℕ) (c : Image) → site.left_at d t c → t ≤ (site.view d).moment) → ((x : C) → goes_on x x) → (d : D) (x : C) (a : Archive) (log : List Entry) (held : List Later) (rest : List Address)
-      → Stands a log None (site.may_leave d) → AreOpen log held → Follows site told store goes_on faults d d x x plan channel listing a a (at log held rest) held rest
+      → Stands a log None (site.may_leave d) → AreOpen log held → Follows site told store goes_on faults chosen d d x x plan channel listing a a (at log held rest) held rest
   follows_none no_later same d x a log held rest stands waiting = record {
     log = log;
     turns = [];
@@ -260,7 +261,7 @@ module _ {D C : Type 0} {site : Seen D} {told : C → Option (List Exchange)} {s
   -- a candidate that is there was passed over
   pub follows_passed : ((d : D) (t : ℕ) (c : Image) → site.left_at d t c → t ≤ (site.view d).moment) → ((x : C) → goes_on x x) → (d : D) (x : C) (a : Archive) (log : List Entry) (held : List Later) (b : Address) (more : List Address)
       → Stands a log None (site.may_leave d) → AreOpen log held → due (length log) held ≡ None → (is_some (kept_at log b) || waits b held) ≡ true
-      → (f : Follows site told store goes_on faults d d x x plan channel listing a a (at log held (b ∷ more)) held more) × (due (length f.log) held ≡ None)
+      → (f : Follows site told store goes_on faults chosen d d x x plan channel listing a a (at log held (b ∷ more)) held more) × (due (length f.log) held ≡ None)
   follows_passed no_later same d x a log held b more stands waiting nothing there = (
     record {
       log = log;
@@ -277,9 +278,9 @@ module _ {D C : Type 0} {site : Seen D} {told : C → Option (List Exchange)} {s
 
   -- some turns, and then others
   pub follows_then_is : {d e f : D} {x y z : C} {a b c : Archive} {s : Standing} {held held' : List Later} {rest rest' : List Address} → ((x y z : C) → goes_on x y → goes_on y z → goes_on x z)
-      → (first : Follows site told store goes_on faults d e x y plan channel listing a b s held rest)
-      → (second : Follows site told store goes_on faults e f y z plan channel listing b c (at first.log held rest) held' rest')
-      → (r : Follows site told store goes_on faults d f x z plan channel listing a c s held' rest') × (r.log ≡ second.log)
+      → (first : Follows site told store goes_on faults chosen d e x y plan channel listing a b s held rest)
+      → (second : Follows site told store goes_on faults chosen e f y z plan channel listing b c (at first.log held rest) held' rest')
+      → (r : Follows site told store goes_on faults chosen d f x z plan channel listing a c s held' rest') × (r.log ≡ second.log)
   follows_then_is {d = d} {e = e} {f = f} {x = x} {y = y} {z = z} {a = a} {b = b} {c = c} {s = s} {held = held} {held' = held'} {rest = rest} {rest' = rest'} on first second = (
     record {
       log = second.log;
@@ -287,7 +288,7 @@ module _ {D C : Type 0} {site : Seen D} {told : C → Option (List Exchange)} {s
       legal = turns_then plan channel listing s (at first.log held rest) (at second.log held' rest') first.turns second.turns first.legal second.legal;
       log_is = second.log_is ∙ (ap (λ (l : List Entry). l ++ keeps_of (kept_in second.turns)) first.log_is
           ∙ (log_both s.log (kept_in first.turns) (kept_in second.turns) ∙ ap (λ (fs : List Fragment). s.log ++ keeps_of fs) (sym (kept_both first.turns second.turns))));
-      asks = subst (λ (xs : List Exchange). Asks told store goes_on faults unsaid x z xs) (sym (made_both first.turns second.turns)) (asks_then on first.asks second.asks);
+      asks = subst (λ (xs : List Exchange). Asks told store goes_on faults chosen x z xs) (sym (made_both first.turns second.turns)) (asks_then on first.asks second.asks);
       up = up_then plan.place listing (store x) (store y) (store z) first.turns second.turns first.up second.up;
       adds = subst (λ (fs : List Fragment). Adds site d f a c s.log fs []) (sym (kept_both first.turns second.turns))
           (adds_then first.adds (subst (λ (l : List Entry). Adds site e f b c l (kept_in second.turns) []) first.log_is second.adds));
@@ -297,25 +298,25 @@ module _ {D C : Type 0} {site : Seen D} {told : C → Option (List Exchange)} {s
   )
 
   pub follows_then : {d e f : D} {x y z : C} {a b c : Archive} {s : Standing} {held held' : List Later} {rest rest' : List Address} → ((x y z : C) → goes_on x y → goes_on y z → goes_on x z)
-      → (first : Follows site told store goes_on faults d e x y plan channel listing a b s held rest)
-      → Follows site told store goes_on faults e f y z plan channel listing b c (at first.log held rest) held' rest'
-      → Follows site told store goes_on faults d f x z plan channel listing a c s held' rest'
+      → (first : Follows site told store goes_on faults chosen d e x y plan channel listing a b s held rest)
+      → Follows site told store goes_on faults chosen e f y z plan channel listing b c (at first.log held rest) held' rest'
+      → Follows site told store goes_on faults chosen d f x z plan channel listing a c s held' rest'
   follows_then on first second = (follows_then_is on first second).0
 
   -- and nothing waits for the next place behind the others
   pub follows_on : {d e f : D} {x y z : C} {a b c : Archive} {s : Standing} {held held' : List Later} {rest rest' : List Address} → ((x y z : C) → goes_on x y → goes_on y z → goes_on x z)
-      → (first : Follows site told store goes_on faults d e x y plan channel listing a b s held rest)
-      → ((second : Follows site told store goes_on faults e f y z plan channel listing b c (at first.log held rest) held' rest') × (due (length second.log) held' ≡ None))
-      → (r : Follows site told store goes_on faults d f x z plan channel listing a c s held' rest') × (due (length r.log) held' ≡ None)
+      → (first : Follows site told store goes_on faults chosen d e x y plan channel listing a b s held rest)
+      → ((second : Follows site told store goes_on faults chosen e f y z plan channel listing b c (at first.log held rest) held' rest') × (due (length second.log) held' ≡ None))
+      → (r : Follows site told store goes_on faults chosen d f x z plan channel listing a c s held' rest') × (due (length r.log) held' ≡ None)
   follows_on {held' = held'} on first second =
       let r = follows_then_is on first second.0 in
       (r.0, subst (λ (l : List Entry). due (length l) held' ≡ None) (sym r.1) second.1)
 
   -- some turns, and then the end
   pub ends_then : {d e f : D} {x y z : C} {a b c : Archive} {s : Standing} {held : List Later} {rest : List Address} (end : FollowEnd) → ((x y z : C) → goes_on x y → goes_on y z → goes_on x z)
-      → (first : Follows site told store goes_on faults d e x y plan channel listing a b s held rest)
-      → Ends site told store goes_on faults e f y z plan channel listing b c (at first.log held rest) end
-      → Ends site told store goes_on faults d f x z plan channel listing a c s end
+      → (first : Follows site told store goes_on faults chosen d e x y plan channel listing a b s held rest)
+      → Ends site told store goes_on faults chosen e f y z plan channel listing b c (at first.log held rest) end
+      → Ends site told store goes_on faults chosen d f x z plan channel listing a c s end
   ends_then {d = d} {e = e} {f = f} {x = x} {y = y} {z = z} {a = a} {b = b} {c = c} {s = s} {held = held} {rest = rest} end on first second =
       let made : made_in first.turns ++ (made_in second.turns ++ second.last) ≡ made_in (first.turns ++ second.turns) ++ second.last =
       sym (append_assoc (made_in first.turns) (made_in second.turns) second.last) ∙ ap (λ (xs : List Exchange). xs ++ second.last) (sym (made_both first.turns second.turns)) in
@@ -328,7 +329,7 @@ module _ {D C : Type 0} {site : Seen D} {told : C → Option (List Exchange)} {s
         log_is = second.log_is ∙ (ap (λ (l : List Entry). l ++ keeps_of (kept_in second.turns)) first.log_is
             ∙ (log_both s.log (kept_in first.turns) (kept_in second.turns) ∙ ap (λ (fs : List Fragment). s.log ++ keeps_of fs) (sym (kept_both first.turns second.turns))));
         stops = second.stops;
-        asks = subst (λ (xs : List Exchange). Asks told store goes_on faults unsaid x z xs) made (asks_then on first.asks second.asks);
+        asks = subst (λ (xs : List Exchange). Asks told store goes_on faults chosen x z xs) made (asks_then on first.asks second.asks);
         up = subst (AreUpstream plan.place listing (store x) (store z)) (sym (append_assoc first.turns second.turns second.tried))
             (up_then plan.place listing (store x) (store y) (store z) first.turns (second.turns ++ second.tried) first.up second.up);
         adds = subst (λ (fs : List Fragment). Adds site d f a c s.log fs (kept_in second.tried)) (sym (kept_both first.turns second.turns))
@@ -338,16 +339,16 @@ module _ {D C : Type 0} {site : Seen D} {told : C → Option (List Exchange)} {s
 
   -- a candidate was asked for
   pub follows_candidate : {d e : D} {x y : C} {a b : Archive} (log : List Entry) (held held' : List Later) (c : Address) (more : List Address) (s : Step)
-      → (w : Went site told store goes_on faults d e x y plan channel (url_of listing c) c a b log s) → IsTurnOf (at log held (c ∷ more)) (candidate c) → AreOpen log held
+      → (w : Went site told store goes_on faults chosen d e x y plan channel (url_of listing c) c a b log s) → IsTurnOf (at log held (c ∷ more)) (candidate c) → AreOpen log held
       → held' ≡ held ++ waits_by c w.came → AreOpen (log ++ keeps_of (kept_by c w.came)) held'
-      → (f : Follows site told store goes_on faults d e x y plan channel listing a b (at log held (c ∷ more)) held' more) × (f.log ≡ log ++ keeps_of (kept_by c w.came))
+      → (f : Follows site told store goes_on faults chosen d e x y plan channel listing a b (at log held (c ∷ more)) held' more) × (f.log ≡ log ++ keeps_of (kept_by c w.came))
   follows_candidate {d = d} {e = e} {x = x} {y = y} {a = a} {b = b} log held held' c more s w turn waiting is waiting' = (
     record {
       log = log ++ keeps_of (kept_by c w.came);
       turns = asked (candidate c) w.made w.came ∷ [];
       legal = (record { turn = turn; gives = w.gives; id = w.id; fits = step_fits (length log) c w.came s w.step }, ap (λ (h : List Later). at (log ++ keeps_of (kept_by c w.came)) h more) (sym is));
       log_is = ap (λ (fs : List Fragment). log ++ keeps_of fs) (sym (append-nil (kept_by c w.came)));
-      asks = subst (λ (xs : List Exchange). Asks told store goes_on faults unsaid x y xs) (sym (append-nil w.made)) w.asks;
+      asks = subst (λ (xs : List Exchange). Asks told store goes_on faults chosen x y xs) (sym (append-nil w.made)) w.asks;
       up = λ up told. let u = w.up up told in (u.0, u.1, (came_up plan.place listing (candidate c) w.made w.came (up ++ u.0) u.2, tt));
       adds = subst (λ (fs : List Fragment). Adds site d e a b log fs []) (sym (append-nil (kept_by c w.came))) w.adds;
       waiting = waiting';
@@ -357,17 +358,17 @@ module _ {D C : Type 0} {site : Seen D} {told : C → Option (List Exchange)} {s
 
   -- it was kept, or passed over
   pub follows_settled : {d e : D} {x y : C} {a b : Archive} (log : List Entry) (held : List Later) (c : Address) (more : List Address) (s : Step)
-      → (w : Went site told store goes_on faults d e x y plan channel (url_of listing c) c a b log s) → IsTurnOf (at log held (c ∷ more)) (candidate c) → AreOpen log held
+      → (w : Went site told store goes_on faults chosen d e x y plan channel (url_of listing c) c a b log s) → IsTurnOf (at log held (c ∷ more)) (candidate c) → AreOpen log held
       → ((m : ℕ) (n : Address) → s ≡ step.Later m n → ⊥)
-      → (f : Follows site told store goes_on faults d e x y plan channel listing a b (at log held (c ∷ more)) held more)
+      → (f : Follows site told store goes_on faults chosen d e x y plan channel listing a b (at log held (c ∷ more)) held more)
       × (f.log ≡ log ++ keeps_of (kept_by c w.came))
   follows_settled log held c more s w turn waiting never =
       follows_candidate log held held c more s w turn waiting (sym (ap (λ (ls : List Later). held ++ ls) (step_waits (length log) c w.came s w.step never) ∙ append-nil held))
       (open_behind log held plan.place (url_of listing c) c plan.tries w.made w.came waiting turn.3 w.gives)
 
   pub follows_dropped : {d e : D} {x y : C} {a b : Archive} (log : List Entry) (held : List Later) (c : Address) (more : List Address)
-      → Went site told store goes_on faults d e x y plan channel (url_of listing c) c a b log step.Passed → IsTurnOf (at log held (c ∷ more)) (candidate c) → AreOpen log held
-      → (f : Follows site told store goes_on faults d e x y plan channel listing a b (at log held (c ∷ more)) held more) × (due (length f.log) held ≡ None)
+      → Went site told store goes_on faults chosen d e x y plan channel (url_of listing c) c a b log step.Passed → IsTurnOf (at log held (c ∷ more)) (candidate c) → AreOpen log held
+      → (f : Follows site told store goes_on faults chosen d e x y plan channel listing a b (at log held (c ∷ more)) held more) × (due (length f.log) held ≡ None)
   follows_dropped log held c more w turn waiting =
       let f = follows_settled log held c more step.Passed w turn waiting (λ m n e. cc) in
       let same : f.0.log ≡ log = f.1 ∙ (ap (λ (fs : List Fragment). log ++ keeps_of fs) (step_passed (length log) c w.came w.step) ∙ append-nil log) in
@@ -375,9 +376,9 @@ module _ {D C : Type 0} {site : Seen D} {told : C → Option (List Exchange)} {s
 
   -- its place comes later
   pub follows_later : {d e : D} {x y : C} {a b : Archive} (log : List Entry) (held held' : List Later) (c : Address) (more : List Address) (m : ℕ) (n : Address)
-      → (w : Went site told store goes_on faults d e x y plan channel (url_of listing c) c a b log (step.Later m n)) → IsTurnOf (at log held (c ∷ more)) (candidate c) → AreOpen log held
+      → (w : Went site told store goes_on faults chosen d e x y plan channel (url_of listing c) c a b log (step.Later m n)) → IsTurnOf (at log held (c ∷ more)) (candidate c) → AreOpen log held
       → held' ≡ held ++ (record { place = m; address = n }) ∷ []
-      → (f : Follows site told store goes_on faults d e x y plan channel listing a b (at log held (c ∷ more)) held' more) × (due (length f.log) held' ≡ None)
+      → (f : Follows site told store goes_on faults chosen d e x y plan channel listing a b (at log held (c ∷ more)) held' more) × (due (length f.log) held' ≡ None)
   follows_later {d = d} {e = e} {x = x} {y = y} {a = a} {b = b} log held held' c more m n w turn waiting is =
       let l = step_later (length log) c w.came m n w.step in
       let same : log ++ keeps_of (kept_by c w.came) ≡ log = ap (λ (fs : List Fragment). log ++ keeps_of fs) l.kept ∙ append-nil log in
@@ -391,8 +392,8 @@ module _ {D C : Type 0} {site : Seen D} {told : C → Option (List Exchange)} {s
 
   -- what waited was asked for again
   pub follows_again : {d e : D} {x y : C} {a b : Archive} (log : List Entry) (held : List Later) (l : Later) (rest : List Address) (s : Step)
-      → Went site told store goes_on faults d e x y plan channel (url_of listing l.address) l.address a b log s → due (length log) held ≡ Some l → AreOpen log held
-      → Follows site told store goes_on faults d e x y plan channel listing a b (at log held rest) (without (length log) held) rest
+      → Went site told store goes_on faults chosen d e x y plan channel (url_of listing l.address) l.address a b log s → due (length log) held ≡ Some l → AreOpen log held
+      → Follows site told store goes_on faults chosen d e x y plan channel listing a b (at log held rest) (without (length log) held) rest
   follows_again {d = d} {e = e} {x = x} {y = y} {a = a} {b = b} log held l rest s w turn waiting =
       let same : kept_by l.address (again_of w.came) ≡ kept_by l.address w.came = again_kept l.address w.came in
       let all : kept_by l.address (again_of w.came) ++ [] ≡ kept_by l.address w.came = append-nil (kept_by l.address (again_of w.came)) ∙ same in
@@ -404,7 +405,7 @@ module _ {D C : Type 0} {site : Seen D} {told : C → Option (List Exchange)} {s
         turns = asked (again l) w.made (again_of w.came) ∷ [];
         legal = (record { turn = turn; gives = asks_same'; id = again_id channel l.address w.came w.id; fits = again_fits (length log) l.address l w.came s w.step }, refl);
         log_is = ap (λ (fs : List Fragment). log ++ keeps_of fs) (sym (append-nil (kept_by l.address (again_of w.came))));
-        asks = subst (λ (xs : List Exchange). Asks told store goes_on faults unsaid x y xs) (sym (append-nil w.made)) w.asks;
+        asks = subst (λ (xs : List Exchange). Asks told store goes_on faults chosen x y xs) (sym (append-nil w.made)) w.asks;
         up = λ up told. let u = w.up up told in (u.0, u.1, (came_up plan.place listing (again l) w.made (again_of w.came) (up ++ u.0) (again_up plan.place (url_of listing l.address) l.address w.came (up ++ u.0) u.2), tt));
         adds = subst (λ (fs : List Fragment). Adds site d e a b log fs []) (sym all) w.adds;
         waiting = open_behind log (without (length log) held) plan.place (url_of listing l.address) l.address plan.tries w.made (again_of w.came) (open_without log (length log) held waiting) d'.gone asks_same';
@@ -412,7 +413,7 @@ module _ {D C : Type 0} {site : Seen D} {told : C → Option (List Exchange)} {s
 
   -- memory was wanted before anything was asked
   pub ends_none : ((d : D) (t : ℕ) (c : Image) → site.left_at d t c → t ≤ (site.view d).moment) → ((x : C) → goes_on x x) → (d : D) (x : C) (a : Archive) (log : List Entry) (held : List Later) (rest : List Address)
-      → Stands a log None (site.may_leave d) → Ends site told store goes_on faults d d x x plan channel listing a a (at log held rest) ends.NoMemory
+      → Stands a log None (site.may_leave d) → Ends site told store goes_on faults chosen d d x x plan channel listing a a (at log held rest) ends.NoMemory
   ends_none no_later same d x a log held rest stands = record {
     to = at log held rest;
     turns = [];
@@ -429,9 +430,9 @@ module _ {D C : Type 0} {site : Seen D} {told : C → Option (List Exchange)} {s
 
   -- an address was asked for whose turn it was, and the call ended
   pub ends_one : {d e : D} {x y : C} {a b : Archive} (log : List Entry) (held : List Later) (rest : List Address) (who : Whose) (end : FollowEnd)
-      → Stopped site told store goes_on faults d e x y plan channel (url_of listing (address_for who)) (address_for who) a b log end → IsTurnOf (at log held rest) who
+      → Stopped site told store goes_on faults chosen d e x y plan channel (url_of listing (address_for who)) (address_for who) a b log end → IsTurnOf (at log held rest) who
       → (end ≡ ends.DiskFault → Rose (site.view d).disk_faults (site.view e).disk_faults)
-      → Ends site told store goes_on faults d e x y plan channel listing a b (at log held rest) end
+      → Ends site told store goes_on faults chosen d e x y plan channel listing a b (at log held rest) end
   ends_one {d = d} {e = e} {x = x} {y = y} {a = a} {b = b} log held rest who end w turn fault = record {
     to = at log held rest;
     turns = [];
@@ -456,8 +457,8 @@ module _ {D C : Type 0} {site : Seen D} {told : C → Option (List Exchange)} {s
 
   -- memory was wanted once a candidate had come
   pub ends_wanting : {d e : D} {x y : C} {a b : Archive} (log : List Entry) (held : List Later) (c : Address) (rest : List Address) (s : Step)
-      → (w : Went site told store goes_on faults d e x y plan channel (url_of listing c) c a b log s) → IsTurnOf (at log held rest) (candidate c) → kept_by c w.came ≡ []
-      → Ends site told store goes_on faults d e x y plan channel listing a b (at log held rest) ends.NoMemory
+      → (w : Went site told store goes_on faults chosen d e x y plan channel (url_of listing c) c a b log s) → IsTurnOf (at log held rest) (candidate c) → kept_by c w.came ≡ []
+      → Ends site told store goes_on faults chosen d e x y plan channel listing a b (at log held rest) ends.NoMemory
   ends_wanting {d = d} {e = e} {x = x} {y = y} {a = a} {b = b} log held c rest s w turn none =
       ends_one log held rest (candidate c) ends.NoMemory
       (record {
@@ -473,7 +474,7 @@ module _ {D C : Type 0} {site : Seen D} {told : C → Option (List Exchange)} {s
   -- nothing was done, and nothing waits for the next place
   pub follows_start : ((d : D) (t : ℕ) (c : Image) → site.left_at d t c → t ≤ (site.view d).moment) → ((x : C) → goes_on x x) → (d : D) (x : C) (a : Archive) (log : List Entry) (held : List Later) (rest : List Address)
       → Stands a log None (site.may_leave d) → AreOpen log held → due (length log) held ≡ None
-      → (f : Follows site told store goes_on faults d d x x plan channel listing a a (at log held rest) held rest) × (due (length f.log) held ≡ None)
+      → (f : Follows site told store goes_on faults chosen d d x x plan channel listing a a (at log held rest) held rest) × (due (length f.log) held ≡ None)
   follows_start no_later same d x a log held rest stands waiting nothing = (
     record {
       log = log;
@@ -489,25 +490,25 @@ module _ {D C : Type 0} {site : Seen D} {told : C → Option (List Exchange)} {s
   )
 
   pub follows_end : {d e : D} {x y : C} {a b : Archive} {s : Standing} {held : List Later} (rest rest' : List Address) → rest ≡ rest'
-      → (f : Follows site told store goes_on faults d e x y plan channel listing a b s held rest) × (due (length f.log) held ≡ None)
-      → (f : Follows site told store goes_on faults d e x y plan channel listing a b s held rest') × (due (length f.log) held ≡ None)
+      → (f : Follows site told store goes_on faults chosen d e x y plan channel listing a b s held rest) × (due (length f.log) held ≡ None)
+      → (f : Follows site told store goes_on faults chosen d e x y plan channel listing a b s held rest') × (due (length f.log) held ≡ None)
   follows_end {d = d} {e = e} {x = x} {y = y} {a = a} {b = b} {s = s} {held = held} rest rest' is before =
-      subst (λ (r : List Address). (f : Follows site told store goes_on faults d e x y plan channel listing a b s held r) × (due (length f.log) held ≡ None)) is before
+      subst (λ (r : List Address). (f : Follows site told store goes_on faults chosen d e x y plan channel listing a b s held r) × (due (length f.log) held ≡ None)) is before
 
   -- what was done, and then what comes next
   pub follows_next : {d e f : D} {x y z : C} {a b c : Archive} {s : Standing} {held held' : List Later} (rest mid rest' : List Address) → ((x y z : C) → goes_on x y → goes_on y z → goes_on x z)
-      → (r : Follows site told store goes_on faults d e x y plan channel listing a b s held rest) × (due (length r.log) held ≡ None) → rest ≡ mid
+      → (r : Follows site told store goes_on faults chosen d e x y plan channel listing a b s held rest) × (due (length r.log) held ≡ None) → rest ≡ mid
       → ((log : List Entry) → Stands b log None (site.may_leave e) → AreOpen log held → due (length log) held ≡ None
-      → (r : Follows site told store goes_on faults e f y z plan channel listing b c (at log held mid) held' rest') × (due (length r.log) held' ≡ None))
-      → (r : Follows site told store goes_on faults d f x z plan channel listing a c s held' rest') × (due (length r.log) held' ≡ None)
+      → (r : Follows site told store goes_on faults chosen e f y z plan channel listing b c (at log held mid) held' rest') × (due (length r.log) held' ≡ None))
+      → (r : Follows site told store goes_on faults chosen d f x z plan channel listing a c s held' rest') × (due (length r.log) held' ≡ None)
   follows_next rest mid rest' on before is next =
       let b = follows_end rest mid is before in
       follows_on on b.0 (next b.0.log (follows_stands b.0) b.0.waiting b.1)
 
   pub ends_next : {d e f : D} {x y z : C} {a b c : Archive} {s : Standing} {held : List Later} (rest mid : List Address) (end : FollowEnd) → ((x y z : C) → goes_on x y → goes_on y z → goes_on x z)
-      → (r : Follows site told store goes_on faults d e x y plan channel listing a b s held rest) × (due (length r.log) held ≡ None) → rest ≡ mid
-      → ((log : List Entry) → Stands b log None (site.may_leave e) → AreOpen log held → due (length log) held ≡ None → Ends site told store goes_on faults e f y z plan channel listing b c (at log held mid) end)
-      → Ends site told store goes_on faults d f x z plan channel listing a c s end
+      → (r : Follows site told store goes_on faults chosen d e x y plan channel listing a b s held rest) × (due (length r.log) held ≡ None) → rest ≡ mid
+      → ((log : List Entry) → Stands b log None (site.may_leave e) → AreOpen log held → due (length log) held ≡ None → Ends site told store goes_on faults chosen e f y z plan channel listing b c (at log held mid) end)
+      → Ends site told store goes_on faults chosen d f x z plan channel listing a c s end
   ends_next rest mid end on before is next =
       let b = follows_end rest mid is before in
       ends_then end on b.0 (next b.0.log (follows_stands b.0) b.0.waiting b.1)

@@ -19,7 +19,7 @@ use Rattle.sm_archive.specs.Stands.{Stands}
 use Rattle.sm_manin.specs.declared.listing.Listing.{Listing}
 use Rattle.sm_fetch.specs.declared.dial.Exchange.{Exchange}
 use Rattle.sm_fetch.specs.declared.got.Got.TheVariants as got
-use Rattle.sm_fetch.specs.Exchanges.{with_all}
+use Rattle.sm_fetch.specs.Exchanges.{Peer, with_all}
 use Rattle.sm_fetch.specs.Origins.{FromOrigin}
 use Rattle.sm_client.specs.declared.report.Miss.{Miss}
 use Rattle.sm_client.specs.Origins.{again}
@@ -174,8 +174,8 @@ reached plan up place_is narrow names x made rest moment last before log held (r
 -- ---- a whole call
 
 module _ {D C : Type 0} {site : Seen D}
-    {told : C → Option (List Exchange)} {store : C → List Entry → Type 0} {goes_on : C → C → Type 0} {faults : C → ℕ}
-    {d e : D} {x y : C} {plan : PullPlan} {channel : List Track} {a b : Archive} (before : List Entry) (end : FollowEnd) (c : Called site told store goes_on faults d e x y plan channel a b before end) where
+    {told : C → Option (List Exchange)} {store : C → List Entry → Type 0} {goes_on : C → C → Type 0} {faults : C → ℕ} {chosen : C → Option Peer}
+    {d e : D} {x y : C} {plan : PullPlan} {channel : List Track} {a b : Archive} (before : List Entry) (end : FollowEnd) (c : Called site told store goes_on faults chosen d e x y plan channel a b before end) where
   told_made : (up : List Track) (first last : List Entry) (made : List Exchange) → IsServed told x y plan.place up first last made → made ≡ made_by c.rounds ++ made_of c.part
   told_made up first last made s = made_same (told x) (told y) s.before made (made_by c.rounds ++ made_of c.part) s.told_before s.told_after c.asks.told_is
 

@@ -1,5 +1,5 @@
 -- What asking for one address gives, and what becomes of it.
-use Rattle.std.specs.Prelude.{◌≡◌, ◌≢◌, ◌<◌, ◌⊎◌, ℕ, List, [], ◌∷◌, length, Option, None}
+use Rattle.std.specs.Prelude.{◌≡◌, ◌≢◌, ◌<◌, ◌⊎◌, ℕ, List, [], ◌∷◌, length, Option}
 use Rattle.sm_model.specs.declared.address.Address.{Address}
 use Rattle.sm_model.specs.declared.entry.Entry.{Entry}
 use Rattle.sm_model.specs.declared.fragment.Fragment.{Fragment}
@@ -28,10 +28,6 @@ use Rattle.sm_standby.specs.declared.placing.Step.TheVariants as step
 use Rattle.sm_standby.specs.declared.report.FollowEnd.{FollowEnd}
 use Rattle.sm_standby.specs.declared.report.FollowEnd.TheVariants as ends
 use Rattle.sm_standby.specs.Turns.{AsksPlaced, missed, Came, absent, kept, later, dropped, placed_of, HasId, kept_by, OnUpstream}
-
--- nothing is said of what the dial is turned to
-abbrev pub unsaid : {C : Type 0} → C → Option Peer
-unsaid d = None
 
 -- ---- what all tries give
 
@@ -92,14 +88,14 @@ CameUpstream place url a (dropped n raw) up = Unit {0}
 
 -- An address was asked for, and this became of what came.
 pub record Went {D C : Type 0} (site : Seen D) (told : C → Option (List Exchange)) (store : C → List Entry → Type 0)
-    (goes_on : C → C → Type 0) (faults : C → ℕ) (disk disk' : D) (dial dial' : C) (plan : PullPlan) (channel : List Track) (url : List ℕ)
-    (a : Address) (old new : Archive) (log : List Entry) (s : Step) : Type 0 where
+    (goes_on : C → C → Type 0) (faults : C → ℕ) (chosen : C → Option Peer) (disk disk' : D) (dial dial' : C) (plan : PullPlan) (channel : List Track)
+    (url : List ℕ) (a : Address) (old new : Archive) (log : List Entry) (s : Step) : Type 0 where
   pub made : List Exchange
   pub came : Came
   pub gives : Gives (AsksPlaced plan.place url a) missed plan.tries made (placed_of came)
   pub id : HasId channel a came
   pub step : IsStep (length log) a came s
-  pub asks : Asks told store goes_on faults unsaid dial dial' made
+  pub asks : Asks told store goes_on faults chosen dial dial' made
   pub up : OnUpstream (store dial) (store dial') (CameUpstream plan.place url a came)
   pub adds : Adds site disk disk' old new log (kept_by a came) []
 
@@ -134,7 +130,8 @@ pub record IsOther (plan : PullPlan) (channel : List Track) (url : List ℕ) (a 
   pub other : id ≢ id_in channel a
 
 -- how what was read under this number ends the call
-pub record IsUnkept (channel : List Track) (a : Address) (new : Archive) (log : List Entry) (n : ℕ) (raw : RawFragment) (tried : List Came) (why : Stop) : Type 0 where
+pub record IsUnkept (channel : List Track) (a : Address) (new : Archive) (log : List Entry) (n : ℕ) (raw : RawFragment)
+    (tried : List Came) (why : Stop) : Type 0 where
   pub tried_is : tried ≡ kept n raw ∷ []
   pub next : n ≡ length log
   pub id : raw.id ≡ id_in channel a
@@ -174,11 +171,11 @@ StopsAt plan channel url a new log made tried (ends.NoManifest outcomes) = ⊥
 StopsAt plan channel url a new log made tried (ends.NoTrack index) = ⊥
 
 pub record Stopped {D C : Type 0} (site : Seen D) (told : C → Option (List Exchange)) (store : C → List Entry → Type 0)
-    (goes_on : C → C → Type 0) (faults : C → ℕ) (disk disk' : D) (dial dial' : C) (plan : PullPlan) (channel : List Track) (url : List ℕ)
-    (a : Address) (old new : Archive) (log : List Entry) (end : FollowEnd) : Type 0 where
+    (goes_on : C → C → Type 0) (faults : C → ℕ) (chosen : C → Option Peer) (disk disk' : D) (dial dial' : C) (plan : PullPlan) (channel : List Track)
+    (url : List ℕ) (a : Address) (old new : Archive) (log : List Entry) (end : FollowEnd) : Type 0 where
   pub made : List Exchange
   pub tried : List Came
   pub stops : StopsAt plan channel url a new log made tried end
-  pub asks : Asks told store goes_on faults unsaid dial dial' made
+  pub asks : Asks told store goes_on faults chosen dial dial' made
   pub up : OnUpstream (store dial) (store dial') (TriedUpstream plan.place url a tried)
   pub adds : Adds site disk disk' old new log [] (tried_by a tried)

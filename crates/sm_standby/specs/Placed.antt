@@ -15,6 +15,7 @@ use Rattle.sm_archive.specs.Store.{IsStore}
 use Rattle.sm_manin.specs.declared.listing.Listing.{Listing}
 use Rattle.sm_fetch.specs.declared.dial.Exchange.{Exchange}
 use Rattle.sm_fetch.specs.declared.place.Place.{Place}
+use Rattle.sm_fetch.specs.Exchanges.{Peer}
 use Rattle.sm_fetch.specs.Origins.{MayBeAsked}
 use Rattle.sm_fetch.specs.Requests.{fragment_target}
 use Rattle.sm_pull.specs.declared.plan.PullPlan.{PullPlan}
@@ -65,9 +66,9 @@ StaysPlaced site store disk disk' dial dial' place before rounds part =
 
 -- What a call did, how many fragments were kept, and that these stand at their places; and what it comes to over a primary that keeps a log.
 pub record Followed {D C : Type 0} (site : Seen D) (told : C → Option (List Exchange)) (store : C → List Entry → Type 0)
-    (goes_on : C → C → Type 0) (faults : C → ℕ) (disk disk' : D) (dial dial' : C) (plan : PullPlan) (channel : List Track)
+    (goes_on : C → C → Type 0) (faults : C → ℕ) (chosen : C → Option Peer) (disk disk' : D) (dial dial' : C) (plan : PullPlan) (channel : List Track)
     (old new : Archive) (before : List Entry) (report : FollowReport) : Type 0 where
-  pub called : Called site told store goes_on faults disk disk' dial dial' plan channel old new before report.end
+  pub called : Called site told store goes_on faults chosen disk disk' dial dial' plan channel old new before report.end
   pub kept : report.kept ≡ length (kept_by called.rounds ++ kept_in called.part.turns)
   pub placed : StaysPlaced site store disk disk' dial dial' plan.place before called.rounds called.part
   -- Where the primary's log has the store's entries at their places, it has those of each store that a crash may leave.

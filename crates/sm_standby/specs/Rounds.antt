@@ -13,6 +13,7 @@ use Rattle.sm_manin.specs.declared.listing.Listing.{Listing}
 use Rattle.sm_fetch.specs.declared.dial.Exchange.{Exchange}
 use Rattle.sm_fetch.specs.declared.got.Got.TheVariants as got
 use Rattle.sm_fetch.specs.declared.place.Place.{Place}
+use Rattle.sm_fetch.specs.Exchanges.{Peer}
 use Rattle.sm_client.specs.Stands.{listed, times_of, miss_of}
 use Rattle.sm_pull.specs.declared.plan.PullPlan.{PullPlan}
 use Rattle.sm_pull.specs.Adds.{Adds, keeps_of}
@@ -24,7 +25,6 @@ use Rattle.sm_standby.specs.declared.report.FollowEnd.TheVariants as ends
 use Rattle.sm_standby.specs.Candidates.{addresses_by, candidates_by}
 use Rattle.sm_standby.specs.Waiting.{due, AreOpen, IsLeast}
 use Rattle.sm_standby.specs.Turns.{Turn, Standing, Turns, made_in, kept_in, IsUpstream, OnUpstream}
-use Rattle.sm_standby.specs.Asked.{unsaid}
 use Rattle.sm_standby.specs.Followed.{at, EndsTurns}
 
 -- ---- one round
@@ -40,7 +40,8 @@ pub record Round : Type 0 where
   pub turns : List Turn
 
 -- A manifest is read that has the tracks of the channel. Then each of its addresses has its turn, and nothing waits for the next place.
-pub record IsRound (plan : PullPlan) (channel : List Track) (log : List Entry) (held : List Later) (r : Round) (log' : List Entry) (held' : List Later) : Type 0 where
+pub record IsRound (plan : PullPlan) (channel : List Track) (log : List Entry) (held : List Later) (r : Round) (log' : List Entry)
+    (held' : List Later) : Type 0 where
   pub reads : Gives (AsksManifest plan.place) miss_of plan.tries r.reads (got.Manifest r.listing)
   pub tracks : HasTracks r.listing channel
   pub turns : Turns plan channel r.listing (at log held (addresses_of channel r.listing)) r.turns (at log' held' [])
@@ -131,27 +132,27 @@ StopsRound plan channel log held new p to end =
 
 -- So many rounds ended.
 pub record Rounds {D C : Type 0} (site : Seen D) (told : C → Option (List Exchange)) (store : C → List Entry → Type 0)
-    (goes_on : C → C → Type 0) (faults : C → ℕ) (disk disk' : D) (dial dial' : C) (plan : PullPlan) (channel : List Track)
+    (goes_on : C → C → Type 0) (faults : C → ℕ) (chosen : C → Option Peer) (disk disk' : D) (dial dial' : C) (plan : PullPlan) (channel : List Track)
     (old new : Archive) (before : List Entry) (held held' : List Later) (count : ℕ) : Type 0 where
   pub log : List Entry
   pub rounds : List Round
   pub legal : AreRounds plan channel before held rounds log held'
   pub count_is : length rounds ≡ count
   pub log_is : log ≡ before ++ keeps_of (kept_by rounds)
-  pub asks : Asks told store goes_on faults unsaid dial dial' (made_by rounds)
+  pub asks : Asks told store goes_on faults chosen dial dial' (made_by rounds)
   pub up : OnUpstream (store dial) (store dial') (RoundsUpstream plan.place rounds)
   pub adds : Adds site disk disk' old new before (kept_by rounds) []
   pub waiting : AreOpen log held'
 
 -- A round ended the call.
 pub record RoundEnds {D C : Type 0} (site : Seen D) (told : C → Option (List Exchange)) (store : C → List Entry → Type 0)
-    (goes_on : C → C → Type 0) (faults : C → ℕ) (disk disk' : D) (dial dial' : C) (plan : PullPlan) (channel : List Track)
+    (goes_on : C → C → Type 0) (faults : C → ℕ) (chosen : C → Option Peer) (disk disk' : D) (dial dial' : C) (plan : PullPlan) (channel : List Track)
     (old new : Archive) (before : List Entry) (held : List Later) (end : FollowEnd) : Type 0 where
   pub part : Part
   pub to : Standing
   pub stops : StopsRound plan channel before held new part to end
   pub log_is : to.log ≡ before ++ keeps_of (kept_in part.turns)
-  pub asks : Asks told store goes_on faults unsaid dial dial' (made_of part)
+  pub asks : Asks told store goes_on faults chosen dial dial' (made_of part)
   pub up : OnUpstream (store dial) (store dial') (λ up. AllByRecursion (IsUpstream plan.place part.listing up) (part.turns ++ part.tried))
   pub adds : Adds site disk disk' old new before (kept_in part.turns) (kept_in part.tried)
   pub fault : end ≡ ends.DiskFault → Rose (site.view disk).disk_faults (site.view disk').disk_faults
@@ -162,18 +163,21 @@ EndsCall plan channel rounds log held new p to ends.Done = (length rounds ≡ pl
 EndsCall plan channel rounds log held new p to (ends.Gap place next) = (length rounds ≡ plan.rounds) × (place ≡ length log) × IsLeast held next × (p ≡ no_part)
 EndsCall plan channel rounds log held new p to (ends.NoManifest outcomes) = (length rounds < plan.rounds) × StopsRound plan channel log held new p to
     (ends.NoManifest outcomes)
-EndsCall plan channel rounds log held new p to (ends.NoTrack index) = (length rounds < plan.rounds) × StopsRound plan channel log held new p to (ends.NoTrack index)
+EndsCall plan channel rounds log held new p to (ends.NoTrack index) = (length rounds < plan.rounds) × StopsRound plan channel log held new p to
+    (ends.NoTrack index)
 EndsCall plan channel rounds log held new p to (ends.GaveUp a outcomes) = (length rounds < plan.rounds) × StopsRound plan channel log held new p to
     (ends.GaveUp a outcomes)
-EndsCall plan channel rounds log held new p to (ends.OtherId a id) = (length rounds < plan.rounds) × StopsRound plan channel log held new p to (ends.OtherId a id)
-EndsCall plan channel rounds log held new p to (ends.Refused a cause) = (length rounds < plan.rounds) × StopsRound plan channel log held new p to (ends.Refused a cause)
+EndsCall plan channel rounds log held new p to (ends.OtherId a id) = (length rounds < plan.rounds) × StopsRound plan channel log held new p to
+    (ends.OtherId a id)
+EndsCall plan channel rounds log held new p to (ends.Refused a cause) = (length rounds < plan.rounds) × StopsRound plan channel log held new p to
+    (ends.Refused a cause)
 EndsCall plan channel rounds log held new p to ends.Full = (length rounds < plan.rounds) × StopsRound plan channel log held new p to ends.Full
 EndsCall plan channel rounds log held new p to ends.DiskFault = (length rounds < plan.rounds) × StopsRound plan channel log held new p to ends.DiskFault
 EndsCall plan channel rounds log held new p to ends.NoMemory = (length rounds < plan.rounds) × StopsRound plan channel log held new p to ends.NoMemory
 
 -- A whole call, from this log on: some rounds ended, and perhaps a part of one more.
 pub record Called {D C : Type 0} (site : Seen D) (told : C → Option (List Exchange)) (store : C → List Entry → Type 0)
-    (goes_on : C → C → Type 0) (faults : C → ℕ) (disk disk' : D) (dial dial' : C) (plan : PullPlan) (channel : List Track)
+    (goes_on : C → C → Type 0) (faults : C → ℕ) (chosen : C → Option Peer) (disk disk' : D) (dial dial' : C) (plan : PullPlan) (channel : List Track)
     (old new : Archive) (before : List Entry) (end : FollowEnd) : Type 0 where
   pub rounds : List Round
   pub log : List Entry
@@ -182,7 +186,7 @@ pub record Called {D C : Type 0} (site : Seen D) (told : C → Option (List Exch
   pub to : Standing
   pub legal : AreRounds plan channel before [] rounds log held
   pub ended : EndsCall plan channel rounds log held new part to end
-  pub asks : Asks told store goes_on faults unsaid dial dial' (made_by rounds ++ made_of part)
+  pub asks : Asks told store goes_on faults chosen dial dial' (made_by rounds ++ made_of part)
   pub up : OnUpstream (store dial) (store dial') (λ up. RoundsUpstream plan.place rounds up × AllByRecursion (IsUpstream plan.place part.listing up)
       (part.turns ++ part.tried))
   pub adds : Adds site disk disk' old new before (kept_by rounds ++ kept_in part.turns) (kept_in part.tried)

@@ -31,19 +31,19 @@ fn take_one<C: Dial, D: Disk>(
 ) -> Result<bool, FollowEnd>
     requires stands { (log : List Entry) × Stands archive.old log None (D.seen.may_leave disk.old) × AreOpen log held.old }
     ensures ok { OnOk result ((log : List Entry) (rest : List Address) → Stands archive.old log None (D.seen.may_leave disk.old) → AreOpen log held.old
-        → Follows D.seen C.log C.store C.later C.dial_faults disk.old disk.new dial.old dial.new plan.now channel.now listing.now
+        → Follows D.seen C.log C.store C.later C.dial_faults C.chosen disk.old disk.new dial.old dial.new plan.now channel.now listing.now
         archive.old archive.new (at log held.old rest) held.new rest) }
     ensures fewer { result ≡ Ok true → length held.new < length held.old }
     ensures nothing { result ≡ Ok false → (log : List Entry) → Stands archive.new log None (D.seen.may_leave disk.new) → due (length log) held.new ≡ None }
     ensures err { IfErr result (λ end. (log : List Entry) (rest : List Address) → Stands archive.old log None (D.seen.may_leave disk.old) → AreOpen log held.old
-        → Ends D.seen C.log C.store C.later C.dial_faults disk.old disk.new dial.old dial.new plan.now channel.now listing.now
+        → Ends D.seen C.log C.store C.later C.dial_faults C.chosen disk.old disk.new dial.old dial.new plan.now channel.now listing.now
         archive.old archive.new (at log held.old rest) end) }
 {
     match held.take(archive.len()) {
         None => Ok(false),
         Some(later) => {
             let url = url_of(listing, &later.address);
-            match place_one(
+            place_one(
                 alloc,
                 dial,
                 disk,
@@ -52,10 +52,8 @@ fn take_one<C: Dial, D: Disk>(
                 channel,
                 url,
                 later.address,
-            ) {
-                Ok(_) => Ok(true),
-                Err(end) => Err(end),
-            }
+            )?;
+            Ok(true)
         }
     }
 }
@@ -73,21 +71,17 @@ pub(crate) fn take_held<C: Dial, D: Disk>(
 ) -> Result<(), FollowEnd>
     requires stands { (log : List Entry) × Stands archive.old log None (D.seen.may_leave disk.old) × AreOpen log held.old }
     ensures ok { OnOk result ((log : List Entry) (rest : List Address) → Stands archive.old log None (D.seen.may_leave disk.old) → AreOpen log held.old
-        → Follows D.seen C.log C.store C.later C.dial_faults disk.old disk.new dial.old dial.new plan.now channel.now listing.now
+        → Follows D.seen C.log C.store C.later C.dial_faults C.chosen disk.old disk.new dial.old dial.new plan.now channel.now listing.now
         archive.old archive.new (at log held.old rest) held.new rest) }
     ensures nothing { OnOk result ((log : List Entry) → Stands archive.new log None (D.seen.may_leave disk.new) → due (length log) held.new ≡ None) }
     ensures err { IfErr result (λ end. (log : List Entry) (rest : List Address) → Stands archive.old log None (D.seen.may_leave disk.old) → AreOpen log held.old
-        → Ends D.seen C.log C.store C.later C.dial_faults disk.old disk.new dial.old dial.new plan.now channel.now listing.now
+        → Ends D.seen C.log C.store C.later C.dial_faults C.chosen disk.old disk.new dial.old dial.new plan.now channel.now listing.now
         archive.old archive.new (at log held.old rest) end) }
 {
     loop {
-        match take_one(alloc, dial, disk, archive, held, plan, channel, listing) {
-            Err(end) => return Err(end),
-            Ok(took) => {
-                if !took {
-                    return Ok(());
-                }
-            }
+        let took = take_one(alloc, dial, disk, archive, held, plan, channel, listing)?;
+        if !took {
+            return Ok(());
         }
     }
 }

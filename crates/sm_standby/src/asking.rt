@@ -3,11 +3,12 @@ ghost use Rattle.std.specs.Prelude.{◌≡◌, List};
 ghost use Rattle.sm_fetch.specs.declared.dial.Exchange.{Exchange};
 ghost use Rattle.sm_pull.specs.Asks.{Asks};
 ghost use Rattle.sm_standby.specs.Turns.{missed};
-ghost use Rattle.sm_standby.specs.Asked.{Finds, found_of, unsaid};
+ghost use Rattle.sm_standby.specs.Asked.{Finds, found_of};
 
 use sm_client::{Miss, Outcomes};
 use sm_fetch::{Dial, Place, Placed, get_placed};
 use sm_model::{Address, RawFragment};
+use sm_pull::rest;
 use std::alloc::Global;
 
 // What all tries at an address gave.
@@ -47,7 +48,7 @@ fn found_of(placed: Placed) -> Found
     }
 }
 
-// As many requests for an address as there are tries, until a fragment is read or none is there.
+// As many requests for an address as there are tries, a while between them, until a fragment is read or none is there.
 pub(crate) fn ask<C: Dial>(
     alloc: Global,
     dial: &mut C,
@@ -56,11 +57,12 @@ pub(crate) fn ask<C: Dial>(
     url: &[u8],
     address: &Address,
 ) -> Found
-    ensures { (made : List Exchange) × Asks C.log C.store C.later C.dial_faults unsaid dial.old dial.new made
+    ensures { (made : List Exchange) × Asks C.log C.store C.later C.dial_faults C.chosen dial.old dial.new made
         × Finds place.now tries url.now address.now made (C.store dial.old) (C.store dial.new) result }
 {
     let mut outcomes = Outcomes::new(alloc);
-    for _done in 0..tries {
+    for done in 0..tries {
+        rest(dial, done > 0);
         let placed = get_placed(alloc, dial, place, url, address);
         match miss_of(&placed) {
             Some(miss) => match outcomes.push(miss) {

@@ -1,9 +1,9 @@
 //! Following a primary.
-ghost use Rattle.std.specs.Prelude.{◌≡◌, ◌<◌, ◌≤◌, ℕ, List, Option, None, Some, length, IfOk};
+ghost use Rattle.std.specs.Prelude.{◌≡◌, ◌<◌, List, None, Some};
 ghost use Rattle.sm_model.specs.declared.entry.Entry.{Entry};
 ghost use Rattle.sm_model.specs.declared.track.Track.{Track};
 ghost use Rattle.sm_log.specs.Logs.{channel_of};
-ghost use Rattle.sm_archive.specs.Stands.{Keeps, Stands};
+ghost use Rattle.sm_archive.specs.Stands.{Stands};
 ghost use Rattle.sm_standby.specs.Rounds.{Called};
 ghost use Rattle.sm_standby.specs.Placed.{Followed};
 
@@ -11,25 +11,12 @@ use crate::round::follow_channel;
 use crate::{FollowEnd, FollowReport};
 use sm_archive::Archive;
 use sm_fetch::Dial;
-use sm_model::{Channel, NoMemory};
-use sm_pull::PullPlan;
+use sm_model::NoMemory;
+use sm_pull::{PullPlan, channel_of};
 use sm_site::Disk;
 use std::alloc::Global;
 
-// An equal channel to that of an archive which has one.
-fn channel_of(alloc: Global, archive: &Archive) -> Result<Channel, NoMemory>
-    requires { (bodies : List (List ℕ)) × (body : Option (List ℕ)) × (log : List Entry) × (doubt : Option Entry) × (channel : List Track)
-        × Keeps archive.now bodies body log doubt × (channel_of log ≡ Some channel) }
-    ensures same { IfOk result (λ c. (bodies : List (List ℕ)) (body : Option (List ℕ)) (log : List Entry) (doubt : Option Entry)
-        → Keeps archive.now bodies body log doubt → channel_of log ≡ Some c) }
-    ensures few { IfOk result (λ c. length c ≤ 64) }
-{
-    match archive.catalog() {
-        Some(catalog) => catalog.channel().copy(alloc),
-        None => unreachable!(),
-    }
-}
-
+// As many rounds as the plan has, in the channel of the archive.
 fn follow_store<C: Dial, D: Disk>(
     alloc: Global,
     dial: &mut C,
@@ -40,7 +27,7 @@ fn follow_store<C: Dial, D: Disk>(
     requires rounds { 0 < plan.now.rounds }
     requires stands { (log : List Entry) × (channel : List Track) × Stands archive.old log None (D.seen.may_leave disk.old) × (channel_of log ≡ Some channel) }
     ensures { (log : List Entry) (channel : List Track) → Stands archive.old log None (D.seen.may_leave disk.old) → channel_of log ≡ Some channel
-        → Called D.seen C.log C.store C.later C.dial_faults disk.old disk.new dial.old dial.new plan.now channel
+        → Called D.seen C.log C.store C.later C.dial_faults C.chosen disk.old disk.new dial.old dial.new plan.now channel
         archive.old archive.new log result }
 {
     match channel_of(alloc, archive) {
@@ -52,8 +39,8 @@ fn follow_store<C: Dial, D: Disk>(
 /// Rebuilds the log of a primary, entry by entry, in an archive that has a channel and isn't in doubt: in each round it reads the manifest
 /// ([MS-SSTR] 2.2.1, 2.2.2), and asks for the fragments at the starts and the ends of the times that are listed of the channel's tracks
 /// ([MS-SSTR] 2.2.3), of which each comes with its place in the primary's log as its sequence number ([MS-SSTR] 2.2.4; ISO/IEC 14496-12,
-/// 8.8.5). What has the next place is kept; an address whose place comes later waits for it, and is then asked for again. Between two rounds
-/// the dial pauses.
+/// 8.8.5). What has the next place is kept; an address whose place comes later waits for it, and is then asked for again. Between two
+/// tries, and between two rounds, the dial pauses.
 pub fn follow<C: Dial, D: Disk>(
     alloc: Global,
     dial: &mut C,
@@ -64,7 +51,7 @@ pub fn follow<C: Dial, D: Disk>(
     requires rounds { 0 < plan.now.rounds }
     requires stands { (log : List Entry) × (channel : List Track) × Stands archive.old log None (D.seen.may_leave disk.old) × (channel_of log ≡ Some channel) }
     ensures followed { (log : List Entry) (channel : List Track) → Stands archive.old log None (D.seen.may_leave disk.old) → channel_of log ≡ Some channel
-        → Followed D.seen C.log C.store C.later C.dial_faults disk.old disk.new dial.old dial.new plan.now channel
+        → Followed D.seen C.log C.store C.later C.dial_faults C.chosen disk.old disk.new dial.old dial.new plan.now channel
         archive.old archive.new log result }
 {
     let before = archive.len();

@@ -17,7 +17,7 @@ use crate::placing::{Step, place_one};
 use sm_archive::Archive;
 use sm_fetch::Dial;
 use sm_manin::Listing;
-use sm_model::{Address, NoMemory, Track};
+use sm_model::{Address, Track};
 use sm_pull::{PullPlan, is_kept};
 use sm_site::Disk;
 use std::alloc::Global;
@@ -45,43 +45,26 @@ fn follow_one<C: Dial, D: Disk>(
     requires stands { (log : List Entry) × Stands archive.old log None (D.seen.may_leave disk.old) × AreOpen log held.old × (due (length log) held.old ≡ None) }
     ensures ok { OnOk result ((log : List Entry) (more : List Address) → Stands archive.old log None (D.seen.may_leave disk.old) → AreOpen log held.old
         → due (length log) held.old ≡ None
-        → (f : Follows D.seen C.log C.store C.later C.dial_faults disk.old disk.new dial.old dial.new plan.now channel.now listing.now
+        → (f : Follows D.seen C.log C.store C.later C.dial_faults C.chosen disk.old disk.new dial.old dial.new plan.now channel.now listing.now
         archive.old archive.new (at log held.old (address.now ∷ more)) held.new more) × (due (length f.log) held.new ≡ None)) }
     ensures err { IfErr result (λ end. (log : List Entry) (more : List Address) → Stands archive.old log None (D.seen.may_leave disk.old) → AreOpen log held.old
         → due (length log) held.old ≡ None
-        → Ends D.seen C.log C.store C.later C.dial_faults disk.old disk.new dial.old dial.new plan.now channel.now listing.now
+        → Ends D.seen C.log C.store C.later C.dial_faults C.chosen disk.old disk.new dial.old dial.new plan.now channel.now listing.now
         archive.old archive.new (at log held.old (address.now ∷ more)) end) }
 {
     if is_there(archive, held, address) {
         return Ok(());
     }
-    match address.copy(alloc) {
-        Err(NoMemory) => Err(FollowEnd::NoMemory),
-        Ok(copy) => match place_one(
-            alloc,
-            dial,
-            disk,
-            archive,
-            plan,
-            channel,
-            url_of(listing, address),
-            copy,
-        ) {
-            Err(end) => Err(end),
-            Ok(step) => match step {
-                Step::Passed => Ok(()),
-                Step::Later(place, later) => match held.add(place, later) {
-                    Ok(()) => Ok(()),
-                    Err(NoMemory) => Err(FollowEnd::NoMemory),
-                },
-                Step::Kept => {
-                    match take_held(alloc, dial, disk, archive, held, plan, channel, listing) {
-                        Ok(()) => Ok(()),
-                        Err(end) => Err(end),
-                    }
-                }
-            },
-        },
+    let copy = address.copy(alloc)?;
+    let url = url_of(listing, address);
+    let step = place_one(alloc, dial, disk, archive, plan, channel, url, copy)?;
+    match step {
+        Step::Passed => Ok(()),
+        Step::Later(place, later) => {
+            held.add(place, later)?;
+            Ok(())
+        }
+        Step::Kept => take_held(alloc, dial, disk, archive, held, plan, channel, listing),
     }
 }
 
@@ -100,20 +83,17 @@ fn follow_row<C: Dial, D: Disk>(
     requires stands { (log : List Entry) × Stands archive.old log None (D.seen.may_leave disk.old) × AreOpen log held.old × (due (length log) held.old ≡ None) }
     ensures ok { OnOk result ((log : List Entry) (more : List Address) → Stands archive.old log None (D.seen.may_leave disk.old) → AreOpen log held.old
         → due (length log) held.old ≡ None
-        → (f : Follows D.seen C.log C.store C.later C.dial_faults disk.old disk.new dial.old dial.new plan.now channel.now listing.now
+        → (f : Follows D.seen C.log C.store C.later C.dial_faults C.chosen disk.old disk.new dial.old dial.new plan.now channel.now listing.now
         archive.old archive.new (at log held.old (addresses.now ++ more)) held.new more) × (due (length f.log) held.new ≡ None)) }
     ensures err { IfErr result (λ end. (log : List Entry) (more : List Address) → Stands archive.old log None (D.seen.may_leave disk.old) → AreOpen log held.old
         → due (length log) held.old ≡ None
-        → Ends D.seen C.log C.store C.later C.dial_faults disk.old disk.new dial.old dial.new plan.now channel.now listing.now
+        → Ends D.seen C.log C.store C.later C.dial_faults C.chosen disk.old disk.new dial.old dial.new plan.now channel.now listing.now
         archive.old archive.new (at log held.old (addresses.now ++ more)) end) }
 {
     for address in addresses {
-        match follow_one(
+        follow_one(
             alloc, dial, disk, archive, held, plan, channel, listing, address,
-        ) {
-            Ok(()) => {}
-            Err(end) => return Err(end),
-        }
+        )?;
     }
     Ok(())
 }
@@ -134,25 +114,18 @@ fn follow_place<C: Dial, D: Disk>(
     requires stands { (log : List Entry) × Stands archive.old log None (D.seen.may_leave disk.old) × AreOpen log held.old × (due (length log) held.old ≡ None) }
     ensures ok { OnOk result ((log : List Entry) (more : List Address) → Stands archive.old log None (D.seen.may_leave disk.old) → AreOpen log held.old
         → due (length log) held.old ≡ None
-        → (f : Follows D.seen C.log C.store C.later C.dial_faults disk.old disk.new dial.old dial.new plan.now channel.now listing.now
+        → (f : Follows D.seen C.log C.store C.later C.dial_faults C.chosen disk.old disk.new dial.old dial.new plan.now channel.now listing.now
         archive.old archive.new (at log held.old (row channel.now place all.now ++ more)) held.new more)
         × (due (length f.log) held.new ≡ None)) }
     ensures err { IfErr result (λ end. (log : List Entry) (more : List Address) → Stands archive.old log None (D.seen.may_leave disk.old) → AreOpen log held.old
         → due (length log) held.old ≡ None
-        → Ends D.seen C.log C.store C.later C.dial_faults disk.old disk.new dial.old dial.new plan.now channel.now listing.now
+        → Ends D.seen C.log C.store C.later C.dial_faults C.chosen disk.old disk.new dial.old dial.new plan.now channel.now listing.now
         archive.old archive.new (at log held.old (row channel.now place all.now ++ more)) end) }
 {
-    match row(alloc, channel, place, all) {
-        Err(NoMemory) => Err(FollowEnd::NoMemory),
-        Ok(addresses) => {
-            match follow_row(
-                alloc, dial, disk, archive, held, plan, channel, listing, &addresses,
-            ) {
-                Ok(()) => Ok(()),
-                Err(end) => Err(end),
-            }
-        }
-    }
+    let addresses = row(alloc, channel, place, all)?;
+    follow_row(
+        alloc, dial, disk, archive, held, plan, channel, listing, &addresses,
+    )
 }
 
 // The first candidates of all streams, then the second ones, and so on.
@@ -168,22 +141,20 @@ pub(crate) fn follow_all<C: Dial, D: Disk>(
     all: &[StreamCandidates],
 ) -> Result<(), FollowEnd>
     requires stands { (log : List Entry) × Stands archive.old log None (D.seen.may_leave disk.old) × AreOpen log held.old × (due (length log) held.old ≡ None) }
-    ensures ok { OnOk result ((log : List Entry) → Stands archive.old log None (D.seen.may_leave disk.old) → AreOpen log held.old → due (length log) held.old ≡ None
-        → (f : Follows D.seen C.log C.store C.later C.dial_faults disk.old disk.new dial.old dial.new plan.now channel.now listing.now
+    ensures ok { OnOk result ((log : List Entry) → Stands archive.old log None (D.seen.may_leave disk.old) → AreOpen log held.old
+        → due (length log) held.old ≡ None
+        → (f : Follows D.seen C.log C.store C.later C.dial_faults C.chosen disk.old disk.new dial.old dial.new plan.now channel.now listing.now
         archive.old archive.new (at log held.old (addresses_by channel.now all.now)) held.new [])
         × (due (length f.log) held.new ≡ None)) }
     ensures err { IfErr result (λ end. (log : List Entry) → Stands archive.old log None (D.seen.may_leave disk.old) → AreOpen log held.old
         → due (length log) held.old ≡ None
-        → Ends D.seen C.log C.store C.later C.dial_faults disk.old disk.new dial.old dial.new plan.now channel.now listing.now
+        → Ends D.seen C.log C.store C.later C.dial_faults C.chosen disk.old disk.new dial.old dial.new plan.now channel.now listing.now
         archive.old archive.new (at log held.old (addresses_by channel.now all.now)) end) }
 {
     for place in 0..longest(all) {
-        match follow_place(
+        follow_place(
             alloc, dial, disk, archive, held, plan, channel, listing, all, place,
-        ) {
-            Ok(()) => {}
-            Err(end) => return Err(end),
-        }
+        )?;
     }
     Ok(())
 }

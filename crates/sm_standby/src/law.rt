@@ -14,7 +14,8 @@ ghost use Rattle.sm_standby.specs.Turns.{made_in, Standing, Turn, Turns};
 /// In a round at most so many exchanges are made as there are tries for the manifest, twice for each of its addresses, and once for each
 /// address that waited before.
 pub fn rounds_are_bounded()
-    ensures { (plan : PullPlan) (channel : List Track) (log later : List Entry) (held still : List Later) (r : Round) → IsRound plan channel log held r later still
+    ensures { (plan : PullPlan) (channel : List Track) (log later : List Entry) (held still : List Later) (r : Round)
+        → IsRound plan channel log held r later still
         → length (r.reads ++ made_in r.turns) ≤ plan.tries * (1 + (2 * length (addresses_of channel r.listing) + length held)) }
 {}
 

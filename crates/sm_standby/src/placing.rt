@@ -95,13 +95,9 @@ fn put<D: Disk>(
     if place < next {
         return Ok(Step::Passed);
     }
-    match fragment_at(alloc, &address, raw) {
-        Err(NoMemory) => Err(FollowEnd::NoMemory),
-        Ok(fragment) => match keep(alloc, disk, archive, &fragment, address) {
-            Ok(()) => Ok(Step::Kept),
-            Err(stop) => Err(FollowEnd::from(stop)),
-        },
-    }
+    let fragment = fragment_at(alloc, &address, raw)?;
+    keep(alloc, disk, archive, &fragment, address)?;
+    Ok(Step::Kept)
 }
 
 // Asks for an address at which nothing is kept, and keeps what comes where its place is the next one.
@@ -118,10 +114,10 @@ pub(crate) fn place_one<C: Dial, D: Disk>(
     requires stands { (log : List Entry) × Stands archive.old log None (D.seen.may_leave disk.old) }
     requires absent { (log : List Entry) → Stands archive.old log None (D.seen.may_leave disk.old) → kept_at log address ≡ None }
     ensures ok { IfOk result (λ step. (log : List Entry) → Stands archive.old log None (D.seen.may_leave disk.old)
-        → Went D.seen C.log C.store C.later C.dial_faults
+        → Went D.seen C.log C.store C.later C.dial_faults C.chosen
         disk.old disk.new dial.old dial.new plan.now channel.now url.now address archive.old archive.new log step) }
     ensures err { IfErr result (λ end. (log : List Entry) → Stands archive.old log None (D.seen.may_leave disk.old)
-        → Stopped D.seen C.log C.store C.later C.dial_faults
+        → Stopped D.seen C.log C.store C.later C.dial_faults C.chosen
         disk.old disk.new dial.old dial.new plan.now channel.now url.now address archive.old archive.new log end) }
     ensures fault { IsErrOf result ends.DiskFault → Rose (D.seen.view disk.old).disk_faults (D.seen.view disk.new).disk_faults }
 {
@@ -130,7 +126,7 @@ pub(crate) fn place_one<C: Dial, D: Disk>(
         Found::GaveUp(outcomes) => Err(FollowEnd::GaveUp { address, outcomes }),
         Found::Absent => Ok(Step::Passed),
         Found::At(place, raw) => {
-            match put(
+            put(
                 alloc,
                 disk,
                 archive,
@@ -138,10 +134,7 @@ pub(crate) fn place_one<C: Dial, D: Disk>(
                 address,
                 u64::from(place),
                 raw,
-            ) {
-                Ok(step) => Ok(step),
-                Err(end) => Err(end),
-            }
+            )
         }
     }
 }

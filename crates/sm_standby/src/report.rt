@@ -1,7 +1,7 @@
 //! How a standby ended.
 
 use sm_client::Outcomes;
-use sm_model::{Address, Cause};
+use sm_model::{Address, Cause, NoMemory};
 use sm_pull::Stop;
 
 /// How a standby ended.
@@ -53,6 +53,17 @@ pub struct FollowReport {
     /// How many fragments were kept, for which the store stands. One that a fault of the disk left in doubt isn't counted.
     pub kept: u64,
     pub end: FollowEnd,
+}
+
+impl From<NoMemory> for FollowEnd {
+    ghost use Rattle.std.specs.Prelude.{◌≡◌};
+    ghost use Rattle.sm_standby.specs.declared.report.FollowEnd.TheVariants as ends;
+
+    ghost from_gives = { λ _ e. e ≡ ends.NoMemory };
+
+    fn from(_: NoMemory) -> FollowEnd {
+        FollowEnd::NoMemory
+    }
 }
 
 impl From<Stop> for FollowEnd {

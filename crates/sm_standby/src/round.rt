@@ -2,9 +2,7 @@
 ghost use Rattle.std.specs.Prelude.{◌≡◌, ◌<◌, ◌≤◌, ℕ, List, [], None, length, OnOk, IfErr};
 ghost use Rattle.sm_model.specs.declared.entry.Entry.{Entry};
 ghost use Rattle.sm_archive.specs.Stands.{Stands};
-ghost use Rattle.sm_pull.specs.Asks.{Asks};
 ghost use Rattle.sm_standby.specs.Waiting.{AreOpen, due};
-ghost use Rattle.sm_standby.specs.Asked.{unsaid};
 ghost use Rattle.sm_standby.specs.Followed.{at, Follows, Ends};
 ghost use Rattle.sm_standby.specs.Rounds.{addresses_of, Rounds, RoundEnds, Called};
 
@@ -16,8 +14,8 @@ use crate::listed::candidates_of;
 use sm_archive::Archive;
 use sm_fetch::Dial;
 use sm_manin::Listing;
-use sm_model::{NoMemory, Track};
-use sm_pull::{Manifest, PullPlan, first_missing, read_listing};
+use sm_model::Track;
+use sm_pull::{Manifest, PullPlan, first_missing, read_listing, rest};
 use sm_site::Disk;
 use std::alloc::Global;
 
@@ -34,27 +32,18 @@ fn follow_listing<C: Dial, D: Disk>(
 ) -> Result<(), FollowEnd>
     requires stands { (log : List Entry) × Stands archive.old log None (D.seen.may_leave disk.old) × AreOpen log held.old }
     ensures ok { OnOk result ((log : List Entry) → Stands archive.old log None (D.seen.may_leave disk.old) → AreOpen log held.old
-        → (f : Follows D.seen C.log C.store C.later C.dial_faults disk.old disk.new dial.old dial.new plan.now channel.now listing.now
+        → (f : Follows D.seen C.log C.store C.later C.dial_faults C.chosen disk.old disk.new dial.old dial.new plan.now channel.now listing.now
         archive.old archive.new (at log held.old (addresses_of channel.now listing.now)) held.new [])
         × (due (length f.log) held.new ≡ None)) }
     ensures err { IfErr result (λ end. (log : List Entry) → Stands archive.old log None (D.seen.may_leave disk.old) → AreOpen log held.old
-        → Ends D.seen C.log C.store C.later C.dial_faults disk.old disk.new dial.old dial.new plan.now channel.now listing.now
+        → Ends D.seen C.log C.store C.later C.dial_faults C.chosen disk.old disk.new dial.old dial.new plan.now channel.now listing.now
         archive.old archive.new (at log held.old (addresses_of channel.now listing.now)) end) }
 {
-    match candidates_of(alloc, channel, listing) {
-        Err(NoMemory) => Err(FollowEnd::NoMemory),
-        Ok(all) => match take_held(alloc, dial, disk, archive, held, plan, channel, listing) {
-            Err(end) => Err(end),
-            Ok(()) => {
-                match follow_all(
-                    alloc, dial, disk, archive, held, plan, channel, listing, &all,
-                ) {
-                    Ok(()) => Ok(()),
-                    Err(end) => Err(end),
-                }
-            }
-        },
-    }
+    let all = candidates_of(alloc, channel, listing)?;
+    take_held(alloc, dial, disk, archive, held, plan, channel, listing)?;
+    follow_all(
+        alloc, dial, disk, archive, held, plan, channel, listing, &all,
+    )
 }
 
 // One round.
@@ -70,10 +59,10 @@ fn follow_round<C: Dial, D: Disk>(
     requires few { length channel.now ≤ 64 }
     requires stands { (log : List Entry) × Stands archive.old log None (D.seen.may_leave disk.old) × AreOpen log held.old }
     ensures ok { OnOk result ((log : List Entry) → Stands archive.old log None (D.seen.may_leave disk.old) → AreOpen log held.old
-        → Rounds D.seen C.log C.store C.later C.dial_faults disk.old disk.new dial.old dial.new plan.now channel.now
+        → Rounds D.seen C.log C.store C.later C.dial_faults C.chosen disk.old disk.new dial.old dial.new plan.now channel.now
         archive.old archive.new log held.old held.new 1) }
     ensures err { IfErr result (λ end. (log : List Entry) → Stands archive.old log None (D.seen.may_leave disk.old) → AreOpen log held.old
-        → RoundEnds D.seen C.log C.store C.later C.dial_faults disk.old disk.new dial.old dial.new plan.now channel.now
+        → RoundEnds D.seen C.log C.store C.later C.dial_faults C.chosen disk.old disk.new dial.old dial.new plan.now channel.now
         archive.old archive.new log held.old end) }
 {
     match read_listing(alloc, dial, &plan.place, plan.tries) {
@@ -83,26 +72,12 @@ fn follow_round<C: Dial, D: Disk>(
             Some(index) => Err(FollowEnd::NoTrack {
                 index: index as u32,
             }),
-            None => match follow_listing(
-                alloc, dial, disk, archive, held, plan, channel, &listing,
-            ) {
-                Ok(()) => Ok(()),
-                Err(end) => Err(end),
-            },
+            None => follow_listing(alloc, dial, disk, archive, held, plan, channel, &listing),
         },
     }
 }
 
-// A pause before each round but the first.
-fn pause_before<C: Dial>(dial: &mut C, round: u64)
-    ensures { Asks C.log C.store C.later C.dial_faults unsaid dial.old dial.new [] }
-{
-    if round > 0 {
-        dial.pause();
-    }
-}
-
-// One round, with the pause before it.
+// One round, a while after the last one.
 fn follow_next<C: Dial, D: Disk>(
     alloc: Global,
     dial: &mut C,
@@ -116,17 +91,14 @@ fn follow_next<C: Dial, D: Disk>(
     requires few { length channel.now ≤ 64 }
     requires stands { (log : List Entry) × Stands archive.old log None (D.seen.may_leave disk.old) × AreOpen log held.old }
     ensures ok { OnOk result ((log : List Entry) → Stands archive.old log None (D.seen.may_leave disk.old) → AreOpen log held.old
-        → Rounds D.seen C.log C.store C.later C.dial_faults disk.old disk.new dial.old dial.new plan.now channel.now
+        → Rounds D.seen C.log C.store C.later C.dial_faults C.chosen disk.old disk.new dial.old dial.new plan.now channel.now
         archive.old archive.new log held.old held.new 1) }
     ensures err { IfErr result (λ end. (log : List Entry) → Stands archive.old log None (D.seen.may_leave disk.old) → AreOpen log held.old
-        → RoundEnds D.seen C.log C.store C.later C.dial_faults disk.old disk.new dial.old dial.new plan.now channel.now
+        → RoundEnds D.seen C.log C.store C.later C.dial_faults C.chosen disk.old disk.new dial.old dial.new plan.now channel.now
         archive.old archive.new log held.old end) }
 {
-    pause_before(dial, round);
-    match follow_round(alloc, dial, disk, archive, held, plan, channel) {
-        Ok(()) => Ok(()),
-        Err(end) => Err(end),
-    }
+    rest(dial, round > 0);
+    follow_round(alloc, dial, disk, archive, held, plan, channel)
 }
 
 // As many rounds as the plan has, from an archive in which nothing waits.
@@ -143,17 +115,14 @@ fn follow_rounds<C: Dial, D: Disk>(
     requires empty { held.old ≡ [] }
     requires stands { (log : List Entry) × Stands archive.old log None (D.seen.may_leave disk.old) }
     ensures ok { OnOk result ((log : List Entry) → Stands archive.old log None (D.seen.may_leave disk.old)
-        → Rounds D.seen C.log C.store C.later C.dial_faults disk.old disk.new dial.old dial.new plan.now channel.now
+        → Rounds D.seen C.log C.store C.later C.dial_faults C.chosen disk.old disk.new dial.old dial.new plan.now channel.now
         archive.old archive.new log [] held.new plan.now.rounds) }
     ensures err { IfErr result (λ end. (log : List Entry) → Stands archive.old log None (D.seen.may_leave disk.old)
-        → Called D.seen C.log C.store C.later C.dial_faults disk.old disk.new dial.old dial.new plan.now channel.now
+        → Called D.seen C.log C.store C.later C.dial_faults C.chosen disk.old disk.new dial.old dial.new plan.now channel.now
         archive.old archive.new log end) }
 {
     for round in 0..plan.rounds {
-        match follow_next(alloc, dial, disk, archive, held, plan, channel, round) {
-            Ok(()) => {}
-            Err(end) => return Err(end),
-        }
+        follow_next(alloc, dial, disk, archive, held, plan, channel, round)?;
     }
     Ok(())
 }
@@ -170,7 +139,7 @@ pub(crate) fn follow_channel<C: Dial, D: Disk>(
     requires few { length channel.now ≤ 64 }
     requires stands { (log : List Entry) × Stands archive.old log None (D.seen.may_leave disk.old) }
     ensures { (log : List Entry) → Stands archive.old log None (D.seen.may_leave disk.old)
-        → Called D.seen C.log C.store C.later C.dial_faults disk.old disk.new dial.old dial.new plan.now channel.now
+        → Called D.seen C.log C.store C.later C.dial_faults C.chosen disk.old disk.new dial.old dial.new plan.now channel.now
         archive.old archive.new log result }
 {
     let mut held = Held::new(alloc);

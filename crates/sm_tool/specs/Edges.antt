@@ -55,7 +55,8 @@ followed_line kept = codes "followed " ++ (decimal kept ++ codes "\n")
 abbrev pub no_track_line : Option Track → List ℕ
 no_track_line None = codes "error: NoTrack\nThe ladder has no such track.\n"
 no_track_line (Some t) = codes "error: NoTrack " ++ (t.name
-    ++ (codes " " ++ (decimal t.bitrate ++ codes "\nThe ladder has a track of this name and bitrate, and the origin lists none, or one with another timescale.\n")))
+    ++ (codes " " ++ (decimal t.bitrate
+    ++ codes "\nThe ladder has a track of this name and bitrate, and the origin lists none, or one with another timescale.\n")))
 
 -- the place that comes next, and the least one that waits
 abbrev pub gap_line : ℕ → ℕ → List ℕ

@@ -1,8 +1,8 @@
 -- What a run of a command did.
-use Rattle.std.specs.Prelude.{◌≡◌, ◌≤◌, ◌<◌, ◌+◌, ◌⊎◌, ℕ, List, length, Option, Some, None, IfSome}
+use Rattle.std.specs.Prelude.{◌≡◌, ◌≤◌, ◌⊎◌, ℕ, List, Option, Some, None}
 use Rattle.std.specs.Io.KnownBytes.{Appends}
 use Rattle.sm_ends.specs.Faults.{Rose}
-use Rattle.sm_ends.specs.Moves.{TakesCount, TakesAtMost, AppendsFront}
+use Rattle.sm_ends.specs.Moves.{AppendsFront}
 use Rattle.sm_fetch.specs.Origins.{Grows}
 use Rattle.sm_client.specs.Turns.{Meaning}
 use Rattle.sm_command.specs.Lasting.{IsSilent, KeepsStores}

@@ -1,7 +1,6 @@
-use Rattle.std.proofs.Common.{subst, sym}
 use Rattle.sm_fetch.proofs.Alone.{on_then}
 use Rattle.sm_fetch.proofs.Answering.{answered_none, answered_then}
-use Rattle.sm_client.specs.Pushing.{WhyUnpushed}
+use Rattle.sm_ends.proofs.Unread.{passed_on}
 use Rattle.sm_client.proofs.Unpushed.{unpushed}
 use Rattle.sm_client.proofs.pushing.push_input.Goals as goal
 
@@ -21,4 +20,5 @@ returns-clause-dial g c =
 
 pub returns-in_err-body-clause-why : goal.returns-in_err-body-clause-why
 returns-in_err-body-clause-why g c =
-    subst (WhyUnpushed _ _ _ _) (sym c.from_residual.ensures.1) (unpushed _ _ _ _ c.in_err-body.fault c.in_err-body.ensures.why c.read_input.ensures.later c.select.ensures.later c.select.ensures.log)
+    passed_on c.from_residual-in_err-body.result _ _ c.from_residual-in_err-body.ensures.1
+    (unpushed _ _ _ _ c.in_err-body.field-0.0 c.in_err-body.ensures.why c.read_input.ensures.later c.select.ensures.later c.select.ensures.log)

@@ -21,7 +21,7 @@ loop-place-preserved g c =
           text_next c.loop-place.place log (string_bytes c.loop-place.text) (string_bytes c.in_ok-line.line) (string_bytes c.put_behind.new.text) (omega (arith, count, inside))
           (inv.text log s told)
           (c.in_ok-line.ensures.line log (inv.stands log s) (inv.told ∙ told))
-          (c.in-Ok.ensures ∙ ap (λ (t : List ℕ). string_bytes c.loop-place.text ++ t) c.deref.ensures);
+          (c.in_ok-put_behind.ensures ∙ ap (λ (t : List ℕ). string_bytes c.loop-place.text ++ t) c.deref.ensures);
     }
 
 pub returns-clause-lines : goal.returns-clause-lines
@@ -36,7 +36,7 @@ returns-in_err-line-clause-any_moment g c =
     no_other g.D.Disk.seen g.met.D.Disk.at_now g.met.D.Disk.now_at c.args.disk.now c.loop-place.disk c.line_of.new.disk c.loop-place.invariant.any_moment
     c.line_of.ensures.any_moment
 
-pub returns-in-Err-clause-any_moment : goal.returns-in-Err-clause-any_moment
-returns-in-Err-clause-any_moment g c =
+pub returns-in_err-put_behind-clause-any_moment : goal.returns-in_err-put_behind-clause-any_moment
+returns-in_err-put_behind-clause-any_moment g c =
     no_other g.D.Disk.seen g.met.D.Disk.at_now g.met.D.Disk.now_at c.args.disk.now c.loop-place.disk c.line_of.new.disk c.loop-place.invariant.any_moment
     c.line_of.ensures.any_moment

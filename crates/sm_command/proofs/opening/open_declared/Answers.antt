@@ -3,7 +3,8 @@ use Rattle.sm_command.specs.Opening.{BeginsWith}
 use Rattle.sm_archive.specs.Store.{IsStore}
 use Rattle.sm_site.proofs.Moments.{weakened}
 use Rattle.sm_command.proofs.Lasting.{found_spared}
-use Rattle.sm_command.proofs.Starting.{passed_on, stated_is}
+use Rattle.sm_ends.proofs.Unread.{passed_on}
+use Rattle.sm_command.proofs.Starting.{stated_is}
 use Rattle.sm_command.proofs.opening.open_declared.Goals as goal
 use Rattle.sm_ends.specs.Ended.{End}
 

@@ -1,4 +1,5 @@
-use Rattle.sm_command.proofs.Starting.{known, passed_on, prepared, runs_from, served_lasts, stopped_lasts, stops}
+use Rattle.sm_ends.proofs.Unread.{passed_on}
+use Rattle.sm_command.proofs.Starting.{known, prepared, runs_from, served_lasts, stopped_lasts, stops}
 use Rattle.sm_command.proofs.serving.serve_state.Goals as goal
 
 pub serve-requires-clause-known : goal.serve-requires-clause-known

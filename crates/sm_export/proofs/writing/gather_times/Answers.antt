@@ -1,6 +1,7 @@
 use Rattle.std.proofs.Common.{◌≡◌, ◌∙◌, ◌++◌, ℕ, List, take, length, ap, subst, arith}
 use Rattle.std.specs.Prelude.{slice_index_or}
 use Rattle.std.proofs.lemmas.List.{take_all}
+use Rattle.std.proofs.lemmas.Result.{err_from_is_err_and}
 use Rattle.sm_model.specs.declared.address.Address.{Address}
 use Rattle.sm_export.specs.Exporting.{texts_from}
 use Rattle.sm_export.specs.Gathering.{Leaves}
@@ -10,8 +11,10 @@ use Rattle.sm_export.proofs.Gathered.{nothing_more}
 use Rattle.sm_export.proofs.Reading.{cause_behind, no_memory, not_read, read_then, same_cause, well}
 use Rattle.sm_export.proofs.writing.gather_times.Goals as goal
 
-pub returns-in-Err-clause-err : goal.returns-in-Err-clause-err
-returns-in-Err-clause-err g c = λ log doubt s told.
+pub returns-in_err-written-clause-err : goal.returns-in_err-written-clause-err
+returns-in_err-written-clause-err g c =
+    let q = err_from_is_err_and c.from_residual-in_err-written.result c.from_residual-in_err-written.ensures.1 in
+    rw q.1 (λ log doubt s told.
     let inv = c.loop-time.invariant in
     let i = c.loop-time.time-index in
     let times = c.args.times.now in
@@ -23,12 +26,12 @@ returns-in-Err-clause-err g c = λ log doubt s told.
     ap (λ (n : List ℕ). record { stream = n; bitrate = c.loop-time.address.bitrate; time = t.0 }) inv.stream ∙ ap (λ (b : ℕ). record { stream = c.args.name.now; bitrate = b; time = t.0 }) inv.bitrate in
     wrote_part (g.O.Sink.held c.args.out.now) (g.O.Sink.held c.loop-time.out) (g.O.Sink.held c.write_at.new.out)
     c.args.gathered.now.items c.loop-time.gathered.items c.write_at.new.gathered.items log c.args.name.now c.args.bitrate address times i t c.args.id c.loop-time.written inside
-    (at_any times i (0, 0) t inside) named was.0 was.1 (c.in-Err.ensures.err log doubt (inv.read.stands log doubt s) (inv.told ∙ told))
+    (at_any times i (0, 0) t inside) named was.0 was.1 (c.in_err-written.ensures.err log doubt (inv.read.stands log doubt s) (inv.told ∙ told)))
 
 pub loop-time-preserved : goal.loop-time-preserved
 loop-time-preserved g c =
     let inv = c.loop-time.invariant in
-    let e = c.in-Ok-write_at.ensures in
+    let e = c.in_ok-written.ensures in
     let i = c.loop-time.time-index in
     let times = c.args.times.now in
     let inside = c.loop-time-test.true in
@@ -53,7 +56,7 @@ loop-time-preserved g c =
           let now = e.ok log doubt (inv.read.stands log doubt s) (inv.told ∙ told) in
           wrote_more (g.O.Sink.held c.args.out.now) (g.O.Sink.held c.loop-time.out) (g.O.Sink.held c.write_at.new.out)
           c.args.gathered.now.items c.loop-time.gathered.items c.write_at.new.gathered.items log c.args.name.now c.args.bitrate address times i t c.args.id c.loop-time.written
-          c.in-Ok-write_at.wrote inside (at_any times i (0, 0) t inside) named was.0 was.1 now.0 now.1;
+          c.in_ok-written.field-0 inside (at_any times i (0, 0) t inside) named was.0 was.1 now.0 now.1;
     }
 
 pub returns-clause-ok : goal.returns-clause-ok
@@ -69,29 +72,34 @@ returns-clause-ok g c = λ log doubt s told.
       was.1 ∙ ap (λ (ts : List (ℕ × ℕ)). length (kept_among log c.args.name.now c.args.bitrate ts)) all,
     )
 
-pub returns-in_default-clause-err : goal.returns-in_default-clause-err
-returns-in_default-clause-err g c = λ log doubt s told.
-    nothing_more (g.O.Sink.held c.args.out.now) c.args.gathered.now.items (texts_from 1 c.args.id (kept_among log c.args.name.now c.args.bitrate c.args.times.now))
+pub returns-in_err-copy-clause-err : goal.returns-in_err-copy-clause-err
+returns-in_err-copy-clause-err g c =
+    let q = err_from_is_err_and c.from_residual.result c.from_residual.ensures.1 in
+    rw q.1 (λ log doubt s told.
+    nothing_more (g.O.Sink.held c.args.out.now) c.args.gathered.now.items (texts_from 1 c.args.id (kept_among log c.args.name.now c.args.bitrate c.args.times.now)))
 
-pub returns-in_default-clause-cause : goal.returns-in_default-clause-cause
-returns-in_default-clause-cause g c = no_memory (g.D.Disk.seen.view c.args.disk.now) (g.D.Disk.seen.view c.args.disk.now) (g.O.Sink.faults c.args.out.now)
+pub returns-in_err-copy-clause-cause : goal.returns-in_err-copy-clause-cause
+returns-in_err-copy-clause-cause g c =
+    let q = err_from_is_err_and c.from_residual.result c.from_residual.ensures.1 in
+    rw (q.1, q.2) (no_memory (g.D.Disk.seen.view c.args.disk.now) (g.D.Disk.seen.view c.args.disk.now) (g.O.Sink.faults c.args.out.now))
 
-pub returns-in_default-clause-read : goal.returns-in_default-clause-read
-returns-in_default-clause-read g c = not_read g.D.Disk.seen g.met.D.Disk.no_later c.args.archive.now c.args.disk.now
+pub returns-in_err-copy-clause-read : goal.returns-in_err-copy-clause-read
+returns-in_err-copy-clause-read g c = not_read g.D.Disk.seen g.met.D.Disk.no_later c.args.archive.now c.args.disk.now
 
-pub returns-in-Err-clause-cause : goal.returns-in-Err-clause-cause
-returns-in-Err-clause-cause g c =
+pub returns-in_err-written-clause-cause : goal.returns-in_err-written-clause-cause
+returns-in_err-written-clause-cause g c =
+    let q = err_from_is_err_and c.from_residual-in_err-written.result c.from_residual-in_err-written.ensures.1 in
     let inv = c.loop-time.invariant in
     let faults = g.O.Sink.faults in
     let old = g.D.Disk.seen.view c.args.disk.now in
     let new = g.D.Disk.seen.view c.write_at.new.disk in
-    same_cause old new (faults c.args.out.now) (faults c.write_at.new.out) c.in-Err.broken
-    (cause_behind old (g.D.Disk.seen.view c.loop-time.disk) new (faults c.args.out.now) (faults c.loop-time.out) (faults c.write_at.new.out) _ inv.told inv.read.disk_alone.no_fewer inv.later c.in-Err.ensures.cause)
+    rw (q.1, q.2) (same_cause old new (faults c.args.out.now) (faults c.write_at.new.out) c.in_err-written.field-0.0
+    (cause_behind old (g.D.Disk.seen.view c.loop-time.disk) new (faults c.args.out.now) (faults c.loop-time.out) (faults c.write_at.new.out) _ inv.told inv.read.disk_alone.no_fewer inv.later c.in_err-written.ensures.cause))
 
-pub returns-in-Err-clause-read : goal.returns-in-Err-clause-read
-returns-in-Err-clause-read g c =
+pub returns-in_err-written-clause-read : goal.returns-in_err-written-clause-read
+returns-in_err-written-clause-read g c =
     read_then g.D.Disk.seen g.met.D.Disk.at_now g.met.D.Disk.now_at c.args.archive.now
-    c.args.disk.now c.loop-time.disk c.write_at.new.disk c.loop-time.invariant.read c.in-Err.ensures.read
+    c.args.disk.now c.loop-time.disk c.write_at.new.disk c.loop-time.invariant.read c.in_err-written.ensures.read
 
 pub returns-clause-cause : goal.returns-clause-cause
 returns-clause-cause g c = well _ _ (g.O.Sink.faults c.args.out.now) (g.O.Sink.faults c.loop-time.out) _ c.loop-time.invariant.later

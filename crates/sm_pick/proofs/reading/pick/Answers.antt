@@ -2,7 +2,7 @@ use Rattle.std.proofs.Common.{◌≤◌, ◌+◌, ◌++◌, ℕ, List, take, sub
 use Rattle.std.proofs.KnownBytes.{Consumes-kept}
 use Rattle.sm_ends.specs.Ended.{input_most}
 use Rattle.sm_pick.specs.Search.{Looks}
-use Rattle.sm_ends.proofs.Unread.{at_most, long}
+use Rattle.sm_ends.proofs.Unread.{at_most, long, passed_on, rose_since}
 use Rattle.sm_pick.proofs.Picking.{IsPiece, piece_taken, read_on, read_over}
 use Rattle.sm_pick.proofs.reading.pick.Goals as goal
 
@@ -24,7 +24,8 @@ returns-in_err-take-clause-why g c =
     let room : List ℕ = c.read_piece.new.room.items in
     let piece : IsPiece (g.I.Source.left c.loop-total.input) (g.I.Source.left c.read_piece.new.input) c.loop-total.total c.in_ok-count.count room
     = record { taken = c.in_ok-count.ensures.bytes.0; inside = c.in_ok-count.ensures.bound; within = omega (arith, c.in_ok-count.ensures.most) } in
-    λ _. at_most _ _ (c.loop-total.total + c.in_ok-count.count) (piece_taken _ _ _ _ _ c.loop-total.search c.loop-total.total c.in_ok-count.count room c.loop-total.invariant.read piece) (omega arith)
+    passed_on c.from_residual-in_err-take.result _ _ c.from_residual-in_err-take.ensures.1
+    (at_most _ _ (c.loop-total.total + c.in_ok-count.count) input_most (piece_taken _ _ _ _ _ c.loop-total.search c.loop-total.total c.in_ok-count.count room c.loop-total.invariant.read piece) (omega arith))
 
 pub loop-total-preserved : goal.loop-total-preserved
 loop-total-preserved g c =
@@ -38,10 +39,15 @@ loop-total-preserved g c =
     }
 
 pub returns-clause-why : goal.returns-clause-why
-returns-clause-why g c = λ _. long _ _ c.loop-total.invariant.read.bytes c.loop-total.invariant.read.taken (omega (arith, c.loop-total.invariant.read.total_is))
+returns-clause-why g c =
+    let read = c.loop-total.invariant.read in
+    (long input_most _ _ read.bytes read.taken (omega (arith, read.total_is)), (read.bytes, read.taken, omega (arith, read.total_is, read.within)))
 
 pub returns-in_err-count-clause-why : goal.returns-in_err-count-clause-why
-returns-in_err-count-clause-why g c = λ _.
+returns-in_err-count-clause-why g c =
     let read = c.loop-total.invariant.read in
     let few : c.loop-total.total ≤ input_most = omega arith in
-    (read.bytes, Consumes-kept _ _ _ read.bytes read.taken c.in_err-count.ensures.bytes, omega (arith, few, read.total_is))
+    passed_on c.from_residual-in_err-count.result _ _ c.from_residual-in_err-count.ensures.1 (
+      rose_since _ _ _ c.loop-total.invariant.later c.in_err-count.ensures.cause.failed,
+      (read.bytes, Consumes-kept _ _ _ read.bytes read.taken c.in_err-count.ensures.bytes, omega (arith, few, read.total_is)),
+    )

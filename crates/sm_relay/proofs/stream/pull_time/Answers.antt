@@ -1,4 +1,5 @@
 use Rattle.std.proofs.Common.{[], ◌∷◌, ◌++◌, ◌+◌, take, drop, refl}
+use Rattle.std.proofs.lemmas.Result.{err_from_is_err_and}
 use Rattle.sm_pull.specs.Adds.{keeps_of}
 use Rattle.sm_pull.proofs.Disks.{rose_since}
 use Rattle.sm_log.specs.Adds.{tracks_of}
@@ -21,21 +22,25 @@ loop-track-preserved g c = λ log s.
     pulls_then (wants_at c.args.stream.now.pattern c.args.time (tracks_of c.args.stream.now.name (take (c.loop-track.track-index + 1) c.args.channel.now))) (wants_at c.args.stream.now.pattern
     c.args.time (tracks_of c.args.stream.now.name (take c.loop-track.track-index c.args.channel.now))) (wants_at c.args.stream.now.pattern c.args.time (tracks_of c.args.stream.now.name
     (c.track-item.result ∷ []))) (wants_at_more c.args.stream.now.pattern c.args.time c.args.stream.now.name c.args.channel.now c.loop-track.track-index c.track-item.result c.loop-track-test.true
-    c.track-item.is) g.met.C.Dial.later_then p (c.in-Ok.ensures.ok (log ++ keeps_of p.added) p.adds.stands)
+    c.track-item.is) g.met.C.Dial.later_then p (c.in_ok-pull_track.ensures.ok (log ++ keeps_of p.added) p.adds.stands)
 
-pub returns-in-Err-clause-err : goal.returns-in-Err-clause-err
-returns-in-Err-clause-err g c = λ log s.
+pub returns-in_err-pull_track-clause-err : goal.returns-in_err-pull_track-clause-err
+returns-in_err-pull_track-clause-err g c =
+    let q = err_from_is_err_and c.from_residual.result c.from_residual.ensures.1 in
+    rw (q.1, q.2) (λ log s.
     let p = c.loop-track.invariant log s in
-    stops_then c.in-Err.stop (wants_at c.args.stream.now.pattern c.args.time (tracks_of c.args.stream.now.name (c.args.channel.now))) (wants_at c.args.stream.now.pattern c.args.time (tracks_of
+    stops_then c.in_err-pull_track.field-0.0 (wants_at c.args.stream.now.pattern c.args.time (tracks_of c.args.stream.now.name (c.args.channel.now))) (wants_at c.args.stream.now.pattern c.args.time (tracks_of
     c.args.stream.now.name (take c.loop-track.track-index c.args.channel.now))) (wants_at c.args.stream.now.pattern c.args.time (tracks_of c.args.stream.now.name (c.track-item.result ∷ [])))
     (wants_at c.args.stream.now.pattern c.args.time (tracks_of c.args.stream.now.name (drop (c.loop-track.track-index + 1) c.args.channel.now))) (wants_at_rest c.args.stream.now.pattern
-    c.args.time c.args.stream.now.name c.args.channel.now c.loop-track.track-index c.track-item.result c.loop-track-test.true c.track-item.is) g.met.C.Dial.later_then p (c.in-Err.ensures.err (log
-    ++ keeps_of p.added) p.adds.stands)
+    c.args.time c.args.stream.now.name c.args.channel.now c.loop-track.track-index c.track-item.result c.loop-track-test.true c.track-item.is) g.met.C.Dial.later_then p (c.in_err-pull_track.ensures.err (log
+    ++ keeps_of p.added) p.adds.stands))
 
-pub returns-in-Err-clause-fault : goal.returns-in-Err-clause-fault
-returns-in-Err-clause-fault g c = λ e.
+pub returns-in_err-pull_track-clause-fault : goal.returns-in_err-pull_track-clause-fault
+returns-in_err-pull_track-clause-fault g c =
+    let q = err_from_is_err_and c.from_residual.result c.from_residual.ensures.1 in
+    rw (q.1, q.2) (λ e.
     let p = c.loop-track.invariant c.requires.stands.0 c.requires.stands.1 in
-    rose_since (g.D.Disk.seen.view c.args.disk.now).disk_faults (g.D.Disk.seen.view c.loop-track.disk).disk_faults (g.D.Disk.seen.view c.pull_track.new.disk).disk_faults p.adds.disk_alone.no_fewer (c.in-Err.ensures.fault e)
+    rose_since (g.D.Disk.seen.view c.args.disk.now).disk_faults (g.D.Disk.seen.view c.loop-track.disk).disk_faults (g.D.Disk.seen.view c.pull_track.new.disk).disk_faults p.adds.disk_alone.no_fewer (c.in_err-pull_track.ensures.fault e))
 
 pub returns-clause-ok : goal.returns-clause-ok
 returns-clause-ok g c = λ log s. pulls_as (wants_at c.args.stream.now.pattern c.args.time (tracks_of c.args.stream.now.name (take c.loop-track.track-index c.args.channel.now))) (wants_at

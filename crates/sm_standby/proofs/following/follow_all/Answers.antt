@@ -1,5 +1,6 @@
 use Rattle.std.proofs.Common.{◌+◌, ◌-◌, ◌++◌, [], sym, arith}
 use Rattle.sm_standby.specs.Candidates.{row, rows, longest, addresses_by}
+use Rattle.sm_standby.proofs.Opens.{passed_on}
 use Rattle.sm_standby.proofs.Plans.{rows_start, rows_next, rows_end}
 use Rattle.sm_standby.proofs.Taking.{follows_start, follows_stands, follows_next, follows_end, ends_next}
 use Rattle.sm_standby.proofs.following.follow_all.Goals as goal
@@ -15,7 +16,7 @@ loop-place-init g c = record {
 pub loop-place-preserved : goal.loop-place-preserved
 loop-place-preserved g c =
     let inv = c.loop-place.invariant in
-    let e = c.in-Ok.ensures in
+    let e = c.in_ok-follow_place.ensures in
     let ch = c.args.channel.now in
     let all = c.args.all.now in
     let j = c.loop-place.place in
@@ -27,14 +28,16 @@ loop-place-preserved g c =
           (rows_next ch all j (longest all) (omega (arith, c.loop-place-test.true, c.longest-place-end.ensures))) (λ l t p u. e.ok l (rows ch all (j + 1) (longest all - (j + 1))) t p u);
     }
 
-pub returns-in-Err-clause-err : goal.returns-in-Err-clause-err
-returns-in-Err-clause-err g c = λ log s o d.
+pub returns-in_err-follow_place-clause-err : goal.returns-in_err-follow_place-clause-err
+returns-in_err-follow_place-clause-err g c =
+    passed_on c.from_residual.result _ _ c.from_residual.ensures.1
+    (λ log s o d.
     let inv = c.loop-place.invariant in
     let ch = c.args.channel.now in
     let all = c.args.all.now in
     let j = c.loop-place.place in
-    ends_next (rows ch all j (longest all - j)) (row ch j all ++ rows ch all (j + 1) (longest all - (j + 1))) c.in-Err.end g.met.C.Dial.later_then (inv.follows log s o d)
-    (rows_next ch all j (longest all) (omega (arith, c.loop-place-test.true, c.longest-place-end.ensures))) (λ l t p u. c.in-Err.ensures.err l (rows ch all (j + 1) (longest all - (j + 1))) t p u)
+    ends_next (rows ch all j (longest all - j)) (row ch j all ++ rows ch all (j + 1) (longest all - (j + 1))) c.in_err-follow_place.field-0.0 g.met.C.Dial.later_then (inv.follows log s o d)
+    (rows_next ch all j (longest all) (omega (arith, c.loop-place-test.true, c.longest-place-end.ensures))) (λ l t p u. c.in_err-follow_place.ensures.err l (rows ch all (j + 1) (longest all - (j + 1))) t p u))
 
 pub returns-clause-ok : goal.returns-clause-ok
 returns-clause-ok g c = λ log s o d.

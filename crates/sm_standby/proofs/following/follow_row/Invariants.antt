@@ -10,6 +10,6 @@ abbrev pub invariant-loop-address : goal.invariant-loop-address
 invariant-loop-address g l = record {
   some : (log : List Entry) × Stands l.archive log None (g.D.Disk.seen.may_leave l.disk) × AreOpen log l.held × (due (length log) l.held ≡ None);
   follows : (log : List Entry) (more : List Address) → Stands l.initial.archive log None (g.D.Disk.seen.may_leave l.initial.disk) → AreOpen log l.initial.held → due (length log) l.initial.held ≡ None
-      → (f : Follows g.D.Disk.seen g.C.Dial.log g.C.Dial.store g.C.Dial.later g.C.Dial.dial_faults l.initial.disk l.disk l.initial.dial l.dial l.plan l.channel
+      → (f : Follows g.D.Disk.seen g.C.Dial.log g.C.Dial.store g.C.Dial.later g.C.Dial.dial_faults g.C.Dial.chosen l.initial.disk l.disk l.initial.dial l.dial l.plan l.channel
       l.listing l.initial.archive l.archive (at log l.initial.held (l.addresses ++ more)) l.held (drop l.address-index l.addresses ++ more)) × (due (length f.log) l.held ≡ None);
 }

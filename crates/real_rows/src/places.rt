@@ -1,0 +1,71 @@
+//! Where the files of a row lie, and ports for it.
+
+use anyhow::{Result, bail};
+use std::alloc::Global;
+use std::fs;
+use std::net::{Ipv4Addr, Net, SocketAddr, TcpListener, TcpStream};
+use std::rt::Files;
+
+// Ports are looked for from one of so many on: all are below those that the system gives by itself.
+const FIRST: u16 = 10_000;
+
+const STARTS: u32 = 20_000;
+
+const LAST: u16 = 32_000;
+
+/// Names and ports that other runs don't have, by the number of this process.
+#[derive(Clone, Copy)]
+pub struct Place {
+    own: u32,
+}
+
+impl Place {
+    pub fn new(own: u32) -> Place {
+        Place { own }
+    }
+
+    /// The path of the folder.
+    pub fn store(&self, alloc: Global) -> Result<String> {
+        let own = self.own;
+        Ok(format!(in alloc; "/tmp/real_rows_{own}")?)
+    }
+
+    /// The path of the journal.
+    pub fn journal(&self, alloc: Global) -> Result<String> {
+        let own = self.own;
+        Ok(format!(in alloc; "/tmp/real_rows_{own}.log")?)
+    }
+
+    /// The number for one of sixteen tracks.
+    pub fn track(&self, number: u32) -> u32 {
+        self.own.wrapping_mul(16).wrapping_add(number % 16)
+    }
+
+    /// A listener of this machine alone, at a port that nobody has.
+    pub fn listen<R: Net<Listener = TcpListener, Stream = TcpStream>>(
+        &self,
+        rt: &R,
+    ) -> Result<TcpListener> {
+        let first = FIRST + (self.own % STARTS) as u16;
+        for port in first..LAST {
+            if let Ok(listener) = TcpListener::bind(rt, local(port)) {
+                return Ok(listener);
+            }
+        }
+        bail!("no port is free")
+    }
+
+    /// Removes the folder and the journal, if they are there.
+    pub fn clear<R: Files + AllocGlobal>(&self, rt: &R) -> Result<()> {
+        let store = self.store(rt.alloc())?;
+        let journal = self.journal(rt.alloc())?;
+        let _ = fs::remove_dir_all(rt, store.as_str());
+        let _ = fs::remove_file(rt, journal.as_str());
+        Ok(())
+    }
+}
+
+/// This port of this machine.
+pub fn local(port: u16) -> SocketAddr {
+    SocketAddr::from((Ipv4Addr::LOCALHOST, port))
+}
