@@ -87,11 +87,13 @@ impl Peers {
         put(self.stream(number)?, bytes)
     }
 
-    /// The address of each is told as `PEER`.
+    /// The address of each is told as `PEER`, by IPv4 and as a listener of IPv6 sees it.
     pub fn add_names(&self, names: &mut Names) -> Result<()> {
         for stream in self.streams.iter() {
             let address = stream.local_addr()?;
-            names.add(format!(in self.alloc; "{address}")?, "PEER")?;
+            let (ip, port) = (address.ip(), address.port());
+            names.add(format!(in self.alloc; "{ip}:{port}")?, "PEER")?;
+            names.add(format!(in self.alloc; "[::ffff:{ip}]:{port}")?, "PEER")?;
         }
         Ok(())
     }

@@ -6,12 +6,13 @@ use std::fs;
 use std::net::{Ipv4Addr, Net, SocketAddr, TcpListener, TcpStream};
 use std::rt::Files;
 
-// Ports are looked for from one of so many on: all are below those that the system gives by itself.
-const FIRST: u16 = 10_000;
+// Where the ports begin, of which a process has so many for itself, and how many such shares there are. All are below those that the system
+// gives by itself.
+const FIRST: u32 = 10_000;
 
-const STARTS: u32 = 20_000;
+const EACH: u32 = 16;
 
-const LAST: u16 = 32_000;
+const SHARES: u32 = 1_250;
 
 /// Names and ports that other runs don't have, by the number of this process.
 #[derive(Clone, Copy)]
@@ -46,9 +47,9 @@ impl Place {
         &self,
         rt: &R,
     ) -> Result<TcpListener> {
-        let first = FIRST + (self.own % STARTS) as u16;
-        for port in first..LAST {
-            if let Ok(listener) = TcpListener::bind(rt, local(port)) {
+        let first = FIRST + self.own % SHARES * EACH;
+        for port in first..first + EACH {
+            if let Ok(listener) = TcpListener::bind(rt, local(u16::try_from(port)?)) {
                 return Ok(listener);
             }
         }
