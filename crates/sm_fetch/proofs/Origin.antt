@@ -12,7 +12,6 @@ use Rattle.httparse.proofs.GrammarLemmas.{ReadsResponse-append}
 use Rattle.sm_model.specs.declared.address.Address.{Address}
 use Rattle.sm_model.specs.declared.cause.Cause.{Cause}
 use Rattle.sm_model.specs.declared.entry.Entry.{Entry}
-use Rattle.sm_model.specs.declared.entry.Entry.TheVariants.{Keep}
 use Rattle.sm_model.specs.declared.fragment.Fragment.{Fragment}
 use Rattle.sm_model.specs.declared.framing.Framing.{Framing}
 use Rattle.sm_model.specs.declared.framing.Framing.TheVariants as framing

@@ -1,5 +1,5 @@
 -- What the reader of manifests answers, and what its parts hand on.
-use Rattle.std.specs.Prelude.{◌≡◌, ℕ, List, Option, Result, Ok, Err}
+use Rattle.std.specs.Prelude.{◌≡◌, ℕ, List, Option}
 use Rattle.sm_model.specs.declared.tag.Tag.{Tag}
 use Rattle.sm_tag.specs.Tags.{Left, Runs}
 use Rattle.sm_manin.specs.ManifestWalk.{Walk, none_met, walk}

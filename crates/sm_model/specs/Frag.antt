@@ -1,6 +1,6 @@
 -- What a moof and the mdat behind it say (ISO/IEC 14496-12, 8.8 and 8.1.1): a raw fragment, or the cause that stands
 -- first in the list of causes among those that hold. A moof has one traf, and that has one trun.
-use Rattle.std.specs.Prelude.{ℕ, ℤ, pos, negsuc, ◌+◌, ◌-◌, ◌^◌, Bool, not, ◌&&◌, ◌||◌, ◌==◌, nat_le, nat_lt, List, [], ◌∷◌, ◌++◌, length, take, drop, slice_index, sum_by, codes, Option, Some, None, Result, Ok, Err, if◌then◌else◌}
+use Rattle.std.specs.Prelude.{ℕ, ℤ, pos, negsuc, ◌+◌, ◌-◌, ◌^◌, Bool, not, ◌&&◌, ◌||◌, ◌==◌, nat_le, nat_lt, List, [], ◌∷◌, ◌++◌, length, drop, slice_index, codes, Option, Some, None, Result, Ok, Err, if◌then◌else◌}
 use Rattle.std.specs.Option.{option_map_or}
 use Rattle.sm_model.specs.declared.cause.Cause.{Cause}
 use Rattle.sm_model.specs.declared.cause.Cause.TheVariants.{BadBox, Protected, ManyTracks, ManyRuns, BaseOffset, NoTime, NoDuration, TimeTooLarge, NoSamples, TooManySamples, BadRun, NoMdat, SamplesOutside}

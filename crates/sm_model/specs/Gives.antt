@@ -6,24 +6,27 @@ use Rattle.sm_model.specs.declared.fault.ReadFault.TheVariants as read
 use Rattle.sm_model.specs.declared.fault.TextFault.{TextFault}
 use Rattle.sm_model.specs.declared.fault.TextFault.TheVariants as text
 
--- what a fault says of the text, which is nothing where memory ran out
+-- `R` holds for what a fault says of the text. Want of memory says nothing of it, and nothing is asked then.
 abbrev pub Says : {Y : Type 0} → Option Y → (Y → Type 0) → Type 0
 Says (Some said) R = R said
 Says None R = Unit {0}
 
--- A value is what the relation gives, seen by value, and a fault what it gives, as the fault says it; want of memory alone is free.
+-- `R` holds for what a reader answered: for its value, which `value` turns into what `R` speaks of, or for its fault, which `fault` does.
+-- Want of memory alone is free.
 abbrev pub AnswersAs : {X E Y : Type 0} → (X → Y) → (E → Option Y) → Result X E → (Y → Type 0) → Type 0
 AnswersAs value fault (Ok x) R = R (value x)
 AnswersAs value fault (Err e) R = Says (fault e) R
 
--- the same where one reading is defined
+-- the same where the text has one reading, `defined`
 abbrev pub GivesAs : {X E Y : Type 0} → (X → Y) → (E → Option Y) → Result X E → Y → Type 0
 GivesAs value fault result defined = AnswersAs value fault result (λ said. defined ≡ said)
 
+-- the cause that a fault tells
 abbrev pub refused : {A : Type 0} → ReadFault → Option (Result A Cause)
 refused (read.Refused cause) = Some (Err cause)
 refused read.NoMemory = None
 
+-- the place that a fault tells, counted in bytes from the text's first
 abbrev pub bad_at : {A : Type 0} → TextFault → Option (Result A ℕ)
 bad_at (text.Bad at) = Some (Err at)
 bad_at text.NoMemory = None

@@ -1,14 +1,13 @@
 -- The sequence number of a moof.
-use Rattle.std.proofs.Common.{◌≡◌, ◌<◌, ◌+◌, ◌^◌, ℕ, Bool, true, false, cond, List, [], ◌++◌, length, drop, Option, Some, None, refl, sym, ap, subst, ◌∙◌, arith}
+use Rattle.std.proofs.Common.{◌≡◌, ◌<◌, ◌+◌, ◌^◌, ℕ, Bool, true, false, cond, List, [], ◌++◌, drop, Some, None, refl, sym, ap, ◌∙◌, arith}
 use Rattle.std.specs.Prelude.{codes, slice_range}
 use Rattle.sm_model.specs.declared.fragment.Fragment.{Fragment}
 use Rattle.sm_model.specs.Numbers.{number32}
 use Rattle.sm_model.specs.Boxes.{Box, box_of, starts_whole}
 use Rattle.sm_model.specs.FragText as text
-use Rattle.sm_model.specs.FragText.{moof_len}
 use Rattle.sm_model.specs.Written.{IsWritten}
 use Rattle.sm_model.proofs.BoxTexts.{text_front}
-use Rattle.sm_model.proofs.WrittenBoxes.{IsText, made, box_is_text, len32, front32, past32}
+use Rattle.sm_model.proofs.WrittenBoxes.{IsText, made, box_is_text, front32, past32}
 use Rattle.sm_model.proofs.WrittenFragment.{moof_is, moof_body, start_of}
 use Rattle.sm_box.specs.Place.{Place, left}
 use Rattle.sm_box.specs.Walks.{IsItem, IsDone, IsBad}

@@ -1,6 +1,5 @@
 -- One act of an origin, whole: what is shown for each machine that the origin stands for, put together.
-use Rattle.std.proofs.Common.{arith, ◌≡◌, ◌≢◌, ◌∙◌, inl, inr, List, Option, None, Some, IsSome, is_some, Result, IfOk, OnOk, OnErr, slice_get, refl, ap, sym, subst}
-use Rattle.lru.specs.LruCache.{LruCache}
+use Rattle.std.proofs.Common.{arith, ◌≡◌, ◌≢◌, ◌∙◌, inl, inr, List, Option, None, Some, IsSome, is_some, Result, IfOk, OnOk, OnErr, refl, ap, sym, subst}
 use Rattle.sm_model.specs.declared.address.Address.{Address}
 use Rattle.sm_model.specs.declared.cause.Cause.{Cause}
 use Rattle.sm_model.specs.declared.entry.Entry.{Entry}

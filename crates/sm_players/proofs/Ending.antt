@@ -1,11 +1,11 @@
 -- Events that a player dealt with, one after the other.
-use Rattle.std.proofs.Common.{◌≡◌, ◌⊎◌, inl, inr, ⊎_elim, ℕ, ◌+◌, ◌<◌, ◌≤◌, Bool, true, false, ◌≢◌, ◌==◌, if◌then◌else◌, List, [], ◌∷◌, ◌++◌, Option, Some, None, IfSome, refl, sym, ◌∙◌, ap, subst}
+use Rattle.std.proofs.Common.{◌≡◌, ℕ, ◌+◌, ◌<◌, ◌≤◌, Bool, true, false, ◌≢◌, ◌==◌, if◌then◌else◌, List, [], ◌∷◌, ◌++◌, Option, Some, None, IfSome, refl, sym, ◌∙◌, ap, subst}
 use Rattle.std.specs.Prelude.{not}
 use Rattle.sm_log.specs.Digests.{Digest, Extends}
 use Rattle.sm_site.specs.Meanings.{View, Deal, Item, IsLive, open_after, open_from}
-use Rattle.sm_site.specs.Meanings.Deal.{Began, Came, Left, Over, Sent, Shut}
+use Rattle.sm_site.specs.Meanings.Deal.{Began, Came, Left, Over}
 use Rattle.sm_site.specs.Clauses.{Both, Adds}
-use Rattle.sm_site.specs.Event.{deal_of, IsNext, IsBelow}
+use Rattle.sm_site.specs.Event.{deal_of, IsNext}
 use Rattle.sm_site.specs.declared.event.Event.{Event}
 use Rattle.sm_site.specs.declared.event.Event.TheVariants.{Opened, Piece, Closed, Ended}
 use Rattle.sm_site.proofs.Transcripts.{open_push}
@@ -16,9 +16,9 @@ use Rattle.sm_players.specs.Asking.{Asking, behind}
 use Rattle.sm_players.specs.Telling.{Goes}
 use Rattle.sm_players.specs.Taking.{Standing, standing}
 use Rattle.sm_players.specs.Open.{Known, AreKnown, AreOpen, MayHandle}
-use Rattle.sm_players.specs.Playing.{Turns, is_over, Plays, begins, goes_on, EndsAs, start, HasPlayed}
+use Rattle.sm_players.specs.Playing.{is_over, Plays, begins, goes_on, EndsAs, start, HasPlayed}
 use Rattle.sm_players.specs.Given.{TurnGives}
-use Rattle.sm_players.proofs.Going.{goes_nil, goes_one, goes_then, goes_same, behind_nil, behind_then}
+use Rattle.sm_players.proofs.Going.{goes_nil, goes_one, goes_then, behind_nil, behind_then}
 use Rattle.sm_players.proofs.Lists.{but_of, all_of, fresh_apart}
 use Rattle.sm_players.proofs.Seeing.{plays_sees}
 

@@ -1,12 +1,12 @@
 -- Entries of a transcript, joined.
-use Rattle.std.proofs.Common.{◌≡◌, ◌≢◌, ◌+◌, ◌<◌, ◌≤◌, ℕ, Bool, true, false, if◌then◌else◌, List, [], ◌∷◌, ◌++◌, Option, Some, None, IfSome, IsTrue, refl, sym, ◌∙◌, ap, subst, append_assoc, arith}
-use Rattle.std.specs.Prelude.{map, take}
+use Rattle.std.proofs.Common.{◌≡◌, ◌+◌, ◌<◌, ◌≤◌, ℕ, Bool, true, false, if◌then◌else◌, List, [], ◌∷◌, ◌++◌, Option, Some, None, IfSome, IsTrue, refl, sym, ◌∙◌, ap, subst, append_assoc, arith}
+use Rattle.std.specs.Prelude.{map}
 use Rattle.std.proofs.lemmas.List.{map-append, append-nil}
-use Rattle.std.proofs.lemmas.Bool.{ne_eqb, eq-eqb}
-use Rattle.sm_site.specs.Meanings.{View, Deal, Item, IsLive, open_after, open_from}
-use Rattle.sm_site.specs.Meanings.Deal.{Began, Came, Left, Over, Sent, Shut}
+use Rattle.std.proofs.lemmas.Bool.{ne_eqb}
+use Rattle.sm_site.specs.Meanings.{View, Deal, Item, IsLive}
+use Rattle.sm_site.specs.Meanings.Deal.{Sent, Shut}
 use Rattle.sm_site.specs.Clauses.{Both, Adds}
-use Rattle.sm_site.proofs.Transcripts.{open_push, stays_live}
+use Rattle.sm_site.proofs.Transcripts.{stays_live}
 use Rattle.sm_players.specs.Asking.{Asking, behind}
 use Rattle.sm_players.specs.Telling.{Goes, LeavesBoth, StaysBeside}
 

@@ -1,7 +1,6 @@
 -- Items that are handled, one after the other.
-use Rattle.std.proofs.Common.{◌≡◌, ◌≢◌, ◌⊎◌, inl, inr, ℕ, zero, suc, ◌+◌, ◌<◌, ◌≤◌, Bool, true, false, List, [], ◌∷◌, ◌++◌, length, take, drop, get_or, Option, Some, None, IfSome, IsTrue, refl, sym, ◌∙◌, ap, subst, append_assoc}
+use Rattle.std.proofs.Common.{◌≡◌, ◌⊎◌, inl, inr, ℕ, ◌+◌, ◌<◌, ◌≤◌, Bool, true, false, List, [], ◌∷◌, ◌++◌, length, take, drop, get_or, Option, Some, None, IfSome, IsTrue, refl, sym, ◌∙◌, ap, subst}
 use Rattle.std.specs.Prelude.{Ok, slice_set}
-use Rattle.std.specs.List.{remove}
 use Rattle.std.proofs.lemmas.List.{append-nil, take_more, take-append-drop}
 use Rattle.std.proofs.lemmas.Grind.{flat_map-append}
 use Rattle.sm_site.specs.Meanings.{Deal, Item, IsLive, View}
@@ -9,21 +8,21 @@ use Rattle.sm_site.specs.Meanings.Deal.{Began, Came, Left, Over}
 use Rattle.sm_log.specs.Digests.{Digest}
 use Rattle.sm_head.specs.declared.reply.TheConstants.{NO_MEMORY}
 use Rattle.sm_conn.specs.declared.part.Part.{Part}
-use Rattle.sm_conn.specs.Parts.{PartItem, IsParts}
-use Rattle.sm_conn.specs.Stands.{items_of, joined, StandsFor, mode_of}
+use Rattle.sm_conn.specs.Parts.{PartItem}
+use Rattle.sm_conn.specs.Stands.{items_of, joined, mode_of}
 use Rattle.sm_players.specs.declared.live.Live.{Live}
 use Rattle.sm_players.specs.declared.replying.Final.{Final}
 use Rattle.sm_players.specs.declared.telling.Outcome.{Outcome}
 use Rattle.sm_players.specs.declared.telling.Outcome.TheVariants.{Open, Closed, Failed}
 use Rattle.sm_players.specs.Asking.{Asking, behind}
 use Rattle.sm_players.specs.Telling.{Goes, LeavesWire, StaysBeside, Tells, is_open, counted}
-use Rattle.sm_players.specs.Replying.{IsReplied, IsStarved, IsAnswer}
-use Rattle.sm_players.specs.Taking.{Standing, standing, Handles, skips, replies, starves, Takes, nothing, next, stops, PieceGives, taken, unread}
-use Rattle.sm_players.specs.Open.{Known, IsKnown, AreKnown, AreOpen, AreOpenBut, IsApart, IsNone, IsNewborn, IsTakenOut, Forgets, LeavesOpen, numbers_of}
-use Rattle.sm_players.specs.Playing.{Turns, opened, crowded, unborn, came, unread as unread_turn, passed, left, left_alone, over, with_bytes, IsCrowded}
+use Rattle.sm_players.specs.Replying.{IsStarved, IsAnswer}
+use Rattle.sm_players.specs.Taking.{Standing, standing, Handles, replies, starves, Takes, nothing, next, stops, PieceGives, taken, unread}
+use Rattle.sm_players.specs.Open.{Known, AreKnown, AreOpen, AreOpenBut, IsApart, IsNone, IsNewborn, IsTakenOut, Forgets, LeavesOpen}
+use Rattle.sm_players.specs.Playing.{Turns, opened, crowded, unborn, came, unread as unread_turn, passed, left, left_alone, over, IsCrowded}
 use Rattle.sm_players.specs.Given.{TurnGives}
 use Rattle.sm_players.proofs.Going.{behind_nil, behind_then, goes_then, goes_nil}
-use Rattle.sm_players.proofs.Lists.{IsAt, but_of, none_but, whole, gone_open, known_push, known_many, none_known, push_open}
+use Rattle.sm_players.proofs.Lists.{IsAt, but_of, none_but, known_push, known_many, none_known, push_open}
 
 pub open_is : (o : Outcome) → IsTrue (is_open o) → o ≡ Open
 open_is Open t = refl

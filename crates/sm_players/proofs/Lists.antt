@@ -1,15 +1,15 @@
 -- The live connections as a list.
-use Rattle.std.proofs.Common.{◌≡◌, ◌≢◌, ◌⊎◌, inl, inr, ⊎_elim, ℕ, zero, suc, ◌+◌, ◌<◌, ◌≤◌, Bool, true, false, ◌==◌, if◌then◌else◌, List, [], ◌∷◌, ◌++◌, length, get_or, Option, Some, None, IfSome, IsTrue, refl, sym, ◌∙◌, ap, subst, arith}
+use Rattle.std.proofs.Common.{◌≡◌, ◌≢◌, inl, inr, ℕ, zero, suc, ◌+◌, ◌<◌, Bool, true, false, ◌==◌, if◌then◌else◌, List, [], ◌∷◌, ◌++◌, length, get_or, refl, sym, ◌∙◌, ap, subst, arith}
 use Rattle.std.specs.Prelude.{slice_set, All}
 use Rattle.std.specs.List.{remove, AllByRecursion}
 use Rattle.std.proofs.lemmas.List.Elements.{recursion_from_All}
-use Rattle.std.proofs.lemmas.Bool.{eq-eqb, ne_eqb}
+use Rattle.std.proofs.lemmas.Bool.{ne_eqb}
 use Rattle.std.proofs.lemmas.Bool.Decides.{eqb_tells}
 use Rattle.sm_site.specs.Meanings.{Item, Deal, IsLive, open_after, open_from}
 use Rattle.sm_site.specs.Meanings.Deal.{Began, Came, Left, Over, Sent, Shut}
 use Rattle.sm_site.specs.Event.{IsBelow}
 use Rattle.sm_players.specs.declared.live.Live.{Live}
-use Rattle.sm_players.specs.Open.{Known, IsApart, AreOpen, AreOpenBut, IsKnown, AreKnown, numbers_of, IsNone, IsTakenOut, Forgets, IsNewborn}
+use Rattle.sm_players.specs.Open.{Known, IsApart, AreOpen, AreOpenBut, IsKnown, AreKnown, numbers_of, IsNone}
 
 -- ---- numbers
 

@@ -1,5 +1,5 @@
 -- Replies, from what their parts say.
-use Rattle.std.proofs.Common.{◌≡◌, ◌≢◌, ◌⊎◌, inl, inr, ℕ, Bool, true, false, ◌||◌, List, [], ◌∷◌, ◌++◌, Option, Some, None, refl, sym, ◌∙◌, ap, subst}
+use Rattle.std.proofs.Common.{◌≡◌, ◌≢◌, inl, inr, ℕ, Bool, true, false, ◌||◌, List, [], ◌∷◌, Some, None, refl, sym, ap, subst}
 use Rattle.std.specs.Prelude.{Result, Ok, Err, IfOk}
 use Rattle.std.proofs.lemmas.Bool.{cases_Bool}
 use Rattle.sm_model.specs.declared.act.Act.{Act}
@@ -15,13 +15,11 @@ use Rattle.sm_conn.specs.Parts.{PartItem, got, posted, bad}
 use Rattle.sm_shelf.specs.declared.shown.Shown.{Shown}
 use Rattle.sm_shelf.specs.declared.shown.Shown.TheVariants as shown
 use Rattle.sm_shelf.specs.Shelf.{Sight}
-use Rattle.sm_shelf.specs.Shown.{Answers, IsAsk, IsShown}
-use Rattle.sm_players.specs.declared.forward.ForwardError.{ForwardError}
+use Rattle.sm_shelf.specs.Shown.{Answers, IsAsk}
 use Rattle.sm_players.specs.declared.forward.ForwardError.TheVariants.{Failed}
 use Rattle.sm_players.specs.declared.replying.Final.{Final}
-use Rattle.sm_players.specs.Asking.{Asking, behind, told_of}
-use Rattle.sm_players.specs.Replying.{act_for, refusal, refusal_last, ClosesBehind, IsFinal, shown_it, forwarded, failed, unknown, IsReplied, to_get, to_post, to_bad, IsStarved, IsAnswer, IsFinalOr, IsForwardReply, replied, refused, IsForwardOr}
-use Rattle.sm_players.proofs.Going.{behind_nil}
+use Rattle.sm_players.specs.Asking.{Asking, told_of}
+use Rattle.sm_players.specs.Replying.{act_for, refusal, refusal_last, ClosesBehind, IsFinal, shown_it, forwarded, failed, unknown, to_get, to_post, to_bad, IsStarved, IsAnswer, IsFinalOr, IsForwardReply, replied, refused, IsForwardOr}
 
 -- ---- what the loop replies
 

@@ -1,5 +1,5 @@
 -- What a player has seen only goes forward.
-use Rattle.std.proofs.Common.{◌≡◌, ℕ, Bool, true, false, List, [], ◌∷◌, ◌++◌, Option, Some, None, refl, sym, ◌∙◌, ap, subst}
+use Rattle.std.proofs.Common.{◌≡◌, ℕ, Bool, true, false, List, [], sym, ap, subst}
 use Rattle.sm_log.specs.Digests.{Digest, Extends}
 use Rattle.sm_log.proofs.AllLogs.{extends_itself, extends_through}
 use Rattle.sm_site.specs.Meanings.{Deal}
@@ -8,7 +8,7 @@ use Rattle.sm_conn.specs.Parts.{PartItem}
 use Rattle.sm_players.specs.declared.replying.Final.{Final}
 use Rattle.sm_players.specs.Asking.{Asking}
 use Rattle.sm_players.specs.Open.{Known}
-use Rattle.sm_players.specs.Replying.{IsFinal, shown_it, forwarded, failed, unknown, IsReplied, to_get, to_post, to_bad, IsStarved}
+use Rattle.sm_players.specs.Replying.{IsFinal, shown_it, forwarded, failed, unknown, IsReplied, to_get, to_post, to_bad}
 use Rattle.sm_players.specs.Taking.{Standing, Handles, skips, replies, starves, Takes, nothing, next, stops}
 use Rattle.sm_players.specs.Playing.{Turns, opened, crowded, unborn, came, unread, passed, left, left_alone, over, Plays, begins, goes_on}
 

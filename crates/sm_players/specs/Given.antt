@@ -1,7 +1,6 @@
 -- What one event gives to a player.
-use Rattle.std.specs.Prelude.{◌≡◌, ℕ, List, Option}
+use Rattle.std.specs.Prelude.{◌≡◌, List, Option}
 use Rattle.sm_site.specs.Meanings.{Deal, Item}
-use Rattle.sm_log.specs.Digests.{Digest}
 use Rattle.sm_players.specs.declared.live.Live.{Live}
 use Rattle.sm_players.specs.Asking.{Asking, behind}
 use Rattle.sm_players.specs.Telling.{Goes}

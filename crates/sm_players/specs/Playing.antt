@@ -1,5 +1,5 @@
 -- What a player does, event by event.
-use Rattle.std.specs.Prelude.{◌≡◌, ◌≢◌, ◌⊎◌, ℕ, ◌+◌, ◌<◌, ◌≤◌, Bool, true, false, List, [], ◌∷◌, ◌++◌, length, Option, if◌then◌else◌}
+use Rattle.std.specs.Prelude.{◌≡◌, ◌⊎◌, ℕ, ◌+◌, ◌<◌, ◌≤◌, Bool, true, false, List, [], ◌∷◌, ◌++◌, length, Option}
 use Rattle.sm_log.specs.Digests.{Digest}
 use Rattle.sm_model.specs.declared.cause.Cause.TheVariants.{TooManyConnections}
 use Rattle.sm_site.specs.Meanings.{Deal, Item}

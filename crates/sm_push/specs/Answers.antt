@@ -1,6 +1,5 @@
 -- What the readers of a header answer, where memory may be wanting.
 use Rattle.std.specs.Prelude.{◌≡◌, ℕ, Result, Ok, Err}
-use Rattle.sm_model.specs.declared.cause.Cause.{Cause}
 use Rattle.sm_model.specs.declared.cause.Cause.TheVariants.{BadLiveManifest}
 use Rattle.sm_model.specs.declared.fault.ReadFault.{ReadFault}
 use Rattle.sm_model.specs.declared.fault.ReadFault.TheVariants.{Refused, NoMemory}

@@ -1,5 +1,5 @@
 -- The texts of replies, as bytes (RFC 9112, section 4).
-use Rattle.std.specs.Prelude.{◌+◌, ◌==◌, ◌&&◌, not, ℕ, Bool, true, false, List, [], ◌∷◌, ◌++◌, codes, decimal, Option, Some, None}
+use Rattle.std.specs.Prelude.{◌+◌, ◌==◌, not, ℕ, Bool, true, false, List, [], ◌∷◌, ◌++◌, codes, decimal, Option, Some, None}
 use Rattle.sm_model.specs.declared.track.Track.{Track}
 use Rattle.sm_model.specs.declared.fragment.Fragment.{Fragment}
 use Rattle.sm_model.specs.declared.address.Address.{Address}
@@ -10,7 +10,6 @@ use Rattle.sm_model.specs.declared.cause.Refusal.{Refusal}
 use Rattle.sm_model.specs.declared.act.Act.{Act}
 use Rattle.sm_model.specs.declared.act.Act.TheVariants.{Manifest, Fragment as Ask, Unknown, Header, Frag, End, Refuse}
 use Rattle.sm_model.specs.Causes.{cause_status, cause_line}
-use Rattle.sm_model.specs.Same.{is_same}
 use Rattle.sm_model.specs.FragText.{frag_text}
 use Rattle.sm_log.specs.Adds.{Add, listed, id_in}
 use Rattle.sm_log.specs.Logs.{channel_of, adds_of, kept_at, ahead_in}

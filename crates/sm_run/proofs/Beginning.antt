@@ -1,6 +1,6 @@
 -- From a store that was opened to a run beside players.
-use Rattle.std.proofs.Common.{inl, inr, ◌≡◌, ◌⊎◌, ◌≤◌, ℕ, Bool, true, false, List, [], ◌++◌, Option, Some, None, Result, Ok, Err, refl, sym, ap, subst, ◌∙◌, arith}
-use Rattle.std.specs.Prelude.{IfSome, IsSome, IfOk, IfErr, OnErr, IsTrue, is_some}
+use Rattle.std.proofs.Common.{inl, ◌≡◌, ◌≤◌, ℕ, Bool, List, [], ◌++◌, Option, Some, None, Result, Ok, Err, refl, sym, ap, subst, ◌∙◌, arith}
+use Rattle.std.specs.Prelude.{IfSome, IsSome, IfOk, IfErr, OnErr, is_some}
 use Rattle.sm_model.specs.declared.entry.Entry.{Entry}
 use Rattle.sm_model.specs.declared.track.Track.{Track}
 use Rattle.sm_site.specs.Clauses.{Rose}
@@ -13,10 +13,9 @@ use Rattle.sm_origin.specs.Opening.{HasOneStore}
 use Rattle.sm_serve.specs.declared.state.State.{State}
 use Rattle.sm_serve.specs.declared.outcome.Served.{Served as Outcome}
 use Rattle.sm_serve.specs.declared.outcome.Served.TheVariants as served
-use Rattle.sm_serve.specs.Standing.{History, StandsOn, is_told}
+use Rattle.sm_serve.specs.Standing.{History, is_told}
 use Rattle.sm_serve.specs.Connections.{deals_in, events_in}
 use Rattle.sm_serve.specs.Serving.{Begins, EndsAs, Known, Serves, Served}
-use Rattle.sm_command.specs.declared.fault.StoreFault.{StoreFault}
 use Rattle.sm_command.specs.Lasting.{AtEachMoment, NoFewer}
 use Rattle.sm_command.specs.Serving.{Found, GoesUnseen, IsBegun}
 use Rattle.sm_command.proofs.Starting.{IsPrepared, early, serves_early, why_stopped}
@@ -29,8 +28,8 @@ use Rattle.sm_players.specs.Wiring.{Wires}
 use Rattle.sm_run.specs.declared.fault.ShowFault.{ShowFault}
 use Rattle.sm_run.specs.declared.fault.ShowFault.TheVariants as fault
 use Rattle.sm_run.specs.declared.showing.Ended.{Ended}
-use Rattle.sm_run.specs.Showing.{IsReady, IsSelectedWith, RunsShown, ShownFrom, StopsShort, WhyUnshown}
-use Rattle.sm_run.specs.Staff.{IsUnstaffed, Staff}
+use Rattle.sm_run.specs.Showing.{IsSelectedWith, RunsShown, ShownFrom, StopsShort, WhyUnshown}
+use Rattle.sm_run.specs.Staff.{Staff}
 use Rattle.sm_ends.specs.Ended.{End}
 
 -- a shelf with nothing belongs to each log

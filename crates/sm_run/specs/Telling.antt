@@ -1,5 +1,5 @@
 -- How it is told what serving beside players came to.
-use Rattle.std.specs.Prelude.{◌≡◌, ◌⊎◌, ◌++◌, ◌==◌, ◌&&◌, ℕ, List, codes, decimal, if◌then◌else◌, Result, Ok, Err}
+use Rattle.std.specs.Prelude.{◌≡◌, ◌⊎◌, ◌++◌, ◌==◌, ◌&&◌, ℕ, List, codes, decimal, if◌then◌else◌}
 use Rattle.sm_serve.specs.declared.outcome.Served.{Served as Outcome}
 use Rattle.sm_serve.specs.declared.outcome.Served.TheVariants as served
 use Rattle.sm_players.specs.declared.spawner.Finished.{Finished}

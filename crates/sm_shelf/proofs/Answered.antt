@@ -1,5 +1,5 @@
 -- What the digest of a sound log answers.
-use Rattle.std.proofs.Common.{◌≡◌, ◌≢◌, ◌≤◌, ◌<◌, ◌+◌, ◌⊎◌, inl, inr, ℕ, zero, suc, true, is_some, Option, IsSome, Some, None, List, [], ◌∷◌, ◌++◌, length, map, refl, sym, ap, subst, ◌∙◌, append-nil, arith}
+use Rattle.std.proofs.Common.{◌≡◌, ◌≢◌, ◌+◌, inl, inr, ℕ, zero, suc, true, is_some, Option, IsSome, Some, None, List, [], ◌∷◌, ◌++◌, length, map, refl, sym, ap, subst, ◌∙◌, append-nil, arith}
 use Rattle.std.proofs.lemmas.List.{length-append, length-map}
 use Rattle.std.specs.List.{slice_get}
 use Rattle.sm_model.specs.declared.address.Address.{Address}
@@ -22,7 +22,7 @@ use Rattle.sm_reply.specs.Replies.{ok, manifest_with, manifest_reply, fragment_r
 use Rattle.sm_shelf.specs.Parts.{placed}
 use Rattle.sm_shelf.specs.Laying.{adds_in}
 use Rattle.sm_shelf.specs.Shown.{IsHeld, IsReplyTo, ahead_by, id_by, lists}
-use Rattle.sm_shelf.proofs.Fronts.{AreKeeps, keeps_long, shape_of, told}
+use Rattle.sm_shelf.proofs.Fronts.{AreKeeps, shape_of, told}
 use Rattle.sm_shelf.proofs.Windows.{window_behind}
 use Rattle.sm_shelf.proofs.Places.{get_behind}
 

@@ -1,5 +1,5 @@
 -- The catalog of a sound log, and its last fragments.
-use Rattle.std.proofs.Common.{◌≡◌, ◌≤◌, ◌<◌, ◌+◌, ◌^◌, ◌⊎◌, inl, inr, ℕ, zero, suc, Option, Some, None, List, [], ◌∷◌, ◌++◌, length, map, refl, sym, ap, subst, ◌∙◌, arith}
+use Rattle.std.proofs.Common.{◌≡◌, ◌≤◌, ◌<◌, ◌+◌, ◌^◌, ◌⊎◌, inl, inr, ℕ, zero, suc, Option, Some, List, [], ◌∷◌, ◌++◌, length, map, refl, sym, ap, subst, ◌∙◌, arith}
 use Rattle.std.proofs.lemmas.List.{length-append, length-map, map-append}
 use Rattle.std.specs.List.{slice_get}
 use Rattle.std.specs.Option.{option_map}
@@ -10,7 +10,7 @@ use Rattle.sm_model.specs.declared.fragment.Fragment.{Fragment}
 use Rattle.sm_model.specs.declared.track.Track.{Track}
 use Rattle.sm_model.specs.Entries.{address_of}
 use Rattle.sm_log.specs.Adds.{Add, place_of}
-use Rattle.sm_log.specs.Logs.{channel_of, adds_of, kept_at, IsSound}
+use Rattle.sm_log.specs.Logs.{channel_of, adds_of, IsSound}
 use Rattle.sm_log.specs.Digests.{digest_of, keeps_of, bytes_of, window_of}
 use Rattle.sm_log.proofs.AllLogs.{kept_place}
 use Rattle.sm_catalog.specs.Content.{Content}

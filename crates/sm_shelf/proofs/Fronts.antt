@@ -1,8 +1,6 @@
 -- A front of a sound log, one entry further.
-use Rattle.std.proofs.Common.{◌≡◌, ◌≤◌, ◌<◌, ◌+◌, ◌⊎◌, inl, inr, ℕ, zero, suc, Bool, true, false, cond, eqb, Option, Some, None, List, [], ◌∷◌, ◌++◌, length, map, take, drop, refl, sym, ap, subst, ◌∙◌, append_assoc, arith}
-use Rattle.std.proofs.lemmas.Bool.{and_parts}
-use Rattle.std.proofs.lemmas.Bool.Decides.{nat_tests}
-use Rattle.std.proofs.lemmas.List.{length-append, length-map, map-append, take-append-drop}
+use Rattle.std.proofs.Common.{◌≡◌, ◌≤◌, ◌<◌, ◌+◌, ◌⊎◌, inl, inr, ℕ, zero, suc, Bool, true, false, cond, Option, Some, None, List, [], ◌∷◌, ◌++◌, length, map, take, drop, refl, sym, ap, subst, ◌∙◌, append_assoc, arith}
+use Rattle.std.proofs.lemmas.List.{length-map, map-append, take-append-drop}
 use Rattle.std.specs.List.{slice_get}
 use Rattle.sm_model.specs.declared.address.Address.{Address}
 use Rattle.sm_model.specs.declared.entry.Entry.{Entry}
@@ -10,13 +8,12 @@ use Rattle.sm_model.specs.declared.entry.Entry.TheVariants.{Declare, Keep}
 use Rattle.sm_model.specs.declared.fragment.Fragment.{Fragment}
 use Rattle.sm_model.specs.declared.track.Track.{Track}
 use Rattle.sm_model.specs.Entries.{address_of}
-use Rattle.sm_log.specs.declared.verdict.Judged.TheVariants as judged
 use Rattle.sm_log.specs.Adds.{Add}
 use Rattle.sm_log.specs.Logs.{channel_of, verdict_by, FitsBehind, IsSound}
 use Rattle.sm_log.specs.Digests.{Digest, digest_of, keeps_of, window_of}
 use Rattle.sm_log.proofs.AllLogs.{sound_front}
 use Rattle.sm_shelf.specs.Laying.{Op, Whole, Next, laid, op_at, declared, is_next, is_new, is_fresh, with_add, adds_in}
-use Rattle.sm_shelf.specs.Shelf.{height_of, IsFront, IsOf}
+use Rattle.sm_shelf.specs.Shelf.{IsFront, IsOf}
 use Rattle.sm_shelf.proofs.Places.{next_one}
 use Rattle.sm_shelf.proofs.Windows.{window_grows}
 

@@ -1,5 +1,5 @@
 -- What goes on from what.
-use Rattle.std.proofs.Common.{◌≡◌, ◌⊎◌, inl, inr, ℕ, suc, Bool, true, false, cond, eqb, is_none, length, arith, Option, None, Some, List, [], ◌∷◌, ◌++◌, map, fold, refl, sym, ◌∙◌, ap, append_assoc, append-nil}
+use Rattle.std.proofs.Common.{◌≡◌, inl, inr, ℕ, suc, Bool, true, false, cond, eqb, is_none, length, arith, Option, None, Some, List, [], ◌∷◌, ◌++◌, map, fold, refl, sym, ap}
 use Rattle.std.proofs.lemmas.Bool.{and_parts}
 use Rattle.std.proofs.lemmas.Bool.Decides.{nat_tests}
 use Rattle.sm_model.specs.declared.address.Address.{Address}

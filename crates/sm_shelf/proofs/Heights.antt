@@ -1,5 +1,5 @@
 -- How much of a log a digest stands for.
-use Rattle.std.proofs.Common.{◌≡◌, ◌≤◌, ◌<◌, ◌+◌, ◌⊎◌, inl, inr, ℕ, zero, suc, Option, Some, None, List, [], ◌∷◌, ◌++◌, length, map, take, refl, sym, ap, subst, ◌∙◌, arith}
+use Rattle.std.proofs.Common.{◌≡◌, ◌≤◌, ◌+◌, ◌⊎◌, inl, inr, ℕ, zero, suc, Some, List, [], ◌∷◌, ◌++◌, length, map, take, refl, sym, ap, ◌∙◌, arith}
 use Rattle.std.proofs.lemmas.List.{length-append, length-map}
 use Rattle.std.specs.List.{slice_get}
 use Rattle.sm_model.specs.declared.entry.Entry.{Entry}
@@ -7,7 +7,6 @@ use Rattle.sm_model.specs.declared.entry.Entry.TheVariants.{Declare, Keep}
 use Rattle.sm_model.specs.declared.track.Track.{Track}
 use Rattle.sm_log.specs.Logs.{IsSound}
 use Rattle.sm_log.specs.Digests.{Digest, digest_of, keeps_of}
-use Rattle.sm_log.proofs.AllLogs.{sound_front}
 use Rattle.sm_shelf.specs.Laying.{Op, Whole, Next}
 use Rattle.sm_shelf.specs.Shelf.{height_of, IsFront, IsOf}
 use Rattle.sm_shelf.proofs.Fronts.{AreKeeps, keeps_long, shape_of, told, take_long, sound_take}

@@ -1,5 +1,5 @@
 -- What was added, with its places, and the window at its end.
-use Rattle.std.proofs.Common.{◌≡◌, ◌⊎◌, inl, inr, ◌+◌, ◌-◌, ◌≤◌, ◌<◌, ◌^◌, ℕ, zero, suc, Bool, true, false, cond, eqb, eq-eqb, ltb, Option, Some, None, List, [], ◌∷◌, ◌++◌, length, map, take, drop, All, refl, sym, ap, ◌∙◌, subst, append_assoc, arith}
+use Rattle.std.proofs.Common.{◌≡◌, ◌⊎◌, inl, inr, ◌+◌, ◌-◌, ◌≤◌, ◌<◌, ℕ, zero, suc, Bool, true, false, cond, eqb, eq-eqb, ltb, Option, Some, None, List, [], ◌∷◌, ◌++◌, length, map, take, drop, refl, sym, ap, ◌∙◌, subst, append_assoc, arith}
 use Rattle.std.proofs.lemmas.Bool.{and_parts, and_from}
 use Rattle.std.proofs.lemmas.Bool.Decides.{nat_tests}
 use Rattle.std.proofs.lemmas.Slice.Eq.{bytes_eq-Decides}
@@ -20,8 +20,8 @@ use Rattle.sm_log.specs.Digests.{Digest, window_of}
 use Rattle.sm_log.proofs.AllAdds.{places_stay, new_declared}
 use Rattle.sm_log.proofs.New as new
 use Rattle.sm_catalog.specs.Content.{Content}
-use Rattle.sm_shelf.specs.Parts.{placed, stripped, told_in, added_in, addresses_in, IsEnd, IsListing, IsStocked}
-use Rattle.sm_shelf.specs.Laying.{is_next, is_new, is_span, adds_in}
+use Rattle.sm_shelf.specs.Parts.{placed, stripped, told_in, addresses_in, IsEnd, IsListing, IsStocked}
+use Rattle.sm_shelf.specs.Laying.{is_next, is_new, adds_in}
 use Rattle.sm_shelf.proofs.Windows.{window_behind, window_short}
 
 abbrev add_at : Address × ℕ → ℕ → Add

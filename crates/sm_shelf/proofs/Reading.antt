@@ -1,5 +1,5 @@
 -- What a reader keeps stays right.
-use Rattle.std.proofs.Common.{◌≡◌, ◌≢◌, ◌≤◌, ◌<◌, ◌⊎◌, inl, inr, ℕ, Bool, true, Result, IfOk, Option, Some, None, List, [], ◌∷◌, ◌++◌, length, take, refl, sym, ap, subst, ◌∙◌, le_refl, arith}
+use Rattle.std.proofs.Common.{◌≡◌, ◌≢◌, ◌≤◌, ◌⊎◌, inl, inr, ℕ, Bool, true, Result, IfOk, Option, Some, None, List, [], ◌∷◌, length, take, refl, sym, ap, subst, ◌∙◌, arith}
 use Rattle.std.proofs.lemmas.List.{length-append, take-append-le}
 use Rattle.std.proofs.Math.Seq.{take_all}
 use Rattle.std.specs.List.{slice_get}
@@ -24,7 +24,7 @@ use Rattle.sm_shelf.specs.declared.found.Found.TheVariants as found
 use Rattle.sm_shelf.specs.declared.replies.Listed.{Listed}
 use Rattle.sm_shelf.specs.Parts.{placed}
 use Rattle.sm_shelf.specs.Laying.{adds_in}
-use Rattle.sm_shelf.specs.Shown.{ahead_by, id_by, both, gives, lists, IsGiven, IsSeen, IsTaken, IsFound, IsShown, IsListed, IsReader}
+use Rattle.sm_shelf.specs.Shown.{ahead_by, id_by, both, lists, IsGiven, IsSeen, IsTaken, IsFound, IsShown, IsListed, IsReader}
 use Rattle.sm_shelf.proofs.Ahead.{ahead_few}
 use Rattle.sm_shelf.proofs.Answered.{same_channel}
 

@@ -1,5 +1,5 @@
 -- The steps, for the digests.
-use Rattle.std.proofs.Common.{◌≡◌, ℕ, List, [], ◌∷◌, refl, sym, subst, ◌∙◌}
+use Rattle.std.proofs.Common.{◌≡◌, ℕ, [], ◌∷◌, sym, subst, ◌∙◌}
 use Rattle.crossbeam_utils.specs.Register.{Admits, TurnsAt, Forks, Merges}
 use Rattle.sm_log.specs.Digests.{Digest, Extends}
 use Rattle.sm_shelf.specs.Laying.{nothing}

@@ -1,5 +1,5 @@
 -- The words of the shelf's contracts.
-use Rattle.std.specs.Prelude.{◌≡◌, ◌+◌, ◌≤◌, All, take, ℕ, Bool, List, [], length, Option, None, Some, slice_get}
+use Rattle.std.specs.Prelude.{◌≡◌, ◌+◌, ◌≤◌, All, take, ℕ, Bool, List, length, Option, None, Some, slice_get}
 use mathlib.Core.Option.{some}
 use lib.ListN.{get_elem?}
 use Rattle.sm_model.specs.declared.entry.Entry.{Entry}

@@ -1,5 +1,5 @@
 -- What the readers of live manifests answer, and what their parts hand on.
-use Rattle.std.specs.Prelude.{◌≡◌, ℕ, true, List, Option, Some, Result, Ok, Err}
+use Rattle.std.specs.Prelude.{◌≡◌, ℕ, true, List, Option, Some}
 use Rattle.sm_model.specs.declared.tag.Tag.{Tag}
 use Rattle.sm_smil.specs.declared.raw_track.Form.{Form}
 use Rattle.sm_smil.specs.declared.raw_track.ParamName.{ParamName}

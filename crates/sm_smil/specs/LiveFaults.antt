@@ -1,7 +1,5 @@
 -- What is at fault in the tracks of a live manifest, by the places of the elements at fault.
-use Rattle.std.specs.Prelude.{ℕ, Bool, true, false, List, [], ◌∷◌, ◌++◌, min, Option, Some, None, option_to_list, is_none, ◌==◌, ◌&&◌, ◌||◌, not, if◌then◌else◌}
-use Rattle.sm_model.specs.declared.track.Kind.{Kind}
-use Rattle.sm_model.specs.declared.track.Kind.TheVariants.{Video, Audio, Text}
+use Rattle.std.specs.Prelude.{ℕ, Bool, false, List, [], ◌∷◌, ◌++◌, Option, Some, None, option_to_list, is_none, ◌==◌, ◌&&◌, ◌||◌, not, if◌then◌else◌}
 use Rattle.sm_smil.specs.declared.raw_track.Form.{Form}
 use Rattle.sm_smil.specs.declared.raw_track.Form.TheVariants.{Pushed, Ladder}
 use Rattle.sm_smil.specs.declared.raw_track.ParamName.TheVariants.{TrackId}

@@ -1,7 +1,6 @@
 -- What a live manifest says: its tracks, or the least place of a fault.
-use Rattle.std.specs.Prelude.{◌≡◌, ℕ, List, [], ◌∷◌, length, map, Option, Some, None, Result, Ok, Err}
+use Rattle.std.specs.Prelude.{◌≡◌, ℕ, List, length, map, Option, Some, None, Result, Ok, Err}
 use Rattle.sm_model.specs.declared.tag.Tag.{Tag}
-use Rattle.sm_model.specs.declared.tag.Tag.TheVariants.{Start, Finish, Text, End, Bad}
 use Rattle.sm_model.specs.declared.track.Track.{Track}
 use Rattle.sm_model.specs.declared.smil.SmilTrack.{SmilTrack}
 use Rattle.sm_smil.specs.declared.raw_track.Form.{Form}

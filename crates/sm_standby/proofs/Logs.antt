@@ -32,7 +32,7 @@ use Rattle.sm_standby.specs.Turns.{url_of, Whose, candidate, again, Came, absent
 use Rattle.sm_standby.specs.Asked.{StopsAt, IsTried}
 use Rattle.sm_standby.specs.Followed.{at, tried_turn, EndsTurns}
 use Rattle.sm_standby.specs.Rounds as rounds
-use Rattle.sm_standby.specs.Rounds.{Round, AreRounds, RoundsUpstream, Part, no_part, StopsRound, EndsCall, Called}
+use Rattle.sm_standby.specs.Rounds.{Round, AreRounds, RoundsUpstream, Part, StopsRound, EndsCall, Called}
 use Rattle.sm_standby.specs.Placed.{NamesItself, Names, AllName, RoundsName, PartNames, LeavesPlaces, StaysPlaced}
 use Rattle.sm_standby.proofs.Opens.{by_bool}
 

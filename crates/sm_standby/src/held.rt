@@ -1,7 +1,7 @@
 //! Addresses whose place in the log comes later.
 ghost use Rattle.std.specs.Prelude.{◌≡◌, ◌==◌, ◌++◌, ◌∷◌, [], List, OnOk, OnErr, IfSome, IfNone};
 ghost use Rattle.std.specs.List.{position};
-ghost use Rattle.sm_standby.specs.Waiting.{due, without, waits, IsLeast};
+ghost use Rattle.sm_standby.specs.Waiting.{due, is_of, without, waits, IsLeast};
 
 use sm_model::{Address, NoMemory};
 use std::alloc::Global;
@@ -36,6 +36,13 @@ fn place_of(items: &[Later], place: u64) -> Option<usize>
     items.iter().position(|later| later.place == place)
 }
 
+// Whether these are one address. Their starts differ most often, so they are held beside each other first.
+fn is_of(one: &Address, other: &Address) -> bool
+    ensures { result ≡ is_of one.now other.now }
+{
+    one.time == other.time && one.bitrate == other.bitrate && one.stream == other.stream
+}
+
 impl Held {
     /// None.
     pub fn new(alloc: Global) -> Held
@@ -59,7 +66,7 @@ impl Held {
     pub fn has(&self, address: &Address) -> bool
         ensures { result ≡ waits address.now self.now }
     {
-        self.items.iter().any(|later| *address == later.address)
+        self.items.iter().any(|later| is_of(address, &later.address))
     }
 
     /// Takes out the first one of that place.

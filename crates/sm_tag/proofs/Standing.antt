@@ -13,7 +13,7 @@ use Rattle.sm_tag.specs.declared.grammar.Lead.TheVariants as lead
 use Rattle.sm_tag.specs.TagBytes.{is_space, is_text, prefix, remaining}
 use Rattle.sm_tag.specs.TagMarkup.{Markups, lead_inside, lead_stray, lead_outside, lead_at}
 use Rattle.sm_tag.specs.Tags as whole
-use Rattle.sm_tag.specs.Tags.{Left, Founds, bare, lost, stray, marked, skipped, gives, Next, Runs, ends, follows, is_last, begin, without_zeros, without_mark, kept, TagsOf}
+use Rattle.sm_tag.specs.Tags.{Left, Founds, bare, lost, stray, marked, skipped, gives, Runs, ends, follows, is_last, begin, without_zeros, without_mark, kept, TagsOf}
 use Rattle.sm_tag.proofs.GrammarSound.{MarkupMade, markups_made, split_is, prefix_all, starts_made}
 use Rattle.sm_tag.specs.Grammar.{IsRun, StandsIn}
 

@@ -5,14 +5,13 @@ use Rattle.std.specs.Str.{bytes_eq}
 use Rattle.clap.specs.Kinds.{Kinds, or_else}
 use Rattle.clap.specs.Faults.{use_fault}
 use Rattle.clap.specs.Simple.{filled, new_rule, with_index}
-use Rattle.clap.specs.Walk.{Row, Rule, option, used}
+use Rattle.clap.specs.Walk.{Row, Rule, used}
 use Rattle.clap.specs.declared.builder.action.ArgAction.TheVariants.{Set, SetTrue}
-use Rattle.clap.specs.declared.error.kind.ErrorKind.TheVariants as kind
 use Rattle.sm_words.specs.declared.option.Name.{Name}
 use Rattle.sm_words.specs.declared.line.Place.{Place}
 use Rattle.sm_words.specs.declared.line.Place.TheVariants.{Free, Behind, Bare}
 use Rattle.sm_words.specs.Options.{has_value}
-use Rattle.sm_words.specs.Words.{Text, first_given, is, is_dashed}
+use Rattle.sm_words.specs.Words.{Text, first_given, is_dashed}
 use Rattle.sm_words.specs.Clapped.{words_rule}
 use Rattle.sm_words.proofs.Lexing.{id_of, long}
 

@@ -1,5 +1,5 @@
 -- How a run of the program ends.
-use Rattle.std.proofs.Common.{◌≡◌, ℕ, List, Option, Some, refl, sym, subst}
+use Rattle.std.proofs.Common.{◌≡◌, ℕ, List, Option, Some, sym, subst}
 use Rattle.sm_client.specs.Turns.{Meaning}
 use Rattle.sm_site.specs.Meanings.{Seen}
 use Rattle.sm_tool.specs.Edges.{Dialing}

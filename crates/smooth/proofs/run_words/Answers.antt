@@ -1,4 +1,4 @@
-use Rattle.std.proofs.Common.{◌∙◌, ap, sym, map, string_bytes, String, Global, Vec, Result, Some, List, ℕ}
+use Rattle.std.proofs.Common.{◌∙◌, ap, sym, map, string_bytes, String, Global, Vec, Some, List}
 use Rattle.std.specs.Option.{option_map}
 use Rattle.std.specs.Result.{result_ok}
 use Rattle.smooth.proofs.Ending.{ended}

@@ -1,4 +1,4 @@
-use Rattle.std.proofs.Common.{Some, List, ap, sym, subst}
+use Rattle.std.proofs.Common.{Some, List, sym, subst}
 use Rattle.sm_model.specs.declared.track.Track.{Track}
 use Rattle.sm_model.specs.declared.entry.Entry.{Entry}
 use Rattle.sm_record.specs.Bodies.{IsBody}

@@ -1,4 +1,4 @@
-use Rattle.std.proofs.Common.{◌∙◌, ◌≡◌, ℕ, List, Option, arith, subst}
+use Rattle.std.proofs.Common.{◌∙◌, ◌≡◌, ℕ, List, Option, subst}
 use Rattle.sm_model.specs.declared.entry.Entry.{Entry}
 use Rattle.sm_model.specs.declared.track.Track.{Track}
 use Rattle.sm_site.specs.Meanings.{Chosen, Seen}
@@ -8,7 +8,6 @@ use Rattle.sm_pull.specs.declared.plan.PullPlan.{PullPlan}
 use Rattle.sm_standby.specs.declared.report.FollowReport.{FollowReport}
 use Rattle.sm_edge.specs.Following.{HasFollowed}
 use Rattle.sm_fetch.proofs.Alone.{on_then}
-use Rattle.sm_command.proofs.Chosen.{chosen_still}
 use Rattle.sm_command.proofs.Lasting.{silent_then}
 use Rattle.sm_command.proofs.Starting.{stated_again}
 use Rattle.sm_edge.proofs.Outlasting.{added_lasts, edge_spared, fits_alone, silent_grows}

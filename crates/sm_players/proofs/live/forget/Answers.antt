@@ -1,8 +1,7 @@
-use Rattle.std.proofs.Common.{◌≡◌, ℕ, ◌<◌, ◌++◌, List, length, get_or, inl, inr, refl, sym, ◌∙◌, subst, arith}
-use Rattle.sm_site.specs.Meanings.{Item}
+use Rattle.std.proofs.Common.{◌≡◌, ℕ, ◌<◌, ◌++◌, List, length, get_or, inl, inr, refl, sym, ◌∙◌, subst}
 use Rattle.sm_players.specs.declared.live.Live.{Live}
 use Rattle.sm_players.specs.Open.{AreOpen, AreKnown, IsApart, numbers_of}
-use Rattle.sm_players.proofs.Lists.{apart_none, as_many, gone_open, known_at, none_but, none_known, number_at}
+use Rattle.sm_players.proofs.Lists.{apart_none, gone_open, known_at, none_but, none_known, number_at}
 use Rattle.sm_players.proofs.live.forget.Goals as goal
 
 pub returns-in-Some : goal.returns-in-Some

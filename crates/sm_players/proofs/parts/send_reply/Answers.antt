@@ -1,10 +1,10 @@
-use Rattle.std.proofs.Common.{rules, ◌≡◌, List, ℕ, ◌++◌, Bool, true, false, IsTrue, refl, sym, ◌∙◌, subst}
-use Rattle.std.specs.Prelude.{Result, Ok, Err}
+use Rattle.std.proofs.Common.{List, ℕ, subst}
+use Rattle.std.specs.Prelude.{Result}
 use Rattle.sm_model.specs.declared.no_memory.NoMemory.{NoMemory}
 use Rattle.sm_players.specs.declared.replying.Final.{Final}
 use Rattle.sm_players.specs.Telling.{Tells, is_open}
 use Rattle.sm_players.specs.Replying.{IsAnswer}
-use Rattle.sm_players.proofs.Handling.{open_is, reply_handles, starved_handles}
+use Rattle.sm_players.proofs.Handling.{reply_handles, starved_handles}
 use Rattle.sm_players.proofs.parts.send_reply.Goals as goal
 
 pub returns-in-Ok-clause-handles : goal.returns-in-Ok-clause-handles

@@ -1,9 +1,7 @@
-use Rattle.std.proofs.Common.{◌≡◌, ℕ, [], ◌∷◌, true, refl, sym, ◌∙◌, ap, subst, arith}
-use Rattle.sm_conn.specs.declared.part.Part.{Part}
-use Rattle.sm_conn.specs.Parts.{PartItem, continued}
+use Rattle.std.proofs.Common.{ℕ, [], refl, ap, subst, arith}
 use Rattle.sm_conn.specs.Stands.{items_of}
 use Rattle.sm_players.specs.Taking.{standing, Handles, skips}
-use Rattle.sm_players.proofs.Going.{goes_nil, behind_nil, beside_same}
+use Rattle.sm_players.proofs.Going.{goes_nil, behind_nil}
 use Rattle.sm_players.proofs.parts.take_part.Goals as goal
 
 pub returns-in-Continue-clause-handles : goal.returns-in-Continue-clause-handles

@@ -1,4 +1,4 @@
-use Rattle.std.proofs.Common.{◌≡◌, ℕ, Bool, true, false, List, [], ◌++◌, refl, sym, ◌∙◌, subst}
+use Rattle.std.proofs.Common.{List, [], ◌++◌, refl, sym, subst}
 use Rattle.sm_conn.specs.declared.part.Part.{Part}
 use Rattle.sm_conn.specs.Stands.{joined, StandsFor}
 use Rattle.sm_players.specs.Taking.{taken, unread}

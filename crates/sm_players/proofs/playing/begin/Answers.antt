@@ -1,8 +1,7 @@
-use Rattle.std.proofs.Common.{rules, ◌≡◌, ◌<◌, ◌≤◌, ℕ, List, [], ◌∷◌, ◌++◌, length, false, IfSome, Option, refl, sym, ◌∙◌, subst, arith}
-use Rattle.sm_site.specs.Meanings.{Item, Deal, IsLive}
+use Rattle.std.proofs.Common.{rules, ◌≡◌, ◌<◌, ◌≤◌, List, length, false, refl, sym, subst, arith}
 use Rattle.sm_site.specs.Meanings.Deal.{Began}
 use Rattle.sm_players.specs.declared.live.Live.{Live}
-use Rattle.sm_players.specs.Open.{AreOpen, AreKnown, IsApart, LeavesOpen}
+use Rattle.sm_players.specs.Open.{LeavesOpen}
 use Rattle.sm_players.specs.Given.{TurnGives}
 use Rattle.sm_players.proofs.Handling.{crowded_gives, unborn_gives, opened_gives, leaves_apart, open_push}
 use Rattle.sm_players.proofs.playing.begin.Goals as goal

@@ -1,10 +1,9 @@
-use Rattle.std.proofs.Common.{◌≡◌, ℕ, List, Bool, true, false, IfSome, Option, refl, sym, ◌∙◌, ap, subst}
+use Rattle.std.proofs.Common.{ℕ, List, Bool, IfSome, refl, sym, ap, subst}
 use Rattle.std.specs.Prelude.{not}
-use Rattle.sm_site.specs.Meanings.{Item, Deal, IsLive}
+use Rattle.sm_site.specs.Meanings.{Deal}
 use Rattle.sm_site.specs.Meanings.Deal.{Came}
 use Rattle.sm_site.specs.Event.{deal_of}
 use Rattle.sm_site.specs.declared.event.Event.{Event}
-use Rattle.sm_players.specs.declared.live.Live.{Live}
 use Rattle.sm_players.specs.Open.{AreOpen, AreOpenBut, MayHandle}
 use Rattle.sm_players.specs.Taking.{standing}
 use Rattle.sm_players.specs.Playing.{is_over}

@@ -1,4 +1,4 @@
-use Rattle.std.proofs.Common.{rules, ◌≡◌, ◌≤◌, ◌<◌, ◌+◌, inl, inr, ℕ, Bool, true, false, List, IfSome, refl, sym, ◌∙◌, ap, subst, arith}
+use Rattle.std.proofs.Common.{rules, ◌≡◌, ◌+◌, inl, inr, Bool, true, false, List, refl, sym, ap, subst, arith}
 use Rattle.std.specs.Prelude.{Err}
 use Rattle.sm_site.specs.Event.{deal_of}
 use Rattle.sm_site.specs.declared.event.LinkError.{LinkError}
@@ -14,7 +14,8 @@ loop-init g c = record {
   open_ = none_open (g.W.Link.seen.view c.args.wire.now).transcript c.new-lives.result.items c.new-lives.ensures.items;
   link_faults = omega arith;
   later = omega arith;
-  plays = subst (λ (ls : List Live). Played c.args.reader.now.seen (g.W.Link.seen.view c.args.wire.now).transcript (g.W.Link.seen.view c.args.wire.now).transcript (g.F.Forward.asked c.args.forward.now) (g.F.Forward.asked c.args.forward.now) 0 ls
+  plays =
+      subst (λ (ls : List Live). Played c.args.reader.now.seen (g.W.Link.seen.view c.args.wire.now).transcript (g.W.Link.seen.view c.args.wire.now).transcript (g.F.Forward.asked c.args.forward.now) (g.F.Forward.asked c.args.forward.now) 0 ls
       false (standing c.args.reader.now.seen 0)) (sym c.new-lives.ensures.items) (played_nothing c.args.reader.now.seen (g.W.Link.seen.view c.args.wire.now).transcript (g.F.Forward.asked c.args.forward.now));
 }
 

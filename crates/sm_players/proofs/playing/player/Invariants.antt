@@ -1,4 +1,4 @@
-use Rattle.std.proofs.Common.{◌≡◌, ◌≤◌, ℕ, false, IfSome}
+use Rattle.std.proofs.Common.{◌≤◌, false, IfSome}
 use Rattle.sm_players.specs.Taking.{standing}
 use Rattle.sm_players.specs.Open.{AreOpen}
 use Rattle.sm_players.proofs.Ending.{Played}

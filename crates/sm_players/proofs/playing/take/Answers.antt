@@ -1,12 +1,10 @@
-use Rattle.std.proofs.Common.{◌≡◌, ℕ, ◌<◌, ◌++◌, ◌∷◌, true, false, List, length, get_or, IfSome, Option, refl, sym, ◌∙◌, ap, subst, arith}
+use Rattle.std.proofs.Common.{◌≡◌, ℕ, ◌<◌, ◌++◌, List, length, get_or, IfSome, refl, sym, ◌∙◌, subst}
 use Rattle.std.specs.Prelude.{slice_set}
 use Rattle.std.specs.List.{remove}
-use Rattle.sm_site.specs.Meanings.{Item, IsLive}
-use Rattle.sm_site.specs.Meanings.Deal.{Came}
+use Rattle.sm_site.specs.Meanings.{IsLive}
 use Rattle.sm_players.specs.declared.live.Live.{Live}
-use Rattle.sm_players.specs.Open.{numbers_of, AreOpen, AreOpenBut, AreKnown, IsApart}
+use Rattle.sm_players.specs.Open.{numbers_of, AreOpen, AreOpenBut, AreKnown}
 use Rattle.sm_players.specs.Taking.{standing}
-use Rattle.sm_players.specs.Given.{TurnGives}
 use Rattle.sm_players.proofs.Lists.{number_at, apart_none, known_at, live_at, remove_set, gone_open, set_open, whole}
 use Rattle.sm_players.proofs.Handling.{open_but, if_both, if_then, open_turns, shut_turns, passed_gives}
 use Rattle.sm_players.proofs.playing.take.Goals as goal

@@ -1,4 +1,3 @@
-use Rattle.std.proofs.Common.{◌≡◌, ◌∷◌, [], refl}
 use Rattle.sm_players.proofs.Replies.{get_answer}
 use Rattle.sm_players.proofs.replying.answered.Goals as goal
 

@@ -1,6 +1,4 @@
-use Rattle.std.proofs.Common.{◌≡◌, ◌≢◌, inl, [], Bool, true, false, refl, sym, ◌∙◌, subst, arith}
-use Rattle.sm_log.specs.Digests.{Digest, Extends}
-use Rattle.sm_shelf.specs.declared.shown.Shown.{Shown}
+use Rattle.std.proofs.Common.{inl, [], refl, arith}
 use Rattle.sm_shelf.specs.declared.shown.Shown.TheVariants as shown
 use Rattle.sm_players.proofs.Going.{behind_nil}
 use Rattle.sm_players.proofs.Replies.{ask_of, answered, sees_on, by_loop, by_shelf}

@@ -1,6 +1,5 @@
-use Rattle.std.proofs.Common.{◌≡◌, [], ◌∷◌, List, refl, sym, ◌∙◌, ap, subst, arith}
+use Rattle.std.proofs.Common.{[], sym, subst, arith}
 use Rattle.sm_conn.specs.declared.part.Part.{Part}
-use Rattle.sm_conn.specs.Parts.{PartItem}
 use Rattle.sm_conn.specs.Stands.{items_of}
 use Rattle.sm_players.specs.Replying.{IsAnswer}
 use Rattle.sm_players.proofs.Going.{behind_nil}

@@ -1,4 +1,4 @@
-use Rattle.std.proofs.Common.{◌≡◌, [], ◌∷◌, Option, refl, sym, ◌∙◌, arith}
+use Rattle.std.proofs.Common.{[], ◌∷◌, sym, ◌∙◌, arith}
 use Rattle.sm_conn.specs.Parts.{got}
 use Rattle.sm_players.proofs.Going.{behind_nil}
 use Rattle.sm_players.proofs.Replies.{starved_here, no_target}

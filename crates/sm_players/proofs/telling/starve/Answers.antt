@@ -1,4 +1,4 @@
-use Rattle.std.proofs.Common.{◌≡◌, ℕ, List, [], ◌++◌, true, sym, subst}
+use Rattle.std.proofs.Common.{ℕ, List, true, subst}
 use Rattle.std.proofs.lemmas.List.{append-nil}
 use Rattle.sm_head.specs.declared.reply.TheConstants.{NO_MEMORY}
 use Rattle.sm_players.specs.Telling.{Tells}

@@ -1,4 +1,4 @@
-use Rattle.std.proofs.Common.{rules, ◌≡◌, ◌⊎◌, ⊎_elim, ◌≤◌, ℕ, List, [], ◌∷◌, ◌++◌, take, length, Bool, true, false, IfSome, Option, refl, sym, ◌∙◌, subst}
+use Rattle.std.proofs.Common.{rules, ◌≡◌, ◌⊎◌, ⊎_elim, ◌≤◌, ℕ, List, [], ◌∷◌, ◌++◌, take, length, Bool, true, false, IfSome, Option, refl, sym, subst}
 use Rattle.sm_site.specs.Meanings.{View, Item, Deal, IsLive}
 use Rattle.sm_site.specs.Meanings.Deal.{Sent, Shut}
 use Rattle.sm_site.specs.Clauses.{Adds}

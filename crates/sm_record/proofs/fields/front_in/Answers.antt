@@ -1,5 +1,4 @@
 use Rattle.std.proofs.Common.{◌∙◌, sym, ap, List, ℕ, Some}
-use Rattle.sm_record.specs.declared.fields.Front.{Front}
 use Rattle.sm_record.specs.Reading.{front_at}
 use Rattle.sm_record.proofs.Behind.{front_behind}
 use Rattle.sm_record.proofs.fields.front_in.Goals as goal

@@ -1,4 +1,3 @@
-use Rattle.std.proofs.Common.{◌≡◌}
 use Rattle.sm_log.specs.Digests.{Digest}
 use Rattle.sm_shelf.specs.Shown.{IsListingOf}
 use Rattle.sm_shelf.proofs.Grows.{extends_refl}

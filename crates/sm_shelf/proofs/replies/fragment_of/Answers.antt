@@ -1,4 +1,4 @@
-use Rattle.std.proofs.Common.{rules, ◌≡◌, true, None, is_some, sym}
+use Rattle.std.proofs.Common.{rules, true, is_some}
 use Rattle.sm_shelf.proofs.Reading.{taken_bare, held_is, handed}
 use Rattle.sm_shelf.proofs.replies.fragment_of.Goals as goal
 

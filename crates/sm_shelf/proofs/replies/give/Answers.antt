@@ -1,4 +1,4 @@
-use Rattle.std.proofs.Common.{◌≡◌, ◌∙◌, ℕ, List, [], ◌∷◌, Option, Some, sym, ap}
+use Rattle.std.proofs.Common.{◌∙◌, ℕ, [], ◌∷◌, Option, Some, sym, ap}
 use Rattle.std.specs.Arc.{arc_value}
 use Rattle.sm_log.specs.Adds.{id_in}
 use Rattle.sm_shelf.specs.Shown.{both}

@@ -1,4 +1,4 @@
-use Rattle.std.proofs.Common.{arith, ◌≡◌, ◌<◌, ◌-◌, ◌∙◌, sym, subst, ℕ, false, IsTrue, Some, slice_get}
+use Rattle.std.proofs.Common.{arith, ◌≡◌, ◌-◌, ◌∙◌, sym, subst, ℕ, false, IsTrue, Some, slice_get}
 use Rattle.sm_shelf.proofs.Places.{held_at, not_held}
 use Rattle.sm_shelf.proofs.stock.seek.Goals as goal
 

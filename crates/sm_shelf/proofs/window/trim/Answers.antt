@@ -1,4 +1,4 @@
-use Rattle.std.proofs.Common.{rules, arith, ◌≡◌, ◌<◌, ◌≤◌, ◌∷◌, ◌∙◌, sym, ap, length}
+use Rattle.std.proofs.Common.{rules, arith, ◌≡◌, ◌∷◌, ◌∙◌, sym}
 use Rattle.std.specs.Arc.{arc_value}
 use Rattle.sm_shelf.specs.Parts.{held_in}
 use Rattle.sm_shelf.proofs.Windows.{popped, window_fits}

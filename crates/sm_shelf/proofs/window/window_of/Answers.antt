@@ -1,4 +1,4 @@
-use Rattle.std.proofs.Common.{rules, arith, ◌≡◌, ◌<◌, length}
+use Rattle.std.proofs.Common.{rules}
 use Rattle.sm_shelf.proofs.Windows.{next_window}
 use Rattle.sm_shelf.proofs.window.window_of.Goals as goal
 

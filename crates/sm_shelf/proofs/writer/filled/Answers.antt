@@ -1,9 +1,3 @@
-use Rattle.std.proofs.Common.{◌≡◌, ◌≤◌, length, map, List, ap, sym, subst, ◌∙◌, arith}
-use Rattle.sm_model.specs.declared.address.Address.{Address}
-use Rattle.sm_model.specs.declared.fragment.Fragment.{Fragment}
-use Rattle.sm_model.specs.Entries.{address_of}
-use Rattle.sm_log.specs.Adds.{Add}
-use Rattle.sm_shelf.specs.Parts.{IsEnd, addresses_in}
 use Rattle.sm_shelf.proofs.Places.{end_trims}
 use Rattle.sm_shelf.proofs.writer.filled.Goals as goal
 

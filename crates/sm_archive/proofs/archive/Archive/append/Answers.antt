@@ -59,7 +59,8 @@ returns-in-Doubt-clause-failed g c = λ is log x s can.
     let so : (bodies : List (List ℕ)) → seg.Stands c.args.self.now.log bodies None old → seg.Stands c.append.new.self bodies (Some c.args.body) now =
     subst (λ (b : List ℕ). (bodies : List (List ℕ)) → seg.Stands c.args.self.now.log bodies None old → seg.Stands c.append.new.self bodies (Some b) now) c.as_slice.ensures
     (λ bodies from. subst (λ (r : Appended). seg.AfterAppend bodies c.as_slice.result.now r c.append.new.self now) c.in-Doubt.is (c.append.ensures.after bodies from)) in
-    let did : Acted (g.D.Disk.seen.view c.args.disk.now) (g.D.Disk.seen.view c.append.new.disk) = subst (λ (r : Appended). Acts r (g.D.Disk.seen.view c.args.disk.now) (g.D.Disk.seen.view c.append.new.disk)) c.in-Doubt.is c.append.ensures.acts in
+    let did : Acted (g.D.Disk.seen.view c.args.disk.now) (g.D.Disk.seen.view c.append.new.disk) =
+    subst (λ (r : Appended). Acts r (g.D.Disk.seen.view c.args.disk.now) (g.D.Disk.seen.view c.append.new.disk)) c.in-Doubt.is c.append.ensures.acts in
     doubted c.args.self.now c.args.entry c.args.body log x old s can _ did c.append.new.self _ now (ap (λ (n : ℕ). 5 + n) c.len-bytes.ensures) stay so
 
 pub returns-in-Stored-clause-any_moment : goal.returns-in-Stored-clause-any_moment

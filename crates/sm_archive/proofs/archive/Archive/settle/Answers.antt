@@ -32,7 +32,8 @@ returns-in-Stored-clause-settled g c =
     let at : c.in-Stored.place ≡ count_of c.args.self.now.log = subst (λ (r : Settled). IsSettled r (count_of c.args.self.now.log)) c.in-Stored.is c.settle.ensures.place in
     let so : (bodies : List (List ℕ)) (body : List ℕ) → seg.Stands c.args.self.now.log bodies (Some body) (g.D.Disk.seen.may_leave c.args.disk.now) → seg.Stands c.settle.new.self (bodies ++ body ∷ []) None now =
     λ bodies body s. (subst (λ (r : Settled). seg.AfterSettle bodies body r c.settle.new.self now) c.in-Stored.is (c.settle.ensures.after bodies body s)).1 in
-    let did : Acted (g.D.Disk.seen.view c.args.disk.now) (g.D.Disk.seen.view c.settle.new.disk) = subst (λ (r : Settled). SettleActs r (g.D.Disk.seen.view c.args.disk.now) (g.D.Disk.seen.view c.settle.new.disk)) c.in-Stored.is c.settle.ensures.acts in
+    let did : Acted (g.D.Disk.seen.view c.args.disk.now) (g.D.Disk.seen.view c.settle.new.disk) =
+    subst (λ (r : Settled). SettleActs r (g.D.Disk.seen.view c.args.disk.now) (g.D.Disk.seen.view c.settle.new.disk)) c.in-Stored.is c.settle.ensures.acts in
     stored _ did c.args.self.now c.in-Some.doubt c.settle.new.self c.saturating_add-self.result c.take_in.new.index c.in-Stored.place (g.D.Disk.seen.may_leave c.args.disk.now) (g.D.Disk.seen.may_leave c.settle.new.disk)
     (sym c.in-Some.ensures.value) at so c.saturating_add-self.ensures c.take_in.ensures c.take.new.self c.take.ensures.after
 
@@ -53,7 +54,8 @@ returns-in-Gone-clause-settled g c =
     let now = g.D.Disk.seen.may_leave c.settle.new.disk in
     let so : (bodies : List (List ℕ)) (body : List ℕ) → seg.Stands c.args.self.now.log bodies (Some body) (g.D.Disk.seen.may_leave c.args.disk.now) → seg.Stands c.settle.new.self bodies None now =
     λ bodies body s. subst (λ (r : Settled). seg.AfterSettle bodies body r c.settle.new.self now) c.in-Gone.is (c.settle.ensures.after bodies body s) in
-    let did : Acted (g.D.Disk.seen.view c.args.disk.now) (g.D.Disk.seen.view c.settle.new.disk) = subst (λ (r : Settled). SettleActs r (g.D.Disk.seen.view c.args.disk.now) (g.D.Disk.seen.view c.settle.new.disk)) c.in-Gone.is c.settle.ensures.acts in
+    let did : Acted (g.D.Disk.seen.view c.args.disk.now) (g.D.Disk.seen.view c.settle.new.disk) =
+    subst (λ (r : Settled). SettleActs r (g.D.Disk.seen.view c.args.disk.now) (g.D.Disk.seen.view c.settle.new.disk)) c.in-Gone.is c.settle.ensures.acts in
     gone _ did c.args.self.now c.in-Some.doubt c.settle.new.self (g.D.Disk.seen.may_leave c.args.disk.now) (g.D.Disk.seen.may_leave c.settle.new.disk) (sym c.in-Some.ensures.value) so c.take.new.self c.take.ensures.after
 
 pub returns-in-Gone-clause-any_moment : goal.returns-in-Gone-clause-any_moment
@@ -72,7 +74,8 @@ returns-in-DiskFault-clause-any_moment g c = λ log doubt s.
 
 pub returns-in-DiskFault-clause-failed : goal.returns-in-DiskFault-clause-failed
 returns-in-DiskFault-clause-failed g c =
-    failed c.args.self.now c.in-Some.doubt c.settle.new.self (g.D.Disk.seen.may_leave c.args.disk.now) (g.D.Disk.seen.may_leave c.settle.new.disk) (sym c.in-Some.ensures.value) (c.settle.ensures.same c.in-DiskFault.is) c.settle.ensures.looks.crash
+    failed c.args.self.now c.in-Some.doubt c.settle.new.self (g.D.Disk.seen.may_leave c.args.disk.now) (g.D.Disk.seen.may_leave c.settle.new.disk) (sym c.in-Some.ensures.value)
+    (c.settle.ensures.same c.in-DiskFault.is) c.settle.ensures.looks.crash
 
 pub returns-in-DiskFault-clause-channel : goal.returns-in-DiskFault-clause-channel
 returns-in-DiskFault-clause-channel g c = channel_same c.args.self.now c.settle.new.self c.args.self.now.used c.in-Some.doubt (sym c.in-Some.ensures.value)

@@ -1,4 +1,4 @@
-use Rattle.std.proofs.Common.{◌≡◌, ◌+◌, refl, length, ap, ◌∙◌, arith}
+use Rattle.std.proofs.Common.{◌+◌, refl, ap, ◌∙◌, arith}
 use Rattle.sm_model.specs.Cut.{sizes}
 use Rattle.sm_model.proofs.CutLemmas.{cut_step, cut_done, cut_count, cut_left, cut_joined}
 use Rattle.sm_model.proofs.sample.Samples.cut.Goals as goal

@@ -1,8 +1,5 @@
-use Rattle.std.proofs.Common.{true, refl, sym, subst, ◌∙◌, ap}
-use Rattle.sm_serve.specs.Run.{Counts, acting, act_of, counts_by}
-use Rattle.sm_serve.specs.Standing.{Reaches}
-use Rattle.sm_serve.specs.Resting.{counts_of}
-use Rattle.sm_serve.specs.declared.live.Live.{Live}
+use Rattle.std.proofs.Common.{◌∙◌, ap}
+use Rattle.sm_serve.specs.Run.{Counts, act_of}
 use Rattle.sm_serve.proofs.Reaching.{closed_counts}
 use Rattle.sm_serve.proofs.handler.Handler.act_on.Goals as goal
 

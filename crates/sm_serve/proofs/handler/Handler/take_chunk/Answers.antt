@@ -10,7 +10,7 @@ use Rattle.sm_serve.specs.Run.{acting}
 use Rattle.sm_serve.specs.Resting.{PlaceIs, counts_of}
 use Rattle.sm_serve.proofs.Giving.{starved_gives, fed_place, fed_refused, shown_vec, valid_vec, open_gives, closed_gives}
 use Rattle.sm_serve.proofs.Reaching.{comes_then}
-use Rattle.sm_serve.proofs.Steps.{conn_lasts, but_lasts, behind_push, both_leave, less_same, shut_leaves, may_still}
+use Rattle.sm_serve.proofs.Steps.{shut_leaves}
 use Rattle.sm_serve.proofs.handler.Handler.take_chunk.Goals as goal
 
 pub returns-in-Ok-clause-goes_on : goal.returns-in-Ok-clause-goes_on

@@ -6,7 +6,7 @@ use Rattle.sm_wire.specs.Wire.{wire}
 use Rattle.sm_wire.proofs.WireLaw.{left_unique, ended_refused}
 use Rattle.sm_serve.specs.Run.{acting}
 use Rattle.sm_serve.proofs.Giving.{closed_gives, end_gives, end_items}
-use Rattle.sm_serve.proofs.Steps.{behind_push, less_same, shut_leaves}
+use Rattle.sm_serve.proofs.Steps.{shut_leaves}
 use Rattle.sm_serve.proofs.handler.Handler.take_end.Goals as goal
 
 pub returns-in-Ok-clause-goes_on : goal.returns-in-Ok-clause-goes_on

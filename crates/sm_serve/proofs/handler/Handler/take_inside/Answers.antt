@@ -10,7 +10,7 @@ use Rattle.sm_serve.specs.Run.{acting}
 use Rattle.sm_serve.specs.Resting.{counts_of}
 use Rattle.sm_serve.specs.Giving.{PartGives}
 use Rattle.sm_serve.proofs.Giving.{starved_gives, place_clear, closed_gives}
-use Rattle.sm_serve.proofs.Steps.{less_same, shut_leaves}
+use Rattle.sm_serve.proofs.Steps.{shut_leaves}
 use Rattle.sm_serve.proofs.handler.Handler.take_inside.Goals as goal
 
 pub returns-in-Body-clause-goes_on : goal.returns-in-Body-clause-goes_on

@@ -9,14 +9,13 @@ use Rattle.sm_wire.proofs.WireLaw.{left_unique, continue_left, posted_left, post
 use Rattle.sm_conn.specs.Stands.{items_of}
 use Rattle.sm_head.specs.declared.reply.TheConstants.{CONTINUE}
 use Rattle.sm_serve.specs.Run.{idle, acting, sending, in_phase, continues}
-use Rattle.sm_serve.specs.declared.still.Still.TheVariants.{Open}
-use Rattle.sm_serve.specs.Resting.{PlaceIs, SameConn, counts_of}
+use Rattle.sm_serve.specs.Resting.{PlaceIs, counts_of}
 use Rattle.sm_serve.specs.Giving.{PartGives, StaysOpen}
 use Rattle.sm_serve.specs.Standing.{stays_open}
 use Rattle.sm_serve.proofs.Going.{paused}
 use Rattle.sm_serve.proofs.Reaching.{reach_then, comes_here, continuing, paused_follows}
 use Rattle.sm_serve.proofs.Giving.{starved_gives, get_gives, get_items, continue_gives, closed_gives}
-use Rattle.sm_serve.proofs.Steps.{here_leaves, less_same, sent_leaves, shut_leaves}
+use Rattle.sm_serve.proofs.Steps.{sent_leaves, shut_leaves}
 use Rattle.sm_serve.proofs.handler.Handler.take_outside.Goals as goal
 
 pub returns-in-Get-clause-goes_on : goal.returns-in-Get-clause-goes_on

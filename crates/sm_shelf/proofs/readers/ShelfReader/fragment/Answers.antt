@@ -1,8 +1,8 @@
-use Rattle.std.proofs.Common.{rules, ◌≡◌, Bool, List, Option, is_some, sym, ap, subst, ◌∙◌}
+use Rattle.std.proofs.Common.{rules, ◌≡◌, Bool, List, Option, is_some, subst}
 use Rattle.std.specs.Option.{ForSome}
 use Rattle.left_right.specs.Sides.{view as known}
 use Rattle.sm_model.specs.declared.track.Track.{Track}
-use Rattle.sm_log.specs.Digests.{Digest, Extends}
+use Rattle.sm_log.specs.Digests.{Extends}
 use Rattle.sm_shelf.specs.Shelf.{Sight}
 use Rattle.sm_shelf.specs.Shown.{IsFound, IsSeen}
 use Rattle.sm_shelf.proofs.Reading.{reader_later}

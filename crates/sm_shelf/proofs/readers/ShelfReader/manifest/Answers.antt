@@ -1,7 +1,7 @@
-use Rattle.std.proofs.Common.{rules, ◌≡◌, ℕ, Option, sym, ap, subst, ◌∙◌}
+use Rattle.std.proofs.Common.{rules, ◌≡◌, ℕ, Option, subst}
 use Rattle.std.specs.Option.{ForSome}
 use Rattle.left_right.specs.Sides.{view as known}
-use Rattle.sm_log.specs.Digests.{Digest, Extends}
+use Rattle.sm_log.specs.Digests.{Extends}
 use Rattle.sm_shelf.specs.declared.replies.Listed.{Listed}
 use Rattle.sm_shelf.specs.Shelf.{Sight}
 use Rattle.sm_shelf.specs.Shown.{IsListed, IsListingOf}

@@ -1,4 +1,4 @@
-use Rattle.std.proofs.Common.{◌≡◌, refl, sym, ap}
+use Rattle.std.proofs.Common.{refl, sym, ap}
 use Rattle.std.proofs.lemmas.Bool.{false≢true}
 use Rattle.sm_log.specs.Digests.{Digest}
 use Rattle.sm_shelf.proofs.Going.{from_nothing, not_from_nothing, digests_go, catalogs_go}

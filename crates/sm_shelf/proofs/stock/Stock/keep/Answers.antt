@@ -1,4 +1,4 @@
-use Rattle.std.proofs.Common.{rules, arith, ◌≡◌, ◌∙◌, sym, ap, true, Option, List}
+use Rattle.std.proofs.Common.{rules, ◌≡◌, ◌∙◌, sym, ap, true}
 use Rattle.std.specs.Arc.{arc_value}
 use Rattle.sm_model.specs.Entries.{address_of}
 use Rattle.sm_log.specs.Digests.{Digest}

@@ -1,4 +1,4 @@
-use Rattle.std.proofs.Common.{rules, arith, ◌≡◌, ◌<◌, length}
+use Rattle.std.proofs.Common.{rules, arith, ◌<◌, length}
 use Rattle.sm_shelf.proofs.Windows.{copied}
 use Rattle.sm_shelf.proofs.window.Window.copy.Goals as goal
 

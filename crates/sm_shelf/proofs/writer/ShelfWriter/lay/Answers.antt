@@ -1,4 +1,4 @@
-use Rattle.std.proofs.Common.{rules, ◌≡◌, ◌∷◌, ◌++◌, [], map, drop}
+use Rattle.std.proofs.Common.{rules, map, drop}
 use Rattle.sm_shelf.specs.Shelf.{op_in}
 use Rattle.sm_shelf.proofs.Logs.{desk, kept_of, laid_ok, laid_err, laid_log}
 use Rattle.sm_shelf.proofs.writer.ShelfWriter.lay.Goals as goal

@@ -1,4 +1,4 @@
-use Rattle.std.proofs.Common.{◌≡◌, ◌∙◌, ℕ, sym, ap, subst}
+use Rattle.std.proofs.Common.{◌∙◌, ℕ, sym, ap, subst}
 use Rattle.sm_shelf.specs.Laying.{op_at}
 use Rattle.sm_shelf.specs.Shelf.{IsOf, height_of}
 use Rattle.sm_shelf.proofs.Fronts.{entry_of}
