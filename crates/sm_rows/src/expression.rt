@@ -1,6 +1,7 @@
 //! The bytes of an expression.
 use crate::RowFault;
-use crate::token::{Token, digit};
+use crate::token::Token;
+use hex::FromHexError;
 use std::alloc::Global;
 
 // What becomes of the bytes between parentheses.
@@ -150,24 +151,12 @@ impl Builder<'_> {
 
     // Appends digits behind `hex`.
     fn append_digits(&mut self, word: &str) -> Result<(), RowFault> {
-        let mut high = None;
-        for byte in word.as_bytes() {
-            let Some(low) = digit(*byte) else {
-                return Err(self.fault("a word of no meaning"));
-            };
-            match high {
-                None => high = Some(low),
-                Some(before) => {
-                    let before: u8 = before;
-                    self.bytes.push(before.wrapping_mul(16).wrapping_add(low))?;
-                    high = None;
-                }
-            }
+        match hex::decode(self.alloc, word) {
+            Ok(bytes) => Ok(self.bytes.extend_from_slice(bytes.as_slice())?),
+            Err(FromHexError::OutOfMemory) => Err(RowFault::NoMemory),
+            Err(FromHexError::OddLength) => Err(self.fault("half a byte")),
+            Err(_) => Err(self.fault("a word of no meaning")),
         }
-        if high.is_some() {
-            return Err(self.fault("half a byte"));
-        }
-        Ok(())
     }
 
     fn zeros(&mut self) -> Result<(), RowFault> {

@@ -1,24 +1,11 @@
 //! How bytes and texts are told.
 use crate::{Case, Line, RowFault};
+use hex::encode;
 use std::alloc::Global;
-
-fn digit_of(value: u8) -> char {
-    let value = value % 16;
-    (if value < 10 {
-        b'0' + value
-    } else {
-        b'a' + (value - 10)
-    }) as char
-}
 
 /// The bytes in lower-case hexadecimal digits.
 pub fn hex(alloc: Global, bytes: &[u8]) -> Result<String, RowFault> {
-    let mut text = String::new(alloc);
-    for byte in bytes {
-        text.push(digit_of(*byte / 16))?;
-        text.push(digit_of(*byte))?;
-    }
-    Ok(text)
+    Ok(encode(alloc, bytes)?)
 }
 
 // How a value is told.

@@ -50,7 +50,7 @@ struct Lexer {
 }
 
 // The value of a hexadecimal digit.
-pub(crate) fn digit(byte: u8) -> Option<u8> {
+fn digit(byte: u8) -> Option<u8> {
     match byte {
         b'0'..=b'9' => Some(byte - b'0'),
         b'a'..=b'f' => Some(byte - b'a' + 10),
