@@ -211,7 +211,7 @@ module _ {D C : Type 0} {site : Seen D} {told : C → Option (List Exchange)} {s
 
   -- no manifest was read, or it lacks a track
   pub ends_bare : {x y : C} → ((d : D) (t : ℕ) (c : Image) → site.left_at d t c → t ≤ (site.view d).moment)
-    → (d : D) (a : Archive) (log : List Entry) (held : List Later) (reads : List Exchange) (listing : Listing) (end : FollowEnd)
+      → (d : D) (a : Archive) (log : List Entry) (held : List Later) (reads : List Exchange) (listing : Listing) (end : FollowEnd)
       → Stands a log None (site.may_leave d) → Asks told store goes_on faults chosen x y reads
       → StopsRound plan channel log held a (record { reads = reads; listing = listing; turns = []; last = []; tried = [] }) (at log held []) end → (end ≡ ends.DiskFault → ⊥)
       → RoundEnds site told store goes_on faults chosen d d x y plan channel a a log held end

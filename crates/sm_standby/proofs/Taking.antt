@@ -260,7 +260,7 @@ module _ {D C : Type 0} {site : Seen D} {told : C → Option (List Exchange)} {s
 
   -- a candidate that is there was passed over
   pub follows_passed : ((d : D) (t : ℕ) (c : Image) → site.left_at d t c → t ≤ (site.view d).moment) → ((x : C) → goes_on x x)
-    → (d : D) (x : C) (a : Archive) (log : List Entry) (held : List Later) (b : Address) (more : List Address)
+      → (d : D) (x : C) (a : Archive) (log : List Entry) (held : List Later) (b : Address) (more : List Address)
       → Stands a log None (site.may_leave d) → AreOpen log held → due (length log) held ≡ None → (is_some (kept_at log b) || waits b held) ≡ true
       → (f : Follows site told store goes_on faults chosen d d x x plan channel listing a a (at log held (b ∷ more)) held more) × (due (length f.log) held ≡ None)
   follows_passed no_later same d x a log held b more stands waiting nothing there = (

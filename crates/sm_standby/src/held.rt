@@ -66,7 +66,9 @@ impl Held {
     pub fn has(&self, address: &Address) -> bool
         ensures { result ≡ waits address.now self.now }
     {
-        self.items.iter().any(|later| is_of(address, &later.address))
+        self.items
+            .iter()
+            .any(|later| is_of(address, &later.address))
     }
 
     /// Takes out the first one of that place.
