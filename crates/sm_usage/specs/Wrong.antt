@@ -1,7 +1,7 @@
 -- What is wrong in words: the first thing, in this order. The words are read from the left; then each option stands at most once; then the
 -- words that are no options are those of the command, each as it has to be; then an option that has to be given is; then the values of
 -- options are as they have to be, in the order in which the command names them; then there is a port for threads that answer viewers.
-use Rattle.std.specs.Prelude.{ℕ, Bool, true, false, not, ◌&&◌, nat_le, List, [], ◌∷◌, ◌++◌, length, codes, Option, Some, None, if◌then◌else◌}
+use Rattle.std.specs.Prelude.{ℕ, Bool, true, false, not, ◌&&◌, ◌||◌, nat_le, List, [], ◌∷◌, ◌++◌, length, codes, Option, Some, None, if◌then◌else◌}
 use Rattle.std.specs.Option.{option_or}
 use Rattle.sm_words.specs.declared.option.Name.{Name}
 use Rattle.sm_words.specs.declared.option.Name.TheVariants as options

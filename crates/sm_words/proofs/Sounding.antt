@@ -10,6 +10,7 @@ use Rattle.sm_client.specs.declared.plan.Plan.{Plan}
 use Rattle.sm_words.specs.Options.{edge_options, play_options, serve_options}
 use Rattle.sm_words.specs.Words.{Text, Read, Pulling, Serving, Wanted, Pick, Serve, ServeShown, Push, Play, Relay, Standby, Listing, Rehearse, Export, Help, Version, EdgeTexts, ExportTexts, PlayNumbers, PlayTexts, PushTexts, ServeTexts, asked, is, is_numeral, numeral, read}
 use Rattle.sm_words.specs.Words.{filled, last_port, list_of, number_or, numbers_by, pick_by, pick_of, plan_by, play_by, play_of, play_texts, players_by, push_by, push_of, push_texts, serve_by, serve_of, served_by}
+use Rattle.sm_words.specs.declared.topic.Topic.TheVariants as topics
 use Rattle.sm_words.specs.Words.{alone, edge_by, edge_of, edge_texts, pulling_by, help_by, topic_named, export_by, export_of, export_texts, name_by, rehearse_by, rehearse_of, serve_texts, start_by, streams_by, two_words, only_word}
 use Rattle.sm_words.specs.Places.{is_host, is_path}
 use Rattle.sm_words.specs.Orders.{IsPlayable, IsPullable, IsShowable, IsWorld}
