@@ -50,10 +50,10 @@ same_address s t m n x y p q r =
     ap (λ (u : List ℕ). record { stream = u; bitrate = m; time = x }) p ∙ (ap (λ (k : ℕ). record { stream = t; bitrate = k; time = x }) q ∙ ap (λ (k : ℕ). record { stream = t; bitrate = n; time = k }) r)
 
 pub is_of-same : (a b : Address) → is_of a b ≡ true → a ≡ b
-is_of-same a b e = step (eqb a.time b.time) refl (eqb a.bitrate b.bitrate) refl (bytes_eq a.stream b.stream) refl e
+is_of-same a b e = step (bytes_eq a.stream b.stream) refl (eqb a.bitrate b.bitrate) refl (eqb a.time b.time) refl e
   where
-    step : (p : Bool) → eqb a.time b.time ≡ p → (q : Bool) → eqb a.bitrate b.bitrate ≡ q → (r : Bool) → bytes_eq a.stream b.stream ≡ r → (p && (q && r)) ≡ true → a ≡ b
-    step true p true q true r h = same_address a.stream b.stream a.bitrate b.bitrate a.time b.time ((bytes_eq-Decides a.stream b.stream).0 r) (eqb-true a.bitrate b.bitrate q) (eqb-true a.time b.time p)
+    step : (p : Bool) → bytes_eq a.stream b.stream ≡ p → (q : Bool) → eqb a.bitrate b.bitrate ≡ q → (r : Bool) → eqb a.time b.time ≡ r → (p && (q && r)) ≡ true → a ≡ b
+    step true p true q true r h = same_address a.stream b.stream a.bitrate b.bitrate a.time b.time ((bytes_eq-Decides a.stream b.stream).0 p) (eqb-true a.bitrate b.bitrate q) (eqb-true a.time b.time r)
     step true p true q false r h = absurd (cc)
     step true p false q c r h = absurd (cc)
     step false p b q c r h = absurd (cc)

@@ -16,7 +16,7 @@ without place [] = []
 without place (l ∷ more) = if l.place == place then more else l ∷ without place more
 
 abbrev pub is_of : Address → Address → Bool
-is_of a b = a.time == b.time && (a.bitrate == b.bitrate && bytes_eq a.stream b.stream)
+is_of a b = bytes_eq a.stream b.stream && (a.bitrate == b.bitrate && a.time == b.time)
 
 -- whether this address waits
 abbrev pub waits : Address → List Later → Bool
