@@ -9,11 +9,13 @@ mod edges;
 mod ends;
 mod exchanges;
 mod faults;
+mod places;
 mod plays;
 mod stage;
 mod worlds;
 
 use anyhow::Result;
+use sm_rows::tales::Tale;
 use sm_rows::{Caller, Case, run_pages};
 use std::alloc::Global;
 
@@ -34,21 +36,28 @@ const PAGES: [&str; 13] = [
     "faults.txt",
 ];
 
+// Plays a row, and tells what it gives.
+fn play(alloc: Global, case: &Case<'_>, tale: &mut Tale) -> Result<()> {
+    match case.call() {
+        "edges" => edges::play(alloc, case, tale),
+        "stops" => edges::play_stops(alloc, case, tale),
+        "fronts" => commands::play_fronts(alloc, case, tale),
+        "exchanges" => exchanges::play(alloc, case, tale),
+        "faults" => faults::tell(alloc, case, tale),
+        "fronts of replies" => exchanges::play_fronts(alloc, case, tale),
+        "plays" => plays::play(alloc, case, tale),
+        "worlds" => worlds::play(alloc, case, tale),
+        _ => stage::play(alloc, case, tale),
+    }
+}
+
 struct Rows;
 
 impl Caller for Rows {
     fn answer(alloc: Global, case: &Case<'_>) -> Result<String> {
-        match case.call() {
-            "edges" => edges::play(alloc, case),
-            "stops" => edges::play_stops(alloc, case),
-            "fronts" => commands::play_fronts(alloc, case),
-            "exchanges" => exchanges::play(alloc, case),
-            "faults" => faults::told(alloc, case),
-            "fronts of replies" => exchanges::play_fronts(alloc, case),
-            "plays" => plays::play(alloc, case),
-            "worlds" => worlds::play(alloc, case),
-            _ => stage::play(alloc, case),
-        }
+        let mut tale = Tale::new(alloc);
+        play(alloc, case, &mut tale)?;
+        Ok(tale.into_text())
     }
 }
 

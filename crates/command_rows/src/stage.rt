@@ -5,7 +5,7 @@ use crate::commands;
 use anyhow::Result;
 use sm_rows::scripts::{Cut, is_quiet, site};
 use sm_rows::tales::Tale;
-use sm_rows::{Case, Line, disks};
+use sm_rows::{Case, Line, Words, disks};
 use sm_site::MemorySite;
 use std::alloc::Global;
 
@@ -15,6 +15,22 @@ fn questions(lines: &[Line]) -> usize {
         .iter()
         .position(|line| !commands::is_question(line.key()));
     end.unwrap_or(lines.len())
+}
+
+// Runs the command of these words, with the questions behind it, and answers how many those are.
+fn command(
+    alloc: Global,
+    case: &Case<'_>,
+    site: &mut MemorySite,
+    words: &Words,
+    behind: &[Line],
+    tale: &mut Tale,
+) -> Result<usize> {
+    let count = questions(behind);
+    if let Some((asked, _)) = behind.split_at_checked(count) {
+        commands::play(alloc, case, site, words, asked, tale)?;
+    }
+    Ok(count)
 }
 
 // Plays a line, with the questions behind it, and answers how many those are.
@@ -30,28 +46,27 @@ fn part(
         return Ok(0);
     }
     let words = case.words(alloc, first)?;
-    if first.key() != "tool" {
-        disks::step(alloc, site, first, &words, tale)?;
-        return Ok(0);
+    if first.key() == "tool" {
+        return command(alloc, case, site, &words, behind, tale);
     }
-    let count = questions(behind);
-    if let Some((asked, _)) = behind.split_at_checked(count) {
-        commands::play(alloc, case, site, &words, asked, tale)?;
-    }
-    Ok(count)
+    disks::step(alloc, site, first, &words, tale)?;
+    Ok(0)
 }
 
-/// What the steps of a row tell.
-pub fn play(alloc: Global, case: &Case<'_>) -> Result<String> {
-    let mut site = site(alloc, case, Cut::Of(65_536))?;
-    let mut tale = Tale::new(alloc);
+fn parts(alloc: Global, case: &Case<'_>, site: &mut MemorySite, tale: &mut Tale) -> Result<()> {
     let mut rest = case.lines();
     for _ in 0..case.lines().len() {
         let Some((first, behind)) = rest.split_first() else {
             break;
         };
-        let asked = part(alloc, case, &mut site, first, behind, &mut tale)?;
+        let asked = part(alloc, case, site, first, behind, tale)?;
         rest = behind.get(asked..).unwrap_or(&[]);
     }
-    Ok(tale.into_text())
+    Ok(())
+}
+
+/// Tells what the steps of a row tell.
+pub fn play(alloc: Global, case: &Case<'_>, tale: &mut Tale) -> Result<()> {
+    let mut site = site(alloc, case, Cut::Of(65_536))?;
+    parts(alloc, case, &mut site, tale)
 }

@@ -1,7 +1,7 @@
 //! Calls of `sm_smil` and `sm_moov`.
 use crate::told;
 use anyhow::{Result, bail, ensure};
-use sm_model::{Channel, Heads, Smil, TextFault};
+use sm_model::{Bytes, Channel, Heads, Smil, TextFault, Track, TrackHead};
 use sm_moov::{put_bare_moov, read_moov};
 use sm_rows::values::{channel_of, tell_channel, tell_track};
 use sm_rows::{Case, told as told_bytes, told_text};
@@ -16,19 +16,27 @@ pub fn text_fault(alloc: Global, fault: &TextFault) -> Result<String> {
     }
 }
 
+fn push_track(alloc: Global, out: &mut String, id: u32, track: &Track) -> Result<()> {
+    let track = tell_track(alloc, track)?;
+    let line = format!(in alloc; "{id} {track}")?;
+    out.push_str(line.as_str())?;
+    Ok(())
+}
+
 // A line for each track, with its track_ID in front.
-fn smil(alloc: Global, read: &Result<Smil, TextFault>) -> Result<String> {
-    let smil = match read {
-        Ok(smil) => smil,
-        Err(fault) => return text_fault(alloc, fault),
-    };
+fn tracks(alloc: Global, smil: &Smil) -> Result<String> {
     let mut out = String::new(alloc);
     for one in smil.as_slice() {
-        let id = one.id;
-        let track = tell_track(alloc, &one.track)?;
-        out.push_str(format!(in alloc; "{id} {track}")?.as_str())?;
+        push_track(alloc, &mut out, one.id, &one.track)?;
     }
     Ok(out)
+}
+
+fn smil(alloc: Global, read: &Result<Smil, TextFault>) -> Result<String> {
+    match read {
+        Ok(smil) => tracks(alloc, smil),
+        Err(fault) => text_fault(alloc, fault),
+    }
 }
 
 fn channel(alloc: Global, read: &Result<Channel, TextFault>) -> Result<String> {
@@ -38,82 +46,113 @@ fn channel(alloc: Global, read: &Result<Channel, TextFault>) -> Result<String> {
     }
 }
 
+fn same(plain: &str, read: &str) -> Result<()> {
+    ensure!(plain == read, "the plain program says {plain}");
+    Ok(())
+}
+
+fn smil_of(alloc: Global, text: &[u8]) -> Result<String> {
+    let read = read_live_manifest(alloc, text);
+    smil(alloc, &read)
+}
+
+fn same_smil(alloc: Global, text: &[u8], read: &str) -> Result<()> {
+    let plain = sm_smil::plain::read_live_manifest(alloc, text);
+    let plain = smil(alloc, &plain)?;
+    same(plain.as_str(), read)
+}
+
 // What a text is as a live manifest, by its reader, and unless the row says otherwise by the plain program too.
 fn live_manifest(alloc: Global, case: &Case<'_>) -> Result<String> {
     let text = case.bytes(alloc, "text")?;
-    let read = smil(alloc, &read_live_manifest(alloc, text.as_slice()))?;
+    let read = smil_of(alloc, text.as_slice())?;
     if !case.has("quick") {
-        let plain = sm_smil::plain::read_live_manifest(alloc, text.as_slice());
-        let plain = smil(alloc, &plain)?;
-        ensure!(
-            plain.as_str() == read.as_str(),
-            "the plain program says {plain}"
-        );
+        same_smil(alloc, text.as_slice(), read.as_str())?;
     }
     Ok(told_text(alloc, case, read.as_str())?)
+}
+
+fn ladder_of(alloc: Global, text: &[u8]) -> Result<String> {
+    let read = read_ladder(alloc, text);
+    channel(alloc, &read)
+}
+
+fn same_ladder(alloc: Global, text: &[u8], read: &str) -> Result<()> {
+    let plain = sm_smil::plain::read_ladder(alloc, text);
+    let plain = channel(alloc, &plain)?;
+    same(plain.as_str(), read)
 }
 
 // The same as a ladder.
 fn ladder(alloc: Global, case: &Case<'_>) -> Result<String> {
     let text = case.bytes(alloc, "text")?;
-    let read = channel(alloc, &read_ladder(alloc, text.as_slice()))?;
+    let read = ladder_of(alloc, text.as_slice())?;
     if !case.has("quick") {
-        let plain = sm_smil::plain::read_ladder(alloc, text.as_slice());
-        let plain = channel(alloc, &plain)?;
-        ensure!(
-            plain.as_str() == read.as_str(),
-            "the plain program says {plain}"
-        );
+        same_ladder(alloc, text.as_slice(), read.as_str())?;
     }
     Ok(told_text(alloc, case, read.as_str())?)
 }
 
-fn written_manifest(alloc: Global, case: &Case<'_>) -> Result<String> {
+// The live manifest of the channel of a row.
+fn manifest_of(alloc: Global, case: &Case<'_>) -> Result<Bytes> {
     let channel = channel_of(alloc, case)?;
     ensure!(channel.is_valid(), "no valid channel");
-    let text = put_live_manifest(alloc, &channel)?;
-    Ok(told_text(alloc, case, str::from_utf8(text.as_slice())?)?)
+    Ok(put_live_manifest(alloc, &channel)?)
+}
+
+fn written_manifest(alloc: Global, case: &Case<'_>) -> Result<String> {
+    let text = manifest_of(alloc, case)?;
+    let text = str::from_utf8(text.as_slice())?;
+    Ok(told_text(alloc, case, text)?)
 }
 
 // The ladder that a channel is written as, read again.
 fn read_again(alloc: Global, case: &Case<'_>) -> Result<String> {
-    let written = channel_of(alloc, case)?;
-    ensure!(written.is_valid(), "no valid channel");
-    let text = put_live_manifest(alloc, &written)?;
-    channel(alloc, &read_ladder(alloc, text.as_slice()))
+    let text = manifest_of(alloc, case)?;
+    ladder_of(alloc, text.as_slice())
+}
+
+fn push_head(alloc: Global, out: &mut String, head: &TrackHead) -> Result<()> {
+    let id = head.id;
+    let timescale = head.timescale;
+    let sealed = if head.protected { "protected" } else { "clear" };
+    let duration = head.defaults.duration;
+    let size = head.defaults.size;
+    let flags = head.defaults.flags;
+    let line = format!(in alloc; "{id} {timescale} {sealed} {duration} {size} {flags}\n")?;
+    out.push_str(line.as_str())?;
+    Ok(())
 }
 
 // A line for each track of a moov.
 fn heads(alloc: Global, heads: &Heads) -> Result<String> {
     let mut out = String::new(alloc);
     for head in heads.as_slice() {
-        let id = head.id;
-        let timescale = head.timescale;
-        let sealed = if head.protected { "protected" } else { "clear" };
-        let duration = head.defaults.duration;
-        let size = head.defaults.size;
-        let flags = head.defaults.flags;
-        let line = format!(in alloc; "{id} {timescale} {sealed} {duration} {size} {flags}\n")?;
-        out.push_str(line.as_str())?;
+        push_head(alloc, &mut out, head)?;
     }
     Ok(out)
+}
+
+fn moov_of(alloc: Global, body: &[u8]) -> Result<String> {
+    match read_moov(alloc, body) {
+        Ok(read) => heads(alloc, &read),
+        Err(fault) => told::fault(alloc, &fault),
+    }
+}
+
+fn plain_moov_of(alloc: Global, body: &[u8]) -> Result<String> {
+    match sm_moov::plain::moov(alloc, body)? {
+        Some(plain) => heads(alloc, &plain),
+        None => told::text(alloc, "6 BadMoov"),
+    }
 }
 
 // What the body of a moov says, by its reader and by the plain program.
 fn moov(alloc: Global, case: &Case<'_>) -> Result<String> {
     let body = case.bytes(alloc, "body")?;
-    let read = match read_moov(alloc, body.as_slice()) {
-        Ok(read) => heads(alloc, &read)?,
-        Err(fault) => told::fault(alloc, &fault)?,
-    };
-    let plain = match sm_moov::plain::moov(alloc, body.as_slice())? {
-        Some(plain) => heads(alloc, &plain)?,
-        None => told::text(alloc, "6 BadMoov")?,
-    };
-    ensure!(
-        plain.as_str() == read.as_str(),
-        "the plain program says {plain}"
-    );
+    let read = moov_of(alloc, body.as_slice())?;
+    let plain = plain_moov_of(alloc, body.as_slice())?;
+    same(plain.as_str(), read.as_str())?;
     Ok(read)
 }
 

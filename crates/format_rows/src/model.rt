@@ -53,6 +53,34 @@ fn cause_of_server(word: &str) -> Option<Cause> {
     })
 }
 
+fn bad_live_manifest(words: &Words) -> Result<Cause> {
+    let inside = words.number(1)?;
+    Ok(Cause::BadLiveManifest { inside })
+}
+
+fn not_declared(alloc: Global, words: &Words) -> Result<Cause> {
+    let bitrate = words.short(2)?;
+    let stream = Name::read(alloc, words.raw(1)?)?;
+    Ok(Cause::NotDeclared { stream, bitrate })
+}
+
+fn decl_clash(alloc: Global, words: &Words) -> Result<Cause> {
+    let bitrate = words.short(2)?;
+    let stream = Name::read(alloc, words.raw(1)?)?;
+    Ok(Cause::DeclClash { stream, bitrate })
+}
+
+fn duration_clash(words: &Words) -> Result<Cause> {
+    let kept = words.number(1)?;
+    let given = words.number(2)?;
+    Ok(Cause::DurationClash { kept, given })
+}
+
+fn overlap(words: &Words) -> Result<Cause> {
+    let end = words.number(1)?;
+    Ok(Cause::Overlap { end })
+}
+
 // The cause of words that begin with its name, and behind it have its values.
 fn cause_of(alloc: Global, words: &Words) -> Result<Cause> {
     let word = words.text(0)?;
@@ -62,27 +90,14 @@ fn cause_of(alloc: Global, words: &Words) -> Result<Cause> {
     if let Some(cause) = cause_of_server(word) {
         return Ok(cause);
     }
-    Ok(match word {
-        "BadLiveManifest" => Cause::BadLiveManifest {
-            inside: words.number(1)?,
-        },
-        "NotDeclared" => Cause::NotDeclared {
-            stream: Name::read(alloc, words.raw(1)?)?,
-            bitrate: words.short(2)?,
-        },
-        "DeclClash" => Cause::DeclClash {
-            stream: Name::read(alloc, words.raw(1)?)?,
-            bitrate: words.short(2)?,
-        },
-        "DurationClash" => Cause::DurationClash {
-            kept: words.number(1)?,
-            given: words.number(2)?,
-        },
-        "Overlap" => Cause::Overlap {
-            end: words.number(1)?,
-        },
+    match word {
+        "BadLiveManifest" => bad_live_manifest(words),
+        "NotDeclared" => not_declared(alloc, words),
+        "DeclClash" => decl_clash(alloc, words),
+        "DurationClash" => duration_clash(words),
+        "Overlap" => overlap(words),
         _ => bail!("no such cause"),
-    })
+    }
 }
 
 // The line of a refusal, its status, and the words of its cause.
@@ -127,21 +142,37 @@ fn faults(alloc: Global) -> Result<String> {
     Ok(format!(in alloc; "{names}{boxes}{bad}\n{untold}\n")?)
 }
 
+fn name_of_track(alloc: Global, case: &Case<'_>) -> Result<String> {
+    let words = case.words_of(alloc, "id")?;
+    let name = Name::of_track(alloc, words.short(0)?)?;
+    Ok(String::from_str(alloc, name.as_str())?)
+}
+
+fn channel(alloc: Global, case: &Case<'_>) -> Result<String> {
+    let channel = channel_of(alloc, case)?;
+    let copy = channel.copy(alloc)?;
+    Ok(tell_channel(alloc, &copy)?)
+}
+
+fn fragment(alloc: Global, case: &Case<'_>) -> Result<String> {
+    let fragment = fragment_of(alloc, case)?;
+    let copy = fragment.copy(alloc)?;
+    Ok(tell_fragment(alloc, &copy)?)
+}
+
+fn name_of(alloc: Global, case: &Case<'_>) -> Result<String> {
+    let bytes = case.bytes(alloc, "bytes")?;
+    name(alloc, bytes.as_slice())
+}
+
 /// What a call of `sm_model` gives.
 pub fn answer(alloc: Global, case: &Case<'_>) -> Result<String> {
     match case.call() {
         "sm_model Cause" => cause(alloc, case),
-        "sm_model Name::read" => name(alloc, case.bytes(alloc, "bytes")?.as_slice()),
-        "sm_model Name::of_track" => {
-            let name = Name::of_track(alloc, case.words_of(alloc, "id")?.short(0)?)?;
-            Ok(String::from_str(alloc, name.as_str())?)
-        }
-        "sm_model Channel::copy" => {
-            Ok(tell_channel(alloc, &channel_of(alloc, case)?.copy(alloc)?)?)
-        }
-        "sm_model Fragment::copy" => {
-            Ok(tell_fragment(alloc, &fragment_of(alloc, case)?.copy(alloc)?)?)
-        }
+        "sm_model Name::read" => name_of(alloc, case),
+        "sm_model Name::of_track" => name_of_track(alloc, case),
+        "sm_model Channel::copy" => channel(alloc, case),
+        "sm_model Fragment::copy" => fragment(alloc, case),
         "sm_model faults" => faults(alloc),
         _ => bail!("no such call"),
     }

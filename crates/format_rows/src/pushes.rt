@@ -1,46 +1,61 @@
 //! Calls of `sm_push`.
+use crate::told;
 use anyhow::{Result, bail, ensure};
-use sm_model::{Item, Items, Name, put_cause};
+use sm_model::{Channel, Fragment, Item, Items, Name, Refusal, put_cause};
 use sm_push::{Push, PushFault};
 use sm_rows::values::{tell_channel, tell_fragment};
 use sm_rows::{Case, Line, Words};
 use std::alloc::Global;
 
+fn header(alloc: Global, channel: &Channel) -> Result<String> {
+    let tracks = tell_channel(alloc, channel)?;
+    Ok(format!(in alloc; "header\n{tracks}")?)
+}
+
+fn fragment(alloc: Global, fragment: &Fragment, id: u32) -> Result<String> {
+    let text = tell_fragment(alloc, fragment)?;
+    Ok(format!(in alloc; "of {id} {text}")?)
+}
+
 // A line for a header and one for each of its tracks, or for a fragment's track_ID, and those of the fragment.
 fn item(alloc: Global, item: &Item, id: Option<u32>) -> Result<String> {
     match item {
-        Item::Header(channel) => {
-            let tracks = tell_channel(alloc, channel)?;
-            Ok(format!(in alloc; "header\n{tracks}")?)
-        }
-        Item::Frag(fragment) => {
-            let id = id.unwrap_or(0);
-            let text = tell_fragment(alloc, fragment)?;
-            Ok(format!(in alloc; "of {id} {text}")?)
-        }
+        Item::Header(channel) => header(alloc, channel),
+        Item::Frag(one) => fragment(alloc, one, id.unwrap_or(0)),
     }
+}
+
+fn push_item(alloc: Global, out: &mut String, one: &Item, id: Option<u32>) -> Result<()> {
+    let text = item(alloc, one, id)?;
+    out.push_str(text.as_str())?;
+    Ok(())
 }
 
 fn tell(alloc: Global, out: &mut String, items: &Items) -> Result<()> {
     let mut index = 0u64;
     for one in items.as_slice() {
-        out.push_str(item(alloc, one, items.id(index))?.as_str())?;
+        push_item(alloc, out, one, items.id(index))?;
         index = index.saturating_add(1);
     }
     Ok(())
 }
 
-fn tell_fault(alloc: Global, out: &mut String, fault: PushFault) -> Result<()> {
+fn tell_refusal(alloc: Global, out: &mut String, refusal: &Refusal) -> Result<()> {
+    let line = put_cause(alloc, refusal)?;
+    let line = str::from_utf8(line.as_slice())?;
+    out.push_str(line)?;
+    Ok(())
+}
+
+fn tell_fault(alloc: Global, out: &mut String, fault: &PushFault) -> Result<()> {
     match fault {
         PushFault::Refused { before, refusal } => {
-            tell(alloc, out, &before)?;
-            let line = put_cause(alloc, &refusal)?;
-            out.push_str(str::from_utf8(line.as_slice())?)?;
+            tell(alloc, out, before)?;
+            tell_refusal(alloc, out, refusal)
         }
-        PushFault::Failed => out.push_str("failed\n")?,
+        PushFault::Failed => Ok(out.push_str("failed\n")?),
         PushFault::NoMemory => bail!("no memory"),
     }
-    Ok(())
 }
 
 // Feeds a piece, and answers whether it was taken.
@@ -51,7 +66,7 @@ fn feed(alloc: Global, push: &mut Push, out: &mut String, piece: &[u8]) -> Resul
             Ok(true)
         }
         Err(fault) => {
-            tell_fault(alloc, out, fault)?;
+            tell_fault(alloc, out, &fault)?;
             Ok(false)
         }
     }
@@ -59,7 +74,7 @@ fn feed(alloc: Global, push: &mut Push, out: &mut String, piece: &[u8]) -> Resul
 
 fn end(alloc: Global, push: &mut Push, out: &mut String) -> Result<()> {
     if let Err(fault) = push.end() {
-        tell_fault(alloc, out, fault)?;
+        tell_fault(alloc, out, &fault)?;
     }
     Ok(())
 }
@@ -72,26 +87,51 @@ fn start(alloc: Global, case: &Case<'_>) -> Push {
     }
 }
 
-// What a body gives in pieces of this size, up to a refusal.
+// Feeds a body in pieces of this size, up to a refusal, and ends it.
+fn feed_pieces(
+    alloc: Global,
+    push: &mut Push,
+    out: &mut String,
+    body: &[u8],
+    size: usize,
+) -> Result<()> {
+    for piece in body.chunks(size.max(1)) {
+        if !feed(alloc, push, out, piece)? {
+            return Ok(());
+        }
+    }
+    end(alloc, push, out)
+}
+
+// What a body gives in pieces of this size.
 fn in_pieces(alloc: Global, case: &Case<'_>, body: &[u8], size: usize) -> Result<String> {
     let mut push = start(alloc, case);
     let mut out = String::new(alloc);
-    for piece in body.chunks(size.max(1)) {
-        if !feed(alloc, &mut push, &mut out, piece)? {
-            return Ok(out);
+    feed_pieces(alloc, &mut push, &mut out, body, size)?;
+    Ok(out)
+}
+
+// Feeds a body in two pieces, up to a refusal, and ends it.
+fn feed_two(
+    alloc: Global,
+    push: &mut Push,
+    out: &mut String,
+    front: &[u8],
+    behind: &[u8],
+) -> Result<()> {
+    for piece in [front, behind] {
+        if !feed(alloc, push, out, piece)? {
+            return Ok(());
         }
     }
-    end(alloc, &mut push, &mut out)?;
-    Ok(out)
+    end(alloc, push, out)
 }
 
 // What a body gives in two pieces.
 fn in_two(alloc: Global, case: &Case<'_>, front: &[u8], behind: &[u8]) -> Result<String> {
     let mut push = start(alloc, case);
     let mut out = String::new(alloc);
-    if feed(alloc, &mut push, &mut out, front)? && feed(alloc, &mut push, &mut out, behind)? {
-        end(alloc, &mut push, &mut out)?;
-    }
+    feed_two(alloc, &mut push, &mut out, front, behind)?;
     Ok(out)
 }
 
@@ -108,26 +148,82 @@ fn whole(alloc: Global, case: &Case<'_>, sizes: &[usize]) -> Result<String> {
     Ok(first)
 }
 
+// What a body gives in two pieces that is not this, if it does.
+fn otherwise_at(
+    alloc: Global,
+    case: &Case<'_>,
+    first: &str,
+    body: &[u8],
+    at: usize,
+) -> Result<Option<String>> {
+    let Some((front, behind)) = body.split_at_checked(at) else {
+        return Ok(None);
+    };
+    let other = in_two(alloc, case, front, behind)?;
+    if other.as_str() == first {
+        return Ok(None);
+    }
+    Ok(Some(format!(in alloc; "cut at {at} {other}")?))
+}
+
+// The first cut of a body into two pieces that gives something else than this, and what it gives.
+fn otherwise(alloc: Global, case: &Case<'_>, first: &str, body: &[u8]) -> Result<Option<String>> {
+    for at in 0..body.len() {
+        if let Some(other) = otherwise_at(alloc, case, first, body, at)? {
+            return Ok(Some(other));
+        }
+    }
+    Ok(None)
+}
+
+fn same_with_nothing_behind(
+    alloc: Global,
+    case: &Case<'_>,
+    first: &str,
+    body: &[u8],
+) -> Result<()> {
+    let other = in_two(alloc, case, body, &[])?;
+    ensure!(
+        other.as_str() == first,
+        "otherwise with an empty piece behind it"
+    );
+    Ok(())
+}
+
 // The same, cut into two pieces at each of its bytes.
 fn cut(alloc: Global, case: &Case<'_>) -> Result<String> {
     let body = case.bytes(alloc, "body")?;
     let first = whole(alloc, case, &[1, 2, 3, 7, 64, 4096])?;
-    for at in 0..body.len() {
-        let Some((front, behind)) = body.as_slice().split_at_checked(at) else {
-            break;
-        };
-        let other = in_two(alloc, case, front, behind)?;
-        if other.as_str() != first.as_str() {
-            return Ok(format!(in alloc; "cut at {at} {other}")?);
-        }
+    if let Some(other) = otherwise(alloc, case, first.as_str(), body.as_slice())? {
+        return Ok(other);
     }
-    let nothing: &[u8] = &[];
-    let other = in_two(alloc, case, body.as_slice(), nothing)?;
-    ensure!(
-        other.as_str() == first.as_str(),
-        "otherwise with an empty piece behind it"
-    );
+    same_with_nothing_behind(alloc, case, first.as_str(), body.as_slice())?;
     Ok(first)
+}
+
+// What a front of this length gives: nothing, where it is cut off at its end.
+fn front(alloc: Global, at: usize, gave: &str) -> Result<String> {
+    if gave.is_empty() {
+        return Ok(format!(in alloc; "taken at {at}\n")?);
+    }
+    let cut = format!(in alloc; "21 CutOff at {at}\n")?;
+    if gave == cut.as_str() {
+        return Ok(String::new(alloc));
+    }
+    Ok(format!(in alloc; "at {at} {gave}\n")?)
+}
+
+fn push_front(
+    alloc: Global,
+    case: &Case<'_>,
+    out: &mut String,
+    body: &[u8],
+    at: usize,
+) -> Result<()> {
+    let gave = in_pieces(alloc, case, body.get(..at).unwrap_or(&[]), 1000)?;
+    let front = front(alloc, at, gave.as_str())?;
+    out.push_str(front.as_str())?;
+    Ok(())
 }
 
 // Each front of a body that ends there: the lengths of those that are taken, where each other one is cut off at its end.
@@ -135,14 +231,7 @@ fn fronts(alloc: Global, case: &Case<'_>) -> Result<String> {
     let body = case.bytes(alloc, "body")?;
     let mut out = String::new(alloc);
     for at in 0..body.len() {
-        let front = body.as_slice().get(..at).unwrap_or(&[]);
-        let gave = in_pieces(alloc, case, front, 1000)?;
-        let cut = format!(in alloc; "21 CutOff at {at}\n")?;
-        if gave.is_empty() {
-            out.push_str(format!(in alloc; "taken at {at}\n")?.as_str())?;
-        } else if gave.as_str() != cut.as_str() {
-            out.push_str(format!(in alloc; "at {at} {gave}\n")?.as_str())?;
-        }
+        push_front(alloc, case, &mut out, body.as_slice(), at)?;
     }
     Ok(out)
 }
@@ -164,11 +253,24 @@ fn feed_bytes(alloc: Global, push: &mut Push, out: &mut String, bytes: &[u8]) ->
 
 // The track_ID of a name and a bitrate.
 fn track(alloc: Global, push: &Push, words: &Words) -> Result<String> {
+    let bitrate = words.short(1)?;
     let name = Name::read(alloc, words.raw(0)?)?;
-    Ok(match push.track_id(&name, words.short(1)?) {
-        Some(id) => format!(in alloc; "track {id}\n")?,
-        None => String::from_str(alloc, "no track\n")?,
-    })
+    match push.track_id(&name, bitrate) {
+        Some(id) => told::numbered(alloc, "track", u64::from(id)),
+        None => told::text(alloc, "no track\n"),
+    }
+}
+
+fn tell_track(alloc: Global, push: &Push, out: &mut String, words: &Words) -> Result<()> {
+    let track = track(alloc, push, words)?;
+    out.push_str(track.as_str())?;
+    Ok(())
+}
+
+// The bytes that a line says.
+fn bytes_of(alloc: Global, case: &Case<'_>, line: &Line) -> Result<Vec<u8>> {
+    let words = case.words(alloc, line)?;
+    Ok(words.bytes(alloc, 0)?)
 }
 
 // Makes a step of a row: `feed` with bytes, `bytewise` with bytes, `end`, and `track` with a name and a bitrate.
@@ -180,45 +282,52 @@ fn step(
     out: &mut String,
 ) -> Result<()> {
     match line.key() {
-        "feed" => {
-            let piece = case.words(alloc, line)?.bytes(alloc, 0)?;
-            feed_whole(alloc, push, out, piece.as_slice())
-        }
-        "bytewise" => {
-            let bytes = case.words(alloc, line)?.bytes(alloc, 0)?;
-            feed_bytes(alloc, push, out, bytes.as_slice())
-        }
+        "feed" => feed_whole(alloc, push, out, bytes_of(alloc, case, line)?.as_slice()),
+        "bytewise" => feed_bytes(alloc, push, out, bytes_of(alloc, case, line)?.as_slice()),
         "end" => end(alloc, push, out),
-        "track" => {
-            let text = track(alloc, push, &case.words(alloc, line)?)?;
-            out.push_str(text.as_str())?;
-            Ok(())
-        }
+        "track" => tell_track(alloc, push, out, &case.words(alloc, line)?),
         _ => Ok(()),
     }
+}
+
+fn take_steps(alloc: Global, case: &Case<'_>, push: &mut Push, out: &mut String) -> Result<()> {
+    for line in case.lines() {
+        step(alloc, case, line, push, out)?;
+    }
+    Ok(())
 }
 
 // What each step of a row gives.
 fn steps(alloc: Global, case: &Case<'_>) -> Result<String> {
     let mut push = start(alloc, case);
     let mut out = String::new(alloc);
-    for line in case.lines() {
-        step(alloc, case, line, &mut push, &mut out)?;
-    }
+    take_steps(alloc, case, &mut push, &mut out)?;
     Ok(out)
+}
+
+// The words of a fault, in a line.
+fn push_fault(alloc: Global, out: &mut String, fault: &PushFault) -> Result<()> {
+    let line = format!(in alloc; "{fault}\n")?;
+    out.push_str(line.as_str())?;
+    Ok(())
+}
+
+// Feeds a box that is none and then nothing, and appends the words of each fault.
+fn spoil(alloc: Global, push: &mut Push, out: &mut String) -> Result<()> {
+    for piece in [b"\0\0\0\x04free".as_slice(), b"".as_slice()] {
+        if let Err(fault) = push.feed(piece) {
+            push_fault(alloc, out, &fault)?;
+        }
+    }
+    Ok(())
 }
 
 // The words of each fault of the crate.
 fn faults(alloc: Global) -> Result<String> {
     let mut push = Push::new(alloc);
     let mut out = String::new(alloc);
-    for piece in [b"\0\0\0\x04free".as_slice(), b"".as_slice()] {
-        if let Err(fault) = push.feed(piece) {
-            out.push_str(format!(in alloc; "{fault}\n")?.as_str())?;
-        }
-    }
-    let memory = PushFault::NoMemory;
-    out.push_str(format!(in alloc; "{memory}\n")?.as_str())?;
+    spoil(alloc, &mut push, &mut out)?;
+    push_fault(alloc, &mut out, &PushFault::NoMemory)?;
     Ok(out)
 }
 

@@ -5,61 +5,90 @@ ghost use Rattle.sm_record.specs.Places.{IsPlaceOf};
 
 use crate::told;
 use anyhow::{Result, bail, ensure};
-use sm_model::{Entry, Fragment, Track};
+use sm_model::{Bytes, Channel, Entry, Fragment, Track};
 use sm_record::{RecordFault, put_declare, put_keep, read_entry, read_meta};
 use sm_rows::values::{channel_of, fragment_of, tell_channel, tell_fragment};
 use sm_rows::{Case, told as told_bytes};
 use std::alloc::Global;
 
-// What a body is under the channel of the row, where it has one.
-fn entry(alloc: Global, case: &Case<'_>, body: &[u8]) -> Result<String> {
-    let channel = channel_of(alloc, case)?;
-    let given = if channel.len() == 0 {
-        None
-    } else {
-        Some(&channel)
-    };
-    match read_entry(alloc, body, given) {
-        Ok(Entry::Declare(tracks)) => {
-            ensure!(tracks.is_valid(), "no valid channel");
-            let tracks = tell_channel(alloc, &tracks)?;
-            Ok(format!(in alloc; "declare\n{tracks}")?)
-        }
-        Ok(Entry::Keep(fragment)) => Ok(tell_fragment(alloc, &fragment)?),
+fn declare(alloc: Global, tracks: &Channel) -> Result<String> {
+    ensure!(tracks.is_valid(), "no valid channel");
+    let tracks = tell_channel(alloc, tracks)?;
+    Ok(format!(in alloc; "declare\n{tracks}")?)
+}
+
+fn entry(alloc: Global, entry: &Entry) -> Result<String> {
+    match entry {
+        Entry::Declare(tracks) => declare(alloc, tracks),
+        Entry::Keep(fragment) => Ok(tell_fragment(alloc, fragment)?),
+    }
+}
+
+// What a body is under a channel.
+fn read_under(alloc: Global, body: &[u8], channel: Option<&Channel>) -> Result<String> {
+    match read_entry(alloc, body, channel) {
+        Ok(read) => entry(alloc, &read),
         Err(RecordFault::Damaged) => told::text(alloc, "damaged"),
         Err(RecordFault::NoMemory) => bail!("no memory"),
     }
 }
 
-// How many of the bodies with one bit of another value are damaged.
+// What a body is under the channel of the row, where it has one.
+fn read(alloc: Global, case: &Case<'_>, body: &[u8]) -> Result<String> {
+    let channel = channel_of(alloc, case)?;
+    if channel.len() == 0 {
+        read_under(alloc, body, None)
+    } else {
+        read_under(alloc, body, Some(&channel))
+    }
+}
+
+fn read_body(alloc: Global, case: &Case<'_>) -> Result<String> {
+    let body = case.bytes(alloc, "body")?;
+    read(alloc, case, body.as_slice())
+}
+
+// Gives a bit of a byte its other value.
+fn flip(body: &mut [u8], at: usize) {
+    if let Some(byte) = body.get_mut(at) {
+        *byte ^= 1;
+    }
+}
+
+fn is_damaged(alloc: Global, case: &Case<'_>, body: &[u8]) -> Result<bool> {
+    let text = read(alloc, case, body)?;
+    Ok(text.as_str() == "damaged")
+}
+
+// How many of these bodies with one bit of another value are damaged.
+fn count_damaged(alloc: Global, case: &Case<'_>, body: &mut [u8]) -> Result<usize> {
+    let mut damaged = 0usize;
+    for at in 0..body.len() {
+        flip(body, at);
+        if is_damaged(alloc, case, body)? {
+            damaged = damaged.saturating_add(1);
+        }
+        flip(body, at);
+    }
+    Ok(damaged)
+}
+
 fn spoilt(alloc: Global, case: &Case<'_>) -> Result<String> {
     let mut body = case.bytes(alloc, "body")?;
     let len = body.len();
-    let mut damaged = 0usize;
-    for at in 0..len {
-        if let Some(byte) = body.get_mut(at) {
-            *byte ^= 1;
-        }
-        if entry(alloc, case, body.as_slice())?.as_str() == "damaged" {
-            damaged = damaged.saturating_add(1);
-        }
-        if let Some(byte) = body.get_mut(at) {
-            *byte ^= 1;
-        }
-    }
+    let damaged = count_damaged(alloc, case, &mut body)?;
     Ok(format!(in alloc; "{damaged} of {len}")?)
 }
 
-fn meta(alloc: Global, body: &[u8]) -> Result<String> {
-    Ok(match read_meta(body) {
-        Some(meta) => {
-            let track = meta.track;
-            let time = meta.time;
-            let duration = meta.duration;
-            format!(in alloc; "track {track} {time} {duration}")?
-        }
-        None => told::text(alloc, "none")?,
-    })
+fn meta(alloc: Global, case: &Case<'_>) -> Result<String> {
+    let body = case.bytes(alloc, "body")?;
+    let Some(meta) = read_meta(body.as_slice()) else {
+        return told::text(alloc, "none");
+    };
+    let track = meta.track;
+    let time = meta.time;
+    let duration = meta.duration;
+    Ok(format!(in alloc; "track {track} {time} {duration}")?)
 }
 
 fn declared(alloc: Global, case: &Case<'_>) -> Result<String> {
@@ -87,29 +116,37 @@ fn has_track(tracks: &[Track], fragment: &Fragment) -> bool
     false
 }
 
+// The body of a fragment that is kept under a channel.
+fn keep(alloc: Global, channel: &Channel, fragment: &Fragment) -> Result<Bytes> {
+    ensure!(channel.is_valid(), "no valid channel");
+    ensure!(fragment.is_valid(), "no valid fragment");
+    ensure!(has_track(channel.as_slice(), fragment), "another track");
+    Ok(put_keep(alloc, fragment, channel)?)
+}
+
 fn kept(alloc: Global, case: &Case<'_>) -> Result<String> {
     let channel = channel_of(alloc, case)?;
     let fragment = fragment_of(alloc, case)?;
-    ensure!(channel.is_valid(), "no valid channel");
-    ensure!(fragment.is_valid(), "no valid fragment");
-    ensure!(has_track(channel.as_slice(), &fragment), "another track");
-    let body = put_keep(alloc, &fragment, &channel)?;
+    let body = keep(alloc, &channel, &fragment)?;
     Ok(told_bytes(alloc, case, body.as_slice())?)
+}
+
+// The words of each fault of the crate.
+fn faults(alloc: Global) -> Result<String> {
+    let damaged = RecordFault::Damaged;
+    let memory = RecordFault::NoMemory;
+    Ok(format!(in alloc; "{damaged}\n{memory}\n")?)
 }
 
 /// What a call of `sm_record` gives.
 pub fn answer(alloc: Global, case: &Case<'_>) -> Result<String> {
     match case.call() {
-        "sm_record read_entry" => entry(alloc, case, case.bytes(alloc, "body")?.as_slice()),
+        "sm_record read_entry" => read_body(alloc, case),
         "sm_record read_entry of spoilt bodies" => spoilt(alloc, case),
-        "sm_record read_meta" => meta(alloc, case.bytes(alloc, "body")?.as_slice()),
+        "sm_record read_meta" => meta(alloc, case),
         "sm_record put_declare" => declared(alloc, case),
         "sm_record put_keep" => kept(alloc, case),
-        "sm_record faults" => {
-            let damaged = RecordFault::Damaged;
-            let memory = RecordFault::NoMemory;
-            Ok(format!(in alloc; "{damaged}\n{memory}\n")?)
-        }
+        "sm_record faults" => faults(alloc),
         _ => bail!("no such call"),
     }
 }

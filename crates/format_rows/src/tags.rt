@@ -1,23 +1,30 @@
 //! Calls of `sm_tag`.
 use anyhow::{Result, bail};
-use sm_model::{Attributes, Tag};
+use sm_model::{Attribute, Attributes, Tag};
 use sm_rows::{Case, told_text};
 use sm_tag::grammar::Markup;
 use sm_tag::{Tags, plain};
 use std::alloc::Global;
 
+// Appends a mark and a text.
 fn push(out: &mut String, mark: &str, bytes: &[u8]) -> Result<()> {
+    let text = str::from_utf8(bytes)?;
     out.push_str(mark)?;
-    out.push_str(str::from_utf8(bytes)?)?;
+    out.push_str(text)?;
+    Ok(())
+}
+
+fn push_attribute(out: &mut String, attribute: &Attribute) -> Result<()> {
+    push(out, "[", attribute.name.as_slice())?;
+    push(out, "=", attribute.value.as_slice())?;
+    out.push(']')?;
     Ok(())
 }
 
 fn push_start(out: &mut String, name: &[u8], attributes: &Attributes, empty: bool) -> Result<()> {
     push(out, "+", name)?;
     for attribute in attributes.as_slice() {
-        push(out, "[", attribute.name.as_slice())?;
-        push(out, "=", attribute.value.as_slice())?;
-        out.push(']')?;
+        push_attribute(out, attribute)?;
     }
     if empty {
         out.push('/')?;
@@ -25,9 +32,21 @@ fn push_start(out: &mut String, name: &[u8], attributes: &Attributes, empty: boo
     Ok(())
 }
 
-// Appends what a tag is told as, and says whether the text ends there.
-fn push_tag(alloc: Global, out: &mut String, tag: &Tag) -> Result<bool> {
-    let place = match tag {
+fn push_place(alloc: Global, out: &mut String, place: u64) -> Result<()> {
+    let text = format!(in alloc; "@{place} ")?;
+    out.push_str(text.as_str())?;
+    Ok(())
+}
+
+fn push_bad(alloc: Global, out: &mut String, place: u64) -> Result<()> {
+    let text = format!(in alloc; "bad@{place}")?;
+    out.push_str(text.as_str())?;
+    Ok(())
+}
+
+// Appends what a tag is told as.
+fn push_tag(alloc: Global, out: &mut String, tag: &Tag) -> Result<()> {
+    match tag {
         Tag::Start {
             name,
             attributes,
@@ -35,27 +54,40 @@ fn push_tag(alloc: Global, out: &mut String, tag: &Tag) -> Result<bool> {
             at,
         } => {
             push_start(out, name.as_slice(), attributes, *empty)?;
-            at
+            push_place(alloc, out, *at)
         }
         Tag::Finish { name, at } => {
             push(out, "-", name.as_slice())?;
-            at
+            push_place(alloc, out, *at)
         }
         Tag::Text { at } => {
             out.push('.')?;
-            at
+            push_place(alloc, out, *at)
         }
-        Tag::End => {
-            out.push_str("end")?;
-            return Ok(true);
+        Tag::End => Ok(out.push_str("end")?),
+        Tag::Bad { at } => push_bad(alloc, out, *at),
+    }
+}
+
+// Whether a text ends with a tag.
+fn is_last(tag: &Tag) -> bool {
+    matches!(tag, Tag::End | Tag::Bad { .. })
+}
+
+// Appends what the next tag is told as, and says whether the text ends there.
+fn push_next(alloc: Global, out: &mut String, tags: &mut Tags<'_>) -> Result<bool> {
+    let tag = tags.next(alloc)?;
+    push_tag(alloc, out, &tag)?;
+    Ok(is_last(&tag))
+}
+
+fn push_tags(alloc: Global, out: &mut String, tags: &mut Tags<'_>) -> Result<()> {
+    for _ in 0..300_000 {
+        if push_next(alloc, out, tags)? {
+            break;
         }
-        Tag::Bad { at } => {
-            out.push_str(format!(in alloc; "bad@{at}")?.as_str())?;
-            return Ok(true);
-        }
-    };
-    out.push_str(format!(in alloc; "@{place} ")?.as_str())?;
-    Ok(false)
+    }
+    Ok(())
 }
 
 // What a text is read as: `+a[b=c]@0` for a start tag, with a `/` where its element is empty, `-a@5` for an end tag, `.@3` for
@@ -64,41 +96,52 @@ fn tags(alloc: Global, case: &Case<'_>) -> Result<String> {
     let text = case.bytes(alloc, "text")?;
     let mut tags = Tags::new(alloc, text.as_slice());
     let mut out = String::new(alloc);
-    for _ in 0..300_000 {
-        let tag = tags.next(alloc)?;
-        if push_tag(alloc, &mut out, &tag)? {
-            break;
+    push_tags(alloc, &mut out, &mut tags)?;
+    Ok(told_text(alloc, case, out.as_str())?)
+}
+
+fn push_calls(alloc: Global, out: &mut String, tags: &mut Tags<'_>, calls: u64) -> Result<()> {
+    for _ in 0..calls {
+        if push_next(alloc, out, tags)? {
+            out.push(' ')?;
         }
     }
-    Ok(told_text(alloc, case, out.as_str())?)
+    Ok(())
 }
 
 // The same with so many calls, whatever they give.
 fn calls(alloc: Global, case: &Case<'_>) -> Result<String> {
     let text = case.bytes(alloc, "text")?;
+    let calls = case.number(alloc, "calls")?;
     let mut tags = Tags::new(alloc, text.as_slice());
     let mut out = String::new(alloc);
-    for _ in 0..case.number(alloc, "calls")? {
-        let tag = tags.next(alloc)?;
-        if push_tag(alloc, &mut out, &tag)? {
-            out.push(' ')?;
+    push_calls(alloc, &mut out, &mut tags, calls)?;
+    Ok(out)
+}
+
+fn push_markup(out: &mut String, markup: &Markup) -> Result<()> {
+    match markup {
+        Markup::Skipped => Ok(out.push('?')?),
+        Markup::Finish(name) => push(out, "-", name.as_slice()),
+        Markup::Start(name, attributes, empty) => {
+            push_start(out, name.as_slice(), attributes, *empty)
         }
     }
-    Ok(out)
 }
 
 // What a whole piece of text is: told as a tag is, and `?` for what is passed over.
 fn piece(alloc: Global, text: &[u8]) -> Result<String> {
+    let Some(markup) = plain::piece_of(alloc, text)? else {
+        return Ok(String::from_str(alloc, "none")?);
+    };
     let mut out = String::new(alloc);
-    match plain::piece_of(alloc, text)? {
-        None => out.push_str("none")?,
-        Some(Markup::Skipped) => out.push('?')?,
-        Some(Markup::Finish(name)) => push(&mut out, "-", name.as_slice())?,
-        Some(Markup::Start(name, attributes, empty)) => {
-            push_start(&mut out, name.as_slice(), &attributes, empty)?;
-        }
-    }
+    push_markup(&mut out, &markup)?;
     Ok(out)
+}
+
+fn piece_of(alloc: Global, case: &Case<'_>) -> Result<String> {
+    let text = case.bytes(alloc, "text")?;
+    piece(alloc, text.as_slice())
 }
 
 /// What a call of `sm_tag` gives.
@@ -106,7 +149,7 @@ pub fn answer(alloc: Global, case: &Case<'_>) -> Result<String> {
     match case.call() {
         "sm_tag Tags::next" => tags(alloc, case),
         "sm_tag Tags::next by calls" => calls(alloc, case),
-        "sm_tag plain::piece_of" => piece(alloc, case.bytes(alloc, "text")?.as_slice()),
+        "sm_tag plain::piece_of" => piece_of(alloc, case),
         _ => bail!("no such call"),
     }
 }

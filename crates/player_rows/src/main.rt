@@ -18,6 +18,7 @@ mod values;
 mod watching;
 
 use anyhow::{Result, bail};
+use sm_rows::tales::Tale;
 use sm_rows::{Case, Page};
 use std::alloc::Global;
 use std::fs;
@@ -34,18 +35,33 @@ const PAGES: [&str; 5] = [
     "runs.txt",
 ];
 
+// Plays a row, and tells what it gives.
+fn play<R: Threads + Wait + Copy + Drop>(
+    rt: &R,
+    alloc: Global,
+    case: &Case<'_>,
+    tale: &mut Tale,
+) -> Result<()> {
+    match case.call() {
+        "shelf" => shelves::play(rt, alloc, case, tale),
+        "shown" => serving::play(rt, alloc, case, tale),
+        "player" => playing::play(rt, alloc, case, tale),
+        "two players" => playing::play_two(rt, alloc, case, tale),
+        "run" => running::play(rt, alloc, case, tale),
+        _ => bail!("no such call"),
+    }
+}
+
+// What a row gives: what it tells, or the fault at which it ends.
 fn answer<R: Threads + Wait + Copy + Drop>(
     rt: &R,
     alloc: Global,
     case: &Case<'_>,
 ) -> Result<String> {
-    match case.call() {
-        "shelf" => shelves::play(rt, alloc, case),
-        "shown" => serving::play(rt, alloc, case),
-        "player" => playing::play(rt, alloc, case),
-        "two players" => playing::play_two(rt, alloc, case),
-        "run" => running::play(rt, alloc, case),
-        _ => bail!("no such call"),
+    let mut tale = Tale::new(alloc);
+    match play(rt, alloc, case, &mut tale) {
+        Ok(()) => Ok(tale.into_text()),
+        Err(fault) => Ok(format!(in alloc; "{fault}")?),
     }
 }
 
@@ -55,11 +71,28 @@ fn difference<R: Threads + Wait + Copy + Drop>(
     alloc: Global,
     case: &Case<'_>,
 ) -> Result<Option<String>> {
-    let gave = match answer(rt, alloc, case) {
-        Ok(gave) => gave,
-        Err(fault) => format!(in alloc; "{fault}")?,
-    };
+    let gave = answer(rt, alloc, case)?;
     Ok(case.difference(alloc, gave.as_str())?)
+}
+
+// Prints how a row differs, if it does.
+fn show<R: Threads + Wait + Print + AllocGlobal + Copy + Drop>(
+    rt: &R,
+    case: &Case<'_>,
+) -> Result<()> {
+    if let Some(line) = difference(rt, rt.alloc(), case)? {
+        print!(rt; "{line}")?;
+    }
+    Ok(())
+}
+
+// Reads the rows of a file, and prints what is wrong with them.
+fn read<R: Files + Print + AllocGlobal>(rt: &R, page: &mut Page, name: &str) -> Result<()> {
+    let text = fs::read_to_string(rt, name)?;
+    if let Err(fault) = page.read(rt.alloc(), text.as_str()) {
+        println!(rt; "{name}: {fault}")?;
+    }
+    Ok(())
 }
 
 // Makes the calls of all rows of a file, and answers how many they are.
@@ -68,17 +101,12 @@ fn run<R: Threads + Wait + Files + Print + AllocGlobal + Copy + Drop>(
     page: &mut Page,
     name: &str,
 ) -> Result<usize> {
-    let text = fs::read_to_string(rt, name)?;
-    if let Err(fault) = page.read(rt.alloc(), text.as_str()) {
-        println!(rt; "{name}: {fault}")?;
-    }
+    read(rt, page, name)?;
     for at in 0..page.len() {
         let Some(case) = page.case(at) else {
             break;
         };
-        if let Some(line) = difference(rt, rt.alloc(), &case)? {
-            print!(rt; "{line}")?;
-        }
+        show(rt, &case)?;
     }
     Ok(page.len())
 }

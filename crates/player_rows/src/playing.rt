@@ -7,7 +7,7 @@ use anyhow::{Result, bail};
 use sm_players::{Crew, NoForward, NoGate, Played, Spawner, Stop, player};
 use sm_rows::scripts::{Cut, is_quiet, site};
 use sm_rows::tales::Tale;
-use sm_rows::{Case, disks};
+use sm_rows::{Case, Line, disks};
 use sm_shelf::{Readers, ShelfReader, ShelfWriter, make};
 use sm_site::MemorySite;
 use std::alloc::Global;
@@ -25,103 +25,224 @@ fn one(readers: Readers) -> Result<ShelfReader> {
     }
 }
 
-// Lets a player deal with what the row says, behind what the loop has published of the same, and tells how it ended, and what the steps of the row
-// ask of its wire.
-fn steps<R: Wait>(
+// Lets the loop publish what the row says that comes.
+fn publish_row<R: Wait>(
+    rt: &R,
+    alloc: Global,
+    case: &Case<'_>,
+    writer: &mut ShelfWriter,
+) -> Result<()> {
+    let mut loop_site = site(alloc, case, Cut::Of(65_536))?;
+    publish(rt, alloc, &mut loop_site, writer)
+}
+
+// Lets a player whose forward fails each time deal with what comes over its wire.
+fn play_over(alloc: Global, wire: &mut MemorySite, reader: &mut ShelfReader) -> Played {
+    player(
+        alloc,
+        wire,
+        &mut NoForward::new(),
+        &mut NoGate,
+        reader,
+        TURNS,
+    )
+}
+
+// Tells how a player ended.
+fn tell(alloc: Global, played: &Played, tale: &mut Tale) -> Result<()> {
+    match played {
+        Played::Done { answered } => tale.say(format!(in alloc; "answered {answered}")?.as_str()),
+        Played::LinkFault => tale.say("link fault"),
+        Played::NoMemory => tale.say("out of memory"),
+    }
+}
+
+// Makes the step of a line on the wire, if it is one.
+fn step(
+    alloc: Global,
+    case: &Case<'_>,
+    wire: &mut MemorySite,
+    line: &Line,
+    tale: &mut Tale,
+) -> Result<()> {
+    if is_quiet(line.key()) {
+        return Ok(());
+    }
+    let words = case.words(alloc, line)?;
+    disks::step(alloc, wire, line, &words, tale)
+}
+
+// Tells how the player ended, and what the steps of the row ask of its wire.
+fn tell_row(
+    alloc: Global,
+    case: &Case<'_>,
+    wire: &mut MemorySite,
+    played: &Played,
+    tale: &mut Tale,
+) -> Result<()> {
+    tell(alloc, played, tale)?;
+    for line in case.lines() {
+        step(alloc, case, wire, line, tale)?;
+    }
+    Ok(())
+}
+
+// Lets a player deal with what the row says.
+fn play_row(
+    alloc: Global,
+    case: &Case<'_>,
+    reader: &mut ShelfReader,
+    tale: &mut Tale,
+) -> Result<()> {
+    let mut wire = site(alloc, case, Cut::InTurn)?;
+    let played = play_over(alloc, &mut wire, reader);
+    tell_row(alloc, case, &mut wire, &played, tale)
+}
+
+// Lets a player deal with what the row says, behind what the loop has published of the same.
+fn behind_loop<R: Wait>(
     rt: &R,
     alloc: Global,
     case: &Case<'_>,
     writer: &mut ShelfWriter,
     readers: Readers,
-) -> Result<String> {
-    let mut loop_site = site(alloc, case, Cut::Of(65_536))?;
-    let mut wire = site(alloc, case, Cut::InTurn)?;
-    let mut tale = Tale::new(alloc);
-    publish(rt, alloc, &mut loop_site, writer)?;
+    tale: &mut Tale,
+) -> Result<()> {
     let mut reader = one(readers)?;
-    let played = player(
-        alloc,
-        &mut wire,
-        &mut NoForward::new(),
-        &mut NoGate,
-        &mut reader,
-        TURNS,
-    );
-    match played {
-        Played::Done { answered } => tale.say(format!(in alloc; "answered {answered}")?.as_str())?,
-        Played::LinkFault => tale.say("link fault")?,
-        Played::NoMemory => tale.say("out of memory")?,
-    }
-    for line in case.lines() {
-        if !is_quiet(line.key()) {
-            let words = case.words(alloc, line)?;
-            disks::step(alloc, &mut wire, line, &words, &mut tale)?;
-        }
-    }
-    Ok(tale.into_text())
+    publish_row(rt, alloc, case, writer)?;
+    play_row(alloc, case, &mut reader, tale)
 }
 
 /// One player, whose forward fails each time.
-pub fn play<R: Threads + Wait>(rt: &R, alloc: Global, case: &Case<'_>) -> Result<String> {
+pub fn play<R: Threads + Wait>(
+    rt: &R,
+    alloc: Global,
+    case: &Case<'_>,
+    tale: &mut Tale,
+) -> Result<()> {
     let (mut writer, readers) = make(rt, alloc, 1)?;
-    let told = steps(rt, alloc, case, &mut writer, readers);
+    let played = behind_loop(rt, alloc, case, &mut writer, readers, tale);
     writer.end(rt);
-    told
+    played
 }
 
 type Two<R> = Crew<R, CountingLink<MemorySite>, NoForward, Meeting>;
 
-// Adds a player that raises one flag and waits for the other.
+// What two players share: a flag of each, whether one waited in vain, and how many sent the reply.
+#[derive(Drop)]
+struct Shared {
+    first: Arc<AtomicBool>,
+    second: Arc<AtomicBool>,
+    missed: Arc<AtomicBool>,
+    count: Arc<AtomicU64>,
+}
+
+impl Shared {
+    fn new(alloc: Global) -> Result<Shared> {
+        Ok(Shared {
+            first: Arc::new(alloc, AtomicBool::new(false))?,
+            second: Arc::new(alloc, AtomicBool::new(false))?,
+            missed: Arc::new(alloc, AtomicBool::new(false))?,
+            count: Arc::new(alloc, AtomicU64::new(0))?,
+        })
+    }
+
+    // The gate of a player that raises one flag and waits for the other.
+    fn gate(&self, mine: &Arc<AtomicBool>, other: &Arc<AtomicBool>) -> Result<Meeting> {
+        Ok(Meeting {
+            mine: Arc::try_clone(mine)?,
+            other: Arc::try_clone(other)?,
+            missed: Arc::try_clone(&self.missed)?,
+        })
+    }
+
+    // The wire of a player.
+    fn wire(&self, alloc: Global, case: &Case<'_>) -> Result<CountingLink<MemorySite>> {
+        let reply = case.bytes(alloc, "reply")?;
+        let count = Arc::try_clone(&self.count)?;
+        let link = site(alloc, case, Cut::Of(65_536))?;
+        Ok(CountingLink { link, reply, count })
+    }
+}
+
+// Adds a player with this gate.
 fn add<R: Threads + Drop>(
     alloc: Global,
     case: &Case<'_>,
     crew: &mut Two<R>,
-    mine: &Arc<AtomicBool>,
-    other: &Arc<AtomicBool>,
-    missed: &Arc<AtomicBool>,
-    count: &Arc<AtomicU64>,
+    shared: &Shared,
+    gate: Meeting,
 ) -> Result<()> {
-    let wire = CountingLink {
-        link: site(alloc, case, Cut::Of(65_536))?,
-        reply: case.bytes(alloc, "reply")?,
-        count: Arc::try_clone(count)?,
-    };
-    let gate = Meeting {
-        mine: Arc::try_clone(mine)?,
-        other: Arc::try_clone(other)?,
-        missed: Arc::try_clone(missed)?,
-    };
+    let wire = shared.wire(alloc, case)?;
     Ok(crew.add(wire, NoForward::new(), gate)?)
 }
 
-// Starts a player for each reader, and tells how they ended, how many sent the reply, and whether one waited in vain.
-fn meet<R: Threads + Wait + Copy + Drop>(
-    rt: &R,
+// Adds the two players.
+fn add_both<R: Threads + Drop>(
     alloc: Global,
     case: &Case<'_>,
-    writer: &mut ShelfWriter,
-    readers: Readers,
-) -> Result<String> {
-    let mut loop_site = site(alloc, case, Cut::Of(65_536))?;
-    publish(rt, alloc, &mut loop_site, writer)?;
-    let first = Arc::new(alloc, AtomicBool::new(false))?;
-    let second = Arc::new(alloc, AtomicBool::new(false))?;
-    let missed = Arc::new(alloc, AtomicBool::new(false))?;
-    let count = Arc::new(alloc, AtomicU64::new(0))?;
-    let mut crew = Crew::new(alloc, *rt, Stop::new(alloc)?, TURNS);
-    add(alloc, case, &mut crew, &first, &second, &missed, &count)?;
-    add(alloc, case, &mut crew, &second, &first, &missed, &count)?;
+    crew: &mut Two<R>,
+    shared: &Shared,
+) -> Result<()> {
+    let first = shared.gate(&shared.first, &shared.second)?;
+    add(alloc, case, crew, shared, first)?;
+    let second = shared.gate(&shared.second, &shared.first)?;
+    add(alloc, case, crew, shared, second)
+}
+
+// Starts a player for each reader, and answers how many were refused.
+fn start<R: Threads + Drop>(crew: &mut Two<R>, readers: Readers) -> u32 {
     let mut refused = 0u32;
     for reader in readers.into_vec() {
         if crew.start(reader).is_err() {
             refused = refused.saturating_add(1);
         }
     }
+    refused
+}
+
+// Tells how many players are done and were refused, how many sent the reply, and whether one waited in vain.
+fn tell_met(
+    alloc: Global,
+    done: u32,
+    refused: u32,
+    shared: &Shared,
+    tale: &mut Tale,
+) -> Result<()> {
+    let sent = shared.count.load(Ordering::SeqCst);
+    let missed = shared.missed.load(Ordering::SeqCst);
+    let line = format!(in alloc; "done {done} refused {refused} sent {sent} missed {missed}")?;
+    tale.say(line.as_str())
+}
+
+// Starts both players, waits until they have ended, and tells how they did.
+fn play_both<R: Threads + Drop>(
+    alloc: Global,
+    case: &Case<'_>,
+    crew: &mut Two<R>,
+    readers: Readers,
+    tale: &mut Tale,
+) -> Result<()> {
+    let shared = Shared::new(alloc)?;
+    add_both(alloc, case, crew, &shared)?;
+    let refused = start(crew, readers);
     let finished = crew.finish();
-    let done = finished.done;
-    let sent = count.load(Ordering::SeqCst);
-    let missed = missed.load(Ordering::SeqCst);
-    Ok(format!(in alloc; "done {done} refused {refused} sent {sent} missed {missed}")?)
+    tell_met(alloc, finished.done, refused, &shared, tale)
+}
+
+// Lets two players meet, behind what the loop has published.
+fn meet<R: Threads + Wait + Copy + Drop>(
+    rt: &R,
+    alloc: Global,
+    case: &Case<'_>,
+    writer: &mut ShelfWriter,
+    readers: Readers,
+    tale: &mut Tale,
+) -> Result<()> {
+    publish_row(rt, alloc, case, writer)?;
+    let stop = Stop::new(alloc)?;
+    let mut crew = Crew::new(alloc, *rt, stop, TURNS);
+    play_both(alloc, case, &mut crew, readers, tale)
 }
 
 /// Two players of a crew, which meet before their first answers.
@@ -129,9 +250,10 @@ pub fn play_two<R: Threads + Wait + Copy + Drop>(
     rt: &R,
     alloc: Global,
     case: &Case<'_>,
-) -> Result<String> {
+    tale: &mut Tale,
+) -> Result<()> {
     let (mut writer, readers) = make(rt, alloc, 2)?;
-    let told = meet(rt, alloc, case, &mut writer, readers);
+    let played = meet(rt, alloc, case, &mut writer, readers, tale);
     writer.end(rt);
-    told
+    played
 }

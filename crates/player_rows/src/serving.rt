@@ -12,7 +12,7 @@ use sm_rows::scripts::{Cut, is_quiet, site};
 use sm_rows::tales::Tale;
 use sm_rows::{Case, Line, Words, disks};
 use sm_serve::{Served, State, serve};
-use sm_shelf::{Readers, ShelfWriter, make};
+use sm_shelf::{ShelfWriter, make};
 use sm_show::serve_shown;
 use sm_site::MemorySite;
 use std::alloc::Global;
@@ -96,30 +96,61 @@ fn step<R: Threads + Wait>(
     }
 }
 
+// Makes the step of a line, if it is one.
+fn part<R: Threads + Wait>(
+    rt: &R,
+    alloc: Global,
+    case: &Case<'_>,
+    site: &mut MemorySite,
+    writer: &mut ShelfWriter,
+    seats: &mut Seats,
+    line: &Line,
+    tale: &mut Tale,
+) -> Result<()> {
+    if is_quiet(line.key()) {
+        return Ok(());
+    }
+    let words = case.words(alloc, line)?;
+    step(rt, alloc, site, writer, seats, line, &words, tale)
+}
+
 fn steps<R: Threads + Wait>(
     rt: &R,
     alloc: Global,
     case: &Case<'_>,
     site: &mut MemorySite,
     writer: &mut ShelfWriter,
-    readers: Readers,
-) -> Result<String> {
-    let mut seats = Seats::new(alloc, readers);
-    let mut tale = Tale::new(alloc);
+    seats: &mut Seats,
+    tale: &mut Tale,
+) -> Result<()> {
     for line in case.lines() {
-        if !is_quiet(line.key()) {
-            let words = case.words(alloc, line)?;
-            step(rt, alloc, site, writer, &mut seats, line, &words, &mut tale)?;
-        }
+        part(rt, alloc, case, site, writer, seats, line, tale)?;
     }
-    Ok(tale.into_text())
+    Ok(())
+}
+
+// Makes a shelf with one reader, and makes the steps of the row.
+fn beside_shelf<R: Threads + Wait>(
+    rt: &R,
+    alloc: Global,
+    case: &Case<'_>,
+    site: &mut MemorySite,
+    tale: &mut Tale,
+) -> Result<()> {
+    let (mut writer, readers) = make(rt, alloc, 1)?;
+    let mut seats = Seats::new(alloc, readers);
+    let played = steps(rt, alloc, case, site, &mut writer, &mut seats, tale);
+    writer.end(rt);
+    played
 }
 
 /// Makes a site that brings what the row says, and a shelf with one reader, and makes the steps of the row.
-pub fn play<R: Threads + Wait>(rt: &R, alloc: Global, case: &Case<'_>) -> Result<String> {
+pub fn play<R: Threads + Wait>(
+    rt: &R,
+    alloc: Global,
+    case: &Case<'_>,
+    tale: &mut Tale,
+) -> Result<()> {
     let mut site = site(alloc, case, Cut::Of(65_536))?;
-    let (mut writer, readers) = make(rt, alloc, 1)?;
-    let told = steps(rt, alloc, case, &mut site, &mut writer, readers);
-    writer.end(rt);
-    told
+    beside_shelf(rt, alloc, case, &mut site, tale)
 }

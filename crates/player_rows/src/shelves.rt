@@ -1,4 +1,5 @@
 //! A shelf on which a row lays entries itself.
+ghost use Rattle.std.specs.Prelude.{◌<◌, ◌≤◌, IfOk};
 ghost use Rattle.sm_model.specs.Channels.{IsChannel};
 ghost use Rattle.sm_model.specs.Fragments.{IsValid};
 ghost use Rattle.sm_shelf.specs.Laying.{IsValidEntry};
@@ -197,30 +198,43 @@ impl Stage {
 
 fn steps<R: Threads + Wait>(
     rt: &R,
-    alloc: Global,
     case: &Case<'_>,
     writer: &mut ShelfWriter,
-    readers: Readers,
-) -> Result<String> {
-    let mut stage = Stage::new(alloc, readers);
-    let mut tale = Tale::new(alloc);
+    stage: &mut Stage,
+    tale: &mut Tale,
+) -> Result<()> {
     for line in case.lines() {
-        stage.step(rt, case, writer, line, &mut tale)?;
+        stage.step(rt, case, writer, line, tale)?;
     }
-    Ok(tale.into_text())
+    Ok(())
 }
 
-/// Makes a shelf with as many readers as the line `readers` says, or one, and makes the steps of the row on it.
-pub fn play<R: Threads + Wait>(rt: &R, alloc: Global, case: &Case<'_>) -> Result<String> {
-    let mut count = 1;
-    if case.has("readers") {
-        count = case.words_of(alloc, "readers")?.short(0)?;
+// How many readers the row has: the number of the line `readers`, or one.
+fn count_of_readers(alloc: Global, case: &Case<'_>) -> Result<u32>
+    ensures some { IfOk result (λ count. 0 < count) }
+    ensures few { IfOk result (λ count. count ≤ 16) }
+{
+    if !case.has("readers") {
+        return Ok(1);
     }
+    let count = case.words_of(alloc, "readers")?.short(0)?;
     if count == 0 || count > 16 {
         bail!("1 to 16 readers");
     }
+    Ok(count)
+}
+
+/// Makes a shelf with as many readers as the line `readers` says, or one, and makes the steps of the row on it.
+pub fn play<R: Threads + Wait>(
+    rt: &R,
+    alloc: Global,
+    case: &Case<'_>,
+    tale: &mut Tale,
+) -> Result<()> {
+    let count = count_of_readers(alloc, case)?;
     let (mut writer, readers) = make(rt, alloc, count)?;
-    let told = steps(rt, alloc, case, &mut writer, readers);
+    let mut stage = Stage::new(alloc, readers);
+    let played = steps(rt, case, &mut writer, &mut stage, tale);
     writer.end(rt);
-    told
+    played
 }
