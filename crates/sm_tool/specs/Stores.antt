@@ -8,10 +8,12 @@ use Rattle.sm_pick.specs.Sentences.{sentence_of}
 use Rattle.sm_site.specs.Image.{Image}
 use Rattle.sm_site.specs.Meanings.{Chosen, View, Seen}
 use Rattle.sm_archive.specs.Store.{IsStore}
+use Rattle.sm_origin.specs.Opening.{HasOneStore}
 use Rattle.sm_serve.specs.declared.outcome.Served.{Served as Outcome}
 use Rattle.sm_serve.specs.declared.outcome.Served.TheVariants as served
 use Rattle.sm_command.specs.declared.fault.StoreFault.{StoreFault}
 use Rattle.sm_command.specs.declared.fault.StoreFault.TheVariants as fault
+use Rattle.sm_command.specs.Lasting.{AtEachMoment}
 use Rattle.sm_command.specs.Listing.{WhyUnlisted, lines_of}
 use Rattle.sm_serve.specs.Serving.{CountsNone}
 use Rattle.sm_command.specs.Serving.{HasRun, WhyUnready}
@@ -116,6 +118,13 @@ ServeMeans site ladder turns input input' d d' Full = WhyUnready site ladder inp
 ServeMeans site ladder turns input input' d d' (NotAStore line) =
     (at : ℕ) × (line ≡ store_line at) × WhyUnready site ladder input input' d d' (fault.NotAStore at)
 ServeMeans site ladder turns input input' d d' (Unfinished stop) = ⊥
+
+-- ---- what a command that only reads leaves
+
+-- where each image that a crash might have left was one store, a crash leaves that store at each moment: nothing is kept and nothing is
+-- declared in it
+abbrev pub LeavesLog : {D : Type 0} (site : Seen D) → D → D → Type 0
+LeavesLog site d d' = (log : List Entry) → HasOneStore log (site.may_leave d) → AtEachMoment site d d' (IsStore log)
 
 -- ---- list
 

@@ -4,7 +4,7 @@ ghost use Rattle.sm_command.specs.Lasting.{IsSilent, KeepsStores};
 ghost use Rattle.sm_export.specs.declared.exported.StoreExport.TheVariants as ends;
 ghost use Rattle.sm_tool.specs.declared.answer.Answer.TheVariants as answers;
 ghost use Rattle.sm_tool.specs.Exports.{ExportMeans, IsUnwritten, TellsExport};
-ghost use Rattle.sm_tool.specs.Stores.{IsSelected, at_folder};
+ghost use Rattle.sm_tool.specs.Stores.{IsSelected, LeavesLog, at_folder};
 ghost use Rattle.sm_ends.specs.Ended.{end_of};
 
 use crate::answer::{Answer, Stop};
@@ -68,6 +68,7 @@ pub fn export<I: Source, O: Sink, S: Site>(
     ensures means { ExportMeans order.name order.bitrate (S.Disk.seen.view site.old) (S.Disk.seen.view site.new)
         (end_of I.left I.faults input.old) (end_of I.left I.faults input.new) (end_of O.held O.faults output.old)
         (end_of O.held O.faults output.new) result }
+    ensures log { LeavesLog S.Disk.seen site.old site.new }
     ensures counted { I.faults input.old ≤ I.faults input.new }
     ensures later { O.faults output.old ≤ O.faults output.new }
     ensures silent { IsSilent (S.Disk.seen.view site.old) (S.Disk.seen.view site.new) }

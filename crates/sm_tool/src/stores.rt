@@ -3,7 +3,7 @@ ghost use Rattle.std.specs.Prelude.{◌≡◌, ◌≤◌, ℕ, List, IfOk, strin
 ghost use Rattle.sm_command.specs.Lasting.{IsSilent, KeepsStores};
 ghost use Rattle.sm_tool.specs.declared.answer.Answer.TheVariants as answers;
 ghost use Rattle.sm_words.specs.Orders.{serving_of};
-ghost use Rattle.sm_tool.specs.Stores.{IsSelected, ListMeans, ServeMeans, Tells, at_folder, chosen_of, TellsEnd, clash_line, ladder_line, or_starved, store_line, turns_line};
+ghost use Rattle.sm_tool.specs.Stores.{IsSelected, LeavesLog, ListMeans, ServeMeans, Tells, at_folder, chosen_of, TellsEnd, clash_line, ladder_line, or_starved, store_line, turns_line};
 ghost use Rattle.sm_ends.specs.Ended.{end_of};
 
 use crate::answer::Answer;
@@ -125,6 +125,7 @@ pub fn serve<I: Source, S: Site>(
 pub fn list<S: Site>(alloc: Global, site: &mut S, store: String) -> Answer
     ensures selected { IsSelected result (at_folder (string_bytes store)) (S.Disk.seen.view site.new) }
     ensures means { ListMeans S.Disk.seen site.old site.new result }
+    ensures log { LeavesLog S.Disk.seen site.old site.new }
     ensures silent { IsSilent (S.Disk.seen.view site.old) (S.Disk.seen.view site.new) }
     ensures stores { KeepsStores S.Disk.seen site.old site.new ((line : List ℕ) × (result ≡ answers.NotAStore line)) }
 {
