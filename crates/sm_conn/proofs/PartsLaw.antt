@@ -1,7 +1,8 @@
 -- What a connection reads, piece after piece.
-use Rattle.std.proofs.Common.{◌≡◌, ℕ, ◌+◌, ◌≤◌, List, [], ◌∷◌, ◌++◌, length, take, refl, ap, ◌∙◌, sym, subst, arith, inl, inr, append_assoc, length-append}
-use Rattle.std.specs.Prelude.{map, drop, Bool, Result, Err, if◌then◌else◌, suc, zero}
+use Rattle.std.proofs.Common.{◌≡◌, ℕ, ◌+◌, ◌≤◌, List, [], ◌∷◌, ◌++◌, length, take, refl, ap, ◌∙◌, sym, subst, arith, inl, inr, append_assoc, length-append, lit<, eqb}
+use Rattle.std.specs.Prelude.{map, drop, Bool, true, Result, Err, if◌then◌else◌, suc, zero}
 use Rattle.std.proofs.lemmas.List.{map-append}
+use Rattle.std.proofs.lemmas.Bool.{eqb-true}
 use Rattle.std.proofs.lemmas.List.{append-nil, take-append-le, drop-append-le}
 use Rattle.std.proofs.lemmas.Grind.{common_steps}
 use Rattle.httparse.specs.Grammar.{ReadsRequest, HasNoRequest}
@@ -9,11 +10,33 @@ use Rattle.httparse.proofs.GrammarLemmas.{ReadsRequest-append}
 use Rattle.sm_body.specs.declared.place.Place.{Place}
 use Rattle.sm_body.specs.Places.{place_after, body_from, next_place, is_data}
 use Rattle.sm_head.specs.Heads.{IsHopeless}
+use Rattle.sm_head.proofs.HeadLaw.{none_empty}
 use Rattle.sm_model.specs.declared.cause.Cause.{Cause}
 use Rattle.sm_model.specs.declared.cause.Cause.TheVariants.{BadChunk}
 use Rattle.sm_head.specs.declared.asked.Asked.{Asked}
 use Rattle.sm_head.specs.Requests.{window, IsWaiting, IsRefused, IsHeadAt}
 use Rattle.sm_conn.specs.Parts.{PartItem, byte, ended, bad, Mode, in_head, in_body, closed, opening, Reads, waiting, refused, whole, body, stopped, failed, shut}
+
+-- ---- without a byte
+
+empty_front : (xs ys : List ℕ) → [] ≡ xs ++ 10 ∷ ys → ⊥
+empty_front [] ys e = cc
+empty_front (x ∷ xs) ys e = cc
+
+empty_waits : IsWaiting []
+empty_waits = record { none = none_empty; hopeful = λ h. empty_front h.front h.rest h.splits; short = lit< tt }
+
+no_byte : (bytes : List ℕ) → eqb (length bytes) 0 ≡ true → bytes ≡ []
+no_byte [] e = refl
+no_byte (b ∷ bytes) e = absurd (omega (arith, eqb-true (length (b ∷ bytes)) 0 e))
+
+-- where a head begins no byte gives nothing
+pub nothing_yet : (mode last : Mode) (bytes : List ℕ) → eqb (length bytes) 0 ≡ true → mode ≡ in_head [] → last ≡ in_head [] → Reads mode bytes [] last
+nothing_yet mode last bytes none begins ends =
+    let is : bytes ≡ [] = no_byte bytes none in
+    waiting mode last bytes [] [] begins (subst IsWaiting (sym is) empty_waits) refl (ends ∙ ap (λ (b : List ℕ). in_head b) (sym is))
+
+-- ---- more bytes
 
 -- what is hopeless stays so
 pub hopeless_on : (xs more : List ℕ) → IsHopeless xs → IsHopeless (xs ++ more)

@@ -172,10 +172,17 @@ impl Conn {
                     Ok(None)
                 }
             },
-            State::Head => match read_request(self.alloc, bytes) {
-                Ok(head) => self.take_head(parts, bytes, head),
-                Err(fault) => self.refuse(parts, bytes, fault),
-            },
+            State::Head => {
+                // Behind a request mostly nothing follows yet.
+                if bytes.is_empty() {
+                    self.kept.clear();
+                    return Ok(None);
+                }
+                match read_request(self.alloc, bytes) {
+                    Ok(head) => self.take_head(parts, bytes, head),
+                    Err(fault) => self.refuse(parts, bytes, fault),
+                }
+            }
         }
     }
 
@@ -197,12 +204,12 @@ impl Conn {
         ensures { IfOk result (λ parts. Reads (mode_of self.old) piece.now (joined parts) (mode_of self.new)) }
     {
         match self.state {
-            State::Head => {
+            State::Head if !self.kept.is_empty() => {
                 let mut bytes = self.kept.as_slice().to_vec(self.alloc)?;
                 bytes.extend_from_slice(piece)?;
                 self.read_all(bytes.as_slice())
             }
-            State::Body(..) | State::Closed => self.read_all(piece),
+            State::Head | State::Body(..) | State::Closed => self.read_all(piece),
         }
     }
 

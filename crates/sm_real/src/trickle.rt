@@ -49,6 +49,12 @@ impl Trickle {
         if self.line == Line::Whole {
             return;
         }
+        // Whatever came before, a head ends here; mostly all of it came at once.
+        if bytes.ends_with(b"\r\n\r\n") {
+            self.line = Line::Whole;
+            self.since = None;
+            return;
+        }
         if self.since.is_none() {
             self.since = Some(now);
         }

@@ -1,11 +1,12 @@
-use Rattle.std.proofs.Common.{◌≡◌, ◌≢◌, ◌∙◌, ap, sym, subst, arith, true, List, [], ◌++◌, drop, refl}
+use Rattle.std.proofs.Common.{◌≡◌, ◌≢◌, ◌∙◌, ap, sym, subst, arith, true, ℕ, List, [], ◌++◌, drop, refl}
 use Rattle.std.proofs.lemmas.List.{append-nil}
 use Rattle.sm_body.specs.declared.place.Place.{Place}
 use Rattle.sm_body.specs.declared.place.Place.TheVariants.{Failed}
 use Rattle.sm_conn.specs.declared.conn.State.{State}
 use Rattle.sm_conn.specs.Live.{is_live, hasnt_failed}
-use Rattle.sm_conn.specs.Parts.{PartItem, Mode, in_body, shut, Reads}
+use Rattle.sm_conn.specs.Parts.{PartItem, Mode, in_head, in_body, shut, Reads}
 use Rattle.sm_conn.specs.Stands.{mode_at, mode_from, rank}
+use Rattle.sm_conn.proofs.PartsLaw.{nothing_yet}
 use Rattle.sm_conn.proofs.ActLaw.{joined_push, skip_act, body_act, end_act, more_act, bad_act}
 use Rattle.sm_conn.proofs.conn.Conn.act.Goals as goal
 
@@ -18,6 +19,12 @@ nothing_added i = sym (append-nil i)
 pub returns-in-Closed : goal.returns-in-Closed
 returns-in-Closed c =
     ([], nothing_added _, shut _ _ c.args.bytes.now [] (ap mode_at c.in-Closed.is) refl (ap (λ (s : State). mode_from s c.args.self.now.kept.items) c.in-Closed.is))
+
+pub returns-then-is_empty : goal.returns-then-is_empty
+returns-then-is_empty c =
+    let at : mode_at c.args.self.now.state ≡ in_head [] = ap mode_at c.in-Head.is in
+    let behind = ap (λ (s : State). mode_from s c.clear.new.self.items) c.in-Head.is ∙ ap (λ (k : List ℕ). in_head k) c.clear.ensures.items in
+    ([], nothing_added _, nothing_yet _ _ c.args.bytes.now (sym c.is_empty.ensures ∙ c.if-is_empty.true) at behind)
 
 pub returns-in-Skip : goal.returns-in-Skip
 returns-in-Skip c =
