@@ -34,7 +34,7 @@ use Rattle.sm_serve.proofs.Lasting.{on_itself, on_then}
 use Rattle.sm_command.specs.declared.fault.StoreFault.{StoreFault}
 use Rattle.sm_command.specs.declared.fault.StoreFault.TheVariants as fault
 use Rattle.sm_command.specs.Choosing.{WhyUnchosen}
-use Rattle.sm_command.specs.Lasting.{AtEachMoment, Lasts, NoFewer, Untouched}
+use Rattle.sm_command.specs.Lasting.{AtEachMoment, Lasts, LeavesLog, NoFewer, Untouched}
 use Rattle.sm_command.specs.Serving.{Found, DeclaresTo, GoesUnseen, HasRun, IsBegun, PrepareMeans, ReadsLadder, RunLasts, RunsFrom, StopsFrom, WhyUnopened, WhyNoLadder, WhyUnready, LadderMeans, fault_of_input, ladder_limit, outcome_of, standard}
 use Rattle.sm_command.proofs.Lasting.{fits_found, log_is, store_since}
 use Rattle.sm_ends.specs.declared.input.InputFault.{InputFault}
@@ -395,9 +395,9 @@ why_stopped site ladder input input' state old mid new (Err why) f few silent be
 pub why_unopened : {D : Type 0} (site : Seen D) (ladder : Bool) (input : End) (old new : D) (why : StoreFault)
     → WhyUnopened (site.view old) (site.view new) why → (site.view new).transcript ≡ (site.view old).transcript → NoFewer (site.view old) (site.view new)
     → ((at : ℕ) → (let r : Result State StoreFault = Err why in r) ≡ Err (fault.NotAStore at) → Untouched site old new)
-    → WhyUnready site ladder input input old new why
-why_unopened site ladder input old new why cause silent few untouched = record {
-  cause = inl (cause, refl);
+    → LeavesLog site old new → WhyUnready site ladder input input old new why
+why_unopened site ladder input old new why cause silent few untouched leaves = record {
+  cause = inl (cause, refl, leaves);
   silent = silent;
   no_fewer = few;
   counted = omega arith;

@@ -42,6 +42,11 @@ pub record OnlyChosen {D : Type 0} (site : Seen D) (old new : D) : Type 0 where
   pub any_moment : AtEachMoment site old new (site.may_leave old)
   pub silent : IsSilent (site.view old) (site.view new)
 
+-- where each image that a crash might have left was one store, a crash leaves that store at each moment of the call: nothing is kept and nothing
+-- is declared in it
+abbrev pub LeavesLog : {D : Type 0} → Seen D → D → D → Type 0
+LeavesLog site old new = (log : List Entry) → HasOneStore log (site.may_leave old) → AtEachMoment site old new (IsStore log)
+
 -- The image is a store. Its log begins with this one, and holds whatever the entries had shown by the moment.
 pub record Outlives (log : List Entry) (items : List Item) (t : ℕ) (image : Image) : Type 0 where
   pub now : List Entry

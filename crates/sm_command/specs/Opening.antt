@@ -12,6 +12,7 @@ use Rattle.sm_archive.specs.Declaring.{DeclareStep}
 use Rattle.sm_archive.specs.Stands.{Stands}
 use Rattle.sm_archive.specs.Store.{IsStore}
 use Rattle.sm_command.specs.declared.fault.StoreFault.{StoreFault}
+use Rattle.sm_command.specs.Lasting.{LeavesLog}
 use Rattle.sm_command.specs.Serving.{IsLadderInput, NotRead, WhyUnopened, outcome_of, standard}
 use Rattle.sm_archive.specs.Seen.{limits_of}
 use Rattle.sm_ends.specs.Ended.{End}
@@ -54,7 +55,8 @@ pub record IsDeclared {D : Type 0} (site : Seen D) (input input' : End) (archive
   pub stands : Stands archive log None (site.may_leave new)
   pub limits_are : limits_of archive ≡ standard
 
--- why no archive was opened, in which case the input wasn't read, or none that has the channel of the input
+-- why no archive was opened, in which case the input wasn't read and nothing was declared, or none that has the channel of the input
 abbrev pub WhyUndeclared : {D : Type 0} → Seen D → End → End → D → D → StoreFault → Type 0
 WhyUndeclared site input input' old new why =
-    (WhyUnopened (site.view old) (site.view new) why × (input' ≡ input)) ⊎ ((archive : Archive) × Tries site input input' archive old new (Err why))
+    (WhyUnopened (site.view old) (site.view new) why × (input' ≡ input) × LeavesLog site old new)
+    ⊎ ((archive : Archive) × Tries site input input' archive old new (Err why))

@@ -29,7 +29,7 @@ use Rattle.sm_serve.specs.Serving.{Begins, Serves, Since, DeclaresIn, Served}
 use Rattle.sm_serve.specs.Surviving.{Survives}
 use Rattle.sm_command.specs.declared.fault.StoreFault.{StoreFault}
 use Rattle.sm_command.specs.declared.fault.StoreFault.TheVariants as fault
-use Rattle.sm_command.specs.Lasting.{NoFewer, Untouched}
+use Rattle.sm_command.specs.Lasting.{LeavesLog, NoFewer, Untouched}
 use Rattle.sm_archive.specs.Seen.{limits_of}
 use Rattle.sm_ends.specs.Ended.{End}
 
@@ -168,10 +168,11 @@ pub record TriesLadder {D : Type 0} (site : Seen D) (input input' : End) (old ne
   pub after : State
   pub means : LadderMeans site input input' state opened after new result
 
--- Why no event was waited for: no store was opened, and the input wasn't read; or one was, and this came of the ladder that was asked for.
+-- Why no event was waited for: no store was opened, the input wasn't read, and nothing was declared; or one was, and this came of the ladder that
+-- was asked for.
 abbrev pub UnreadyBy : {D : Type 0} → Seen D → Bool → End → End → D → D → StoreFault → Type 0
 UnreadyBy site ladder input input' old new why =
-    (WhyUnopened (site.view old) (site.view new) why × (input' ≡ input)) ⊎ (IsTrue ladder × TriesLadder site input input' old new (Err why))
+    (WhyUnopened (site.view old) (site.view new) why × (input' ≡ input) × LeavesLog site old new) ⊎ (IsTrue ladder × TriesLadder site input input' old new (Err why))
 
 -- Why nothing was served. Nothing was taken from the link and nothing was sent, and what is no store wasn't written.
 pub record WhyUnready {D : Type 0} (site : Seen D) (ladder : Bool) (input input' : End) (old new : D) (why : StoreFault) : Type 0 where

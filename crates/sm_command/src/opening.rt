@@ -1,5 +1,5 @@
 //! Opening a store as an archive, for commands that don't serve it.
-ghost use Rattle.std.specs.Prelude.{◌≡◌, ◌⊎◌, ℕ, List, Option, None, Ok, IfOk, IfErr, IsErrOf, IsSome, OnOk, is_some};
+ghost use Rattle.std.specs.Prelude.{◌≡◌, ◌≤◌, ◌⊎◌, ℕ, List, Option, None, Ok, IfOk, IfErr, IsErrOf, IsSome, OnOk, is_some};
 ghost use Rattle.sm_model.specs.Channels.{IsChannel};
 ghost use Rattle.sm_model.specs.declared.entry.Entry.{Entry};
 ghost use Rattle.sm_site.specs.Clauses.{NoMore, Throughout};
@@ -84,6 +84,7 @@ fn declare_input<I: Source, D: Disk>(
         → Throughout D.seen disk.old disk.new (λ t c. BeginsWith log c) }
     ensures limits { limits_of archive.new ≡ limits_of archive.old }
     ensures disk_alone { DiskAlone (D.seen.view disk.old) (D.seen.view disk.new) }
+    ensures counted { I.faults input.old ≤ I.faults input.new }
 {
     let channel = ladder_of(alloc, input)?;
     declare_to(alloc, disk, archive, &channel)
@@ -108,6 +109,7 @@ pub fn open_declared<I: Source, D: Disk>(
         × NoMore (D.seen.may_leave disk.old) (D.seen.may_leave disk.new) × Throughout D.seen disk.old disk.new (λ t c. D.seen.may_leave disk.old c) }
     ensures spared { Spared D.seen disk.old disk.new }
     ensures disk_alone { DiskAlone (D.seen.view disk.old) (D.seen.view disk.new) }
+    ensures counted { I.faults input.old ≤ I.faults input.new }
 {
     bodies_have_one_log();
     stores_have_one_reading();

@@ -56,7 +56,7 @@ pub fn serve_store<I: Source, S: Site>(
     turns: u64,
 ) -> Result<Served, StoreFault>
     // No other folder and no other port is chosen.
-    ensures chosen { IsChosen result selection (S.Disk.seen.view site.new) }
+    ensures chosen { IsChosen result selection (S.Disk.seen.view site.old) (S.Disk.seen.view site.new) }
     ensures run { IfOk result (λ end. HasRun S.Disk.seen ladder (I.left input.old) (I.left input.new) turns site.old site.new end) }
     ensures why { IfErr result (λ why. WhyUnready S.Disk.seen ladder (end_of I.left I.faults input.old)
         (end_of I.left I.faults input.new) site.old site.new why) }

@@ -54,7 +54,7 @@ pub fn open_state<S: Site>(
     site: &mut S,
     selection: Selection,
 ) -> Result<State, StoreFault>
-    ensures chosen { IsChosen result selection (S.Disk.seen.view site.new) }
+    ensures chosen { IsChosen result selection (S.Disk.seen.view site.old) (S.Disk.seen.view site.new) }
     ensures found { IfOk result (λ state. Found S.Disk.seen state site.old site.new) }
     ensures begins { IfOk result (λ state. Begins S.Disk.seen state site.new) }
     // Where every image was one store, it stays that at each moment.

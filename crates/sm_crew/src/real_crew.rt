@@ -93,6 +93,7 @@ impl<R: Threads + Net<Listener = TcpListener, Stream = TcpStream> + Clock + Copy
         ensures started { self.new.crew.started ≡ self.old.crew.started }
         ensures handles { self.new.crew.handles ≡ self.old.crew.handles }
         ensures faults { self.new.crew.faults ≡ self.old.crew.faults }
+        ensures wired { self.new.crew.wired ≡ self.old.crew.wired }
     {
         let mut link = TcpLink::new(self.rt, self.alloc);
         if let Err(e) = link.share(listeners.first, listeners.second, sharing) {
@@ -112,6 +113,7 @@ impl<R: Threads + Net<Listener = TcpListener, Stream = TcpStream> + Clock + Copy
         ensures started { self.new.crew.started ≡ self.old.crew.started }
         ensures handles { self.new.crew.handles ≡ self.old.crew.handles }
         ensures faults { self.new.crew.faults ≡ self.old.crew.faults }
+        ensures wired { self.new.crew.wired ≡ self.old.crew.wired }
     {
         let port = wiring.port + 1;
         let listeners = self.listen(wiring, port)?;
@@ -153,7 +155,7 @@ impl<
 
     ghost running = { λ c. vec_len c.crew.handles };
 
-    ghost chosen = { λ c. c.crew.wiring };
+    ghost chosen = { λ c. c.crew.wired };
 
     ghost counted = { λ c. c.crew.finished };
 
@@ -162,8 +164,12 @@ impl<
     fn select(&mut self, wiring: Wiring) -> Result<(), SpawnError> {
         match self.wire(&wiring) {
             Ok(()) => self.crew.select(wiring),
-            Err(OpenFault::NoMemory) => Err(SpawnError::NoMemory),
+            Err(OpenFault::NoMemory) => {
+                self.crew.refuse();
+                Err(SpawnError::NoMemory)
+            }
             Err(OpenFault::Failed) => {
+                self.crew.refuse();
                 self.crew.count_fault();
                 Err(SpawnError::Failed)
             }

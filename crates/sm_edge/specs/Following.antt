@@ -6,6 +6,7 @@ use Rattle.sm_site.specs.Meanings.{Chosen, Seen}
 use Rattle.sm_archive.specs.declared.archive.Archive.{Archive}
 use Rattle.sm_fetch.specs.declared.dial.Exchange.{Exchange}
 use Rattle.sm_fetch.specs.Exchanges.{Peer, IsTurnedTo}
+use Rattle.sm_fetch.specs.Origins.{DialGoesOn}
 use Rattle.sm_pull.specs.declared.plan.PullPlan.{PullPlan}
 use Rattle.sm_standby.specs.declared.report.FollowReport.{FollowReport}
 use Rattle.sm_standby.specs.Placed.{Followed}
@@ -25,5 +26,6 @@ pub record HasFollowed {S C : Type 0} (site : Seen S)
   pub edge : IsEdge site input input' archive channel selection old opened
   pub turned_to : IsTurnedTo (chosen turned) host plan.place.port
   pub quiet : told turned ≡ told dial
+  pub turns : DialGoesOn store later faults dial turned
   -- what was kept, how often, and that it stands at its places
   pub followed : Followed site told store later faults chosen opened new turned dial' plan channel archive after edge.store.log report

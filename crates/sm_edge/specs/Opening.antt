@@ -3,14 +3,14 @@ use Rattle.std.specs.Prelude.{◌≡◌, ◌⊎◌, ℕ, List, None, Some}
 use Rattle.sm_model.specs.declared.entry.Entry.{Entry}
 use Rattle.sm_model.specs.declared.track.Track.{Track}
 use Rattle.sm_log.specs.Logs.{channel_of}
-use Rattle.sm_site.specs.Meanings.{Chosen, Seen}
+use Rattle.sm_site.specs.Meanings.{Chosen, Seen, asked}
 use Rattle.sm_site.specs.Clauses.{SameOutcomes}
 use Rattle.sm_archive.specs.declared.archive.Archive.{Archive}
 use Rattle.sm_archive.specs.Stands.{Stands}
 use Rattle.sm_command.specs.declared.fault.StoreFault.{StoreFault}
 use Rattle.sm_command.specs.declared.fault.StoreFault.TheVariants as fault
 use Rattle.sm_command.specs.Choosing.{WhyUnchosen}
-use Rattle.sm_command.specs.Lasting.{NoFewer}
+use Rattle.sm_command.specs.Lasting.{NoFewer, OnlyChosen}
 use Rattle.sm_command.specs.Opening.{IsDeclared, WhyUndeclared}
 use Rattle.sm_fetch.specs.Exchanges.{Rose}
 use Rattle.sm_ends.specs.Ended.{End}
@@ -23,9 +23,9 @@ pub record IsEdgeStore {S : Type 0} (site : Seen S) (input input' : End) (archiv
   pub stands : Stands archive log None (site.may_leave new)
   pub channel_is : channel_of log ≡ Some channel
 
--- The site was selected with this, and its files stayed as they were.
+-- The site was asked once to be selected, and was with this, and its files stayed as they were.
 pub record IsSiteOf {S : Type 0} (site : Seen S) (selection : Chosen) (old new : S) : Type 0 where
-  pub chosen_is : (site.view new).chosen ≡ Some selection
+  pub chosen_is : (site.view new).chosen ≡ asked (site.view old).chosen (Some selection)
   pub contents : (site.view new).contents ≡ (site.view old).contents
   pub crash : SameOutcomes (site.may_leave old) (site.may_leave new)
   pub no_fewer : NoFewer (site.view old) (site.view new)
@@ -56,8 +56,10 @@ abbrev pub WhyNoStore : {S : Type 0} → Seen S → End → End → S → S → 
 WhyNoStore site input input' old new why =
     WhyUndeclared site input input' old new why ⊎ ((why ≡ fault.NoMemory) × ((archive : Archive) × IsDeclared site input input' archive old new))
 
--- the site wasn't selected, or the dial not turned, and the input wasn't read; or the store was not opened
+-- The site wasn't selected, or the dial not turned: the input wasn't read, and nothing was done at the site but that it was asked. Or the store
+-- was not opened.
 abbrev pub WhyNoEdge : {S : Type 0} → Seen S → End → End → ℕ → ℕ → Chosen → S → S → StoreFault → Type 0
 WhyNoEdge {S} site input input' faults faults' selection old new why =
-    (WhyUnchosen (site.view old) (site.view new) why × (input' ≡ input)) ⊎ ((WhyUnturned faults faults' why × (input' ≡ input))
+    (WhyUnchosen (site.view old) (site.view new) why × (input' ≡ input) × OnlyChosen site old new)
+    ⊎ ((WhyUnturned faults faults' why × (input' ≡ input) × OnlyChosen site old new)
     ⊎ ((selected : S) × IsSiteOf site selection old selected × WhyNoStore site input input' selected new why))

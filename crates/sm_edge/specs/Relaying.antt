@@ -8,6 +8,7 @@ use Rattle.sm_site.specs.Clauses.{Rose, Throughout}
 use Rattle.sm_archive.specs.declared.archive.Archive.{Archive}
 use Rattle.sm_fetch.specs.declared.dial.Exchange.{Exchange}
 use Rattle.sm_fetch.specs.Exchanges.{Peer, IsTurnedTo}
+use Rattle.sm_fetch.specs.Origins.{DialGoesOn}
 use Rattle.sm_pull.specs.declared.plan.PullPlan.{PullPlan}
 use Rattle.sm_pull.specs.Adds.{keeps_of}
 use Rattle.sm_pull.specs.Below.{Below}
@@ -32,6 +33,7 @@ pub record HasRelayed {S C : Type 0} (site : Seen S) (told : C → Option (List 
   pub edge : IsEdge site input input' archive channel selection old opened
   pub turned_to : IsTurnedTo (chosen turned) host plan.place.port
   pub quiet : told turned ≡ told dial
+  pub turns : DialGoesOn store later faults dial turned
   pub relayed : Relayed site told store later faults chosen plan channel opened new turned dial' archive after edge.store.log report.end
   pub kept : report.kept ≡ length (kept_in relayed.rounds ++ relayed.added)
   pub listed : AllByRecursion (KeepsListed channel (edge.store.log ++ keeps_of (kept_in relayed.rounds ++ relayed.added))) relayed.rounds

@@ -1,5 +1,5 @@
 //! What a relay and a standby begin with.
-ghost use Rattle.std.specs.Prelude.{◌≡◌, ℕ, List, None, Some, IfOk, IfErr, IsErrOf, IsSome, OnOk};
+ghost use Rattle.std.specs.Prelude.{◌≡◌, ◌≤◌, ℕ, List, None, Some, IfOk, IfErr, IsErrOf, IsSome, OnOk};
 ghost use Rattle.sm_model.specs.declared.entry.Entry.{Entry};
 ghost use Rattle.sm_model.specs.declared.track.Track.{Track};
 ghost use Rattle.sm_log.specs.Logs.{channel_of};
@@ -74,6 +74,7 @@ fn open_beside<I: Source, D: Disk>(
         × NoMore (D.seen.may_leave disk.old) (D.seen.may_leave disk.new) × Throughout D.seen disk.old disk.new (λ t c. D.seen.may_leave disk.old c) }
     ensures spared { Spared D.seen disk.old disk.new }
     ensures disk_alone { DiskAlone (D.seen.view disk.old) (D.seen.view disk.new) }
+    ensures counted { I.faults input.old ≤ I.faults input.new }
 {
     match open_declared(alloc, input, disk) {
         Ok(archive) => match channel_of(alloc, disk, &archive) {
@@ -96,7 +97,7 @@ pub fn open_edge<I: Source, S: Site, C: Dial>(
     host: &str,
     port: u16,
 ) -> Result<Edge, StoreFault>
-    ensures chosen { IsChosen result selection (S.Disk.seen.view site.new) }
+    ensures chosen { IsChosen result selection (S.Disk.seen.view site.old) (S.Disk.seen.view site.new) }
     ensures opened { IfOk result (λ edge. IsEdge S.Disk.seen (end_of I.left I.faults input.old) (end_of I.left I.faults input.new)
         edge.archive edge.channel selection site.old site.new) }
     ensures turned { OnOk result (IsTurnedTo (C.chosen dial.new) host.now port) }
@@ -112,6 +113,7 @@ pub fn open_edge<I: Source, S: Site, C: Dial>(
     // Files that are no store aren't written, whatever the answer.
     ensures spared { Spared S.Disk.seen site.old site.new }
     ensures silent { IsSilent (S.Disk.seen.view site.old) (S.Disk.seen.view site.new) }
+    ensures counted { I.faults input.old ≤ I.faults input.new }
 {
     choose(site, selection)?;
     turn(dial, host, port)?;

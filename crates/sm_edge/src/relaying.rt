@@ -1,5 +1,5 @@
 //! A relay into a store.
-ghost use Rattle.std.specs.Prelude.{◌≡◌, ◌<◌, ℕ, IfOk, IfErr, IsErrOf, OnErr};
+ghost use Rattle.std.specs.Prelude.{◌≡◌, ◌<◌, ◌≤◌, ℕ, IfOk, IfErr, IsErrOf, OnErr};
 ghost use Rattle.sm_command.specs.declared.fault.StoreFault.TheVariants as fault;
 ghost use Rattle.sm_command.specs.Choosing.{IsChosen};
 ghost use Rattle.sm_command.specs.Lasting.{IsSilent, KeepsStores};
@@ -41,7 +41,7 @@ pub fn relay_store<I: Source, S: Site, C: Dial>(
     requires rounds { 0 < plan.now.rounds }
     requires tries { 0 < plan.now.tries }
     // No other folder is chosen, and no other port.
-    ensures chosen { IsChosen result selection (S.Disk.seen.view site.new) }
+    ensures chosen { IsChosen result selection (S.Disk.seen.view site.old) (S.Disk.seen.view site.new) }
     ensures relayed { IfOk result (λ r. HasRelayed S.Disk.seen C.log C.store C.later C.dial_faults C.chosen
         (end_of I.left I.faults input.old) (end_of I.left I.faults input.new)
         selection host.now plan.now site.old site.new dial.old dial.new r.channel r.report) }
@@ -54,6 +54,7 @@ pub fn relay_store<I: Source, S: Site, C: Dial>(
     ensures stores { KeepsStores S.Disk.seen site.old site.new ((at : ℕ) × IsErrOf result (fault.NotAStore at)) }
     // Nothing is taken from the site's link, and nothing is sent.
     ensures silent { IsSilent (S.Disk.seen.view site.old) (S.Disk.seen.view site.new) }
+    ensures counted { I.faults input.old ≤ I.faults input.new }
 {
     an_image_fits::<S>();
     bodies_have_one_log();

@@ -3,7 +3,7 @@ use Rattle.std.proofs.Common.{◌≡◌, ◌≤◌, ℕ, List, Option, Some, IsS
 use Rattle.std.specs.Prelude.{is_some, IfSome}
 use Rattle.sm_model.specs.declared.entry.Entry.{Entry}
 use Rattle.sm_site.specs.Image.{Image}
-use Rattle.sm_site.specs.Meanings.{Chosen, View}
+use Rattle.sm_site.specs.Meanings.{Chosen, View, asked}
 use Rattle.sm_archive.specs.Opening.{NotAStore}
 use Rattle.sm_archive.specs.Store.{IsStore}
 use Rattle.sm_command.specs.declared.fault.StoreFault.{StoreFault}
@@ -54,7 +54,7 @@ pub opened_comes : (log : List Entry) (name : List ℕ) (bitrate : ℕ) (old mid
 opened_comes log name bitrate old mid new input input' output output' (ends.Ended e) le told store h =
     (log, store, taken_under (IsSome mid.contents) (IsSome old.contents) (λ some. told ∙ some) log name bitrate old mid new input input' output output' e le h)
 opened_comes log name bitrate old mid new input input' output output' (ends.Unopened why) le told store h = absurd h
-opened_comes log name bitrate old mid new input input' output output' (ends.Unread fault) le told store h = h
+opened_comes log name bitrate old mid new input input' output output' (ends.Unread fault) le told store h = ((log, store), h.0, h.1)
 
 -- it was opened
 pub taken_is_opened : (told : Type 0) (log : List Entry) (name : List ℕ) (bitrate : ℕ) (old new : View) (input input' output output' : End) (r : StoreExport) (why : StoreFault)
@@ -84,9 +84,10 @@ chosen_comes name bitrate old mid new input input' output output' (ends.Ended e)
   taken_under (IsSome mid.contents) (IsSome old.contents) (λ some. ap is_some same ∙ some) h.0 name bitrate old mid new input input' output output' e disk h.2,
 )
 chosen_comes name bitrate old mid new input input' output output' (ends.Unopened why) disk link same h = (unopened_later old mid new why disk link same h.0, h.1, h.2)
-chosen_comes name bitrate old mid new input input' output output' (ends.Unread fault) disk link same h = h
+chosen_comes name bitrate old mid new input input' output output' (ends.Unread fault) disk link same h =
+    ((h.0.0, subst (λ (o : Option Image). IfSome o (IsStore h.0.0)) same h.0.1), h.1, h.2)
 
-pub chosen_for : (r : StoreExport) (chosen : Chosen) (v w : View) → v.chosen ≡ Some chosen → w.chosen ≡ v.chosen → IsChosenFor r chosen w
-chosen_for (ends.Ended e) chosen v w is same = same ∙ is
-chosen_for (ends.Unopened why) chosen v w is same = inl (same ∙ is)
-chosen_for (ends.Unread fault) chosen v w is same = same ∙ is
+pub chosen_for : (r : StoreExport) (chosen : Chosen) (u v w : View) → v.chosen ≡ asked u.chosen (Some chosen) → w.chosen ≡ v.chosen → IsChosenFor r chosen u w
+chosen_for (ends.Ended e) chosen u v w is same = same ∙ is
+chosen_for (ends.Unopened why) chosen u v w is same = inl (same ∙ is)
+chosen_for (ends.Unread fault) chosen u v w is same = same ∙ is

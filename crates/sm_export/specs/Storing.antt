@@ -4,7 +4,7 @@ use Rattle.std.specs.Io.KnownBytes.{Consumes, IsAtEnd}
 use Rattle.sm_ends.specs.Faults.{Rose as FaultsRose}
 use Rattle.sm_model.specs.declared.entry.Entry.{Entry}
 use Rattle.sm_site.specs.Clauses.{Rose}
-use Rattle.sm_site.specs.Meanings.{Chosen, View}
+use Rattle.sm_site.specs.Meanings.{Chosen, View, asked}
 use Rattle.sm_archive.specs.Store.{IsStore}
 use Rattle.sm_command.specs.Serving.{WhyUnopened}
 use Rattle.sm_export.specs.declared.exported.Exported.{Exported}
@@ -31,16 +31,17 @@ TakesTo told log name bitrate old new input input' output output' (ends.Ended e)
 TakesTo told log name bitrate old new input input' output output' (ends.Unopened why) = ⊥
 TakesTo told log name bitrate old new input input' output output' (ends.Unread fault) = WhyUnread input_most input input' fault × (output' ≡ output)
 
--- What a store comes to: a log, which is the store's where the disk tells its contents, and what came of it; or why no store was opened, in
--- which case nothing was read, or why the input was not read. In both cases nothing was written.
+-- What a store comes to: a log, which is the store's where the disk tells its contents, and what came of it, or why the input was not read; or
+-- why no store was opened, in which case nothing was read. In both cases nothing was written.
 abbrev pub ComesTo : List ℕ → ℕ → View → View → End → End → End → End → StoreExport → Type 0
 ComesTo name bitrate old new input input' output output' (ends.Ended e) =
     (log : List Entry) × IfSome old.contents (IsStore log) × IsTaken (IsSome old.contents) log name bitrate old new input input' output output' e
 ComesTo name bitrate old new input input' output output' (ends.Unopened why) = WhyUnopened old new why × (input' ≡ input) × (output' ≡ output)
-ComesTo name bitrate old new input input' output output' (ends.Unread fault) = WhyUnread input_most input input' fault × (output' ≡ output)
+ComesTo name bitrate old new input input' output output' (ends.Unread fault) =
+    ((log : List Entry) × IfSome old.contents (IsStore log)) × WhyUnread input_most input input' fault × (output' ≡ output)
 
--- the site is selected with this; where no store was opened, with nothing else than this
-abbrev pub IsChosenFor : StoreExport → Chosen → View → Type 0
-IsChosenFor (ends.Ended e) chosen view = view.chosen ≡ Some chosen
-IsChosenFor (ends.Unopened why) chosen view = (view.chosen ≡ Some chosen) ⊎ (view.chosen ≡ None)
-IsChosenFor (ends.Unread fault) chosen view = view.chosen ≡ Some chosen
+-- the site was asked once to be selected, and is with this; where no store was opened, with nothing else than this
+abbrev pub IsChosenFor : StoreExport → Chosen → View → View → Type 0
+IsChosenFor (ends.Ended e) chosen old new = new.chosen ≡ asked old.chosen (Some chosen)
+IsChosenFor (ends.Unopened why) chosen old new = (new.chosen ≡ asked old.chosen (Some chosen)) ⊎ (new.chosen ≡ asked old.chosen None)
+IsChosenFor (ends.Unread fault) chosen old new = new.chosen ≡ asked old.chosen (Some chosen)

@@ -90,7 +90,7 @@ pub fn export_store<I: Source, O: Sink, S: Site>(
 ) -> StoreExport
     // No other folder is chosen, none is made, and no port is chosen.
     ensures chosen { IsChosenFor result (record { store = string_bytes store; make = false; port = 0; bind = None; journal = None })
-        (S.Disk.seen.view site.new) }
+        (S.Disk.seen.view site.old) (S.Disk.seen.view site.new) }
     ensures means { ComesTo name.now bitrate (S.Disk.seen.view site.old) (S.Disk.seen.view site.new)
         (end_of I.left I.faults input.old) (end_of I.left I.faults input.new)
         (end_of O.held O.faults out.old) (end_of O.held O.faults out.new) result }

@@ -7,4 +7,4 @@ pub record PartsAlone {R W F G : Type 0} (old new : Crew R W F G) : Type 0 where
   pub handles : new.handles ≡ old.handles
   pub started : new.started ≡ old.started
   pub faults : new.faults ≡ old.faults
-  pub wiring : new.wiring ≡ old.wiring
+  pub wired : new.wired ≡ old.wired

@@ -7,6 +7,7 @@ use crate::played::Played;
 use crate::spawner::{Finished, Parts, SpawnError, Spawner};
 use crate::stop::Stop;
 use crate::wire::Wire;
+use crate::wired::Wired;
 use crate::wiring::Wiring;
 use sm_model::NoMemory;
 use std::alloc::Global;
@@ -32,12 +33,14 @@ pub struct Crew<R: Threads + Drop, W: Drop, F: Drop, G: Drop> {
     faults: u64,
     started: u64,
     finished: Finished,
-    wiring: Option<Wiring>,
+    wired: Wired,
     ghost few: { vec_len handles < 2 ^ 32 },
 }
 
 impl<R: Threads + Drop, W: Drop, F: Drop, G: Drop> Crew<R, W, F, G> {
+    ghost use Rattle.std.specs.Prelude.{None};
     ghost use Rattle.sm_players.specs.Adding.{PartsAlone};
+    ghost use Rattle.sm_players.specs.Wiring.{rewired};
 
     /// A crew without parts. Its players take so many events at most, and `finish` raises that flag.
     pub fn new(alloc: Global, rt: R, stop: Stop, turns: u64) -> Crew<R, W, F, G>
@@ -54,8 +57,18 @@ impl<R: Threads + Drop, W: Drop, F: Drop, G: Drop> Crew<R, W, F, G> {
             faults: 0,
             started: 0,
             finished: NONE,
-            wiring: None,
+            wired: Wired::never(),
         }
+    }
+
+    /// Wires were asked for, and there are none.
+    pub fn refuse(&mut self)
+        ensures wired { self.new.wired ≡ rewired self.old.wired None }
+        ensures handles { self.new.handles ≡ self.old.handles }
+        ensures started { self.new.started ≡ self.old.started }
+        ensures faults { self.new.faults ≡ self.old.faults }
+    {
+        self.wired.ask(None);
     }
 
     /// Adds the parts of one player. They are taken in the order in which they were added.
@@ -96,12 +109,12 @@ impl<
 
     ghost counted = { λ c. c.finished };
 
-    ghost chosen = { λ c. c.wiring };
+    ghost chosen = { λ c. c.wired };
 
     ghost has_room = { λ c. (vec_len c.handles < vec_capacity c.handles) × (vec_len c.handles < 4294967295) × (c.started < 18446744073709551615) };
 
     fn select(&mut self, wiring: Wiring) -> Result<(), SpawnError> {
-        self.wiring = Some(wiring);
+        self.wired.ask(Some(wiring));
         Ok(())
     }
 

@@ -16,6 +16,7 @@ mod spawner;
 mod stop;
 mod telling;
 mod wire;
+mod wired;
 mod wiring;
 
 pub use crew::Crew;

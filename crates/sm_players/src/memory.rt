@@ -87,7 +87,7 @@ impl<R: Threads + Drop> Spawner for MemorySpawner<R> {
 
     ghost running = { λ m. vec_len m.crew.handles };
 
-    ghost chosen = { λ m. m.crew.wiring };
+    ghost chosen = { λ m. m.crew.wired };
 
     ghost counted = { λ m. m.crew.finished };
 

@@ -1,8 +1,8 @@
 //! What starts players.
-ghost use Rattle.std.specs.Prelude.{◌≡◌, ℕ, ◌+◌, ◌<◌, ◌≤◌, Option, Some, OnOk, OnErr, IsErrOf};
+ghost use Rattle.std.specs.Prelude.{◌≡◌, ℕ, ◌+◌, ◌<◌, ◌≤◌, None, Some, OnOk, OnErr, IsErrOf};
 ghost use Rattle.sm_site.specs.Clauses.{Rose};
 ghost use Rattle.sm_players.specs.declared.spawner.Finished.{Finished};
-ghost use Rattle.sm_players.specs.Wiring.{Wires};
+ghost use Rattle.sm_players.specs.Wiring.{Wired, rewired};
 
 use crate::forward::Forward;
 use crate::gate::Gate;
@@ -60,8 +60,8 @@ pub trait Spawner {
     /// How many of those since the last `finish`.
     ghost running: { Self → ℕ };
 
-    /// Where its wires are wanted, once it was selected.
-    ghost chosen: { Self → Option Wires };
+    /// Where its wires are, once it was selected, and how often it was.
+    ghost chosen: { Self → Wired };
 
     /// What the last `finish` counted.
     ghost counted: { Self → Finished };
@@ -69,10 +69,11 @@ pub trait Spawner {
     /// There is room for one more handle.
     ghost has_room: { Self → Type 0 };
 
-    /// Makes the wires ready for so many players beside a loop on that port, which leaves them the next one.
+    /// Makes the wires ready for so many players beside a loop on that port, which leaves them the next one. After a refusal there are none.
     fn select(&mut self, wiring: Wiring) -> Result<(), SpawnError>
         requires port { wiring.port ≤ 65534 }
-        ensures chosen { OnOk result (chosen self.new ≡ Some wiring) }
+        ensures chosen { OnOk result (chosen self.new ≡ rewired (chosen self.old) (Some wiring)) }
+        ensures unchosen { OnErr result (chosen self.new ≡ rewired (chosen self.old) None) }
         ensures failed { IsErrOf result SpawnError.Failed → Rose (spawn_faults self.old) (spawn_faults self.new) }
         ensures later { spawn_faults self.old ≤ spawn_faults self.new }
         ensures started { started self.new ≡ started self.old }

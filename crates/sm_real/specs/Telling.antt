@@ -1,8 +1,12 @@
 -- What an end on a machine tells: its counts and what it is selected with, and nothing of what the system holds.
-use Rattle.std.specs.Prelude.{ℕ, Option, None}
-use Rattle.sm_site.specs.Meanings.{Chosen, Seen, View}
+use Rattle.std.specs.Prelude.{ℕ, None}
+use Rattle.sm_site.specs.Meanings.{Choice, Seen, View}
 
-abbrev pub counts_alone : ℕ → ℕ → ℕ → ℕ → Option Chosen → View
+-- it was never asked to be selected
+abbrev pub unasked : Choice
+unasked = record { selection = None; asks = 0 }
+
+abbrev pub counts_alone : ℕ → ℕ → ℕ → ℕ → Choice → View
 counts_alone reads disk_faults link_faults send_faults chosen = record {
   moment = 0;
   contents = None;

@@ -1,7 +1,7 @@
 // The disk in a folder.
 ghost use Rattle.std.specs.Prelude.{◌≡◌, ◌≤◌, false, refl, IsErrOf, None, Some, is_ok, is_some};
 ghost use Rattle.sm_site.specs.Clauses.{Rose};
-ghost use Rattle.sm_real.specs.Telling.{counts_alone, seen_as};
+ghost use Rattle.sm_real.specs.Telling.{counts_alone, seen_as, unasked};
 
 use crate::folder::Folder;
 use crate::{Doing, OpenFault, Trouble};
@@ -120,7 +120,7 @@ fn nowhere() -> IoError {
 }
 
 impl<R: Files<File = File> + Drop> Disk for FileDisk<R> {
-    ghost seen = { seen_as (λ d. counts_alone d.reads d.faults 0 0 None) };
+    ghost seen = { seen_as (λ d. counts_alone d.reads d.faults 0 0 unasked) };
 
     ghost contents_pass = { λ d. tt };
 

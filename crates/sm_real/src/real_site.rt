@@ -1,11 +1,11 @@
 // The site of a machine: the disk in a folder and the link over sockets.
-ghost use Rattle.std.specs.Prelude.{◌≡◌, ◌≤◌, refl, IsErrOf, None};
+ghost use Rattle.std.specs.Prelude.{◌≡◌, ◌≤◌, refl, IsErrOf};
 ghost use Rattle.sm_site.specs.Clauses.{Rose};
-ghost use Rattle.sm_real.specs.Telling.{counts_alone, seen_as};
+ghost use Rattle.sm_real.specs.Telling.{counts_alone, seen_as, unasked};
 
 use crate::journal::{Journal, Opened};
 use crate::{Doing, FileDisk, OpenFault, TcpLink, Trouble, Viewers};
-use sm_site::{Disk, Event, Failed, Link, LinkError, Selection, Site, SiteError};
+use sm_site::{Disk, Event, Failed, Link, LinkError, Selected, Selection, Site, SiteError};
 use std::alloc::Global;
 use std::fs::File;
 use std::net::Net;
@@ -23,7 +23,7 @@ pub struct RealSite<R: Files<File = File> + Net + Clock + Drop> {
     alloc: Global,
     disk: FileDisk<R>,
     link: TcpLink<R>,
-    selection: Option<Selection>,
+    selected: Selected,
     // The store is being opened, which the journal tells once the first event is waited for.
     opening: Option<Opening>,
     // Whom players answer, for the journal.
@@ -69,14 +69,14 @@ impl<R: Files<File = File> + Net + Clock + Copy + Drop> RealSite<R> {
         ensures link_faults { result.link.faults ≡ 0 }
         ensures send_faults { result.link.send_faults ≡ 0 }
         ensures numbers { result.link.next_number ≡ 1 }
-        ensures unchosen { result.selection ≡ None }
+        ensures unchosen { result.selected ≡ unasked }
     {
         RealSite {
             disk: FileDisk::new(rt, alloc),
             link: TcpLink::new(rt, alloc),
             rt,
             alloc,
-            selection: None,
+            selected: Selected::never(),
             opening: None,
             viewers: None,
         }
@@ -143,7 +143,7 @@ impl<R: Files<File = File> + Net + Clock + Drop> RealSite<R> {
     pub fn tell_of(&mut self, viewers: Viewers)
         ensures disk { self.new.disk ≡ self.old.disk }
         ensures link { self.new.link ≡ self.old.link }
-        ensures selection { self.new.selection ≡ self.old.selection }
+        ensures selected { self.new.selected ≡ self.old.selected }
     {
         self.viewers = Some(viewers);
     }
@@ -165,12 +165,12 @@ impl<R: Files<File = File> + Net + Clock + Drop> RealSite<R> {
     /// The origin ends: the last lines of the journal go out.
     pub fn end(&mut self)
         ensures disk { self.new.disk ≡ self.old.disk }
-        ensures selection { self.new.selection ≡ self.old.selection }
+        ensures selected { self.new.selected ≡ self.old.selected }
         ensures link_faults { self.new.link.faults ≡ self.old.link.faults }
         ensures send_faults { self.new.link.send_faults ≡ self.old.link.send_faults }
         ensures numbers { self.new.link.next_number ≡ self.old.link.next_number }
     {
-        if let Some(selection) = &self.selection {
+        if let Some(selection) = self.selected.selection() {
             self.link.note_end(selection);
         }
     }
@@ -178,7 +178,7 @@ impl<R: Files<File = File> + Net + Clock + Drop> RealSite<R> {
     // Where a call of the disk failed, the journal tells what the system said of it.
     fn tell_fault(&mut self, failed: bool)
         ensures disk { self.new.disk ≡ self.old.disk }
-        ensures selection { self.new.selection ≡ self.old.selection }
+        ensures selected { self.new.selected ≡ self.old.selected }
         ensures link_faults { self.new.link.faults ≡ self.old.link.faults }
         ensures send_faults { self.new.link.send_faults ≡ self.old.link.send_faults }
         ensures numbers { self.new.link.next_number ≡ self.old.link.next_number }
@@ -191,13 +191,13 @@ impl<R: Files<File = File> + Net + Clock + Drop> RealSite<R> {
     // The store is open, and events are waited for.
     fn begin(&mut self)
         ensures disk { self.new.disk ≡ self.old.disk }
-        ensures selection { self.new.selection ≡ self.old.selection }
+        ensures selected { self.new.selected ≡ self.old.selected }
         ensures link_faults { self.new.link.faults ≡ self.old.link.faults }
         ensures send_faults { self.new.link.send_faults ≡ self.old.link.send_faults }
         ensures numbers { self.new.link.next_number ≡ self.old.link.next_number }
     {
         if let Some(opening) = self.opening.take()
-            && let Some(selection) = &self.selection
+            && let Some(selection) = self.selected.selection()
             && let Some(now) = self.link.moment()
         {
             let opened = Opened {
@@ -211,7 +211,7 @@ impl<R: Files<File = File> + Net + Clock + Drop> RealSite<R> {
 }
 
 impl<R: Files<File = File> + Net + Clock + Drop> Disk for RealSite<R> {
-    ghost seen = { seen_as (λ s. counts_alone s.disk.reads s.disk.faults s.link.faults s.link.send_faults s.selection) };
+    ghost seen = { seen_as (λ s. counts_alone s.disk.reads s.disk.faults s.link.faults s.link.send_faults s.selected) };
 
     ghost contents_pass = { λ s. tt };
 
@@ -264,7 +264,7 @@ impl<R: Files<File = File> + Net + Clock + Drop> Disk for RealSite<R> {
 }
 
 impl<R: Files<File = File> + Net + Clock + Drop> Link for RealSite<R> {
-    ghost seen = { seen_as (λ s. counts_alone s.disk.reads s.disk.faults s.link.faults s.link.send_faults s.selection) };
+    ghost seen = { seen_as (λ s. counts_alone s.disk.reads s.disk.faults s.link.faults s.link.send_faults s.selected) };
 
     ghost numbers = { λ s. s.link.next_number };
 
@@ -298,12 +298,12 @@ impl<R: Files<File = File> + Net + Clock + Drop> Site for RealSite<R> {
     fn select(&mut self, selection: Selection) -> Result<(), SiteError> {
         match self.open(&selection) {
             Ok(()) => {
-                self.selection = Some(selection);
+                self.selected.ask(Some(selection));
                 Ok(())
             }
             Err(fault) => {
                 self.disk.leave();
-                self.selection = None;
+                self.selected.ask(None);
                 Err(fault)
             }
         }

@@ -1,7 +1,7 @@
 // The link over sockets.
 ghost use Rattle.std.specs.Prelude.{◌≡◌, ◌≢◌, ◌≤◌, IsErrOf, None, Some, is_ok, is_some, true, false};
 ghost use Rattle.sm_site.specs.Clauses.{Rose};
-ghost use Rattle.sm_real.specs.Telling.{counts_alone, seen_as};
+ghost use Rattle.sm_real.specs.Telling.{counts_alone, seen_as, unasked};
 
 use crate::families::{no_address, takes_both};
 use crate::journal::{Journal, Opened};
@@ -347,7 +347,7 @@ impl<R: Net + Clock + Drop> TcpLink<R> {
 }
 
 impl<R: Net + Clock + Drop> Link for TcpLink<R> {
-    ghost seen = { seen_as (λ l. counts_alone 0 0 l.faults l.send_faults None) };
+    ghost seen = { seen_as (λ l. counts_alone 0 0 l.faults l.send_faults unasked) };
 
     ghost numbers = { λ l. l.next_number };
 

@@ -61,8 +61,9 @@ pub record GivesUp (plan : PullPlan) (log : List Entry) (w : Want) (made : List 
   pub missed : GivesNone (AsksFragment plan.place w.url w.address) miss_of plan.tries made outcomes
   pub tried_is : tried ≡ []
 
--- memory was wanting before it was read, or behind that
-pub record RunsOut (plan : PullPlan) (w : Want) (made : List Exchange) (tried : List Fragment) : Type 0 where
+-- memory was wanting before it was read, or behind that; nothing that is kept was asked for
+pub record RunsOut (plan : PullPlan) (log : List Entry) (w : Want) (made : List Exchange) (tried : List Fragment) : Type 0 where
+  pub absent : (made ≡ []) ⊎ (kept_at log w.address ≡ None)
   pub tries : Tries (AsksFragment plan.place w.url w.address) plan.tries made
   pub tried_is : tried ≡ []
 
@@ -72,7 +73,7 @@ StopsAt plan new log w made tried (stop.GaveUp address outcomes) = GivesUp plan 
 StopsAt plan new log w made tried (stop.Refused address cause) = Fails plan new log w made tried (stop.Refused address cause)
 StopsAt plan new log w made tried stop.Full = Fails plan new log w made tried stop.Full
 StopsAt plan new log w made tried stop.DiskFault = Fails plan new log w made tried stop.DiskFault
-StopsAt plan new log w made tried stop.NoMemory = RunsOut plan w made tried ⊎ Fails plan new log w made tried stop.NoMemory
+StopsAt plan new log w made tried stop.NoMemory = RunsOut plan log w made tried ⊎ Fails plan new log w made tried stop.NoMemory
 StopsAt plan new log w made tried (stop.NoManifest outcomes) = ⊥
 StopsAt plan new log w made tried (stop.NoTrack index) = ⊥
 

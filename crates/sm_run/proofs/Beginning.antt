@@ -5,7 +5,7 @@ use Rattle.sm_model.specs.declared.entry.Entry.{Entry}
 use Rattle.sm_model.specs.declared.track.Track.{Track}
 use Rattle.sm_site.specs.Clauses.{Rose}
 use Rattle.sm_site.specs.Image.{Image}
-use Rattle.sm_site.specs.Meanings.{Chosen, View, Item, Seen}
+use Rattle.sm_site.specs.Meanings.{Chosen, View, Item, Seen, asked}
 use Rattle.sm_seglog.specs.Stores.{HasStore}
 use Rattle.sm_archive.specs.Store.{IsStore, Spell}
 use Rattle.sm_origin.specs.Machine.{Machine}
@@ -216,7 +216,7 @@ why_short site ladder wires input input' staff staff' state old mid new (Err (fa
 )
 
 -- what was chosen stays
-pub selected_with : (r : Result Ended ShowFault) (chosen : Chosen) (v w : View) → v.chosen ≡ Some chosen → w.chosen ≡ v.chosen → IsSelectedWith r chosen w
-selected_with (Ok e) chosen v w is same = same ∙ is
-selected_with (Err (fault.Spawn why)) chosen v w is same = same ∙ is
-selected_with (Err (fault.Store why)) chosen v w is same = inl (same ∙ is)
+pub selected_with : (r : Result Ended ShowFault) (chosen : Chosen) (u v w : View) → v.chosen ≡ asked u.chosen (Some chosen) → w.chosen ≡ v.chosen → IsSelectedWith r chosen u w
+selected_with (Ok e) chosen u v w is same = same ∙ is
+selected_with (Err (fault.Spawn why)) chosen u v w is same = same ∙ is
+selected_with (Err (fault.Store why)) chosen u v w is same = inl (same ∙ is)

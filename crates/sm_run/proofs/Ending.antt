@@ -3,7 +3,7 @@ use Rattle.std.proofs.Common.{◌≡◌, ◌⊎◌, inl, inr, ℕ, zero, suc, Bo
 use Rattle.std.specs.Prelude.{IfOk, IfSome, OnErr}
 use Rattle.std.specs.Option.{option_map}
 use Rattle.sm_model.specs.declared.no_memory.NoMemory.{NoMemory}
-use Rattle.sm_site.specs.Meanings.{Chosen, View, Seen}
+use Rattle.sm_site.specs.Meanings.{Chosen, View, Seen, asked as asked_once}
 use Rattle.sm_client.specs.Turns.{Meaning}
 use Rattle.sm_serve.specs.declared.outcome.Served.{Served as Outcome}
 use Rattle.sm_serve.specs.declared.outcome.Served.TheVariants as served
@@ -79,23 +79,23 @@ unwritten_unshown site ladder wires input input' staff staff' d d' (fault.Spawn 
 
 -- ---- what the site is selected with
 
-unselected : (answer : Answer) (chosen : Chosen) (view : View) → answer ≡ Starved → (view.chosen ≡ Some chosen) ⊎ (view.chosen ≡ None) → IsSelected answer chosen view
-unselected answer chosen view is h = subst (λ (a : Answer). IsSelected a chosen view) (sym is) h
+unselected : (answer : Answer) (chosen : Chosen) (old view : View) → answer ≡ Starved → (view.chosen ≡ asked_once old.chosen (Some chosen)) ⊎ (view.chosen ≡ asked_once old.chosen None) → IsSelected answer chosen old view
+unselected answer chosen old view is h = subst (λ (a : Answer). IsSelected a chosen old view) (sym is) h
 
-pub unshown_selected : (why : ShowFault) (answer : Answer) (chosen : Chosen) (view : View) → TellsUnshown why answer
-    → IsSelectedWith (let r : Result Ended ShowFault = Err why in r) chosen view → IsSelected answer chosen view
-unshown_selected (fault.Store why) answer chosen view (inl tells) h = told_selected why answer chosen view tells h
-unshown_selected (fault.Store why) answer chosen view (inr starved) h = unselected answer chosen view starved h
-unshown_selected (fault.Spawn why) answer chosen view tells h = selected answer chosen view h
+pub unshown_selected : (why : ShowFault) (answer : Answer) (chosen : Chosen) (old view : View) → TellsUnshown why answer
+    → IsSelectedWith (let r : Result Ended ShowFault = Err why in r) chosen old view → IsSelected answer chosen old view
+unshown_selected (fault.Store why) answer chosen old view (inl tells) h = told_selected why answer chosen old view tells h
+unshown_selected (fault.Store why) answer chosen old view (inr starved) h = unselected answer chosen old view starved h
+unshown_selected (fault.Spawn why) answer chosen old view tells h = selected answer chosen old view h
 
 -- why no event was waited for is an answer
 pub unshown_means : {D : Type 0} (site : Seen D) (s : Serving) (players : ℕ) (wires : Wires) (input input' : End) (d d' : D) (staff staff' : Staff)
     (why : ShowFault) (answer : Answer) → wires ≡ wires_of s players → WhyUnshown site s.ladder wires input input' staff staff' d d' why → TellsUnshown why answer
-    → IsSelectedWith (let r : Result Ended ShowFault = Err why in r) (chosen_of s) (site.view d') → ShowAnswers site s players input input' d d' staff staff' answer
+    → IsSelectedWith (let r : Result Ended ShowFault = Err why in r) (chosen_of s) (site.view d) (site.view d') → ShowAnswers site s players input input' d d' staff staff' answer
 unshown_means site s players wires input input' d d' staff staff' why answer same h tells chosen =
     inl (
       inr (why, subst (λ (w : Wires). WhyUnshown site s.ladder w input input' staff staff' d d' why) same h, tells),
-      unshown_selected why answer (chosen_of s) (site.view d') tells chosen,
+      unshown_selected why answer (chosen_of s) (site.view d) (site.view d') tells chosen,
     )
 
 -- ---- what the words ask for

@@ -35,7 +35,7 @@ ShowMeans site s players input input' d d' staff staff' answer =
 abbrev pub ShowAnswers : {D : Type 0} (site : Seen D) → Serving → ℕ → End → End
     → D → D → Staff → Staff → Answer → Type 0
 ShowAnswers site s players input input' d d' staff staff' answer =
-    (ShowMeans site s players input input' d d' staff staff' answer × IsSelected answer (chosen_of s) (site.view d'))
+    (ShowMeans site s players input input' d d' staff staff' answer × IsSelected answer (chosen_of s) (site.view d) (site.view d'))
     ⊎ ((answer ≡ Starved) × (input' ≡ input) × (d' ≡ d) × (staff' ≡ staff))
 
 -- Players were asked for. The answer that this has was printed, and the status tells it; dial and tracks were left alone.

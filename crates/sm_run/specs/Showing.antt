@@ -1,7 +1,7 @@
 -- What serving a store beside players comes to.
 use Rattle.std.specs.Prelude.{◌≡◌, ◌⊎◌, ℕ, Bool, List, [], Option, Some, None, IsSome, Result, Ok, Err}
 use Rattle.sm_model.specs.declared.entry.Entry.{Entry}
-use Rattle.sm_site.specs.Meanings.{Chosen, View, Item, Seen}
+use Rattle.sm_site.specs.Meanings.{Chosen, View, Item, Seen, asked}
 use Rattle.sm_origin.specs.Opening.{HasOneStore}
 use Rattle.sm_serve.specs.declared.state.State.{State}
 use Rattle.sm_serve.specs.declared.outcome.Served.{Served as Outcome}
@@ -84,8 +84,8 @@ WhyUnshown site ladder wires input input' staff staff' old new (fault.Store why)
 WhyUnshown site ladder wires input input' staff staff' old new (fault.Spawn why) =
     IsReady site ladder input input' old new × IsUnstaffed wires staff staff' why
 
--- The site is selected with this; where the store isn't ready, with nothing else than this.
-abbrev pub IsSelectedWith : Result Ended ShowFault → Chosen → View → Type 0
-IsSelectedWith (Ok e) chosen view = view.chosen ≡ Some chosen
-IsSelectedWith (Err (fault.Spawn why)) chosen view = view.chosen ≡ Some chosen
-IsSelectedWith (Err (fault.Store why)) chosen view = (view.chosen ≡ Some chosen) ⊎ (view.chosen ≡ None)
+-- The site was asked once to be selected, and is with this; where the store isn't ready, with nothing else than this.
+abbrev pub IsSelectedWith : Result Ended ShowFault → Chosen → View → View → Type 0
+IsSelectedWith (Ok e) chosen old new = new.chosen ≡ asked old.chosen (Some chosen)
+IsSelectedWith (Err (fault.Spawn why)) chosen old new = new.chosen ≡ asked old.chosen (Some chosen)
+IsSelectedWith (Err (fault.Store why)) chosen old new = (new.chosen ≡ asked old.chosen (Some chosen)) ⊎ (new.chosen ≡ asked old.chosen None)

@@ -1,5 +1,5 @@
 //! The loop beside player threads.
-ghost use Rattle.std.specs.Prelude.{◌≡◌, ◌≤◌, ◌<◌, ◌⊎◌, ◌+◌, ℕ, Some, IfOk, IfErr, IsErrOf, OnErr, OnOk, IsSome, is_some, length};
+ghost use Rattle.std.specs.Prelude.{◌≡◌, ◌≤◌, ◌<◌, ◌⊎◌, ◌+◌, ℕ, None, Some, IfOk, IfErr, IsErrOf, OnErr, OnOk, IsSome, is_some, length};
 ghost use Rattle.sm_site.specs.Clauses.{Rose};
 ghost use Rattle.sm_origin.specs.Machine.{Machine};
 ghost use Rattle.sm_serve.specs.Standing.{History, StandsOn};
@@ -9,6 +9,7 @@ ghost use Rattle.sm_shelf.specs.Shelf.{Belongs, Desk};
 ghost use Rattle.sm_show.specs.Marks.{HasShown};
 ghost use Rattle.sm_show.specs.Recalling.{Recalls};
 ghost use Rattle.sm_players.specs.declared.spawner.SpawnError.TheVariants.{Failed};
+ghost use Rattle.sm_players.specs.Wiring.{rewired};
 ghost use Rattle.sm_run.specs.Staff.{IsStaffed, IsUnstaffed, staff_of};
 
 use crate::staffing::start_all;
@@ -52,7 +53,9 @@ fn serve_beside<R: Wait, S: Site, P: Spawner>(
     ensures link_fault { IfOk result (λ end. end ≡ served.LinkFault → Rose (S.Disk.seen.view site.old).link_faults (S.Disk.seen.view site.new).link_faults) }
     ensures site_chosen { (S.Disk.seen.view site.new).chosen ≡ (S.Disk.seen.view site.old).chosen }
     ensures started { OnOk result (P.started spawner.new ≡ P.started spawner.old + length readers) }
-    ensures wires { OnOk result (P.chosen spawner.new ≡ Some wiring) }
+    ensures wires { OnOk result (P.chosen spawner.new ≡ rewired (P.chosen spawner.old) (Some wiring)) }
+    ensures asked { OnErr result ((P.chosen spawner.new ≡ rewired (P.chosen spawner.old) (Some wiring))
+        ⊎ (P.chosen spawner.new ≡ rewired (P.chosen spawner.old) None)) }
     ensures few { OnErr result (P.started spawner.new < P.started spawner.old + length readers) }
     ensures no_fewer { P.started spawner.old ≤ P.started spawner.new }
     ensures running { P.running spawner.new + P.started spawner.old ≡ P.running spawner.old + P.started spawner.new }

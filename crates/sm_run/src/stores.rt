@@ -78,7 +78,7 @@ pub fn show_store<R: Wait, I: Source, S: Site, P: Spawner>(
 ) -> Result<Ended, ShowFault>
     requires port { wiring.port ≤ 65534 }
     requires players { (0 < wiring.players) × (wiring.players ≤ 16) }
-    ensures chosen { IsSelectedWith result selection (S.Disk.seen.view site.new) }
+    ensures chosen { IsSelectedWith result selection (S.Disk.seen.view site.old) (S.Disk.seen.view site.new) }
     ensures run { IfOk result (λ e. RunsShown S.Disk.seen ladder (I.left input.old) (I.left input.new) turns site.old site.new e.served) }
     ensures staffed { IfOk result (λ e. IsStaffed wiring (staff_of P.spawn_faults P.started P.running P.chosen P.counted spawner.old)
         (staff_of P.spawn_faults P.started P.running P.chosen P.counted spawner.new) e.finished) }

@@ -1,6 +1,7 @@
 -- What a disk, a link and a site mean, beside the two tests of an image. A real link tells no transcript and no script,
 -- and a real disk no contents and no calls.
 use Rattle.std.specs.Prelude.{◌≡◌, ◌≤◌, ◌++◌, ℕ, Bool, true, false, List, [], ◌∷◌, Option, if◌then◌else◌, ◌==◌, IsTrue}
+use Rattle.sm_site.specs.Faults.{one_more}
 use Rattle.sm_site.specs.Image.{Image}
 
 -- a call of a disk: the size of a file, a read of so many bytes from a place on, a write of these bytes from a place on, a sync
@@ -40,8 +41,17 @@ pub record Chosen : Type 0 where
   pub bind : Option (List ℕ)
   pub journal : Option (List ℕ)
 
+-- what a site is selected with, if it is, and how often it was asked to be, up to the last value of 64 bits
+pub record Choice : Type 0 where
+  pub selection : Option Chosen
+  pub asks : ℕ
+
+-- it was asked once more, and is selected with this, or after a refusal with nothing
+abbrev pub asked : Choice → Option Chosen → Choice
+asked was selection = record { selection = selection; asks = one_more was.asks }
+
 -- The clock; the contents of the disk, its record of calls and its counts; the transcript of the link, the events that are
--- still to come, and its counts; what the site is selected with, if it is.
+-- still to come, and its counts; what the site is selected with.
 pub record View : Type 0 where
   pub moment : ℕ
   pub contents : Option Image
@@ -52,7 +62,7 @@ pub record View : Type 0 where
   pub script : Option (List Deal)
   pub link_faults : ℕ
   pub send_faults : ℕ
-  pub chosen : Option Chosen
+  pub chosen : Choice
 
 -- what contracts see of a site: what it tells, the images that a crash now may leave, and those that one at a moment may have left
 pub record Seen (D : Type 0) : Type 1 where

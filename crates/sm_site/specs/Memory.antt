@@ -12,7 +12,7 @@ abbrev pub coming : MemorySite → List Deal
 coming m = deals_of (drop m.taken m.script.items)
 
 abbrev pub site_view : MemorySite → View
-site_view m = view_of m.first.items m.past.items (coming m) m.reads m.disk_faults m.link_faults m.send_faults m.selection
+site_view m = view_of m.first.items m.past.items (coming m) m.reads m.disk_faults m.link_faults m.send_faults m.selected
 
 -- its contents, what is on its disk, and what is pending
 abbrev pub state_of : MemorySite → State

@@ -11,7 +11,7 @@ use Rattle.sm_site.specs.declared.step.Step.TheVariants.{Sized, Read, Wrote, Syn
 use Rattle.sm_site.specs.Event.{deal_of}
 use Rattle.sm_site.specs.Image.{Image, bytes_of, written}
 use Rattle.sm_site.specs.Scripts.{number_after}
-use Rattle.sm_site.specs.Meanings.{Chosen, DiskCall, Deal, Item, View, IsLive}
+use Rattle.sm_site.specs.Meanings.{Choice, DiskCall, Deal, Item, View, IsLive}
 use Rattle.sm_site.specs.Meanings.Deed.{Sized as SizedDeed, Read as ReadDeed, Wrote as WroteDeed, Synced as SyncedDeed}
 use Rattle.sm_site.specs.Meanings.Deal.{Sent as SentDeal, Shut as ShutDeal}
 
@@ -150,7 +150,7 @@ abbrev pub openings_of : List Step → List (List Item)
 openings_of steps = openings_on 0 [] [] steps
 
 -- the meanings of a site in memory
-abbrev pub view_of : List FileBytes → List Step → List Deal → ℕ → ℕ → ℕ → ℕ → Option Chosen → View
+abbrev pub view_of : List FileBytes → List Step → List Deal → ℕ → ℕ → ℕ → ℕ → Choice → View
 view_of first past script reads disk_faults link_faults send_faults chosen = record {
   moment = length past;
   contents = Some (after (start first) past).contents;

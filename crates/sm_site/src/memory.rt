@@ -3,7 +3,7 @@ ghost use Rattle.std.specs.Prelude.{◌≡◌, ◌≤◌, ◌<◌, ◌+◌, IsTr
 ghost use Rattle.sm_site.specs.Past.{Agrees, IsAfter, Tracks, Undoes, after, image_of, is_open, is_ordered, numbers_of, ranges_from, start};
 ghost use Rattle.sm_site.specs.Scripts.{is_script};
 
-use crate::{Event, FileBytes, Numbers, Pending, Script, Selection, Step};
+use crate::{Event, FileBytes, Numbers, Pending, Script, Selected, Step};
 use std::alloc::Global;
 
 /// A disk and a link in memory, on one clock. It keeps the files of its first opening and each call since, so that it tells
@@ -32,7 +32,7 @@ pub struct MemorySite {
     pub(crate) disk_faults: u64,
     pub(crate) link_faults: u64,
     pub(crate) send_faults: u64,
-    pub(crate) selection: Option<Selection>,
+    pub(crate) selected: Selected,
     // the files are those that the calls make of the first ones
     ghost cached: { IsAfter first.items past.items files.items },
     ghost ranges: { (after (start first.items) past.items).ranges ≡ ranges_from [] pending.items },
@@ -62,7 +62,7 @@ impl MemorySite {
         link_failing: Numbers,
     ) -> MemorySite
         requires script { IsTrue (is_script 0 script) }
-        ensures view { site_view result ≡ view_of [] [] (deals_of script) 0 0 0 0 None }
+        ensures view { site_view result ≡ view_of [] [] (deals_of script) 0 0 0 0 (record { selection = None; asks = 0 }) }
         ensures settled { (c : Image) → site_may_leave result c → (file : ℕ) → bytes_of c file ≡ [] }
         ensures openings { site_openings result ≡ [] }
         ensures faults { faults_of result ≡ record {
@@ -95,7 +95,7 @@ impl MemorySite {
             disk_faults: 0,
             link_faults: 0,
             send_faults: 0,
-            selection: None,
+            selected: Selected::never(),
         }
     }
 

@@ -2,7 +2,7 @@
 ghost use Rattle.std.specs.Prelude.{◌≡◌, ◌≤◌, ◌++◌, ◌∷◌, [], ℕ, List, IfOk, IfSome, IsErrOf, IsOk, IsTrue, OnOk, OnErr, None, Some, refl, false, is_some};
 ghost use Rattle.std.specs.Prelude.{length, take};
 ghost use Rattle.sm_site.specs.Image.{bytes_of};
-ghost use Rattle.sm_site.specs.Meanings.{sent_on};
+ghost use Rattle.sm_site.specs.Meanings.{asked, sent_on};
 ghost use Rattle.sm_site.specs.Clauses.{Both, Passes, Kept, Rose, SameOutcomes, Settled};
 ghost use Rattle.sm_site.specs.Past.{begins, is_open, is_ordered, items_from};
 ghost use Rattle.sm_site.specs.Scripts.{deals_of, is_script, numbers_after};
@@ -75,7 +75,7 @@ impl MemorySite {
         ensures coming { coming self.new ≡ [] }
         ensures taken { self.new.taken ≡ 0 }
         ensures counts { SameCounts (site_view self.old) (site_view self.new) }
-        ensures selection { self.new.selection ≡ self.old.selection }
+        ensures selected { self.new.selected ≡ self.old.selected }
         ensures faults { faults_of self.new ≡ record (faults_of self.old) { stop = None } }
     {
         crash_files(&mut self.files, &mut self.pending, choice);
@@ -101,8 +101,8 @@ impl Site for MemorySite {
     } };
 
     fn select(&mut self, selection: Selection) -> Result<(), SiteError>
-        ensures chosen { OnOk result ((site_view self.new).chosen ≡ Some selection) }
-        ensures unchosen { OnErr result ((site_view self.new).chosen ≡ None) }
+        ensures chosen { OnOk result ((site_view self.new).chosen ≡ asked (site_view self.old).chosen (Some selection)) }
+        ensures unchosen { OnErr result ((site_view self.new).chosen ≡ asked (site_view self.old).chosen None) }
         ensures contents { (site_view self.new).contents ≡ (site_view self.old).contents }
         ensures calls { (site_view self.new).calls ≡ (site_view self.old).calls }
         ensures reads { (site_view self.new).reads ≡ (site_view self.old).reads }
@@ -119,7 +119,7 @@ impl Site for MemorySite {
         ensures never { IsOk result }
         ensures faults { faults_of self.new ≡ faults_of self.old }
     {
-        self.selection = Some(selection);
+        self.selected.ask(Some(selection));
         Ok(())
     }
 }

@@ -2,7 +2,7 @@
 use Rattle.std.proofs.Common.{◌≡◌, ◌⊎◌, inl, inr, ℕ, Bool, List, None, Some, Result, Ok, Err, refl, sym, subst, ◌∙◌}
 use Rattle.std.specs.Prelude.{IfOk}
 use Rattle.sm_model.specs.declared.no_memory.NoMemory.{NoMemory}
-use Rattle.sm_site.specs.Meanings.{Chosen, View, Seen}
+use Rattle.sm_site.specs.Meanings.{Chosen, View, Seen, asked}
 use Rattle.sm_archive.specs.declared.answers.Declared.{Declared}
 use Rattle.sm_archive.specs.declared.answers.Declared.TheVariants as declared
 use Rattle.sm_serve.specs.declared.outcome.Served.{Served as Outcome}
@@ -124,24 +124,24 @@ ended_is_store end (Err none) answer line tells is e = let no = sym is ∙ e in 
 
 -- ---- what the site is selected with
 
-pub selected : (answer : Answer) (chosen : Chosen) (view : View) → view.chosen ≡ Some chosen → IsSelected answer chosen view
-selected (Found line) chosen view is = is
-selected answer chosen view is = inl is
+pub selected : (answer : Answer) (chosen : Chosen) (old view : View) → view.chosen ≡ asked old.chosen (Some chosen) → IsSelected answer chosen old view
+selected (Found line) chosen old view is = is
+selected answer chosen old view is = inl is
 
-pub told_selected : (why : StoreFault) (answer : Answer) (chosen : Chosen) (view : View) → Tells why answer → (view.chosen ≡ Some chosen) ⊎ (view.chosen ≡ None)
-    → IsSelected answer chosen view
-told_selected fault.DiskFault answer chosen view is h = subst (λ (a : Answer). IsSelected a chosen view) (sym is) h
-told_selected fault.LinkFault answer chosen view is h = subst (λ (a : Answer). IsSelected a chosen view) (sym is) h
-told_selected (fault.NotAStore at) answer chosen view is h = subst (λ (a : Answer). IsSelected a chosen view) (sym is) h
-told_selected fault.Unread answer chosen view is h = subst (λ (a : Answer). IsSelected a chosen view) (sym is) h
-told_selected fault.LongLadder answer chosen view is h = subst (λ (a : Answer). IsSelected a chosen view) (sym is) h
-told_selected (fault.BadLadder at) answer chosen view is h = subst (λ (a : Answer). IsSelected a chosen view) (sym is) h
-told_selected (fault.Refused cause) answer chosen view is h = subst (λ (a : Answer). IsSelected a chosen view) (sym is) h
-told_selected fault.Full answer chosen view is h = subst (λ (a : Answer). IsSelected a chosen view) (sym is) h
-told_selected fault.Damaged answer chosen view is h = subst (λ (a : Answer). IsSelected a chosen view) (sym is) h
-told_selected fault.NoMemory answer chosen view is h = subst (λ (a : Answer). IsSelected a chosen view) (sym is) h
+pub told_selected : (why : StoreFault) (answer : Answer) (chosen : Chosen) (old view : View) → Tells why answer → (view.chosen ≡ asked old.chosen (Some chosen)) ⊎ (view.chosen ≡ asked old.chosen None)
+    → IsSelected answer chosen old view
+told_selected fault.DiskFault answer chosen old view is h = subst (λ (a : Answer). IsSelected a chosen old view) (sym is) h
+told_selected fault.LinkFault answer chosen old view is h = subst (λ (a : Answer). IsSelected a chosen old view) (sym is) h
+told_selected (fault.NotAStore at) answer chosen old view is h = subst (λ (a : Answer). IsSelected a chosen old view) (sym is) h
+told_selected fault.Unread answer chosen old view is h = subst (λ (a : Answer). IsSelected a chosen old view) (sym is) h
+told_selected fault.LongLadder answer chosen old view is h = subst (λ (a : Answer). IsSelected a chosen old view) (sym is) h
+told_selected (fault.BadLadder at) answer chosen old view is h = subst (λ (a : Answer). IsSelected a chosen old view) (sym is) h
+told_selected (fault.Refused cause) answer chosen old view is h = subst (λ (a : Answer). IsSelected a chosen old view) (sym is) h
+told_selected fault.Full answer chosen old view is h = subst (λ (a : Answer). IsSelected a chosen old view) (sym is) h
+told_selected fault.Damaged answer chosen old view is h = subst (λ (a : Answer). IsSelected a chosen old view) (sym is) h
+told_selected fault.NoMemory answer chosen old view is h = subst (λ (a : Answer). IsSelected a chosen old view) (sym is) h
 
-pub unselected : (why : StoreFault) (r : Result Answer NoMemory) (answer : Answer) (chosen : Chosen) (view : View) → IfOk r (λ a. Tells why a) → answer ≡ or_starved r
-    → (view.chosen ≡ Some chosen) ⊎ (view.chosen ≡ None) → IsSelected answer chosen view
-unselected why (Ok a) answer chosen view tells is h = subst (λ (x : Answer). IsSelected x chosen view) (sym is) (told_selected why a chosen view tells h)
-unselected why (Err none) answer chosen view tells is h = subst (λ (x : Answer). IsSelected x chosen view) (sym is) h
+pub unselected : (why : StoreFault) (r : Result Answer NoMemory) (answer : Answer) (chosen : Chosen) (old view : View) → IfOk r (λ a. Tells why a) → answer ≡ or_starved r
+    → (view.chosen ≡ asked old.chosen (Some chosen)) ⊎ (view.chosen ≡ asked old.chosen None) → IsSelected answer chosen old view
+unselected why (Ok a) answer chosen old view tells is h = subst (λ (x : Answer). IsSelected x chosen old view) (sym is) (told_selected why a chosen old view tells h)
+unselected why (Err none) answer chosen old view tells is h = subst (λ (x : Answer). IsSelected x chosen old view) (sym is) h

@@ -53,17 +53,17 @@ export_placed comes (Err none) answer line tells is e = absurd (let no = sym is 
 
 -- ---- what the site is selected with
 
-chosen_selected : (comes : StoreExport) (answer : Answer) (chosen : Chosen) (view : View) → TellsExport comes answer → IsChosenFor comes chosen view → IsSelected answer chosen view
-chosen_selected (ends.Ended e) answer chosen view tells is = selected answer chosen view is
-chosen_selected (ends.Unopened why) answer chosen view tells is = told_selected why answer chosen view tells is
-chosen_selected (ends.Unread f) answer chosen view tells is = selected answer chosen view is
+chosen_selected : (comes : StoreExport) (answer : Answer) (chosen : Chosen) (old view : View) → TellsExport comes answer → IsChosenFor comes chosen old view → IsSelected answer chosen old view
+chosen_selected (ends.Ended e) answer chosen old view tells is = selected answer chosen old view is
+chosen_selected (ends.Unopened why) answer chosen old view tells is = told_selected why answer chosen old view tells is
+chosen_selected (ends.Unread f) answer chosen old view tells is = selected answer chosen old view is
 
-starved_selected : (comes : StoreExport) (chosen : Chosen) (view : View) → IsChosenFor comes chosen view → IsSelected Starved chosen view
-starved_selected (ends.Ended e) chosen view is = inl is
-starved_selected (ends.Unopened why) chosen view is = is
-starved_selected (ends.Unread f) chosen view is = inl is
+starved_selected : (comes : StoreExport) (chosen : Chosen) (old view : View) → IsChosenFor comes chosen old view → IsSelected Starved chosen old view
+starved_selected (ends.Ended e) chosen old view is = inl is
+starved_selected (ends.Unopened why) chosen old view is = is
+starved_selected (ends.Unread f) chosen old view is = inl is
 
-pub export_selected : (comes : StoreExport) (r : Result Answer NoMemory) (answer : Answer) (chosen : Chosen) (view : View) → IfOk r (λ a. TellsExport comes a) → answer ≡ or_starved r
-    → IsChosenFor comes chosen view → IsSelected answer chosen view
-export_selected comes (Ok a) answer chosen view tells is h = subst (λ (x : Answer). IsSelected x chosen view) (sym is) (chosen_selected comes a chosen view tells h)
-export_selected comes (Err none) answer chosen view tells is h = subst (λ (x : Answer). IsSelected x chosen view) (sym is) (starved_selected comes chosen view h)
+pub export_selected : (comes : StoreExport) (r : Result Answer NoMemory) (answer : Answer) (chosen : Chosen) (old view : View) → IfOk r (λ a. TellsExport comes a) → answer ≡ or_starved r
+    → IsChosenFor comes chosen old view → IsSelected answer chosen old view
+export_selected comes (Ok a) answer chosen old view tells is h = subst (λ (x : Answer). IsSelected x chosen old view) (sym is) (chosen_selected comes a chosen old view tells h)
+export_selected comes (Err none) answer chosen old view tells is h = subst (λ (x : Answer). IsSelected x chosen old view) (sym is) (starved_selected comes chosen old view h)

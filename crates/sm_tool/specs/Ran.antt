@@ -5,7 +5,7 @@ use Rattle.sm_ends.specs.Faults.{Rose}
 use Rattle.sm_ends.specs.Moves.{AppendsFront}
 use Rattle.sm_fetch.specs.Origins.{Grows}
 use Rattle.sm_client.specs.Turns.{Meaning}
-use Rattle.sm_command.specs.Lasting.{IsSilent, KeepsStores}
+use Rattle.sm_command.specs.Lasting.{IsSilent, KeepsStores, LeavesLog}
 use Rattle.sm_site.specs.Meanings.{Seen}
 use Rattle.sm_pick.specs.declared.picked.Picked.TheVariants as picked
 use Rattle.sm_tool.specs.declared.answer.Answer.{Answer}
@@ -19,7 +19,7 @@ use Rattle.sm_tool.specs.Edges.{Dialing, RelayMeans, StandbyMeans, at_edge}
 use Rattle.sm_tool.specs.Exports.{ExportMeans}
 use Rattle.sm_words.specs.Helps.{help_of, version}
 use Rattle.sm_usage.specs.Wrong.{wrong_words}
-use Rattle.sm_tool.specs.Stores.{IsSelected, LeavesLog, ListMeans, ServeMeans, at_folder, chosen_of}
+use Rattle.sm_tool.specs.Stores.{IsSelected, ListMeans, ServeMeans, at_folder, chosen_of}
 use Rattle.sm_tool.specs.Origins.{PushMeans}
 use Rattle.sm_tool.specs.Plays.{PlayMeans, Tape}
 use Rattle.sm_tool.specs.Rehearsals.{RehearseMeans}
@@ -74,7 +74,7 @@ MeansBy site t m policies wrong None old new out out' d d' c c' answer = (answer
 MeansBy site t m policies wrong (Some (Pick track time)) old new out out' d d' c c' answer =
     PickMeans track time old.input new.input answer × (out' ≡ out) × (new.dial ≡ old.dial) × (new.tracks ≡ old.tracks) × (d' ≡ d) × (c' ≡ c)
 MeansBy site t m policies wrong (Some (Serve s)) old new out out' d d' c c' answer =
-    ServeMeans site s.ladder s.turns old.input new.input d d' answer × IsSelected answer (chosen_of s) (site.view d')
+    ServeMeans site s.ladder s.turns old.input new.input d d' answer × IsSelected answer (chosen_of s) (site.view d) (site.view d')
     × (old.input.faults ≤ new.input.faults) × (out' ≡ out) × (new.dial ≡ old.dial) × (new.tracks ≡ old.tracks) × (c' ≡ c)
 MeansBy site t m policies wrong (Some (ServeShown s players)) old new out out' d d' c c' answer =
     (answer ≡ Words wrong) × (out' ≡ out) × IsIdle old new d d' c c'
@@ -85,18 +85,21 @@ MeansBy site t m policies wrong (Some (Play plan)) old new out out' d d' c c' an
     PlayMeans m plan policies old.dial new.dial (t.store c) (t.store c') old.tracks new.tracks answer × (out' ≡ out) × (new.input ≡ old.input) × (d' ≡ d)
 MeansBy site t m policies wrong (Some (Relay e)) old new out out' d d' c c' answer =
     RelayMeans site t e old.input new.input d d' c c' answer × (t.faults c ≤ t.faults c') × Grows (t.store c) (t.store c')
-    × IsSilent (site.view d) (site.view d') × IsSelected answer (at_edge e.store) (site.view d') × (out' ≡ out) × (new.tracks ≡ old.tracks)
+    × IsSilent (site.view d) (site.view d') × IsSelected answer (at_edge e.store) (site.view d) (site.view d')
+    × (old.input.faults ≤ new.input.faults) × (out' ≡ out) × (new.tracks ≡ old.tracks)
 MeansBy site t m policies wrong (Some (Standby e)) old new out out' d d' c c' answer =
     StandbyMeans site t e old.input new.input d d' c c' answer × (t.faults c ≤ t.faults c') × Grows (t.store c) (t.store c')
-    × IsSilent (site.view d) (site.view d') × IsSelected answer (at_edge e.store) (site.view d') × (out' ≡ out) × (new.tracks ≡ old.tracks)
+    × IsSilent (site.view d) (site.view d') × IsSelected answer (at_edge e.store) (site.view d) (site.view d')
+    × (old.input.faults ≤ new.input.faults) × (out' ≡ out) × (new.tracks ≡ old.tracks)
 MeansBy site t m policies wrong (Some (Listing folder)) old new out out' d d' c c' answer =
-    ListMeans site d d' answer × LeavesLog site d d' × IsSilent (site.view d) (site.view d') × IsSelected answer (at_folder folder) (site.view d')
+    ListMeans site d d' answer × LeavesLog site d d' × IsSilent (site.view d) (site.view d') × IsSelected answer (at_folder folder) (site.view d) (site.view d')
     × (out' ≡ out) × (new.input ≡ old.input) × (new.dial ≡ old.dial) × (new.tracks ≡ old.tracks) × (c' ≡ c)
 MeansBy site t m policies wrong (Some (Rehearse number size)) old new out out' d d' c c' answer =
     RehearseMeans m number size policies answer × (out' ≡ out) × IsIdle old new d d' c c'
 MeansBy site t m policies wrong (Some (Export folder name bitrate)) old new out out' d d' c c' answer =
     ExportMeans name bitrate (site.view d) (site.view d') old.input new.input out out' answer × LeavesLog site d d'
-    × IsSilent (site.view d) (site.view d') × IsSelected answer (at_folder folder) (site.view d') × (old.input.faults ≤ new.input.faults) × (out.faults ≤ out'.faults)
+    × IsSilent (site.view d) (site.view d') × IsSelected answer (at_folder folder) (site.view d) (site.view d')
+    × (old.input.faults ≤ new.input.faults) × (out.faults ≤ out'.faults)
     × (new.dial ≡ old.dial) × (new.tracks ≡ old.tracks) × (c' ≡ c)
 MeansBy site t m policies wrong (Some (Help about)) old new out out' d d' c c' answer =
     (answer ≡ Found (help_of about)) × (out' ≡ out) × IsIdle old new d d' c c'

@@ -6,14 +6,12 @@ use Rattle.sm_model.specs.declared.no_memory.NoMemory.{NoMemory}
 use Rattle.sm_model.specs.Causes.{cause_line}
 use Rattle.sm_pick.specs.Sentences.{sentence_of}
 use Rattle.sm_site.specs.Image.{Image}
-use Rattle.sm_site.specs.Meanings.{Chosen, View, Seen}
+use Rattle.sm_site.specs.Meanings.{Chosen, View, Seen, asked}
 use Rattle.sm_archive.specs.Store.{IsStore}
-use Rattle.sm_origin.specs.Opening.{HasOneStore}
 use Rattle.sm_serve.specs.declared.outcome.Served.{Served as Outcome}
 use Rattle.sm_serve.specs.declared.outcome.Served.TheVariants as served
 use Rattle.sm_command.specs.declared.fault.StoreFault.{StoreFault}
 use Rattle.sm_command.specs.declared.fault.StoreFault.TheVariants as fault
-use Rattle.sm_command.specs.Lasting.{AtEachMoment}
 use Rattle.sm_command.specs.Listing.{WhyUnlisted, lines_of}
 use Rattle.sm_serve.specs.Serving.{CountsNone}
 use Rattle.sm_command.specs.Serving.{HasRun, WhyUnready}
@@ -31,10 +29,10 @@ chosen_of s = record { store = s.store; make = true; port = s.port; bind = s.bin
 abbrev pub at_folder : List ℕ → Chosen
 at_folder store = record { store = store; make = false; port = 0; bind = None; journal = None }
 
--- The site is selected with this; where nothing was found, with nothing else than this.
-abbrev pub IsSelected : Answer → Chosen → View → Type 0
-IsSelected (Found line) chosen view = view.chosen ≡ Some chosen
-IsSelected answer chosen view = (view.chosen ≡ Some chosen) ⊎ (view.chosen ≡ None)
+-- The site was asked once to be selected, and is with this; where nothing was found, with nothing else than this.
+abbrev pub IsSelected : Answer → Chosen → View → View → Type 0
+IsSelected (Found line) chosen old new = new.chosen ≡ asked old.chosen (Some chosen)
+IsSelected answer chosen old new = (new.chosen ≡ asked old.chosen (Some chosen)) ⊎ (new.chosen ≡ asked old.chosen None)
 
 -- ---- the lines
 
@@ -118,13 +116,6 @@ ServeMeans site ladder turns input input' d d' Full = WhyUnready site ladder inp
 ServeMeans site ladder turns input input' d d' (NotAStore line) =
     (at : ℕ) × (line ≡ store_line at) × WhyUnready site ladder input input' d d' (fault.NotAStore at)
 ServeMeans site ladder turns input input' d d' (Unfinished stop) = ⊥
-
--- ---- what a command that only reads leaves
-
--- where each image that a crash might have left was one store, a crash leaves that store at each moment: nothing is kept and nothing is
--- declared in it
-abbrev pub LeavesLog : {D : Type 0} (site : Seen D) → D → D → Type 0
-LeavesLog site d d' = (log : List Entry) → HasOneStore log (site.may_leave d) → AtEachMoment site d d' (IsStore log)
 
 -- ---- list
 

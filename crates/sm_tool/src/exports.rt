@@ -1,10 +1,10 @@
 //! Exporting from a store.
 ghost use Rattle.std.specs.Prelude.{◌≡◌, ◌≤◌, ℕ, List, IfOk, OnErr, string_bytes};
-ghost use Rattle.sm_command.specs.Lasting.{IsSilent, KeepsStores};
+ghost use Rattle.sm_command.specs.Lasting.{IsSilent, KeepsStores, LeavesLog};
 ghost use Rattle.sm_export.specs.declared.exported.StoreExport.TheVariants as ends;
 ghost use Rattle.sm_tool.specs.declared.answer.Answer.TheVariants as answers;
 ghost use Rattle.sm_tool.specs.Exports.{ExportMeans, IsUnwritten, TellsExport};
-ghost use Rattle.sm_tool.specs.Stores.{IsSelected, LeavesLog, at_folder};
+ghost use Rattle.sm_tool.specs.Stores.{IsSelected, at_folder};
 ghost use Rattle.sm_ends.specs.Ended.{end_of};
 
 use crate::answer::{Answer, Stop};
@@ -64,7 +64,7 @@ pub fn export<I: Source, O: Sink, S: Site>(
     site: &mut S,
     order: ExportOrder,
 ) -> Answer
-    ensures selected { IsSelected result (at_folder (string_bytes order.store)) (S.Disk.seen.view site.new) }
+    ensures selected { IsSelected result (at_folder (string_bytes order.store)) (S.Disk.seen.view site.old) (S.Disk.seen.view site.new) }
     ensures means { ExportMeans order.name order.bitrate (S.Disk.seen.view site.old) (S.Disk.seen.view site.new)
         (end_of I.left I.faults input.old) (end_of I.left I.faults input.new) (end_of O.held O.faults output.old)
         (end_of O.held O.faults output.new) result }

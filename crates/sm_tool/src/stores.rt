@@ -1,9 +1,9 @@
 //! The commands on a store.
 ghost use Rattle.std.specs.Prelude.{◌≡◌, ◌≤◌, ℕ, List, IfOk, string_bytes};
-ghost use Rattle.sm_command.specs.Lasting.{IsSilent, KeepsStores};
+ghost use Rattle.sm_command.specs.Lasting.{IsSilent, KeepsStores, LeavesLog};
 ghost use Rattle.sm_tool.specs.declared.answer.Answer.TheVariants as answers;
 ghost use Rattle.sm_words.specs.Orders.{serving_of};
-ghost use Rattle.sm_tool.specs.Stores.{IsSelected, LeavesLog, ListMeans, ServeMeans, Tells, at_folder, chosen_of, TellsEnd, clash_line, ladder_line, or_starved, store_line, turns_line};
+ghost use Rattle.sm_tool.specs.Stores.{IsSelected, ListMeans, ServeMeans, Tells, at_folder, chosen_of, TellsEnd, clash_line, ladder_line, or_starved, store_line, turns_line};
 ghost use Rattle.sm_ends.specs.Ended.{end_of};
 
 use crate::answer::Answer;
@@ -102,7 +102,7 @@ pub fn serve<I: Source, S: Site>(
     site: &mut S,
     order: ServeOrder,
 ) -> Answer
-    ensures selected { IsSelected result (chosen_of (serving_of order)) (S.Disk.seen.view site.new) }
+    ensures selected { IsSelected result (chosen_of (serving_of order)) (S.Disk.seen.view site.old) (S.Disk.seen.view site.new) }
     ensures means { ServeMeans S.Disk.seen order.ladder order.turns (end_of I.left I.faults input.old)
         (end_of I.left I.faults input.new) site.old site.new result }
     ensures counted { I.faults input.old ≤ I.faults input.new }
@@ -123,7 +123,7 @@ pub fn serve<I: Source, S: Site>(
 
 /// Lists the store in that folder.
 pub fn list<S: Site>(alloc: Global, site: &mut S, store: String) -> Answer
-    ensures selected { IsSelected result (at_folder (string_bytes store)) (S.Disk.seen.view site.new) }
+    ensures selected { IsSelected result (at_folder (string_bytes store)) (S.Disk.seen.view site.old) (S.Disk.seen.view site.new) }
     ensures means { ListMeans S.Disk.seen site.old site.new result }
     ensures log { LeavesLog S.Disk.seen site.old site.new }
     ensures silent { IsSilent (S.Disk.seen.view site.old) (S.Disk.seen.view site.new) }

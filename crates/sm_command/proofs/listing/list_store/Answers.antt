@@ -38,4 +38,4 @@ returns-in_err-choose-clause-why g c = search (rules, why_unchosen)
 
 pub returns-clause-chosen : goal.returns-clause-chosen
 returns-clause-chosen g c =
-    chosen_still c.list_disk.result _ (g.S.Disk.seen.view c.choose.new.site) (g.S.Disk.seen.view c.list_disk.new.disk) c.in_ok-choose.ensures.chosen c.list_disk.ensures.disk_alone.link.chosen
+    chosen_still c.list_disk.result _ (g.S.Disk.seen.view c.args.site.now) (g.S.Disk.seen.view c.choose.new.site) (g.S.Disk.seen.view c.list_disk.new.disk) c.in_ok-choose.ensures.chosen c.list_disk.ensures.disk_alone.link.chosen

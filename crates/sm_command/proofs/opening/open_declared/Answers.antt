@@ -1,8 +1,9 @@
+use Rattle.std.proofs.Common.{inl, refl}
 use Rattle.sm_command.proofs.Opened.{begins_all, begins_so, declared_as, never_placed, undeclared}
 use Rattle.sm_command.specs.Opening.{BeginsWith}
 use Rattle.sm_archive.specs.Store.{IsStore}
 use Rattle.sm_site.proofs.Moments.{weakened}
-use Rattle.sm_command.proofs.Lasting.{found_spared}
+use Rattle.sm_command.proofs.Lasting.{at_each, found_spared}
 use Rattle.sm_ends.proofs.Unread.{passed_on}
 use Rattle.sm_command.proofs.Starting.{stated_is}
 use Rattle.sm_command.proofs.opening.open_declared.Goals as goal
@@ -18,6 +19,11 @@ returns-clause-declared g c =
     let behind : End = record { told = g.I.Source.left c.declare_input.new.input; faults = g.I.Source.faults c.declare_input.new.input } in
     declared_as g.D.Disk.seen before behind c.in_ok-archive.archive c.declare_input.new.archive c.args.disk.now c.open_archive.new.disk c.declare_input.new.disk o c.in_ok-archive.ensures.disk_alone.no_fewer
     (c.in_ok-declare_input.ensures.means o.log o.stands) c.in_ok-declare_input.ensures.stands c.declare_input.ensures.limits
+
+pub returns-in_err-archive-clause-why : goal.returns-in_err-archive-clause-why
+returns-in_err-archive-clause-why g c =
+    passed_on c.from_residual.result _ _ c.from_residual.ensures.1
+    (inl (c.in_err-archive.ensures.why, refl, λ log one. at_each g.D.Disk.seen c.args.disk.now c.open_archive.new.disk (λ t x. IsStore log x) (IsStore log) (c.in_err-archive.ensures.any_moment log one) (λ t x store. store)))
 
 pub returns-in_err-declare_input-clause-why : goal.returns-in_err-declare_input-clause-why
 returns-in_err-declare_input-clause-why g c =

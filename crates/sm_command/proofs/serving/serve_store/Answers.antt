@@ -31,7 +31,7 @@ returns-in_err-state-clause-any_moment g c some log one base told =
 
 pub returns-clause-chosen : goal.returns-clause-chosen
 returns-clause-chosen g c =
-    chosen_still c.serve_state.result c.args.selection (g.S.Disk.seen.view c.open_state.new.site) (g.S.Disk.seen.view c.serve_state.new.site) c.in_ok-state.ensures.chosen c.serve_state.ensures.chosen
+    chosen_still c.serve_state.result c.args.selection (g.S.Disk.seen.view c.args.site.now) (g.S.Disk.seen.view c.open_state.new.site) (g.S.Disk.seen.view c.serve_state.new.site) c.in_ok-state.ensures.chosen c.serve_state.ensures.chosen
 
 pub returns-clause-spared : goal.returns-clause-spared
 returns-clause-spared g c =

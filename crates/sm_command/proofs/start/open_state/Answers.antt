@@ -35,7 +35,7 @@ returns-in_err-choose-clause-why g c = search (rules, unopened_chosen)
 
 pub returns-clause-chosen : goal.returns-clause-chosen
 returns-clause-chosen g c =
-    chosen_still c.start.result c.args.selection (g.S.Disk.seen.view c.choose.new.site) (g.S.Disk.seen.view c.start.new.site) c.in_ok-choose.ensures.chosen c.start.ensures.disk_alone.link.chosen
+    chosen_still c.start.result c.args.selection (g.S.Disk.seen.view c.args.site.now) (g.S.Disk.seen.view c.choose.new.site) (g.S.Disk.seen.view c.start.new.site) c.in_ok-choose.ensures.chosen c.start.ensures.disk_alone.link.chosen
 
 pub returns-clause-spared : goal.returns-clause-spared
 returns-clause-spared g c =

@@ -43,6 +43,7 @@ returns-in-Ok-clause-followed g c =
       edge = e;
       turned_to = o.turned;
       quiet = o.log;
+      turns = o.dial;
       followed = f;
     })
 

@@ -35,11 +35,11 @@ returns-clause-why g c =
     if_err c.open_beside.result (λ why no. inr (inr (c.choose.new.site, site, no))) c.open_beside.ensures.why
 
 pub returns-in_err-choose-clause-why : goal.returns-in_err-choose-clause-why
-returns-in_err-choose-clause-why g c = passed_on c.from_residual.result _ _ c.from_residual.ensures.1 (inl (c.in_err-choose.ensures.why, refl))
+returns-in_err-choose-clause-why g c = passed_on c.from_residual.result _ _ c.from_residual.ensures.1 (inl (c.in_err-choose.ensures.why, refl, c.choose.ensures.only))
 
 pub returns-in_err-turn-clause-why : goal.returns-in_err-turn-clause-why
 returns-in_err-turn-clause-why g c =
-    passed_on c.from_residual-in_err-turn.result _ _ c.from_residual-in_err-turn.ensures.1 (inr (inl (c.in_err-turn.ensures.why, refl)))
+    passed_on c.from_residual-in_err-turn.result _ _ c.from_residual-in_err-turn.ensures.1 (inr (inl (c.in_err-turn.ensures.why, refl, c.choose.ensures.only)))
 
 pub returns-in_err-choose-clause-chosen : goal.returns-in_err-choose-clause-chosen
 returns-in_err-choose-clause-chosen g c = let p = err_from_is_err_and c.from_residual.result c.from_residual.ensures.1 in rw p.1 (inr c.in_err-choose.ensures.unchosen)
@@ -50,7 +50,7 @@ returns-in_err-turn-clause-chosen g c =
 
 pub returns-clause-chosen : goal.returns-clause-chosen
 returns-clause-chosen g c =
-    chosen_still c.open_beside.result c.args.selection (g.S.Disk.seen.view c.choose.new.site) (g.S.Disk.seen.view c.open_beside.new.disk) c.in_ok-choose.ensures.chosen c.open_beside.ensures.disk_alone.link.chosen
+    chosen_still c.open_beside.result c.args.selection (g.S.Disk.seen.view c.args.site.now) (g.S.Disk.seen.view c.choose.new.site) (g.S.Disk.seen.view c.open_beside.new.disk) c.in_ok-choose.ensures.chosen c.open_beside.ensures.disk_alone.link.chosen
 
 pub returns-clause-silent : goal.returns-clause-silent
 returns-clause-silent g c =

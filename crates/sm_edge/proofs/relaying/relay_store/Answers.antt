@@ -43,6 +43,7 @@ returns-in-Ok-clause-relayed g c =
       edge = e;
       turned_to = o.turned;
       quiet = o.log;
+      turns = o.dial;
       relayed = r.0;
       kept = r.1;
       listed = r.2;

@@ -5,7 +5,7 @@ use Rattle.sm_tool.proofs.exports.export.Goals as goal
 
 pub returns-clause-selected : goal.returns-clause-selected
 returns-clause-selected g c =
-    export_selected c.export_store-comes.result c.told.result c.or_starved.result (at_folder (string_bytes c.args.order.store)) (g.S.Disk.seen.view c.export_store-comes.new.site)
+    export_selected c.export_store-comes.result c.told.result c.or_starved.result (at_folder (string_bytes c.args.order.store)) (g.S.Disk.seen.view c.args.site.now) (g.S.Disk.seen.view c.export_store-comes.new.site)
     c.told.ensures.told c.or_starved.ensures c.export_store-comes.ensures.chosen
 
 pub returns-clause-means : goal.returns-clause-means

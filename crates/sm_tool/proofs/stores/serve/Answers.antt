@@ -27,8 +27,8 @@ returns-in-Ok-clause-stores g c = record {
 pub returns-in-Err-clause-selected : goal.returns-in-Err-clause-selected
 returns-in-Err-clause-selected g c =
     unselected c.in-Err.fault c.refused.result c.or_starved-in-Err.result (chosen_of (serving_of c.args.order))
-    (g.S.Disk.seen.view c.serve_store.new.site) c.refused.ensures c.or_starved-in-Err.ensures c.in-Err.ensures.chosen
+    (g.S.Disk.seen.view c.args.site.now) (g.S.Disk.seen.view c.serve_store.new.site) c.refused.ensures c.or_starved-in-Err.ensures c.in-Err.ensures.chosen
 
 pub returns-in-Ok-clause-selected : goal.returns-in-Ok-clause-selected
 returns-in-Ok-clause-selected g c =
-    selected c.or_starved.result (chosen_of (serving_of c.args.order)) (g.S.Disk.seen.view c.serve_store.new.site) c.in-Ok.ensures.chosen
+    selected c.or_starved.result (chosen_of (serving_of c.args.order)) (g.S.Disk.seen.view c.args.site.now) (g.S.Disk.seen.view c.serve_store.new.site) c.in-Ok.ensures.chosen

@@ -6,7 +6,7 @@ invariant-loop-handle g l = record {
   all : l.finished.done + l.finished.faulted + l.finished.starved + vec_len l.self.handles ≡ vec_len l.initial.self.handles;
   started : l.self.started ≡ l.initial.self.started;
   faults : l.self.faults ≡ l.initial.self.faults;
-  wiring : l.self.wiring ≡ l.initial.self.wiring;
+  wired : l.self.wired ≡ l.initial.self.wired;
 }
 
 abbrev pub decreases-loop-handle : goal.decreases-loop-handle
