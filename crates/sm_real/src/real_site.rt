@@ -93,6 +93,7 @@ impl<R: Files<File = File> + Net + Clock + Drop> RealSite<R> {
         ensures reads { self.new.disk.reads ≡ self.old.disk.reads }
         ensures send_faults { self.new.link.send_faults ≡ self.old.link.send_faults }
         ensures numbers { self.new.link.next_number ≡ self.old.link.next_number }
+        ensures selected { self.new.selected ≡ self.old.selected }
     {
         match self.disk.choose(selection.store.as_str(), selection.make) {
             Ok(()) => {}
@@ -119,6 +120,7 @@ impl<R: Files<File = File> + Net + Clock + Drop> RealSite<R> {
         ensures reads { self.new.disk.reads ≡ self.old.disk.reads }
         ensures send_faults { self.new.link.send_faults ≡ self.old.link.send_faults }
         ensures numbers { self.new.link.next_number ≡ self.old.link.next_number }
+        ensures selected { self.new.selected ≡ self.old.selected }
     {
         let Some(path) = &selection.journal else {
             return Ok(());

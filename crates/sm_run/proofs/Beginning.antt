@@ -169,6 +169,7 @@ module _ {D : Type 0} (site : Seen D) where
       first = s.1.first;
       front = s.1.front;
       counted = s.1.counted;
+      last_is = s.1.last_is;
       belongs = s.1.belongs;
     },
     s.2,

@@ -60,8 +60,8 @@ pub record RunsShown {D : Type 0} (site : Seen D) (ladder : Bool)
       → (site.view old).transcript ≡ Some base → (h : History) × (h.begin ≡ (site.view old).moment)
       × IsBegun (site.view old).disk_faults run.found.machine run.channel base h × ShowsRun site h end turns new
 
--- The store was opened, what was asked of a ladder was done, and what is to be shown was read back. Nothing was taken from the link, and nothing was
--- sent.
+-- The store was opened, what was asked of a ladder was done, and at most what is to be shown was read back. Nothing was taken from the link, and
+-- nothing was sent.
 pub record IsReady {D : Type 0} (site : Seen D) (ladder : Bool) (input input' : End)
     (old new : D) : Type 0 where
   pub state : State

@@ -14,7 +14,7 @@ use Rattle.sm_shelf.specs.Shelf.{Desk, Belongs, IsFront}
 use Rattle.sm_shelf.proofs.Heights.{front_later, of_later}
 use Rattle.sm_show.specs.declared.outcome.Up.{Up}
 use Rattle.sm_show.specs.declared.outcome.Up.TheVariants.{Whole, Behind}
-use Rattle.sm_show.specs.Marks.{Mark, IsMark, Follow, AreCounted, Shows, behind_by, short_by}
+use Rattle.sm_show.specs.Marks.{Mark, IsMark, Follow, AreCounted, Shows, behind_by, short_by, shown_after}
 
 pub belongs_later : (log more now : List Entry) (desk : Desk) → now ≡ log ++ more → Belongs log desk → Belongs now desk
 belongs_later log more now desk is belongs =
@@ -29,10 +29,15 @@ follow_more from mid [] m here since took is =
     (subst (λ (h : History). Since h m.turned) here since, subst (λ (h : History). (deal : Deal) × (deals_in m.turned.items ≡ deals_in h.items ++ deal ∷ [])) here took, is, refl)
 follow_more from mid (x ∷ ms) m on since took is = (on.0, on.1, on.2, follow_more x.behind mid ms m on.3 since took is)
 
-pub none_counted : (h : History) → AreCounted h h 0 0 0
+unfoldable pub none_counted : (h : History) → AreCounted h h 0 0 0
 none_counted h = record { marks = []; many = refl; follow = refl; behind_is = refl; short_is = refl }
 
-one_counted : (from mid : History) (turns turns' behind behind' short short' : ℕ) (m : Mark) → Since mid m.turned → (deal : Deal) × (deals_in m.turned.items ≡ deals_in mid.items ++ deal ∷ [])
+-- what was published behind the last one
+shown_last : (before : Digest) (ms : List Mark) (m : Mark) → m.shown ≡ shown_after before (ms ++ m ∷ [])
+shown_last before [] m = refl
+shown_last before (x ∷ ms) m = shown_last x.shown ms m
+
+unfoldable one_counted : (from mid : History) (turns turns' behind behind' short short' : ℕ) (m : Mark) → Since mid m.turned → (deal : Deal) × (deals_in m.turned.items ≡ deals_in mid.items ++ deal ∷ [])
     → IsMark m → turns' ≡ turns + 1 → behind' ≡ behind + behind_by m.up → short' ≡ short + short_by m.up → AreCounted from mid turns behind short
     → AreCounted from m.behind turns' behind' short'
 one_counted from mid turns turns' behind behind' short short' m since took is t b s c =
@@ -54,6 +59,7 @@ pub shows_more : (h k turned behind : History) (t t' b b' s s' : ℕ) (desk desk
     → (deal : Deal) × (deals_in turned.items ≡ deals_in k.items ++ deal ∷ []) → Since turned behind → behind.items ≡ turned.items
     → behind.point.machine.log ≡ turned.point.machine.log → Belongs turned.point.machine.log desk' → (up ≡ Whole) ↔ (desk'.published ≡ digest_of turned.point.machine.log)
     → (up ≡ Behind → Rose turned.point.faults behind.point.faults) → t' ≡ t + 1 → b' ≡ b + behind_by up → s' ≡ s + short_by up → Shows h behind t' b' s' desk'
+unfolding one_counted
 shows_more h k turned behind t t' b b' s s' desk desk' up shows since took on same log belongs whole blamed ts bs ss =
     let m : Mark = record { turned = turned; behind = behind; shown = desk'.published; up = up } in
     let now : Belongs behind.point.machine.log desk' = subst (λ (l : List Entry). Belongs l desk') (sym log) belongs in
@@ -73,12 +79,14 @@ shows_more h k turned behind t t' b b' s s' desk desk' up shows since took on sa
       first = shows.first;
       front = shows.front;
       counted = one_counted shows.begun k t t' b b' s s' m since took is ts bs ss shows.counted;
+      last_is = shown_last shows.first shows.counted.marks m;
       belongs = now;
     }
 
 -- before the first event
 pub shows_none : (h begun : History) (desk : Desk) → Since h begun → begun.items ≡ h.items → begun.point.machine.log ≡ h.point.machine.log → Belongs h.point.machine.log desk
     → Shows h begun 0 0 0 desk
+unfolding none_counted
 shows_none h begun desk since same log belongs =
     let now : Belongs begun.point.machine.log desk = subst (λ (l : List Entry). Belongs l desk) (sym log) belongs in
-    record { begun = begun; since = since; same = same; log = log; first = desk.published; front = now.0; counted = none_counted begun; belongs = now }
+    record { begun = begun; since = since; same = same; log = log; first = desk.published; front = now.0; counted = none_counted begun; last_is = refl; belongs = now }

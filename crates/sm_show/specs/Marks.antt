@@ -60,7 +60,13 @@ pub record AreCounted (from to : History) (turns behind short : ℕ) : Type 0 wh
   pub behind_is : behind ≡ sum_by (λ m. behind_by m.up) marks
   pub short_is : short ≡ sum_by (λ m. short_by m.up) marks
 
--- The shelf was brought up to the log before the first event and behind each turn, and what is published belongs to the log.
+-- what was published behind the last of these, where this was before
+abbrev pub shown_after : Digest → List Mark → Digest
+shown_after before [] = before
+shown_after before (m ∷ ms) = shown_after m.shown ms
+
+-- The shelf was brought up to the log before the first event and behind each turn, and what is published belongs to the log and is what it was
+-- brought up to last.
 pub record Shows (h last : History) (turns behind short : ℕ) (desk : Desk) : Type 0 where
   -- before the first event
   pub begun : History
@@ -71,6 +77,7 @@ pub record Shows (h last : History) (turns behind short : ℕ) (desk : Desk) : T
   pub front : IsFront begun.point.machine.log first
   -- behind each turn
   pub counted : AreCounted begun last turns behind short
+  pub last_is : desk.published ≡ shown_after first counted.marks
   pub belongs : Belongs last.point.machine.log desk
 
 -- So it was up to the last turn, which leads to the end.
