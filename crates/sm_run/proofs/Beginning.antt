@@ -144,6 +144,7 @@ module _ {D : Type 0} (site : Seen D) where
     since = since_then h u.later s.later u.since s.since;
     deals = s.deals;
     taken = s.taken ∙ ap (λ (is : List Item). deals_in is ++ s.deals) u.same;
+    no_ladder = s.no_ladder ∙ u.no_ladder;
     ended = subst (λ (is : List Item). EndsAs turns end (site.view e).transcript (events_in is) (events_in s.later.items) s.deals) u.same s.ended;
     run = s.run;
     awaits = s.awaits;

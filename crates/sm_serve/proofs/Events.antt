@@ -194,6 +194,7 @@ module _ {D : Type 0} (site link : Seen D)
         };
         since = record { first = refl; begin = refl; base = refl; found = refl; on = on_itself h };
         taken = sym (append-nil (deals_in h.items));
+        no_ladder = refl;
       }
 
   pub may_handle : (event : Event) (state : State) (d e : D) → Known site state d → Adds (deal_of event) (link.view d) (link.view e) → is_some (site.view e).transcript ≡ is_some (site.view d).transcript
@@ -290,6 +291,7 @@ module _ {D : Type 0} (site : Seen D) where
         on = on_then h one.turns.later two.turns.later one.turns.since.on two.turns.since.on;
       };
       taken = two.turns.taken ∙ ap (λ (ds : List Deal). ds ++ two.deals) one.turns.taken ∙ append_assoc (deals_in h.items) one.deals two.deals;
+      no_ladder = two.turns.no_ladder ∙ one.turns.no_ladder;
     };
     script_is = scripts_then was (site.view c).script (site.view d).script one.deals two.deals one.script_is two.script_is;
   }
@@ -303,6 +305,7 @@ module _ {D : Type 0} (site : Seen D) where
       serves = serves;
       since = record { first = refl; begin = refl; base = refl; found = refl; on = on_itself h };
       taken = sym (append-nil (deals_in h.items));
+      no_ladder = refl;
     };
     script_is = script_stays (site.view d).script;
   }
@@ -333,6 +336,7 @@ module _ {D : Type 0} (site : Seen D) where
           since = all.since;
           deals = deals;
           taken = all.taken;
+          no_ladder = all.no_ladder;
           ended = ends;
           run = k.run;
           awaits = all.serves.rest.phase_is;

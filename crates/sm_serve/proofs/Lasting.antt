@@ -1,8 +1,12 @@
 -- Histories that go on.
-use Rattle.std.proofs.Common.{Bool, false, List, [], ◌∷◌, ◌++◌, refl, sym, ◌∙◌, ap, subst, append_assoc}
+use Rattle.std.proofs.Common.{◌≡◌, ℕ, Bool, false, List, [], ◌∷◌, ◌++◌, Option, Some, None, refl, sym, ◌∙◌, ap, subst, append_assoc}
 use Rattle.std.proofs.lemmas.List.{append-nil}
 use Rattle.sm_site.specs.Meanings.{Item}
-use Rattle.sm_serve.specs.Run.{Point, Stepped, Moves, opened, crowded, came, unread, passed, left, over, continues, acts_on, wants, done, sent, failed, unsent, shut, declared, recalled, LeadsTo, rests, moves_on}
+use Rattle.sm_model.specs.declared.act.Act.{Act}
+use Rattle.sm_model.specs.declared.act.Act.TheVariants as acts
+use Rattle.sm_model.specs.declared.address.Address.{Address}
+use Rattle.sm_model.specs.declared.track.Track.{Track}
+use Rattle.sm_serve.specs.Run.{Point, Stepped, Moves, opened, crowded, came, unread, passed, left, over, continues, acts_on, wants, done, sent, failed, unsent, shut, declared, recalled, ladder_in, ladders, LeadsTo, rests, moves_on}
 use Rattle.sm_serve.specs.Standing.{History, GoesOn, moved}
 
 -- ---- what leads to what
@@ -94,3 +98,19 @@ on_then h k l one two = record {
 
 pub on_behind : (told : Bool) (h k : History) (es : List Item) (q : Point) → Moves told h.items h.point es [] q → GoesOn (moved h es q) k → GoesOn h k
 on_behind told h k es q move on = on_then h (moved h es q) k (on_moved told h es q move) on
+
+-- ---- ladders
+
+-- a step that declares no ladder
+ladders_push : (xs : List Stepped) (x : Stepped) → ladder_in x.conn x.act ≡ [] → ladders (xs ++ x ∷ []) ≡ ladders xs
+ladders_push [] x e = ap (λ (l : List (List Track)). l ++ []) e
+ladders_push (y ∷ ys) x e = ap (λ (l : List (List Track)). ladder_in y.conn y.act ++ l) (ladders_push ys x e)
+
+-- one that a connection asks for
+pub asked_push : (xs : List Stepped) (x : Stepped) (n : ℕ) → x.conn ≡ Some n → ladders (xs ++ x ∷ []) ≡ ladders xs
+asked_push xs x n conn = ladders_push xs x (ap (λ (c : Option ℕ). ladder_in c x.act) conn)
+
+-- one that reads back
+pub recalled_push : (xs now : List Stepped) (x : Stepped) (a : Address) → now ≡ xs ++ x ∷ [] → x.conn ≡ None → x.act ≡ acts.Fragment a → ladders now ≡ ladders xs
+recalled_push xs now x a is conn act =
+    ap (λ (l : List Stepped). ladders l) is ∙ ladders_push xs x (ap (λ (c : Option ℕ). ladder_in c x.act) conn ∙ ap (λ (t : Act). ladder_in None t) act)

@@ -51,7 +51,7 @@ module _ {D : Type 0} (site : Seen D) where
         keeps = silent_move site k d (in_phase k.point idle) was.keeps (done n phase refl refl refl) refl refl refl refl;
         stands = was.stands;
         follows = follows_then n true h k (paused site k (in_phase k.point idle)) was.follows (follows_itself n k (paused site k (in_phase k.point idle)) refl refl refl refl refl
-            (on_paused false k (in_phase k.point idle) (done n phase refl refl refl)) (λ j other. refl));
+            (on_paused false k (in_phase k.point idle) (done n phase refl refl refl)) (λ j other. refl) refl);
         phase_is = refl;
         counts_are = was.counts_are;
       }

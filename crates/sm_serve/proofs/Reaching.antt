@@ -8,7 +8,7 @@ use Rattle.sm_wire.specs.declared.item.WireItem.{WireItem}
 use Rattle.sm_wire.specs.declared.item.WireItem.TheVariants.{Continue}
 use Rattle.sm_origin.specs.declared.origin.Origin.{Origin}
 use Rattle.sm_serve.specs.Standing.{StandsOn}
-use Rattle.sm_serve.specs.Run.{Counts, Point, Phase, Moves, idle, acting, sending, in_phase, wants, continues, acts_on, act_of, closes, counts_after, set_counts, phase_after, sent_of, behind_step}
+use Rattle.sm_serve.specs.Run.{Counts, Point, Phase, Moves, idle, acting, sending, in_phase, ladders, wants, continues, acts_on, act_of, closes, counts_after, set_counts, phase_after, sent_of, behind_step}
 use Rattle.std.proofs.lemmas.Bool.{eq-eqb, ne_eqb}
 use Rattle.sm_serve.specs.Connections.{received, live, deals_in}
 use Rattle.sm_serve.specs.Standing.{History, GoesOn, Keeps, Follows, Reaches, is_told, stays_open}
@@ -17,7 +17,7 @@ use Rattle.sm_serve.specs.Giving.{IsAt, Comes}
 use Rattle.sm_serve.specs.declared.handler.Handler.{Handler}
 use Rattle.sm_serve.specs.declared.still.Still.{Still}
 use Rattle.sm_serve.specs.declared.still.Still.TheVariants.{Open}
-use Rattle.sm_serve.proofs.Lasting.{on_itself, on_paused, on_stepped}
+use Rattle.sm_serve.proofs.Lasting.{asked_push, on_itself, on_paused, on_stepped}
 use Rattle.sm_serve.proofs.Sending.{follows_then}
 use Rattle.sm_head.specs.declared.reply.TheConstants.{NO_MEMORY, CONTINUE}
 use Rattle.sm_serve.proofs.Going.{Acted, stepped, silent_move, paused}
@@ -36,9 +36,9 @@ reached site h later n is_open e q origin keeps follows is machine counts stands
 }
 
 pub follows_itself : (n : ℕ) (h k : History) → k.first ≡ h.first → k.begin ≡ h.begin → k.base ≡ h.base → k.found ≡ h.found → k.items ≡ h.items → GoesOn h k
-    → ((j : ℕ) → (j ≡ n → ⊥) → k.point.counts j ≡ h.point.counts j)
+    → ((j : ℕ) → (j ≡ n → ⊥) → k.point.counts j ≡ h.point.counts j) → ladders k.steps ≡ ladders h.steps
     → Follows n true h k
-follows_itself n h k first begin base found items on counts = record {
+follows_itself n h k first begin base found items on counts no_ladder = record {
   first = first;
   begin = begin;
   base = base;
@@ -48,6 +48,7 @@ follows_itself n h k first begin base found items on counts = record {
   deals = ap deals_in items;
   live = ap live items;
   counts = counts;
+  no_ladder = no_ladder;
 }
 
 module _ {D : Type 0} (site : Seen D) where
@@ -83,7 +84,7 @@ module _ {D : Type 0} (site : Seen D) where
 
     pub behind_follows : Follows n true h behind
     behind_follows = follows_itself n h behind refl refl refl refl refl
-        (on_stepped (is_told (site.view e)) h acted.x point_of (acts_on n item more act acted.x phase does acted.conn_is acted.is_step refl refl refl)) (λ j other. other_counts n j _ h.point.counts other)
+        (on_stepped (is_told (site.view e)) h acted.x point_of (acts_on n item more act acted.x phase does acted.conn_is acted.is_step refl refl refl)) (λ j other. other_counts n j _ h.point.counts other) (asked_push h.steps acted.x n acted.conn_is)
 
     pub behind_counts : behind.point.counts n ≡ counts_after item reply.counted (h.point.counts n)
     behind_counts = these_counts n _ h.point.counts ∙ ap (λ (r : Reply). counts_after item r.counted (h.point.counts n)) acted.reply_is
@@ -108,7 +109,7 @@ module _ {D : Type 0} (site : Seen D) where
   starving h d n more keeps phase = silent_move site h d (in_phase h.point (sending n NO_MEMORY.now true [])) keeps (wants n more phase refl refl refl) refl refl refl refl
 
   pub paused_follows : (h : History) (n : ℕ) (phase : Phase) → Moves false h.items h.point [] [] (in_phase h.point phase) → Follows n true h (paused site h (in_phase h.point phase))
-  paused_follows h n phase move = follows_itself n h (paused site h (in_phase h.point phase)) refl refl refl refl refl (on_paused false h (in_phase h.point phase) move) (λ j other. refl)
+  paused_follows h n phase move = follows_itself n h (paused site h (in_phase h.point phase)) refl refl refl refl refl (on_paused false h (in_phase h.point phase) move) (λ j other. refl) refl
 
   -- the head 100 is due
   pub continuing : (h : History) (d : D) (n : ℕ) (more : List WireItem) → Keeps site h d → h.point.phase ≡ acting n (Continue ∷ more)
@@ -133,6 +134,7 @@ reached_here site h n phase counts origin d keeps stands phase_is counts_are = r
     deals = refl;
     live = refl;
     counts = λ j other. refl;
+    no_ladder = refl;
   };
   phase_is = phase_is;
   counts_are = λ t. counts_are;

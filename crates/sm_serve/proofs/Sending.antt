@@ -25,6 +25,7 @@ follows_then n is_open h k l one two = record {
   deals = two.deals ∙ one.deals;
   live = two.live ∙ ap (λ (ns : List ℕ). if is_open then ns else without n ns) one.live;
   counts = λ j other. two.counts j other ∙ one.counts j other;
+  no_ladder = two.no_ladder ∙ one.no_ladder;
 }
 
 module _ {D : Type 0} (site link : Seen D)
@@ -80,6 +81,7 @@ module _ {D : Type 0} (site link : Seen D)
     deals = deals_push h.items (record { moment = m; deal = Sent n bytes fails });
     live = live_push h.items (record { moment = m; deal = Sent n bytes fails });
     counts = λ j other. ap (λ (f : ℕ → Counts). f j) counts;
+    no_ladder = refl;
   }
 
   pub sent_after : (h : History) (d e : D) (n : ℕ) (bytes : List ℕ) (close : Bool) (more : List WireItem) → Keeps site h d → LinkAlone link d e → h.point.phase ≡ sending n bytes close more
@@ -129,6 +131,7 @@ module _ {D : Type 0} (site link : Seen D)
           deals = ap deals_in (append-nil h.items);
           live = ap live (append-nil h.items);
           counts = λ j other. refl;
+          no_ladder = refl;
         };
         point_is = refl;
       }
@@ -153,6 +156,7 @@ module _ {D : Type 0} (site link : Seen D)
           deals = deals_push h.items (record { moment = a.0; deal = Shut n });
           live = live_push h.items (record { moment = a.0; deal = Shut n });
           counts = λ j other. refl;
+          no_ladder = refl;
         };
         point_is = refl;
       }

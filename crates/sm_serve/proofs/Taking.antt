@@ -68,6 +68,7 @@ module _ {D : Type 0} (site : Seen D) where
         };
         since = record { first = r.follows.first; begin = r.follows.begin; base = r.follows.base; found = r.follows.found; on = on_behind false h k _ _ gives.move r.follows.on };
         taken = r.follows.deals ∙ deals_push h.items _ ∙ ap (λ (l : ℕ). deals_in h.items ++ Came l piece ∷ []) same;
+        no_ladder = r.follows.no_ladder;
       }
 
   pub taken_shut : (h : History) (m n i : ℕ) (piece : List ℕ) (old : List Live) (new : Live) (state : State) (e : D) → AreResting h old → numbers_of old ≡ live h.items → i < length old → get_or (numbers_of old) i 0 ≡ n
@@ -90,6 +91,7 @@ module _ {D : Type 0} (site : Seen D) where
         };
         since = record { first = r.follows.first; begin = r.follows.begin; base = r.follows.base; found = r.follows.found; on = on_behind false h k _ _ gives.move r.follows.on };
         taken = r.follows.deals ∙ deals_push h.items _ ∙ ap (λ (l : ℕ). deals_in h.items ++ Came l piece ∷ []) same;
+        no_ladder = r.follows.no_ladder;
       }
 
   -- a piece of a connection that isn't live
@@ -112,6 +114,7 @@ module _ {D : Type 0} (site : Seen D) where
         };
         since = record { first = refl; begin = refl; base = refl; found = refl; on = on_moved false h (at m (Came n piece)) q (passed m n piece rest.phase_is gone refl refl refl) };
         taken = deals_push h.items _;
+        no_ladder = refl;
       }
 
 began_others : (j n m : ℕ) (h : History) → j ≢ n → received j (h.items ++ at m (Began n)) ≡ received j h.items
@@ -151,6 +154,7 @@ module _ {D : Type 0} (site : Seen D) where
         };
         since = record { first = r.follows.first; begin = r.follows.begin; base = r.follows.base; found = r.follows.found; on = on_behind told h k _ _ move r.follows.on };
         taken = r.follows.deals ∙ deals_push h.items _;
+        no_ladder = r.follows.no_ladder;
       }
 
   -- a connection that was taken in
@@ -181,6 +185,7 @@ module _ {D : Type 0} (site : Seen D) where
         };
         since = record { first = r.follows.first; begin = r.follows.begin; base = r.follows.base; found = r.follows.found; on = on_behind told h k _ _ move r.follows.on };
         taken = r.follows.deals ∙ deals_push h.items _;
+        no_ladder = r.follows.no_ladder;
       }
 
   -- ---- events without a call
@@ -206,6 +211,7 @@ module _ {D : Type 0} (site : Seen D) where
         };
         since = record { first = refl; begin = refl; base = refl; found = refl; on = on_moved false h (at m (Left n)) q (left m n rest.phase_is refl refl refl) };
         taken = deals_push h.items _;
+        no_ladder = refl;
       }
 
   pub was_over : (h : History) (m : ℕ) (state : State) (d : D) → Pending site h m Over d → IsAtRest site h state d → Turns site h (Over ∷ []) state d
@@ -225,4 +231,5 @@ module _ {D : Type 0} (site : Seen D) where
         };
         since = record { first = refl; begin = refl; base = refl; found = refl; on = on_moved false h (at m Over) q (over m rest.phase_is refl refl refl) };
         taken = deals_push h.items _;
+        no_ladder = refl;
       }

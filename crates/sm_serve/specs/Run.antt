@@ -118,6 +118,17 @@ pub record Stepped : Type 0 where
   pub faults_after : ℕ
   pub ends : ℕ
 
+-- the channel that a step declares, where no connection asks for it
+abbrev pub ladder_in : Option ℕ → Act → List (List Track)
+ladder_in (Some n) act = []
+ladder_in None (acts.Header channel) = channel ∷ []
+ladder_in None act = []
+
+-- the channels that steps declare and no connection asks for: those of ladders
+abbrev pub ladders : List Stepped → List (List Track)
+ladders [] = []
+ladders (x ∷ xs) = ladder_in x.conn x.act ++ ladders xs
+
 -- the archive is one of the log and the doubt: it has used what their records take
 pub record IsArchived (m : Machine) : Type 0 where
   pub bodies : List (List ℕ)

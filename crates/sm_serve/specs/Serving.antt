@@ -22,7 +22,7 @@ use Rattle.sm_serve.specs.declared.outcome.Turn.TheVariants as turned
 use Rattle.sm_serve.specs.declared.outcome.Served.{Served as Outcome}
 use Rattle.sm_serve.specs.declared.outcome.Served.TheVariants as served
 use Rattle.sm_serve.specs.Connections.{received, live, without, is_among, AreDistinct, events_in, deals_in}
-use Rattle.sm_serve.specs.Run.{Stepped, idle, at, Run}
+use Rattle.sm_serve.specs.Run.{Stepped, idle, at, ladders, Run}
 use Rattle.sm_serve.specs.Moments.{FitsAt}
 use Rattle.sm_serve.specs.Surviving.{Survives}
 use Rattle.sm_serve.specs.Between.{TakesNone}
@@ -61,13 +61,14 @@ pub record Since (h k : History) : Type 0 where
   pub found : k.found ≡ h.found
   pub on : GoesOn h k
 
--- the run goes on by these events
+-- the run goes on by these events, and declares no ladder
 pub record Turns {D : Type 0} (site : Seen D) (h : History) (deals : List Deal)
     (state : State) (d : D) : Type 0 where
   pub later : History
   pub serves : Serves site later state d
   pub since : Since h later
   pub taken : deals_in later.items ≡ deals_in h.items ++ deals
+  pub no_ladder : ladders later.steps ≡ ladders h.steps
 
 -- where the transcript is told, the state is where a run is
 abbrev pub Known : {D : Type 0} (site : Seen D) → State → D → Type 0
@@ -140,6 +141,8 @@ pub record Served {D : Type 0} (site : Seen D) (h : History) (result : Outcome)
   -- the events that were taken
   pub deals : List Deal
   pub taken : deals_in later.items ≡ deals_in h.items ++ deals
+  -- the loop declares no ladder: beside what was declared before, its channel is one that a connection pushed
+  pub no_ladder : ladders later.steps ≡ ladders h.steps
   pub ended : EndsAs turns result (site.view d).transcript (events_in h.items) (events_in later.items) deals
   pub run : Run (is_told (site.view d)) later.first later.begin later.found.disk_faults later.items later.steps later.point
   pub awaits : later.point.phase ≡ idle

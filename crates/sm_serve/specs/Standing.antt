@@ -10,7 +10,7 @@ use Rattle.sm_origin.specs.Machine.{Machine}
 use Rattle.sm_origin.specs.Stores.{Fits}
 pub use Rattle.sm_origin.specs.Acting.{StandsOn, StandsForSome}
 use Rattle.sm_serve.specs.Connections.{received, live, without, deals_in}
-use Rattle.sm_serve.specs.Run.{Counts, counts_after, Phase, Point, Stepped, Moves, at, Run, LeadsTo}
+use Rattle.sm_serve.specs.Run.{Counts, counts_after, Phase, Point, Stepped, Moves, at, ladders, Run, LeadsTo}
 use Rattle.sm_serve.specs.Moments.{machine_at, FitsAt}
 use Rattle.sm_serve.specs.declared.still.Still.{Still}
 use Rattle.sm_serve.specs.declared.still.Still.TheVariants.{Open, Closed}
@@ -70,7 +70,7 @@ pub record GoesOn (h k : History) : Type 0 where
   pub steps : k.steps ≡ h.steps ++ further
   pub path : LeadsTo h.items h.steps h.point k.items k.steps k.point
 
--- A later history, in which one connection alone went on, and is still open or was closed.
+-- A later history, in which one connection alone went on, and is still open or was closed. No ladder was declared in it.
 pub record Follows (n : ℕ) (is_open : Bool) (h k : History) : Type 0 where
   pub first : k.first ≡ h.first
   pub begin : k.begin ≡ h.begin
@@ -81,6 +81,7 @@ pub record Follows (n : ℕ) (is_open : Bool) (h k : History) : Type 0 where
   pub deals : deals_in k.items ≡ deals_in h.items
   pub live : live k.items ≡ (if is_open then live h.items else without n (live h.items))
   pub counts : (j : ℕ) → j ≢ n → k.point.counts j ≡ h.point.counts j
+  pub no_ladder : ladders k.steps ≡ ladders h.steps
 
 abbrev pub stays_open : Still → Bool
 stays_open Open = true

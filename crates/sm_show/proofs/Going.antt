@@ -124,6 +124,7 @@ module _ {D : Type 0} (site : Seen D) where
             since = all.since;
             deals = deals;
             taken = all.taken;
+            no_ladder = all.no_ladder;
             ended = ends;
             run = k.run;
             awaits = all.serves.rest.phase_is;

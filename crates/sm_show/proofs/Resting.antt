@@ -9,7 +9,7 @@ use Rattle.sm_serve.specs.declared.state.State.{State}
 use Rattle.sm_serve.specs.Connections.{deals_in}
 use Rattle.sm_serve.specs.Standing.{History, StandsForSome}
 use Rattle.sm_serve.specs.Serving.{Serves, Since, TurnsBy, RecallsIn}
-use Rattle.sm_serve.proofs.Lasting.{on_itself, on_then}
+use Rattle.sm_serve.proofs.Lasting.{on_itself, on_then, recalled_push}
 use Rattle.sm_serve.proofs.Events.{same_script}
 use Rattle.sm_model.specs.declared.entry.Entry.{Entry}
 use Rattle.sm_shelf.specs.Shelf.{Desk, Belongs}
@@ -33,10 +33,17 @@ since_then h k l one two = record {
 
 module _ {D : Type 0} (site : Seen D) where
   pub rests_here : (h : History) (state : State) (d : D) → Serves site h state d → Rests site h state d
-  rests_here h state d serves = record { later = h; serves = serves; since = since_itself h; same = refl; log = λ told. refl }
+  rests_here h state d serves = record { later = h; serves = serves; since = since_itself h; same = refl; log = λ told. refl; no_ladder = refl }
 
   pub rests_by : (h : History) (a : Address) (r : Fetched) (state : State) (d : D) → RecallsIn site h a r state d → Rests site h state d
-  rests_by h a r state d on = record { later = on.later; serves = on.serves; since = on.since; same = on.same; log = on.log }
+  rests_by h a r state d on = record {
+    later = on.later;
+    serves = on.serves;
+    since = on.since;
+    same = on.same;
+    log = on.log;
+    no_ladder = recalled_push h.steps on.later.steps on.step a on.steps on.conn on.act;
+  }
 
   pub rests_then : (h : History) (state : State) (d e : D) → is_some (site.view e).contents ≡ is_some (site.view d).contents → (one : Rests site h state d)
       → Rests site one.later state e → Rests site h state e
@@ -46,6 +53,7 @@ module _ {D : Type 0} (site : Seen D) where
     since = since_then h one.later two.later one.since two.since;
     same = two.same ∙ one.same;
     log = λ has. two.log has ∙ one.log (sym told ∙ has);
+    no_ladder = two.no_ladder ∙ one.no_ladder;
   }
 
   pub recalls_here : (state : State) (d : D) → StandsForSome site state.origin d → Recalls site state d d
@@ -76,6 +84,7 @@ module _ {D : Type 0} (site : Seen D) where
       serves = rests.serves;
       since = rests.since;
       taken = ap deals_in rests.same ∙ sym (append-nil (deals_in h.items));
+      no_ladder = rests.no_ladder;
     };
     script_is = same_script was (site.view d).script script;
   }

@@ -18,6 +18,7 @@ use Rattle.sm_archive.specs.Looking.{ShowsCatalog}
 use Rattle.sm_origin.specs.declared.origin.Origin.{Origin}
 use Rattle.sm_origin.specs.Seen.{archive_of}
 use Rattle.sm_serve.specs.declared.state.State.{State}
+use Rattle.sm_serve.specs.Run.{ladders}
 use Rattle.sm_serve.specs.Standing.{History, StandsForSome, is_told}
 use Rattle.sm_serve.specs.Serving.{Serves, Since}
 use Rattle.sm_shelf.specs.Parts.{IsEnd, addresses_in}
@@ -27,13 +28,14 @@ use Rattle.sm_show.specs.declared.outcome.Lack.TheVariants as lack
 use Rattle.sm_show.specs.declared.outcome.Up.{Up}
 use Rattle.sm_show.specs.declared.outcome.Up.TheVariants.{Behind}
 
--- The run goes on by steps alone that no connection asks for. They leave the log, where the disk tells its contents.
+-- The run goes on by steps alone that no connection asks for, and that declare no ladder. They leave the log, where the disk tells its contents.
 pub record Rests {D : Type 0} (site : Seen D) (h : History) (state : State) (d : D) : Type 0 where
   pub later : History
   pub serves : Serves site later state d
   pub since : Since h later
   pub same : later.items ≡ h.items
   pub log : IsTrue (is_told (site.view d)) → later.point.machine.log ≡ h.point.machine.log
+  pub no_ladder : ladders later.steps ≡ ladders h.steps
 
 -- So it does wherever it had come; the origin stands for its log, the link stays as it is, and the disk's faults become no fewer.
 pub record Recalls {D : Type 0} (site : Seen D) (state : State) (old new : D) : Type 0 where
