@@ -13,7 +13,7 @@ use Rattle.sm_export.specs.declared.exported.Exported.{Exported}
 use Rattle.sm_export.specs.declared.exported.Exported.TheVariants as exported
 use Rattle.sm_export.specs.declared.exported.StoreExport.{StoreExport}
 use Rattle.sm_export.specs.declared.exported.StoreExport.TheVariants as ends
-use Rattle.sm_export.specs.Exporting.{ExportedAs, IsBegun}
+use Rattle.sm_export.specs.Exporting.{ExportedAs, IsBegun, IsStopped}
 use Rattle.sm_export.specs.Storing.{ComesTo, IsChosenFor, IsTaken, TakesTo}
 use Rattle.sm_export.proofs.Reading.{rose_later}
 use Rattle.sm_ends.specs.Ended.{End}
@@ -23,6 +23,9 @@ use Rattle.sm_ends.specs.Ended.{End}
 begun_under : (T U : Type 0) → (U → T) → (log : List Entry) (b name : List ℕ) (bitrate : ℕ) (held held' : Option (List ℕ)) → IsBegun T log b name bitrate held held' → IsBegun U log b name bitrate held held'
 begun_under T U so log b name bitrate held held' h = record { clear = h.clear; fits = h.fits; front = λ u. h.front (so u) }
 
+stopped_under : (T U : Type 0) → (U → T) → (log : List Entry) (b name : List ℕ) (bitrate : ℕ) (held held' : Option (List ℕ)) → IsStopped T log b name bitrate held held' → IsStopped U log b name bitrate held held'
+stopped_under T U so log b name bitrate held held' h = record { clear = h.clear; fits = h.fits; front = λ u. h.front (so u) }
+
 under : (T U : Type 0) → (U → T) → (log : List Entry) (b name : List ℕ) (bitrate : ℕ) (held held' : Option (List ℕ)) (e : Exported) → ExportedAs T log b name bitrate held held' e
     → ExportedAs U log b name bitrate held held' e
 under T U so log b name bitrate held held' (exported.Done written) h = record { clear = h.clear; fits = h.fits; whole = λ u. h.whole (so u) }
@@ -30,7 +33,7 @@ under T U so log b name bitrate held held' (exported.Input r) h = h
 under T U so log b name bitrate held held' (exported.Other c) h = h
 under T U so log b name bitrate held held' exported.DiskFault h = begun_under T U so log b name bitrate held held' h
 under T U so log b name bitrate held held' exported.Damaged h = (λ u. h.0 (so u), begun_under T U so log b name bitrate held held' h.1)
-under T U so log b name bitrate held held' exported.WriteFault h = begun_under T U so log b name bitrate held held' h
+under T U so log b name bitrate held held' exported.WriteFault h = stopped_under T U so log b name bitrate held held' h
 under T U so log b name bitrate held held' (exported.NoMemory false) h = h
 under T U so log b name bitrate held held' (exported.NoMemory true) h = begun_under T U so log b name bitrate held held' h
 

@@ -1,6 +1,6 @@
 -- Texts one behind another, and how much of them has gone out.
 use Rattle.std.proofs.Common.{◌≡◌, ◌+◌, ◌<◌, ◌≤◌, min, ℕ, List, [], ◌∷◌, ◌++◌, length, length-append, take, drop, Option, refl, sym, ap, subst, ◌∙◌, arith, append_assoc, append-nil}
-use Rattle.std.specs.Prelude.{◌==◌, ◌^◌, zero, suc, Bool, true, false, nat_lt, slice_index_or, if◌then◌else◌}
+use Rattle.std.specs.Prelude.{◌==◌, ◌^◌, zero, suc, Bool, true, false, nat_lt, slice_index_or, if◌then◌else◌, Result, Ok, Err, IfErr, OnErr}
 use Rattle.std.specs.Io.KnownBytes.{Appends}
 use Rattle.std.proofs.KnownBytes.{Appends-trans}
 use Rattle.std.proofs.lemmas.List.{take_more, take-append-le, take_min, take-append-drop}
@@ -16,8 +16,11 @@ use Rattle.sm_log.specs.Times.{with_entry}
 use Rattle.sm_log.specs.Adds.{Add, times_from}
 use Rattle.sm_log.specs.Logs.{times_in, adds_of, adds_from, IsSound}
 use Rattle.sm_export.specs.Exporting.{texts_from}
+use Rattle.sm_export.specs.declared.gathering.Broken.{Broken}
+use Rattle.sm_export.specs.declared.gathering.Broken.TheVariants as broken
 use Rattle.sm_export.specs.Gathering.{Leaves, LeavesFront}
 use Rattle.sm_export.specs.Qualities.{kept_list, kept_among}
+use Rattle.sm_export.specs.Reading.{WentOut}
 use Rattle.sm_export.proofs.Gathered.{leaves_more, front_more, front_of_longer}
 
 pub texts_both : (seq id : ℕ) (xs ys : List Fragment) → texts_from seq id (xs ++ ys) ≡ texts_from seq id xs ++ texts_from (seq + length xs) id ys
@@ -43,6 +46,20 @@ front_then a b c xs ys zs p q =
   where
     took : (xs ys zs : List ℕ) (k : ℕ) → take (length xs + min k (length ys)) (xs ++ (ys ++ zs)) ≡ xs ++ take k ys
     took xs ys zs k = take-append-add xs (ys ++ zs) (min k (length ys)) ∙ ap (λ (t : List ℕ). xs ++ t) (take-append-le (min k (length ys)) ys zs (omega arith) ∙ take_min k ys)
+
+-- all of the header went out, and a front of the texts, or what the sink took of them
+pub went_on : (why : Broken) (a b c : Option (List ℕ)) (xs ys : List ℕ) → Appends a b xs → AppendsFront b c ys → WentOut why a c xs ys
+went_on broken.WriteFault a b c xs ys p q = subst (λ (t : List ℕ). AppendsFront a c (xs ++ t)) (append-nil ys) (front_then a b c xs ys [] p q)
+went_on broken.DiskFault a b c xs ys p q = (q.0, Appends-trans a b c xs (take q.0 ys) p q.1)
+went_on broken.Damaged a b c xs ys p q = (q.0, Appends-trans a b c xs (take q.0 ys) p q.1)
+went_on broken.NoMemory a b c xs ys p q = (q.0, Appends-trans a b c xs (take q.0 ys) p q.1)
+
+pub err_by : {T E : Type 0} (r : Result T E) (P : Type 0) (Q : E → Type 0) → ((e : E) → P → Q e) → OnErr r P → IfErr r Q
+err_by (Ok x) P Q so h = tt
+err_by (Err e) P Q so h = so e h
+
+pub err_of : {T E : Type 0} (r : Result T E) (e : E) (P : E → Type 0) → r ≡ Err e → IfErr r P → P e
+err_of {T} {E} r e P is h = subst (λ (x : Result T E). IfErr x P) is h
 
 -- a front of the first is a front of both
 pub front_of_first : (a b : Option (List ℕ)) (xs ys : List ℕ) → AppendsFront a b xs → AppendsFront a b (xs ++ ys)

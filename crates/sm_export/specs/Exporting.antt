@@ -1,5 +1,5 @@
 -- What an export writes.
-use Rattle.std.specs.Prelude.{◌≡◌, ◌<◌, ◌^◌, ℕ, true, false, ◌+◌, List, [], ◌∷◌, ◌++◌, length, Option, Some, None, slice_get}
+use Rattle.std.specs.Prelude.{◌≡◌, ◌<◌, ◌^◌, ℕ, true, false, ◌+◌, List, [], ◌∷◌, ◌++◌, length, take, Option, Some, None, slice_get}
 use Rattle.std.specs.Option.{option_map}
 use Rattle.std.specs.Io.KnownBytes.{Appends}
 use Rattle.sm_ends.specs.Moves.{AppendsFront}
@@ -71,14 +71,21 @@ pub record IsFit (b : List ℕ) (log : List Entry) (name : List ℕ) (bitrate : 
 
 -- ---- answers
 
--- The file was begun: nothing refuses the input, its header is the store's, and on a disk that tells its contents a front of the text
--- was written.
+-- The file was begun: nothing refuses the input, its header is the store's, and on a disk that tells its contents the header was written, and a
+-- front of the texts behind it.
 pub record IsBegun (told : Type 0) (log : List Entry) (b name : List ℕ) (bitrate : ℕ) (held held' : Option (List ℕ)) : Type 0 where
+  pub clear : input_refusal b ≡ None
+  pub fits : IsFit b log name bitrate
+  pub front : told → (text : List ℕ) × (e : IsExportText b log name bitrate text) × (n : ℕ)
+      × Appends held held' (e.header ++ take n (texts_from 1 e.id (quality log name bitrate)))
+
+-- The same, where the output failed: any front of the file was written.
+pub record IsStopped (told : Type 0) (log : List Entry) (b name : List ℕ) (bitrate : ℕ) (held held' : Option (List ℕ)) : Type 0 where
   pub clear : input_refusal b ≡ None
   pub fits : IsFit b log name bitrate
   pub front : told → (text : List ℕ) × IsExportText b log name bitrate text × AppendsFront held held' text
 
--- The same, and all of it was written.
+-- The same, where all of it was written.
 pub record IsDone (told : Type 0) (log : List Entry) (b name : List ℕ) (bitrate : ℕ) (held held' : Option (List ℕ)) (written : ℕ) : Type 0 where
   pub clear : input_refusal b ≡ None
   pub fits : IsFit b log name bitrate
@@ -91,6 +98,6 @@ ExportedAs told log b name bitrate held held' (exported.Input r) = (input_refusa
 ExportedAs told log b name bitrate held held' (exported.Other c) = (input_refusal b ≡ None) × IsUnfit b log name bitrate c × Appends held held' []
 ExportedAs told log b name bitrate held held' exported.DiskFault = IsBegun told log b name bitrate held held'
 ExportedAs told log b name bitrate held held' exported.Damaged = (told → ⊥) × IsBegun told log b name bitrate held held'
-ExportedAs told log b name bitrate held held' exported.WriteFault = IsBegun told log b name bitrate held held'
+ExportedAs told log b name bitrate held held' exported.WriteFault = IsStopped told log b name bitrate held held'
 ExportedAs told log b name bitrate held held' (exported.NoMemory false) = Appends held held' []
 ExportedAs told log b name bitrate held held' (exported.NoMemory true) = IsBegun told log b name bitrate held held'

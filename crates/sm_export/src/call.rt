@@ -1,7 +1,6 @@
 //! Exporting one quality.
-ghost use Rattle.std.specs.Prelude.{◌≡◌, ◌≤◌, ◌<◌, ◌^◌, List, [], ◌++◌, Option, Some, IfOk, OnErr, IsSome, length};
+ghost use Rattle.std.specs.Prelude.{◌≡◌, ◌≤◌, ◌<◌, ◌^◌, List, [], ◌++◌, Option, Some, IfErr, IfOk, IsSome, length};
 ghost use Rattle.std.specs.Io.KnownBytes.{Appends};
-ghost use Rattle.sm_ends.specs.Moves.{AppendsFront};
 ghost use Rattle.sm_ends.specs.Faults.{Rose as FaultsRose};
 ghost use Rattle.sm_model.specs.declared.entry.Entry.{Entry};
 ghost use Rattle.sm_site.specs.Clauses.{Rose, Throughout};
@@ -9,7 +8,7 @@ ghost use Rattle.sm_site.specs.Meanings.{DiskAlone};
 ghost use Rattle.sm_archive.specs.Stands.{Stands};
 ghost use Rattle.sm_export.specs.Exporting.{texts_from, ExportedAs};
 ghost use Rattle.sm_export.specs.Qualities.{kept_among};
-ghost use Rattle.sm_export.specs.Reading.{IsOnlyRead, WhyBroken};
+ghost use Rattle.sm_export.specs.Reading.{IsOnlyRead, WentOut, WhyBroken};
 ghost use Rattle.sm_export.specs.declared.exported.Exported.TheVariants as exported;
 
 use crate::Exported;
@@ -43,9 +42,9 @@ fn write_file<D: Disk, O: Sink>(
         → IsSome (D.seen.view disk.old).contents
         → Appends (O.held out.old) (O.held out.new) (header.now ++ texts_from 1 id (kept_among log name.now bitrate times.now))
         × (written ≡ length (kept_among log name.now bitrate times.now))) }
-    ensures err { OnErr result ((log : List Entry) (doubt : Option Entry) → Stands archive.now log doubt (D.seen.may_leave disk.old)
+    ensures err { IfErr result (λ why. (log : List Entry) (doubt : Option Entry) → Stands archive.now log doubt (D.seen.may_leave disk.old)
         → IsSome (D.seen.view disk.old).contents
-        → AppendsFront (O.held out.old) (O.held out.new) (header.now ++ texts_from 1 id (kept_among log name.now bitrate times.now))) }
+        → WentOut why (O.held out.old) (O.held out.new) header.now (texts_from 1 id (kept_among log name.now bitrate times.now))) }
     ensures cause { WhyBroken (D.seen.view disk.old) (D.seen.view disk.new) (O.faults out.old) (O.faults out.new) result }
     ensures read { IsOnlyRead D.seen archive.now disk.old disk.new }
 {

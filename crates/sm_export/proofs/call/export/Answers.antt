@@ -2,8 +2,9 @@ use Rattle.std.proofs.Common.{◌≡◌, ◌<◌, ◌^◌, ◌∙◌, ℕ, List,
 use Rattle.sm_log.specs.Adds.{times_of}
 use Rattle.sm_log.specs.Logs.{times_in}
 use Rattle.sm_export.specs.Qualities.{kept_among}
-use Rattle.sm_export.proofs.Texts.{times_few}
-use Rattle.sm_export.proofs.Answering.{begun, fit, text_is}
+use Rattle.sm_export.specs.declared.gathering.Broken.TheVariants as broken
+use Rattle.sm_export.proofs.Texts.{err_of, times_few}
+use Rattle.sm_export.proofs.Answering.{begun, fit, stopped, text_is}
 use Rattle.sm_export.proofs.call.export.Goals as goal
 
 pub write_file-requires-clause-few : goal.write_file-requires-clause-few
@@ -39,16 +40,16 @@ returns-in-Err-DiskFault-clause-exported g c = λ log doubt s.
     let name = c.args.name.now in
     begun _ c.args.input.now name c.args.bitrate log (take c.in-Ok.head.len c.args.input.now) c.split_at.result.0.now c.in-Ok.head.channel c.in-Some.catalog.now.channel c.in-Ok.head.id c.in-Ok-id_in.id
     c.times-times.result.now (g.O.Sink.held c.args.out.now) (g.O.Sink.held c.write_file.new.out) c.in-Ok.ensures.clear c.in-Ok.ensures.head.1 found.0 found.1 shows.0 c.in-Err-DiskFault.ensures.narrow
-    c.split_at.ensures.front (c.times-times.ensures ∙ ap (times_of name) shows.1) (λ told. c.in-Err-DiskFault.ensures.err log doubt s told)
+    c.split_at.ensures.front (c.times-times.ensures ∙ ap (times_of name) shows.1) (λ told. err_of c.write_file.result broken.DiskFault _ (cc) c.write_file.ensures.err log doubt s told)
 
 pub returns-in-Err-WriteFault-clause-exported : goal.returns-in-Err-WriteFault-clause-exported
 returns-in-Err-WriteFault-clause-exported g c = λ log doubt s.
     let shows = c.in-Some.ensures s.bodies s.body log doubt s.keeps in
     let found = c.in-Ok-id_in.ensures.ok in
     let name = c.args.name.now in
-    begun _ c.args.input.now name c.args.bitrate log (take c.in-Ok.head.len c.args.input.now) c.split_at.result.0.now c.in-Ok.head.channel c.in-Some.catalog.now.channel c.in-Ok.head.id c.in-Ok-id_in.id
+    stopped _ c.args.input.now name c.args.bitrate log (take c.in-Ok.head.len c.args.input.now) c.split_at.result.0.now c.in-Ok.head.channel c.in-Some.catalog.now.channel c.in-Ok.head.id c.in-Ok-id_in.id
     c.times-times.result.now (g.O.Sink.held c.args.out.now) (g.O.Sink.held c.write_file.new.out) c.in-Ok.ensures.clear c.in-Ok.ensures.head.1 found.0 found.1 shows.0 c.in-Err-WriteFault.ensures.narrow
-    c.split_at.ensures.front (c.times-times.ensures ∙ ap (times_of name) shows.1) (λ told. c.in-Err-WriteFault.ensures.err log doubt s told)
+    c.split_at.ensures.front (c.times-times.ensures ∙ ap (times_of name) shows.1) (λ told. err_of c.write_file.result broken.WriteFault _ (cc) c.write_file.ensures.err log doubt s told)
 
 pub returns-in-Err-NoMemory-write_file-clause-exported : goal.returns-in-Err-NoMemory-write_file-clause-exported
 returns-in-Err-NoMemory-write_file-clause-exported g c = λ log doubt s.
@@ -57,4 +58,4 @@ returns-in-Err-NoMemory-write_file-clause-exported g c = λ log doubt s.
     let name = c.args.name.now in
     begun _ c.args.input.now name c.args.bitrate log (take c.in-Ok.head.len c.args.input.now) c.split_at.result.0.now c.in-Ok.head.channel c.in-Some.catalog.now.channel c.in-Ok.head.id c.in-Ok-id_in.id
     c.times-times.result.now (g.O.Sink.held c.args.out.now) (g.O.Sink.held c.write_file.new.out) c.in-Ok.ensures.clear c.in-Ok.ensures.head.1 found.0 found.1 shows.0 c.in-Err-NoMemory-write_file.ensures.narrow
-    c.split_at.ensures.front (c.times-times.ensures ∙ ap (times_of name) shows.1) (λ told. c.in-Err-NoMemory-write_file.ensures.err log doubt s told)
+    c.split_at.ensures.front (c.times-times.ensures ∙ ap (times_of name) shows.1) (λ told. err_of c.write_file.result broken.NoMemory _ (cc) c.write_file.ensures.err log doubt s told)

@@ -1,10 +1,8 @@
-use Rattle.std.proofs.Common.{ℕ, List, [], ◌++◌, subst, append-nil}
 use Rattle.std.proofs.KnownBytes.{Appends-trans}
-use Rattle.std.proofs.lemmas.Result.{IfOk-weaker, err_from_is_err_and, on_err_weaker}
-use Rattle.sm_ends.specs.Moves.{AppendsFront}
+use Rattle.std.proofs.lemmas.Result.{IfOk-weaker, err_from_is_err_and}
 use Rattle.sm_export.specs.Exporting.{texts_from}
 use Rattle.sm_export.specs.Qualities.{kept_among}
-use Rattle.sm_export.proofs.Texts.{front_then, front_of_first}
+use Rattle.sm_export.proofs.Texts.{err_by, front_of_first, went_on}
 use Rattle.sm_export.proofs.Reading.{cause_since, not_read, sink_broke}
 use Rattle.sm_export.proofs.call.write_file.Goals as goal
 
@@ -12,18 +10,16 @@ pub returns-clause-ok : goal.returns-clause-ok
 returns-clause-ok g c = IfOk-weaker c.write_times.result _ _ (λ written p log doubt s told. let w = p log doubt s told in (Appends-trans _ _ _ _ _ c.in_ok-write_all.ensures.ok w.0, w.1)) c.write_times.ensures.ok
 
 pub returns-clause-err : goal.returns-clause-err
-returns-clause-err g c = on_err_weaker c.write_times.result
-    (λ p log doubt s told.
-    let texts : List ℕ = texts_from 1 c.args.id (kept_among log c.args.name.now c.args.bitrate c.args.times.now) in
-    let a = g.O.Sink.held c.args.out.now in
-    let b = g.O.Sink.held c.write_times.new.out in
-    subst (λ (x : List ℕ). AppendsFront a b (c.args.header.now ++ x)) (append-nil texts) (front_then a (g.O.Sink.held c.write_all.new.sink) b c.args.header.now texts [] c.in_ok-write_all.ensures.ok (p log doubt s told)))
+returns-clause-err g c = err_by c.write_times.result _ _
+    (λ why p log doubt s told.
+    went_on why (g.O.Sink.held c.args.out.now) (g.O.Sink.held c.write_all.new.sink) (g.O.Sink.held c.write_times.new.out) c.args.header.now
+    (texts_from 1 c.args.id (kept_among log c.args.name.now c.args.bitrate c.args.times.now)) c.in_ok-write_all.ensures.ok (p log doubt s told))
     c.write_times.ensures.err
 
 pub returns-in_err-write_all-clause-err : goal.returns-in_err-write_all-clause-err
 returns-in_err-write_all-clause-err g c =
     let q = err_from_is_err_and c.from_residual.result c.from_residual.ensures.1 in
-    rw q.1 (λ log doubt s told. front_of_first (g.O.Sink.held c.args.out.now) (g.O.Sink.held c.write_all.new.sink) c.args.header.now
+    rw (q.1, q.2) (λ log doubt s told. front_of_first (g.O.Sink.held c.args.out.now) (g.O.Sink.held c.write_all.new.sink) c.args.header.now
     (texts_from 1 c.args.id (kept_among log c.args.name.now c.args.bitrate c.args.times.now)) c.in_err-write_all.ensures.err)
 
 pub returns-clause-cause : goal.returns-clause-cause
