@@ -1,7 +1,7 @@
 //! Targets read.
 ghost use Rattle.std.specs.Prelude.{◌≡◌, ◌<◌, ◌^◌, IfOk};
 ghost use Rattle.sm_addr.specs.Targets as spec;
-ghost use Rattle.sm_addr.specs.Targets.{target_text, target_in, target_of};
+ghost use Rattle.sm_addr.specs.Targets.{target_in, target_of};
 
 use crate::cut::{before, behind, cut_at};
 use crate::path::{is_short_path, isml_at};
@@ -9,16 +9,7 @@ use crate::time::time_of;
 use percent_encoding::percent_decode;
 use sm_model::{Address, Name, NameFault, NoMemory, Target, number_of};
 use std::alloc::Global;
-
-// The text that a target stands for: all before a `?`, with the escapes read.
-fn unescaped(alloc: Global, bytes: &[u8]) -> Result<Vec<u8>, NoMemory>
-    ensures { IfOk result (λ text. text.items ≡ target_text bytes.now) }
-{
-    let mut text = Vec::new(alloc);
-    let (asked, _) = cut_at(bytes, b'?');
-    percent_decode(asked).append_to(&mut text)?;
-    Ok(text)
-}
+use std::borrow::CowSlice;
 
 // A push under the name that the bytes are, if they are one.
 fn streams(alloc: Global, id: &[u8]) -> Result<Target, NoMemory>
@@ -129,6 +120,10 @@ fn target_in(alloc: Global, text: &[u8]) -> Result<Target, NoMemory>
 pub fn read_target(alloc: Global, bytes: &[u8]) -> Result<Target, NoMemory>
     ensures { IfOk result (λ target. target ≡ target_of bytes.now) }
 {
-    let text = unescaped(alloc, bytes)?;
-    target_in(alloc, text.as_slice())
+    let (asked, _) = cut_at(bytes, b'?');
+    // Mostly there is no escape, and nothing is copied.
+    match percent_decode(asked).into_cow(alloc)? {
+        CowSlice::Borrowed(text) => target_in(alloc, text),
+        CowSlice::Owned(text) => target_in(alloc, text.as_slice()),
+    }
 }

@@ -1,10 +1,11 @@
 //! Replies written.
-ghost use Rattle.std.specs.Prelude.{◌≡◌, ◌++◌, OnOk, IfOk};
+ghost use Rattle.std.specs.Prelude.{◌≡◌, ◌++◌, decimal, OnOk, IfOk};
 ghost use Rattle.http.specs.StatusCode.{IsStatusCode};
 ghost use Rattle.sm_head.specs.Replies.{kind_text, phrase, status_line, type_line, length_line, close_line, reply_head, reply_text};
 
 use http::StatusCode;
-use sm_model::{Bytes, NoMemory, put, put_number};
+use itoa::Buffer;
+use sm_model::{Bytes, NoMemory, put};
 use std::alloc::Global;
 
 /// What the body of a reply is.
@@ -53,12 +54,20 @@ fn put_phrase(out: &mut Vec<u8>, status: u16) -> Result<(), NoMemory>
     }
 }
 
-fn put_status(alloc: Global, out: &mut Vec<u8>, status: u16) -> Result<(), NoMemory>
+// A number in decimal digits, which are written on the stack.
+fn put_number(out: &mut Vec<u8>, number: u64) -> Result<(), NoMemory>
+    ensures { OnOk result (out.new.items ≡ out.old.items ++ decimal number) }
+{
+    let mut digits = Buffer::new();
+    put(out, digits.format(number).as_bytes())
+}
+
+fn put_status(out: &mut Vec<u8>, status: u16) -> Result<(), NoMemory>
     requires { IsStatusCode status }
     ensures { OnOk result (out.new.items ≡ out.old.items ++ status_line status) }
 {
     put(out, b"HTTP/1.1 ")?;
-    put_number(alloc, out, status as u64)?;
+    put_number(out, status as u64)?;
     put(out, b" ")?;
     put_phrase(out, status)?;
     put(out, b"\r\n")
@@ -72,11 +81,11 @@ fn put_type(out: &mut Vec<u8>, kind: Content) -> Result<(), NoMemory>
     put(out, b"\r\n")
 }
 
-fn put_length(alloc: Global, out: &mut Vec<u8>, count: u64) -> Result<(), NoMemory>
+fn put_length(out: &mut Vec<u8>, count: u64) -> Result<(), NoMemory>
     ensures { OnOk result (out.new.items ≡ out.old.items ++ length_line count) }
 {
     put(out, b"Content-Length: ")?;
-    put_number(alloc, out, count)?;
+    put_number(out, count)?;
     put(out, b"\r\n")
 }
 
@@ -91,7 +100,6 @@ fn put_close(out: &mut Vec<u8>, close: bool) -> Result<(), NoMemory>
 }
 
 fn put_head(
-    alloc: Global,
     out: &mut Vec<u8>,
     status: u16,
     kind: Content,
@@ -101,9 +109,9 @@ fn put_head(
     requires { IsStatusCode status }
     ensures { OnOk result (out.new.items ≡ out.old.items ++ reply_head status kind count close) }
 {
-    put_status(alloc, out, status)?;
+    put_status(out, status)?;
     put_type(out, kind)?;
-    put_length(alloc, out, count)?;
+    put_length(out, count)?;
     put_close(out, close)?;
     put(out, b"\r\n")
 }
@@ -124,7 +132,7 @@ pub fn begin_front(
     ensures { IfOk result (λ out. out.items ≡ reply_head status kind count close) }
 {
     let mut out = Vec::with_capacity(alloc, room.saturating_add(HEAD_ROOM))?;
-    put_head(alloc, &mut out, status, kind, count as u64, close)?;
+    put_head(&mut out, status, kind, count as u64, close)?;
     Ok(out)
 }
 

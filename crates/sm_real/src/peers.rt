@@ -19,6 +19,8 @@ const MOST: usize = 256;
 #[derive(Drop)]
 pub struct Peers {
     list: Vec<Peer>,
+    // The place of the one that was visited last, whose piece the loop mostly has in hand: it is looked for there first.
+    last: usize,
 }
 
 impl Peers {
@@ -26,6 +28,7 @@ impl Peers {
     pub fn new(alloc: Global) -> Result<Peers, AllocError> {
         Ok(Peers {
             list: Vec::with_capacity(alloc, MOST)?,
+            last: 0,
         })
     }
 
@@ -70,6 +73,7 @@ impl Peers {
         ensures whose { IsAt result.0 place self.new.list.items }
         ensures no_other { Touches result.0 self.old.list.items self.new.list.items }
     {
+        self.last = place;
         let peer = &mut self.list[place];
         let found = peer.visit(alloc, buffer, now, patience);
         (peer.number, found)
@@ -79,6 +83,11 @@ impl Peers {
     fn place(&self, number: u64) -> Option<usize>
         ensures { IfSome result (λ place. IsAt number place self.now.list.items) }
     {
+        if let Some(peer) = self.list.get(self.last)
+            && peer.number == number
+        {
+            return Some(self.last);
+        }
         let found = self.list.binary_search_by(|peer| peer.number.cmp(&number));
         let place = found.ok()?;
         match self.list.get(place) {
