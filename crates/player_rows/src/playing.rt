@@ -4,7 +4,7 @@ use crate::counting::CountingLink;
 use crate::meeting::Meeting;
 use crate::publishing::publish;
 use anyhow::{Result, bail};
-use sm_players::{Crew, NoForward, NoGate, Played, Spawner, Stop, player};
+use sm_players::{Crew, NoForward, NoGate, Played, PlayerHandle, Spawner, Stop, player};
 use sm_rows::scripts::{Cut, is_quiet, site};
 use sm_rows::tales::Tale;
 use sm_rows::{Case, Line, disks};
@@ -190,11 +190,18 @@ fn add_both<R: Threads + Drop>(
     add(alloc, case, crew, shared, second)
 }
 
+// The players that run.
+type Running = Vec<PlayerHandle<CountingLink<MemorySite>, NoForward, Meeting>>;
+
 // Starts a player for each reader, and answers how many were refused.
-fn start<R: Threads + Drop>(crew: &mut Two<R>, readers: Readers) -> u32 {
+fn start<R: Threads + Drop>(crew: &mut Two<R>, readers: Readers, running: &mut Running) -> u32 {
     let mut refused = 0u32;
     for reader in readers.into_vec() {
-        if crew.start(reader).is_err() {
+        let runs = match crew.start(reader) {
+            Ok(handle) => running.push(handle).is_ok(),
+            Err(_) => false,
+        };
+        if !runs {
             refused = refused.saturating_add(1);
         }
     }
@@ -225,8 +232,12 @@ fn play_both<R: Threads + Drop>(
 ) -> Result<()> {
     let shared = Shared::new(alloc)?;
     add_both(alloc, case, crew, &shared)?;
-    let refused = start(crew, readers);
-    let finished = crew.finish();
+    let mut running = Vec::new(alloc);
+    let refused = start(crew, readers, &mut running);
+    if running.len() > 2 {
+        bail!("more than two players run");
+    }
+    let finished = crew.finish(running);
     tell_met(alloc, finished.done, refused, &shared, tale)
 }
 

@@ -1,16 +1,16 @@
 //! The spawner over sockets.
-ghost use Rattle.std.specs.Prelude.{◌≡◌, ◌≤◌, ◌<◌, IsErrOf, vec_len, vec_capacity};
+ghost use Rattle.std.specs.Prelude.{◌≡◌, ◌≤◌, ◌<◌, IfOk, IsErrOf};
 ghost use Rattle.sm_site.specs.Clauses.{Rose};
 
 use crate::listeners::Listeners;
 use crate::loop_forward::LoopForward;
 use sm_model::NoMemory;
-use sm_players::{Crew, Finished, NoGate, Parts, Played, SpawnError, Spawner, Stop, Wiring};
+use sm_players::{Crew, Finished, NoGate, Parts, SpawnError, Spawner, Stop, Wiring};
 use sm_real::{Doing, OpenFault, Sharing, TcpLink, Trouble, Viewers};
 use std::alloc::Global;
 use std::io::{self, ErrorKind};
 use std::net::{Net, TcpListener, TcpStream};
-use std::thread::{JoinHandle, Threads};
+use std::thread::Threads;
 use std::time::Clock;
 
 // The connections of one player.
@@ -22,7 +22,7 @@ const TURNS: u64 = 9_223_372_036_854_775_807;
 /// A spawner whose players answer viewers at the port behind the loop's. All of them take connections of the same listener, each up to 16, and
 /// further ones only while every one has as many: then a player refuses them. What isn't published any more they ask at the loop's port.
 ///
-/// It serves one selection: once `finish` has asked its players to end, those that are started later end too.
+/// It serves one selection: once `stop` has asked its players to end, those that are started later end too.
 #[derive(Drop)]
 pub struct RealCrew<
     R: Threads + Net<Listener = TcpListener, Stream = TcpStream> + Clock + Copy + Drop,
@@ -39,7 +39,9 @@ impl<R: Threads + Net<Listener = TcpListener, Stream = TcpStream> + Clock + Copy
     R,
 > {
     /// Without wires, as it is before `select`. Whom its players answer is counted there.
-    pub fn new(rt: R, alloc: Global, viewers: Viewers) -> Result<RealCrew<R>, NoMemory> {
+    pub fn new(rt: R, alloc: Global, viewers: Viewers) -> Result<RealCrew<R>, NoMemory>
+        ensures turns { IfOk result (λ c. c.crew.turns ≡ 9223372036854775807) }
+    {
         let stop = Stop::new(alloc)?;
         let crew = Crew::new(alloc, rt, stop.copy()?, TURNS);
         Ok(RealCrew {
@@ -91,7 +93,7 @@ impl<R: Threads + Net<Listener = TcpListener, Stream = TcpStream> + Clock + Copy
         sharing: Sharing,
     ) -> Result<(), OpenFault>
         ensures started { self.new.crew.started ≡ self.old.crew.started }
-        ensures handles { self.new.crew.handles ≡ self.old.crew.handles }
+        ensures turns { self.new.crew.turns ≡ self.old.crew.turns }
         ensures faults { self.new.crew.faults ≡ self.old.crew.faults }
         ensures wired { self.new.crew.wired ≡ self.old.crew.wired }
     {
@@ -111,7 +113,7 @@ impl<R: Threads + Net<Listener = TcpListener, Stream = TcpStream> + Clock + Copy
     fn wire(&mut self, wiring: &Wiring) -> Result<(), OpenFault>
         requires { wiring.now.port ≤ 65534 }
         ensures started { self.new.crew.started ≡ self.old.crew.started }
-        ensures handles { self.new.crew.handles ≡ self.old.crew.handles }
+        ensures turns { self.new.crew.turns ≡ self.old.crew.turns }
         ensures faults { self.new.crew.faults ≡ self.old.crew.faults }
         ensures wired { self.new.crew.wired ≡ self.old.crew.wired }
     {
@@ -153,13 +155,13 @@ impl<
 
     ghost started = { λ c. c.crew.started };
 
-    ghost running = { λ c. vec_len c.crew.handles };
+    ghost limit = { λ c. c.crew.turns };
 
     ghost chosen = { λ c. c.crew.wired };
 
     ghost counted = { λ c. c.crew.finished };
 
-    ghost has_room = { λ c. (vec_len c.crew.handles < vec_capacity c.crew.handles) × (vec_len c.crew.handles < 4294967295) × (c.crew.started < 18446744073709551615) };
+    ghost may_start = { λ c. c.crew.started < 18446744073709551615 };
 
     fn select(&mut self, wiring: Wiring) -> Result<(), SpawnError> {
         match self.wire(&wiring) {
@@ -185,15 +187,15 @@ impl<
     }
 
     fn turns(&self) -> u64 {
-        TURNS
+        self.crew.turns()
     }
 
     fn prepare(&mut self) -> Result<Parts<TcpLink<R>, LoopForward<R>, NoGate>, SpawnError> {
         self.crew.prepare()
     }
 
-    fn keep(&mut self, handle: JoinHandle<Played>) {
-        self.crew.keep(handle);
+    fn count_start(&mut self) {
+        self.crew.count_start();
     }
 
     // A thread that isn't started comes without a word of the system's, so these are the program's own.
@@ -203,7 +205,11 @@ impl<
         self.crew.count_fault();
     }
 
-    fn finish(&mut self) -> Finished {
-        self.crew.finish()
+    fn stop(&mut self) {
+        self.crew.stop();
+    }
+
+    fn note(&mut self, finished: Finished) {
+        self.crew.note(finished);
     }
 }

@@ -4,3 +4,4 @@ mod Replies
 mod Seeing
 mod Handling
 mod Ending
+mod Joining

@@ -4,7 +4,7 @@ use Rattle.sm_players.specs.declared.crew.Crew.{Crew}
 
 -- the parts alone are others
 pub record PartsAlone {R W F G : Type 0} (old new : Crew R W F G) : Type 0 where
-  pub handles : new.handles ≡ old.handles
   pub started : new.started ≡ old.started
+  pub turns : new.turns ≡ old.turns
   pub faults : new.faults ≡ old.faults
   pub wired : new.wired ≡ old.wired

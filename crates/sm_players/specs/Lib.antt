@@ -6,4 +6,5 @@ pub mod Open
 pub mod Playing
 pub mod Given
 pub mod Wiring
+pub mod Starting
 pub mod Adding

@@ -1,10 +1,10 @@
 //! The spawner that is given its players' parts.
-ghost use Rattle.std.specs.Prelude.{◌≡◌, ℕ, ◌+◌, ◌^◌, ◌≤◌, ◌<◌, vec_len, vec_capacity};
+ghost use Rattle.std.specs.Prelude.{◌≡◌, ◌<◌};
 
 use crate::forward::Forward;
 use crate::gate::Gate;
-use crate::played::Played;
-use crate::spawner::{Finished, Parts, SpawnError, Spawner};
+use crate::launched::Parts;
+use crate::spawner::{Finished, SpawnError, Spawner};
 use crate::stop::Stop;
 use crate::wire::Wire;
 use crate::wired::Wired;
@@ -12,14 +12,7 @@ use crate::wiring::Wiring;
 use sm_model::NoMemory;
 use std::alloc::Global;
 use std::collections::VecDeque;
-use std::thread::{JoinHandle, Threads};
-
-// Before any player has ended.
-const NONE: Finished = Finished {
-    done: 0,
-    faulted: 0,
-    starved: 0,
-};
+use std::thread::Threads;
 
 /// A spawner that is given the parts of its players, and takes those of one at each start.
 #[derive(Drop)]
@@ -29,12 +22,10 @@ pub struct Crew<R: Threads + Drop, W: Drop, F: Drop, G: Drop> {
     stop: Stop,
     turns: u64,
     parts: VecDeque<Parts<W, F, G>>,
-    handles: Vec<JoinHandle<Played>>,
     faults: u64,
     started: u64,
     finished: Finished,
     wired: Wired,
-    ghost few: { vec_len handles < 2 ^ 32 },
 }
 
 impl<R: Threads + Drop, W: Drop, F: Drop, G: Drop> Crew<R, W, F, G> {
@@ -42,10 +33,10 @@ impl<R: Threads + Drop, W: Drop, F: Drop, G: Drop> Crew<R, W, F, G> {
     ghost use Rattle.sm_players.specs.Adding.{PartsAlone};
     ghost use Rattle.sm_players.specs.Wiring.{rewired};
 
-    /// A crew without parts. Its players take so many events at most, and `finish` raises that flag.
+    /// A crew without parts. Its players take so many events at most, and `stop` raises that flag.
     pub fn new(alloc: Global, rt: R, stop: Stop, turns: u64) -> Crew<R, W, F, G>
-        ensures handles { vec_len result.handles ≡ 0 }
         ensures started { result.started ≡ 0 }
+        ensures turns { result.turns ≡ turns }
     {
         Crew {
             alloc,
@@ -53,10 +44,9 @@ impl<R: Threads + Drop, W: Drop, F: Drop, G: Drop> Crew<R, W, F, G> {
             stop,
             turns,
             parts: VecDeque::new(alloc),
-            handles: Vec::new(alloc),
             faults: 0,
             started: 0,
-            finished: NONE,
+            finished: Finished::none(),
             wired: Wired::never(),
         }
     }
@@ -64,8 +54,8 @@ impl<R: Threads + Drop, W: Drop, F: Drop, G: Drop> Crew<R, W, F, G> {
     /// Wires were asked for, and there are none.
     pub fn refuse(&mut self)
         ensures wired { self.new.wired ≡ rewired self.old.wired None }
-        ensures handles { self.new.handles ≡ self.old.handles }
         ensures started { self.new.started ≡ self.old.started }
+        ensures turns { self.new.turns ≡ self.old.turns }
         ensures faults { self.new.faults ≡ self.old.faults }
     {
         self.wired.ask(None);
@@ -105,13 +95,13 @@ impl<
 
     ghost started = { λ c. c.started };
 
-    ghost running = { λ c. vec_len c.handles };
+    ghost limit = { λ c. c.turns };
 
     ghost counted = { λ c. c.finished };
 
     ghost chosen = { λ c. c.wired };
 
-    ghost has_room = { λ c. (vec_len c.handles < vec_capacity c.handles) × (vec_len c.handles < 4294967295) × (c.started < 18446744073709551615) };
+    ghost may_start = { λ c. c.started < 18446744073709551615 };
 
     fn select(&mut self, wiring: Wiring) -> Result<(), SpawnError> {
         self.wired.ask(Some(wiring));
@@ -131,10 +121,7 @@ impl<
     }
 
     fn prepare(&mut self) -> Result<Parts<W, F, G>, SpawnError> {
-        if self.handles.reserve(1).is_err() {
-            return Err(SpawnError::NoMemory);
-        }
-        if self.handles.len() < 4_294_967_295 && self.started < u64::MAX {
+        if self.started < u64::MAX {
             if let Some(parts) = self.parts.pop_front() {
                 return Ok(parts);
             }
@@ -143,8 +130,7 @@ impl<
         Err(SpawnError::Failed)
     }
 
-    fn keep(&mut self, handle: JoinHandle<Played>) {
-        self.handles.push_reserved(handle);
+    fn count_start(&mut self) {
         self.started += 1;
     }
 
@@ -152,20 +138,14 @@ impl<
         self.faults = self.faults.saturating_add(1);
     }
 
-    fn finish(&mut self) -> Finished {
+    fn stop(&mut self) {
         self.stop.ask();
-        let mut finished = NONE;
-        while let Some(handle) = self.handles.pop() {
-            match handle.join(&self.rt) {
-                Played::Done { answered: _ } => finished.done += 1,
-                Played::LinkFault => finished.faulted += 1,
-                Played::NoMemory => finished.starved += 1,
-            }
-        }
+    }
+
+    fn note(&mut self, finished: Finished) {
         if finished.faulted > 0 {
             self.faults = self.faults.saturating_add(1);
         }
         self.finished = finished;
-        finished
     }
 }

@@ -1,18 +1,18 @@
 //! A spawner without a network.
-ghost use Rattle.std.specs.Prelude.{◌<◌, None, vec_len, vec_capacity};
+ghost use Rattle.std.specs.Prelude.{◌<◌, None};
 ghost use Rattle.sm_players.specs.Adding.{PartsAlone};
 
 use crate::crew::Crew;
 use crate::forward::{Forward, ForwardError};
 use crate::gate::NoGate;
-use crate::played::Played;
-use crate::spawner::{Finished, Parts, SpawnError, Spawner};
+use crate::launched::Parts;
+use crate::spawner::{Finished, SpawnError, Spawner};
 use crate::stop::Stop;
 use crate::wiring::Wiring;
 use sm_model::{Bytes, NoMemory, Target};
 use sm_site::{MemorySite, Numbers, Script};
 use std::alloc::Global;
-use std::thread::{JoinHandle, Threads};
+use std::thread::Threads;
 
 /// A forward that leads nowhere: it fails each time.
 #[derive(Debug, Drop)]
@@ -85,13 +85,13 @@ impl<R: Threads + Drop> Spawner for MemorySpawner<R> {
 
     ghost started = { λ m. m.crew.started };
 
-    ghost running = { λ m. vec_len m.crew.handles };
+    ghost limit = { λ m. m.crew.turns };
 
     ghost chosen = { λ m. m.crew.wired };
 
     ghost counted = { λ m. m.crew.finished };
 
-    ghost has_room = { λ m. (vec_len m.crew.handles < vec_capacity m.crew.handles) × (vec_len m.crew.handles < 4294967295) × (m.crew.started < 18446744073709551615) };
+    ghost may_start = { λ m. m.crew.started < 18446744073709551615 };
 
     fn select(&mut self, wiring: Wiring) -> Result<(), SpawnError> {
         self.crew.select(wiring)
@@ -121,15 +121,19 @@ impl<R: Threads + Drop> Spawner for MemorySpawner<R> {
         }
     }
 
-    fn keep(&mut self, handle: JoinHandle<Played>) {
-        self.crew.keep(handle);
+    fn count_start(&mut self) {
+        self.crew.count_start();
     }
 
     fn count_fault(&mut self) {
         self.crew.count_fault();
     }
 
-    fn finish(&mut self) -> Finished {
-        self.crew.finish()
+    fn stop(&mut self) {
+        self.crew.stop();
+    }
+
+    fn note(&mut self, finished: Finished) {
+        self.crew.note(finished);
     }
 }

@@ -1,19 +1,20 @@
 //! What starts players.
-ghost use Rattle.std.specs.Prelude.{◌≡◌, ℕ, ◌+◌, ◌<◌, ◌≤◌, None, Some, OnOk, OnErr, IsErrOf};
+ghost use Rattle.std.specs.Prelude.{◌≡◌, ℕ, ◌+◌, ◌<◌, ◌≤◌, map, vec_len, None, Some, IfOk, OnOk, OnErr, IsErrOf};
 ghost use Rattle.sm_site.specs.Clauses.{Rose};
 ghost use Rattle.sm_players.specs.declared.spawner.Finished.{Finished};
+ghost use Rattle.sm_players.specs.Starting.{HavePlayed, with_one};
 ghost use Rattle.sm_players.specs.Wiring.{Wired, rewired};
 
 use crate::forward::Forward;
 use crate::gate::Gate;
+use crate::launched::{Launched, Parts, PlayerHandle, join_all, play};
 use crate::played::Played;
-use crate::playing::player;
 use crate::wire::Wire;
 use crate::wiring::Wiring;
 use sm_shelf::ShelfReader;
 use std::alloc::Global;
 use std::thread;
-use std::thread::{JoinHandle, Threads};
+use std::thread::Threads;
 
 /// Why a player isn't started, or the wires are not ready.
 #[derive(Clone, Copy, Debug, PartialEq, Eq)]
@@ -32,12 +33,30 @@ pub struct Finished {
     pub starved: u32,
 }
 
-/// The parts of one player.
-#[derive(Drop)]
-pub struct Parts<W: Drop, F: Drop, G: Drop> {
-    pub wire: W,
-    pub forward: F,
-    pub gate: G,
+impl Finished {
+    /// Before any player has ended.
+    pub(crate) fn none() -> Finished
+        ensures { result ≡ record { done = 0; faulted = 0; starved = 0 } }
+    {
+        Finished {
+            done: 0,
+            faulted: 0,
+            starved: 0,
+        }
+    }
+
+    /// One more ended so.
+    pub(crate) fn add(&mut self, played: Played)
+        requires few { self.old.done + self.old.faulted + self.old.starved < 4294967295 }
+        ensures one { self.new ≡ with_one played self.old }
+        ensures all { self.new.done + self.new.faulted + self.new.starved ≡ self.old.done + self.old.faulted + self.old.starved + 1 }
+    {
+        match played {
+            Played::Done { answered: _ } => self.done += 1,
+            Played::LinkFault => self.faulted += 1,
+            Played::NoMemory => self.starved += 1,
+        }
+    }
 }
 
 /// What starts players, each in a thread of its own, and joins them. An impl says where the parts of a player come from and where its handle is
@@ -54,11 +73,11 @@ pub trait Spawner {
     /// How often it has failed. The count stands still at 2^64 - 1.
     ghost spawn_faults: { Self → ℕ };
 
-    /// How many readers it took.
+    /// How many players it started.
     ghost started: { Self → ℕ };
 
-    /// How many of those since the last `finish`.
-    ghost running: { Self → ℕ };
+    /// How many events a player takes at most.
+    ghost limit: { Self → ℕ };
 
     /// Where its wires are, once it was selected, and how often it was.
     ghost chosen: { Self → Wired };
@@ -66,8 +85,8 @@ pub trait Spawner {
     /// What the last `finish` counted.
     ghost counted: { Self → Finished };
 
-    /// There is room for one more handle.
-    ghost has_room: { Self → Type 0 };
+    /// One more may be started.
+    ghost may_start: { Self → Type 0 };
 
     /// Makes the wires ready for so many players beside a loop on that port, which leaves them the next one. After a refusal there are none.
     fn select(&mut self, wiring: Wiring) -> Result<(), SpawnError>
@@ -77,7 +96,7 @@ pub trait Spawner {
         ensures failed { IsErrOf result SpawnError.Failed → Rose (spawn_faults self.old) (spawn_faults self.new) }
         ensures later { spawn_faults self.old ≤ spawn_faults self.new }
         ensures started { started self.new ≡ started self.old }
-        ensures running { running self.new ≡ running self.old };
+        ensures limit { limit self.new ≡ limit self.old };
 
     /// The handle for threads.
     fn runtime(&self) -> &Self::Runtime;
@@ -86,23 +105,24 @@ pub trait Spawner {
     fn allocator(&self) -> Global;
 
     /// How many events a player takes at most.
-    fn turns(&self) -> u64;
+    fn turns(&self) -> u64
+        ensures { result ≡ limit self.now };
 
-    /// Takes the parts of one player, and makes room for its handle.
+    /// Takes the parts of one player.
     fn prepare(&mut self) -> Result<Parts<Self::Wire, Self::Forward, Self::Gate>, SpawnError>
-        ensures ok { OnOk result (has_room self.new) }
+        ensures ok { OnOk result (may_start self.new) }
         ensures failed { IsErrOf result SpawnError.Failed → Rose (spawn_faults self.old) (spawn_faults self.new) }
         ensures later { spawn_faults self.old ≤ spawn_faults self.new }
         ensures chosen { chosen self.new ≡ chosen self.old }
         ensures started { started self.new ≡ started self.old }
-        ensures running { running self.new ≡ running self.old };
+        ensures limit { limit self.new ≡ limit self.old };
 
-    /// Keeps the handle of a player that runs.
-    fn keep(&mut self, handle: JoinHandle<Played>)
-        requires { has_room self.old }
+    /// Counts a player that was started.
+    fn count_start(&mut self)
+        requires { may_start self.old }
         ensures started { started self.new ≡ started self.old + 1 }
-        ensures running { running self.new ≡ running self.old + 1 }
         ensures chosen { chosen self.new ≡ chosen self.old }
+        ensures limit { limit self.new ≡ limit self.old }
         ensures later { spawn_faults self.old ≤ spawn_faults self.new };
 
     /// Counts a thread that could not be made.
@@ -110,50 +130,72 @@ pub trait Spawner {
         ensures rose { Rose (spawn_faults self.old) (spawn_faults self.new) }
         ensures chosen { chosen self.new ≡ chosen self.old }
         ensures started { started self.new ≡ started self.old }
-        ensures running { running self.new ≡ running self.old };
+        ensures limit { limit self.new ≡ limit self.old };
 
-    /// Asks all players to end, and joins them. `faulted` is above 0 only where the count rose.
-    fn finish(&mut self) -> Finished
-        ensures counted { counted self.new ≡ result }
-        ensures all { result.done + result.faulted + result.starved ≡ running self.old }
-        ensures none { running self.new ≡ 0 }
+    /// Asks all players to end.
+    fn stop(&mut self)
         ensures chosen { chosen self.new ≡ chosen self.old }
         ensures started { started self.new ≡ started self.old }
-        ensures faulted { 0 < result.faulted → Rose (spawn_faults self.old) (spawn_faults self.new) }
         ensures later { spawn_faults self.old ≤ spawn_faults self.new };
 
-    /// Runs a player in a thread of its own. A reader that is refused is dropped.
-    final fn start(&mut self, reader: ShelfReader) -> Result<(), SpawnError>
-        ensures ok { OnOk result ((started self.new ≡ started self.old + 1) × (running self.new ≡ running self.old + 1)) }
-        ensures err { OnErr result ((started self.new ≡ started self.old) × (running self.new ≡ running self.old)) }
+    /// Notes how players ended that were joined.
+    fn note(&mut self, finished: Finished)
+        ensures counted { counted self.new ≡ finished }
+        ensures faulted { 0 < finished.faulted → Rose (spawn_faults self.old) (spawn_faults self.new) }
+        ensures chosen { chosen self.new ≡ chosen self.old }
+        ensures started { started self.new ≡ started self.old }
+        ensures later { spawn_faults self.old ≤ spawn_faults self.new };
+
+    /// Runs a player in a thread of its own: from what it was given it plays. A reader that is refused is dropped.
+    final fn start(
+        &mut self,
+        reader: ShelfReader,
+    ) -> Result<PlayerHandle<Self::Wire, Self::Forward, Self::Gate>, SpawnError>
+        ensures ok { OnOk result (started self.new ≡ started self.old + 1) }
+        ensures given { IfOk result (λ handle. (handle.promise.seen ≡ reader.seen) × (handle.promise.turns ≡ limit self.old)) }
+        ensures err { OnErr result (started self.new ≡ started self.old) }
         ensures failed { IsErrOf result SpawnError.Failed → Rose (spawn_faults self.old) (spawn_faults self.new) }
         ensures chosen { chosen self.new ≡ chosen self.old }
+        ensures limit { limit self.new ≡ limit self.old }
         ensures later { spawn_faults self.old ≤ spawn_faults self.new }
     {
         let parts = self.prepare()?;
-        let mut wire = parts.wire;
-        let mut forward = parts.forward;
-        let mut gate = parts.gate;
-        let mut reader = reader;
         let alloc = self.allocator();
         let turns = self.turns();
-        let play = move || player(
-            alloc,
-            &mut wire,
-            &mut forward,
-            &mut gate,
-            &mut reader,
-            turns,
-        );
-        match thread::spawn(self.runtime(), play) {
+        let launched = Launched::new(&parts.wire, &parts.forward, &reader, turns);
+        match thread::spawn_with(
+            self.runtime(),
+            launched,
+            move || play(alloc, parts, reader, turns),
+        ) {
             Ok(handle) => {
-                self.keep(handle);
-                Ok(())
+                self.count_start();
+                Ok(handle)
             }
             Err(_) => {
                 self.count_fault();
                 Err(SpawnError::Failed)
             }
         }
+    }
+
+    /// Asks all players to end, and joins these: each has played from what it was given. `faulted` is above 0 only where the count rose.
+    final fn finish(
+        &mut self,
+        handles: Vec<PlayerHandle<Self::Wire, Self::Forward, Self::Gate>>,
+    ) -> Finished
+        requires few { vec_len handles < 4294967296 }
+        ensures counted { counted self.new ≡ result }
+        ensures played { HavePlayed (map (λ h. h.promise) handles.items) result }
+        ensures all { result.done + result.faulted + result.starved ≡ vec_len handles }
+        ensures chosen { chosen self.new ≡ chosen self.old }
+        ensures started { started self.new ≡ started self.old }
+        ensures faulted { 0 < result.faulted → Rose (spawn_faults self.old) (spawn_faults self.new) }
+        ensures later { spawn_faults self.old ≤ spawn_faults self.new }
+    {
+        self.stop();
+        let finished = join_all(self.runtime(), handles);
+        self.note(finished);
+        finished
     }
 }

@@ -44,7 +44,7 @@ some_told (Some x) (Some y) e some = cc
 pub link_before : (a b c : ℕ) → b ≡ a → Rose b c → Rose a c
 link_before a b c e rose = subst (λ (n : ℕ). Rose n c) e rose
 
-later_rose : (a b c : ℕ) → a ≤ b → Rose b c → Rose a c
+pub later_rose : (a b c : ℕ) → a ≤ b → Rose b c → Rose a c
 later_rose a b c le rose =
     let later = rose.later in
     record { later = omega (arith, le, later); rose = λ last. (let now = rose.rose last in omega (arith, le, now)) }

@@ -1,5 +1,5 @@
 //! The loop beside player threads.
-ghost use Rattle.std.specs.Prelude.{◌≡◌, ◌≤◌, ◌<◌, ◌⊎◌, ◌+◌, ℕ, None, Some, IfOk, IfErr, IsErrOf, OnErr, OnOk, IsSome, is_some, length};
+ghost use Rattle.std.specs.Prelude.{◌≡◌, ◌≤◌, ◌<◌, ◌⊎◌, ◌+◌, ℕ, All, map, vec_len, None, Some, IfOk, IfErr, IsErrOf, OnErr, OnOk, IsSome, is_some, length};
 ghost use Rattle.sm_site.specs.Clauses.{Rose};
 ghost use Rattle.sm_origin.specs.Machine.{Machine};
 ghost use Rattle.sm_serve.specs.Standing.{History, StandsOn};
@@ -10,9 +10,9 @@ ghost use Rattle.sm_show.specs.Marks.{HasShown};
 ghost use Rattle.sm_show.specs.Recalling.{Recalls};
 ghost use Rattle.sm_players.specs.declared.spawner.SpawnError.TheVariants.{Failed};
 ghost use Rattle.sm_players.specs.Wiring.{rewired};
-ghost use Rattle.sm_run.specs.Staff.{IsStaffed, IsUnstaffed, staff_of};
+ghost use Rattle.sm_run.specs.Staff.{Starts, IsStaffed, IsUnread, IsUnstaffed, staff_of};
 
-use crate::staffing::start_all;
+use crate::staffing::{Running, start_all};
 use sm_model::NoMemory;
 use sm_players::{Finished, SpawnError, Spawner, Wiring};
 use sm_serve::{Served, State};
@@ -37,6 +37,7 @@ fn serve_beside<R: Wait, S: Site, P: Spawner>(
     spawner: &mut P,
     writer: &mut ShelfWriter,
     readers: Readers,
+    running: &mut Running<P>,
     wiring: Wiring,
     turns: u64,
 ) -> Result<Served, SpawnError>
@@ -44,6 +45,7 @@ fn serve_beside<R: Wait, S: Site, P: Spawner>(
     requires known { Known S.Disk.seen state.old site.old }
     requires port { wiring.port ≤ 65534 }
     requires some { 0 < length readers }
+    requires unread { All IsUnread readers }
     ensures runs { IfOk result (λ end. (h : History) → Serves S.Disk.seen h state.old site.old
         → HasServed S.Disk.seen h end turns state.new site.new) }
     ensures shown { IfOk result (λ end. (h : History) → Serves S.Disk.seen h state.old site.old
@@ -58,14 +60,17 @@ fn serve_beside<R: Wait, S: Site, P: Spawner>(
         ⊎ (P.chosen spawner.new ≡ rewired (P.chosen spawner.old) None)) }
     ensures few { OnErr result (P.started spawner.new < P.started spawner.old + length readers) }
     ensures no_fewer { P.started spawner.old ≤ P.started spawner.new }
-    ensures running { P.running spawner.new + P.started spawner.old ≡ P.running spawner.old + P.started spawner.new }
+    ensures starts { Starts (P.limit spawner.old) (P.started spawner.old) (P.started spawner.new)
+        (map (λ h. h.promise) running.old.items) (map (λ h. h.promise) running.new.items) }
+    ensures count { vec_len running.new + P.started spawner.old ≡ vec_len running.old + P.started spawner.new }
+    ensures running { vec_len running.new ≤ vec_len running.old + length readers }
     ensures failed { IsErrOf result Failed → Rose (P.spawn_faults spawner.old) (P.spawn_faults spawner.new) }
     ensures later { P.spawn_faults spawner.old ≤ P.spawn_faults spawner.new }
     ensures idle { OnErr result (Recalls S.Disk.seen state.old site.old site.new) }
 {
     spawner.select(wiring)?;
     let _ = catch_up(rt, site, state, writer);
-    start_all(spawner, readers)?;
+    start_all(spawner, readers, running)?;
     Ok(serve_shown(rt, site, state, writer, turns))
 }
 
@@ -90,10 +95,10 @@ pub fn show<R: Wait, S: Site, P: Spawner>(
         → IsSome (S.Disk.seen.view site.old).contents
         → (desk : Desk) × (run : HasServed S.Disk.seen h e.served turns state.new site.new) × HasShown h e.served run.later desk) }
     ensures link_fault { IfOk result (λ e. e.served ≡ served.LinkFault → Rose (S.Disk.seen.view site.old).link_faults (S.Disk.seen.view site.new).link_faults) }
-    ensures staffed { IfOk result (λ e. IsStaffed wiring (staff_of P.spawn_faults P.started P.running P.chosen P.counted spawner.old)
-        (staff_of P.spawn_faults P.started P.running P.chosen P.counted spawner.new) e.finished) }
-    ensures why { IfErr result (λ why. IsUnstaffed wiring (staff_of P.spawn_faults P.started P.running P.chosen P.counted spawner.old)
-        (staff_of P.spawn_faults P.started P.running P.chosen P.counted spawner.new) why) }
+    ensures staffed { IfOk result (λ e. IsStaffed wiring (staff_of P.spawn_faults P.started P.limit P.chosen P.counted spawner.old)
+        (staff_of P.spawn_faults P.started P.limit P.chosen P.counted spawner.new) e.finished) }
+    ensures why { IfErr result (λ why. IsUnstaffed wiring (staff_of P.spawn_faults P.started P.limit P.chosen P.counted spawner.old)
+        (staff_of P.spawn_faults P.started P.limit P.chosen P.counted spawner.new) why) }
     ensures idle { OnErr result (Recalls S.Disk.seen state.old site.old site.new) }
     ensures site_chosen { (S.Disk.seen.view site.new).chosen ≡ (S.Disk.seen.view site.old).chosen }
 {
@@ -101,6 +106,7 @@ pub fn show<R: Wait, S: Site, P: Spawner>(
         return Err(SpawnError::NoMemory);
     };
     let mut writer = writer;
+    let mut running = Vec::new(alloc);
     let ended = serve_beside(
         rt,
         site,
@@ -108,10 +114,11 @@ pub fn show<R: Wait, S: Site, P: Spawner>(
         spawner,
         &mut writer,
         readers,
+        &mut running,
         wiring,
         turns,
     );
-    let finished = spawner.finish();
+    let finished = spawner.finish(running);
     writer.end(rt);
     let served = ended?;
     Ok(Ended { served, finished })

@@ -2,7 +2,7 @@ use Rattle.std.proofs.Common.{List, ℕ, subst}
 use Rattle.std.specs.Prelude.{Result}
 use Rattle.sm_model.specs.declared.no_memory.NoMemory.{NoMemory}
 use Rattle.sm_players.specs.declared.replying.Final.{Final}
-use Rattle.sm_players.specs.Telling.{Tells, is_open}
+use Rattle.sm_players.specs.Telling.{Tells}
 use Rattle.sm_players.specs.Replying.{IsAnswer}
 use Rattle.sm_players.proofs.Handling.{reply_handles, starved_handles}
 use Rattle.sm_players.proofs.parts.send_reply.Goals as goal

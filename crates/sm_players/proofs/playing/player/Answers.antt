@@ -1,4 +1,4 @@
-use Rattle.std.proofs.Common.{rules, ◌≡◌, ◌+◌, inl, inr, Bool, true, false, List, refl, sym, ap, subst, arith}
+use Rattle.std.proofs.Common.{rules, ◌≡◌, ◌+◌, inl, inr, Bool, false, List, refl, sym, ap, subst, arith}
 use Rattle.std.specs.Prelude.{Err}
 use Rattle.sm_site.specs.Event.{deal_of}
 use Rattle.sm_site.specs.declared.event.LinkError.{LinkError}

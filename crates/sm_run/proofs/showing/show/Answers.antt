@@ -1,7 +1,10 @@
-use Rattle.std.proofs.Common.{sym, subst}
+use Rattle.std.proofs.Common.{◌≡◌, ◌∙◌, ℕ, ◌+◌, map, vec_len, sym, ap, subst, arith}
 use Rattle.sm_shelf.specs.Shelf.{Belongs, Desk}
 use Rattle.sm_show.proofs.Resting.{recalls_here}
-use Rattle.sm_run.proofs.Beginning.{nothing_belongs}
+use Rattle.sm_players.specs.Wiring.{Wires}
+use Rattle.sm_run.specs.Staff.{staff_of}
+use Rattle.sm_run.proofs.Beginning.{later_rose, nothing_belongs}
+use Rattle.sm_run.proofs.Starts.{joins, starts_from}
 use Rattle.sm_run.proofs.showing.show.Goals as goal
 
 pub returns-clause-shown : goal.returns-clause-shown
@@ -12,3 +15,31 @@ returns-clause-shown g c h serves some =
 
 pub returns-in_default-clause-idle : goal.returns-in_default-clause-idle
 returns-in_default-clause-idle g c = recalls_here g.S.Disk.seen c.args.state.now c.args.site.now c.requires.stands
+
+pub returns-clause-staffed : goal.returns-clause-staffed
+returns-clause-staffed g c =
+    let s = g.P.Spawner in
+    let old = c.args.spawner.now in
+    let ran = c.in_ok-served.ensures in
+    let f = c.finish-finished.ensures in
+    let players : c.wiring.inside.players ≡ c.args.wiring.players = ap (λ (w : Wires). w.players) c.wiring.view_is in
+    let readers = c.in-Ok.ensures.readers.0 ∙ players in
+    let none = c.new-running.ensures.len in
+    let count = ran.count in
+    let all : c.finish-finished.result.done + c.finish-finished.result.faulted + c.finish-finished.result.starved ≡ vec_len c.serve_beside-ended.new.running = f.all in
+    let first = ran.started in
+    let later = ran.later in
+    let later_yet = f.later in
+    record {
+      joins =
+          joins (staff_of s.spawn_faults s.started s.limit s.chosen s.counted old)
+          (staff_of s.spawn_faults s.started s.limit s.chosen s.counted c.finish-finished.new.self) (s.started c.serve_beside-ended.new.spawner)
+          (map (λ h. h.promise) c.serve_beside-ended.new.running.items) c.finish-finished.result
+          (starts_from _ _ _ _ _ (ap (map (λ h. h.promise)) c.new-running.ensures.items) ran.starts) f.started f.played f.counted;
+      started = f.started ∙ first ∙ ap (λ (n : ℕ). s.started old + n) readers;
+      chosen = f.chosen ∙ ran.wires;
+      counted = f.counted;
+      all = omega (arith, all, count, first, readers, none);
+      blamed = λ some. later_rose (s.spawn_faults old) (s.spawn_faults c.serve_beside-ended.new.spawner) (s.spawn_faults c.finish-finished.new.self) later (f.faulted some);
+      later = omega (arith, later, later_yet);
+    }

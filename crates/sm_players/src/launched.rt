@@ -1,0 +1,153 @@
+//! What a player in a thread of its own is given, and what it hands back.
+ghost use Rattle.std.specs.Prelude.{◌≡◌, ◌+◌, ◌<◌, map, vec_len};
+ghost use Rattle.sm_players.specs.Starting.{HavePlayed, IsPlayed};
+
+use crate::forward::Forward;
+use crate::gate::Gate;
+use crate::played::Played;
+use crate::playing::player;
+use crate::spawner::Finished;
+use crate::wire::Wire;
+use sm_shelf::ShelfReader;
+use std::alloc::Global;
+use std::marker::Model;
+use std::snapshot::Snapshot;
+use std::thread::{Promise, PromisedHandle, Threads};
+
+/// The parts of one player.
+#[derive(Drop)]
+pub struct Parts<W: Drop, F: Drop, G: Drop> {
+    pub wire: W,
+    pub forward: F,
+    pub gate: G,
+}
+
+/// A player that ended: how, and its parts and its reader as it left them.
+#[derive(Drop)]
+pub struct PlayerEnd<W: Wire + Drop, F: Forward + Drop, G: Drop> {
+    pub played: Played,
+    pub parts: Parts<W, F, G>,
+    pub reader: ShelfReader,
+}
+
+impl<W: Wire + Drop, F: Forward + Drop, G: Drop> Model for PlayerEnd<W, F, G> {
+    ghost use Rattle.sm_players.specs.Starting.{Ended};
+
+    ghost Value = { Ended };
+
+    ghost view = { λ e. record {
+      played = e.played;
+      told = (W.seen.view e.parts.wire).transcript;
+      link_faults = (W.seen.view e.parts.wire).link_faults;
+      asked = F.asked e.parts.forward;
+      seen = e.reader.seen;
+    } };
+}
+
+impl<W: Wire + Drop, F: Forward + Drop, G: Drop> PlayerEnd<W, F, G> {
+    /// How it ended. All else is dropped.
+    pub fn into_played(self) -> Played
+        ensures { result ≡ self.played }
+    {
+        self.played
+    }
+}
+
+/// What a player was given, of which clauses alone know more than the number of its turns. It is what the thread of the player promises: that from
+/// there the player played.
+#[derive(Drop)]
+pub struct Launched<W: Wire + Drop, F: Forward + Drop> {
+    wire: Snapshot<W>,
+    forward: Snapshot<F>,
+    reader: Snapshot<ShelfReader>,
+    turns: u64,
+}
+
+impl<W: Wire + Drop, F: Forward + Drop> Model for Launched<W, F> {
+    ghost use Rattle.sm_players.specs.Starting.{Launch};
+
+    ghost Value = { Launch };
+
+    ghost view = { λ l. record {
+      told = (W.seen.view l.wire.value).transcript;
+      link_faults = (W.seen.view l.wire.value).link_faults;
+      asked = F.asked l.forward.value;
+      seen = l.reader.value.seen;
+      turns = l.turns;
+    } };
+}
+
+impl<W: Wire + Drop, F: Forward + Drop, G: Drop> Promise<PlayerEnd<W, F, G>> for Launched<W, F> {
+    ghost kept_by = { λ launched end. IsPlayed launched end };
+}
+
+/// The thread of a player.
+pub type PlayerHandle<W, F, G> = PromisedHandle<PlayerEnd<W, F, G>, Launched<W, F>>;
+
+impl<W: Wire + Drop, F: Forward + Drop> Launched<W, F> {
+    /// These, and so many events at most.
+    pub fn new(wire: &W, forward: &F, reader: &ShelfReader, turns: u64) -> Launched<W, F>
+        ensures told { result.told ≡ (W.seen.view wire.now).transcript }
+        ensures link_faults { result.link_faults ≡ (W.seen.view wire.now).link_faults }
+        ensures asked { result.asked ≡ F.asked forward.now }
+        ensures seen { result.seen ≡ reader.now.seen }
+        ensures turns { result.turns ≡ turns }
+    {
+        Launched {
+            wire: Snapshot::of(wire),
+            forward: Snapshot::of(forward),
+            reader: Snapshot::of(reader),
+            turns,
+        }
+    }
+}
+
+/// Lets a player play, and hands back what it was given.
+pub fn play<W: Wire + Drop, F: Forward + Drop, G: Gate + Drop>(
+    alloc: Global,
+    parts: Parts<W, F, G>,
+    reader: ShelfReader,
+    turns: u64,
+) -> PlayerEnd<W, F, G>
+    ensures { IsPlayed (record {
+      told = (W.seen.view parts.wire).transcript;
+      link_faults = (W.seen.view parts.wire).link_faults;
+      asked = F.asked parts.forward;
+      seen = reader.seen;
+      turns = turns;
+    }) result }
+{
+    let mut parts = parts;
+    let mut reader = reader;
+    let played = player(
+        alloc,
+        &mut parts.wire,
+        &mut parts.forward,
+        &mut parts.gate,
+        &mut reader,
+        turns,
+    );
+    PlayerEnd {
+        played,
+        parts,
+        reader,
+    }
+}
+
+/// Joins players one after the other, and counts how they ended. Each has played from what it was given.
+pub fn join_all<R: Threads, W: Wire + Drop, F: Forward + Drop, G: Drop>(
+    rt: &R,
+    handles: Vec<PlayerHandle<W, F, G>>,
+) -> Finished
+    requires few { vec_len handles < 4294967296 }
+    ensures played { HavePlayed (map (λ h. h.promise) handles.items) result }
+    ensures all { result.done + result.faulted + result.starved ≡ vec_len handles }
+{
+    let mut handles = handles;
+    let mut finished = Finished::none();
+    while let Some(handle) = handles.pop() {
+        let end = handle.join(rt);
+        finished.add(end.into_played());
+    }
+    finished
+}
