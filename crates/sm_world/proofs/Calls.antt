@@ -7,7 +7,7 @@ use Rattle.sm_model.specs.declared.entry.Entry.TheVariants.{Keep}
 use Rattle.sm_site.specs.declared.event.Event.{Event}
 use Rattle.sm_site.specs.Image.{Image}
 use Rattle.sm_site.specs.Clauses.{Both, Rose, Settled}
-use Rattle.sm_site.specs.Meanings.{View, Item, SameLink, Seen}
+use Rattle.sm_site.specs.Meanings.{View, Deal, Item, SameLink, Seen, sent_on}
 use Rattle.sm_site.specs.Meanings.Deal.{Over}
 use Rattle.sm_site.specs.Scripts.{deals_of}
 use Rattle.sm_site.specs.Sites.{SameBut}
@@ -18,12 +18,13 @@ use Rattle.sm_serve.specs.declared.state.State.{State}
 use Rattle.sm_serve.specs.declared.outcome.Served.TheVariants as served
 use Rattle.sm_serve.specs.Connections.{events_in, is_event}
 use Rattle.sm_serve.specs.Run.{at}
-use Rattle.sm_serve.specs.Serving.{Served}
+use Rattle.sm_serve.specs.Serving.{AreTaken, Served}
 use Rattle.sm_serve.specs.Standing.{History}
 use Rattle.sm_world.specs.declared.acted.Acted.{Acted}
 use Rattle.sm_world.specs.declared.acted.Acted.TheVariants as acted
 use Rattle.sm_world.specs.Answering.{HasCause, HasSent, IsServed}
 use Rattle.sm_world.specs.Bringing.{Brings}
+use Rattle.sm_world.specs.Went.{GoesOutBy}
 use Rattle.sm_world.specs.Worlds.{World, IsClosed, Grows}
 use Rattle.sm_world.proofs.Sources.{in_none}
 use Rattle.sm_world.proofs.Stores.{one_store, store_in}
@@ -63,7 +64,7 @@ one_more_event : (b : Bool) (all m n : ℕ) → all ≡ m + n → (if b then 1 +
 one_more_event true all m n is = omega (arith, is)
 one_more_event false all m n is = is
 
-events_both : (xs ys : List Item) → events_in (xs ++ ys) ≡ events_in xs + events_in ys
+pub events_both : (xs ys : List Item) → events_in (xs ++ ys) ≡ events_in xs + events_in ys
 unfolding events_in
 events_both [] ys = omega arith
 events_both (x ∷ xs) ys = one_more_event (is_event x.deal) (events_in (xs ++ ys)) (events_in xs) (events_in ys) (events_both xs ys)
@@ -81,12 +82,14 @@ module _ {D : Type 0} (site : Seen D) where
       k = s.later
 
   pub handed : (state : Option State) (s : State) (d between e : D) (request : List ℕ) (conn : ℕ) (came : Acted) → HasSent conn (site.view e).transcript came → 2 ^ 63 ≤ conn
+      → ((bytes : List ℕ) → IfSome (site.view e).transcript (λ items. bytes ≡ sent_on conn items) → (deals : List Deal) × Both (site.view between).script (site.view e).script (AreTaken deals)
+      × Both (site.view d).transcript (site.view e).transcript (GoesOutBy conn request bytes deals))
       → ((events : List Event) × Brings conn request events × Both (site.view d).script (site.view between).script (λ was now. now ≡ was ++ deals_of events))
       → IfSome (site.view e).transcript IsServed → HasCause site.view state d (Some s) e request came
-  handed state s d between e request conn acted.Unopened sent high brings all = absurd sent
-  handed state s d between e request conn acted.Broken sent high brings all = absurd sent
-  handed state s d between e request conn acted.NoMemory sent high brings all = tt
-  handed state s d between e request conn (acted.Sent bytes) sent high brings all = (
+  handed state s d between e request conn acted.Unopened sent high out brings all = absurd sent
+  handed state s d between e request conn acted.Broken sent high out brings all = absurd sent
+  handed state s d between e request conn acted.NoMemory sent high out brings all = tt
+  handed state s d between e request conn (acted.Sent bytes) sent high out brings all = (
     refl,
     record {
       conn = conn;
@@ -95,6 +98,9 @@ module _ {D : Type 0} (site : Seen D) where
       brings = brings.1;
       between = between;
       added = brings.2;
+      deals = (out bytes sent).0;
+      taken = (out bytes sent).1;
+      told = (out bytes sent).2;
       served = all;
       sent = sent;
     },
@@ -122,6 +128,9 @@ module _ {D : Type 0} (site : Seen D) where
       brings = cause.1.brings;
       between = cause.1.between;
       added = subst (λ (script : _). Both script (site.view cause.1.between).script (λ was now. now ≡ was ++ deals_of cause.1.events)) link.script cause.1.added;
+      deals = cause.1.deals;
+      taken = cause.1.taken;
+      told = subst (λ (told : _). Both told (site.view e).transcript (GoesOutBy cause.1.conn request bytes cause.1.deals)) link.transcript cause.1.told;
       served = cause.1.served;
       sent = cause.1.sent;
     },

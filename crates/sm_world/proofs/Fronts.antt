@@ -1,5 +1,5 @@
 -- What came on a connection by some moment of an exchange.
-use Rattle.std.proofs.Common.{◌≡◌, ◌≢◌, ◌⊎◌, inl, inr, ⊎_elim, ℕ, ◌+◌, ◌<◌, ◌≤◌, Bool, true, false, ◌&&◌, ◌==◌, if◌then◌else◌, List, [], ◌∷◌, ◌++◌, length, refl, sym, ◌∙◌, ap, subst, arith, append_assoc}
+use Rattle.std.proofs.Common.{◌≡◌, ◌≢◌, ◌⊎◌, inl, inr, ⊎_elim, ℕ, ◌+◌, ◌-◌, ◌^◌, ◌<◌, ◌≤◌, Bool, true, false, ◌&&◌, ◌==◌, if◌then◌else◌, List, [], ◌∷◌, ◌++◌, length, refl, sym, ◌∙◌, ap, subst, arith, append_assoc}
 use Rattle.std.specs.Prelude.{max, nat_le}
 use Rattle.std.proofs.lemmas.Bool.{eq-eqb, ne_eqb, and_parts}
 use Rattle.std.proofs.lemmas.Bool.Decides.{nat_tests}
@@ -9,24 +9,13 @@ use Rattle.sm_site.specs.declared.event.Event.TheVariants.{Opened, Piece, Closed
 use Rattle.sm_site.specs.Meanings.{Deal, Item}
 use Rattle.sm_site.specs.Meanings.Deal.{Began, Came, Left, Over, Sent, Shut}
 use Rattle.sm_site.specs.Scripts.{is_script, deals_of, numbers_after}
-use Rattle.sm_serve.specs.Connections.{received_after, received_from, received, without, live_after, live_from, live, is_among, is_event, deals_in}
-use Rattle.sm_world.specs.Bringing.{brought, Brings}
-use Rattle.sm_serve.specs.Serving.{AreTaken}
+use Rattle.sm_serve.specs.Connections.{received_after, received_from, received, without, live_after, live_from, live, is_among, is_event, deals_in, events_in}
+use Rattle.sm_world.specs.Bringing.{begun, begun_by, brought, Brings}
+use Rattle.sm_world.specs.Went.{Opens}
+use Rattle.sm_serve.specs.Serving.{AreTaken, LastIsOver, NoneIsOver}
 use Rattle.sm_serve.proofs.Lives.{among_less, among_push}
 
 -- ---- how often a connection begins
-
-abbrev pub begun_by : ℕ → Deal → ℕ
-begun_by conn (Began n) = if n == conn then 1 else 0
-begun_by conn (Came n bytes) = 0
-begun_by conn (Left n) = 0
-begun_by conn Over = 0
-begun_by conn (Sent n bytes failed) = 0
-begun_by conn (Shut n) = 0
-
-abbrev pub begun : ℕ → List Deal → ℕ
-begun conn [] = 0
-begun conn (deal ∷ deals) = begun_by conn deal + begun conn deals
 
 pub begun_both : (conn : ℕ) (xs ys : List Deal) → begun conn (xs ++ ys) ≡ begun conn xs + begun conn ys
 begun_both conn [] ys = omega arith
@@ -196,7 +185,7 @@ still_out conn base items out none = ap (is_among conn) (live_append [] base ite
 
 -- ---- what was taken of a script
 
-AreOver : List Deal → Type 0
+pub AreOver : List Deal → Type 0
 AreOver [] = Unit {0}
 AreOver (deal ∷ deals) = (deal ≡ Over) × AreOver deals
 
@@ -215,6 +204,11 @@ pub record IsComing (conn : ℕ) (request : List ℕ) (coming : List Deal) : Typ
   pub none : begun conn before ≡ 0
   pub once : begun conn behind ≡ 0
   pub brings : came_in conn behind ≡ request
+  pub bringing : List Deal
+  pub ends : List Deal
+  pub parts : behind ≡ bringing ++ ends
+  pub no_end : NoneIsOver bringing
+  pub all_ends : AreOver ends
 
 -- these are the first of what comes
 abbrev pub AreFirst : ℕ → List ℕ → List Deal → Type 0
@@ -239,22 +233,67 @@ split_at conn (x ∷ xs) ahead (y ∷ before) behind is none =
     (λ (in_ : (t : List Deal) × (xs ≡ before ++ Began conn ∷ t) × (t ++ ahead ≡ behind)). inr (in_.0, (let tails = in_.1 in cc), in_.2))
     (split_at conn xs ahead before behind rest (omega (arith, none)))
 
--- by then it hasn't begun, or what came on it is a front of the request
-pub came_by_then : (conn : ℕ) (request : List ℕ) (base items : List Item) → AreFirst conn request (deals_in items)
-    → (begun conn (deals_in items) ≡ 0) ⊎ ((rest : List ℕ) × (received conn (base ++ items) ++ rest ≡ request))
+-- by then it hasn't begun, or it has once, and what came on it is a front of the request, the rest of which is ahead
+begins_by_then : (conn : ℕ) (request : List ℕ) (base items : List Item) (coming ahead : List Deal) → deals_in items ++ ahead ≡ coming → (comes : IsComing conn request coming)
+    → (begun conn (deals_in items) ≡ 0)
+    ⊎ ((t : List Deal) × (deals_in items ≡ comes.before ++ Began conn ∷ t) × (t ++ ahead ≡ comes.behind) × (begun conn (deals_in items) ≡ 1)
+    × (received conn (base ++ items) ++ came_in conn ahead ≡ request))
 unfolding received received_deals
-came_by_then conn request base items (coming, ahead, is, comes) =
+begins_by_then conn request base items coming ahead is comes =
     ⊎_elim (λ (out : begun conn (deals_in items) ≡ 0). inl out) here (split_at conn (deals_in items) ahead comes.before comes.behind (is ∙ comes.splits) comes.none)
   where
     here : (t : List Deal) × (deals_in items ≡ comes.before ++ Began conn ∷ t) × (t ++ ahead ≡ comes.behind)
-        → (begun conn (deals_in items) ≡ 0) ⊎ ((rest : List ℕ) × (received_from conn [] (base ++ items) ++ rest ≡ request))
+        → (begun conn (deals_in items) ≡ 0)
+        ⊎ ((t : List Deal) × (deals_in items ≡ comes.before ++ Began conn ∷ t) × (t ++ ahead ≡ comes.behind) × (begun conn (deals_in items) ≡ 1)
+        × (received_from conn [] (base ++ items) ++ came_in conn ahead ≡ request))
     here (t, at, behind) =
         let none : begun conn t ≡ 0 = (let both = begun_both conn t ahead in let once = comes.once in let same = ap (begun conn) behind in omega (arith, both, once, same)) in
         let had = received_deals conn (received_from conn [] base) comes.before in
         let now : received_from conn [] (base ++ items) ≡ came_in conn t =
         received_append conn [] base items ∙ received_events conn (received_from conn [] base) items ∙ ap (received_deals conn (received_from conn [] base)) at
         ∙ received_both conn (received_from conn [] base) comes.before (Began conn ∷ t) ∙ ap (λ (b : Bool). received_deals conn (if b then [] else had) t) (eq-eqb conn conn refl) ∙ received_more conn [] t none in
-        inr (came_in conn ahead, ap (λ (l : List ℕ). l ++ came_in conn ahead) now ∙ sym (came_both conn t ahead) ∙ ap (came_in conn) behind ∙ comes.brings)
+        let all = ap (begun conn) at in
+        let both = begun_both conn comes.before (Began conn ∷ t) in
+        let one = began_one conn in
+        let first = comes.none in
+        inr (t, at, behind, omega (arith, all, both, one, none, first), ap (λ (l : List ℕ). l ++ came_in conn ahead) now ∙ sym (came_both conn t ahead) ∙ ap (came_in conn) behind ∙ comes.brings)
+
+-- by then it hasn't begun, or what came on it is a front of the request
+pub came_by_then : (conn : ℕ) (request : List ℕ) (base items : List Item) → AreFirst conn request (deals_in items)
+    → (begun conn (deals_in items) ≡ 0) ⊎ ((rest : List ℕ) × (received conn (base ++ items) ++ rest ≡ request))
+came_by_then conn request base items (coming, ahead, is, comes) = elim (begins_by_then conn request base items coming ahead is comes) [
+  | inl out ↦ inl out
+  | inr b ↦ inr (came_in conn ahead, b.4)
+]
+
+-- the end stands behind the opening
+end_behind : (conn : ℕ) (xs t before : List Deal) → xs ++ Began conn ∷ t ≡ before ++ Over ∷ [] → (first : List Deal) × (t ≡ first ++ Over ∷ [])
+end_behind conn [] t [] is = absurd (cc)
+end_behind conn [] t (d ∷ before) is = (before, (cc))
+end_behind conn (x ∷ []) t [] is = absurd (cc)
+end_behind conn (x ∷ y ∷ xs) t [] is = absurd (cc)
+end_behind conn (x ∷ xs) t (d ∷ before) is = end_behind conn xs t before (cc)
+
+-- behind the first end only ends are ahead
+ends_ahead : (first ahead ds ends : List Deal) → (first ++ Over ∷ []) ++ ahead ≡ ds ++ ends → NoneIsOver ds → AreOver ends → AreOver ahead
+unfolding AreOver
+ends_ahead [] ahead [] ends is none over = (subst AreOver (sym is) over).1
+ends_ahead [] ahead (d ∷ ds) ends is none over = absurd (let same : Over ≡ d = cc in none.0 (sym same))
+ends_ahead (x ∷ first) ahead [] ends is none over = ends_ahead first ahead [] ((first ++ Over ∷ []) ++ ahead) refl tt (subst AreOver (sym is) over).1
+ends_ahead (x ∷ first) ahead (d ∷ ds) ends is none over = ends_ahead first ahead ds ends (cc) none.1 over
+
+-- by then it hasn't begun, or it was opened once for the request, all of which came where the end did
+pub opens_by_then : (conn : ℕ) (request : List ℕ) (items : List Item) → AreFirst conn request (deals_in items) → LastIsOver (deals_in items) ⊎ (2 ^ 64 - 1 ≤ events_in items)
+    → (begun conn (deals_in items) ≡ 0) ⊎ Opens conn request items
+opens_by_then conn request items (coming, ahead, is, comes) ends = elim (begins_by_then conn request [] items coming ahead is comes) [
+  | inl out ↦ inl out
+  | inr b ↦ inr (record { once = b.3; more = came_in conn ahead; came = sym b.4; all = ⊎_elim (λ (last : LastIsOver (deals_in items)). inl (nothing b.0 b.1 b.2 last)) (λ (many : 2 ^ 64 - 1 ≤ events_in items). inr many) ends })
+]
+  where
+    nothing : (t : List Deal) → deals_in items ≡ comes.before ++ Began conn ∷ t → t ++ ahead ≡ comes.behind → LastIsOver (deals_in items) → came_in conn ahead ≡ []
+    nothing t at behind (before, last, none) =
+        let e = end_behind conn comes.before t before (sym at ∙ last) in
+        (none_over conn ahead (ends_ahead e.0 ahead comes.bringing comes.ends (ap (λ (l : List Deal). l ++ ahead) (sym e.1) ∙ behind ∙ comes.parts) comes.no_end comes.all_ends)).1
 
 -- a connection begins once
 pub begins_once : (conn : ℕ) (request : List ℕ) (deals : List Deal) → AreFirst conn request (deals ++ Began conn ∷ []) → begun conn deals ≡ 0
@@ -279,6 +318,15 @@ taken_first (deal ∷ deals) (first ∷ was) now (rest, (is, on), more) =
     let t = taken_first deals rest now more in
     (t.0, t.1, t.2, ap (λ (d : Deal). d ∷ (deals ++ t.1)) is ∙ ap (λ (l : List Deal). first ∷ l) (t.3 ∙ ap (λ (l : List Deal). l ++ t.0) on))
 
+-- no end stands in a script
+no_end_in : (from : ℕ) (events : List Event) → is_script from events ≡ true → NoneIsOver (deals_of events)
+no_end_in from [] is = tt
+no_end_in from (Opened k ∷ events) is = (λ same. cc, no_end_in (k + 1) events (and_parts (nat_le from k) (is_script (k + 1) events) is).1)
+no_end_in from (Piece k piece ∷ events) is =
+    (λ same. cc, no_end_in from events (and_parts (nat_le 1 (length piece) && nat_le (length piece) 65536) (is_script from events) is).1)
+no_end_in from (Closed k ∷ events) is = (λ same. cc, no_end_in from events is)
+no_end_in from (Ended ∷ events) is = absurd (cc)
+
 -- what was taken of a script behind which a connection brings a request
 pub taken_of : (conn : ℕ) (request : List ℕ) (events : List Event) (before deals now : List Deal) → Brings conn request events → begun conn before ≡ 0 → AreTaken deals (before ++ deals_of events) now
     → AreFirst conn request deals
@@ -301,5 +349,10 @@ taken_of conn request events before deals now brings none taken =
         once = once;
         brings = came_both conn (deals_of brings.rest) t.0 ∙ ap (λ (l : List ℕ). came_in conn (deals_of brings.rest) ++ l) over.1 ∙ append-nil (came_in conn (deals_of brings.rest))
             ∙ came_brought conn brings.rest ∙ brings.all;
+        bringing = deals_of brings.rest;
+        ends = t.0;
+        parts = refl;
+        no_end = no_end_in (conn + 1) brings.rest script;
+        all_ends = t.2;
       },
     )

@@ -21,6 +21,7 @@ mod Fronts
 mod Steps
 mod OneRequest
 mod Speaking
+mod Answered
 mod Numbers
 mod Trio
 mod Rehearsing

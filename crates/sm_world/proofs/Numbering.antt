@@ -12,7 +12,9 @@ use Rattle.sm_world.specs.Answering.{answer_for, halved}
 use Rattle.sm_world.specs.Dialing.{Dialing, next_number}
 use Rattle.sm_world.specs.Later.{HasMade, IsLater}
 use Rattle.sm_world.specs.LaterLaws.{made_not}
+use Rattle.sm_world.specs.Numbered.{IsAnswered}
 use Rattle.sm_world.specs.Saying.{IsSaidBetween, SaysOn, TellsOn}
+use Rattle.sm_world.specs.Went.{CameOf}
 use Rattle.sm_world.specs.Worlds.{GoesOn}
 use Rattle.sm_world.specs.declared.acted.Acted.{Acted}
 use Rattle.sm_world.specs.declared.acted.Acted.TheVariants as acted
@@ -22,11 +24,12 @@ abbrev pub by_number : Dialing → ℕ → Acted → Answer
 by_number s limit came = answer_for (is_listed (next_number s) s.lost) (is_listed (next_number s) s.cut) limit came
 
 module _ {D : Type 0} (site : Seen D) (d e : D × Dialing) (request : List ℕ) (limit : ℕ) (came : Acted)
-    (says : SaysOn site d.1.state d.0 request came e.1.state e.0) where
+    (says : SaysOn site d.1.state d.0 request came e.1.state e.0) (went : CameOf (site.view d.0) (site.view e.0) request came) where
   one_more : (answer : Answer) → e.1.made ≡ d.1.made ++ (record { request = request; limit = limit; answer = answer }) ∷ [] → answer ≡ by_number d.1 limit came → HasMade site d e
   one_more answer is by = record {
     more = x ∷ [];
     made = is;
+    answered = (answered, tt);
     on = λ within log at.
         let s = says at.world at.stands in
         let same : s.now.log ≡ (log ++ s.until) ++ s.since = s.log_is ∙ ap (λ (l : List Entry). (l ++ s.until) ++ s.since) at.log_is in (
@@ -34,7 +37,7 @@ module _ {D : Type 0} (site : Seen D) (d e : D × Dialing) (request : List ℕ) 
           record { world = s.now; stands = s.stands; log_is = same },
           (
             s.until,
-            record { came = came; said = subst (λ (l : List Entry). IsSaidBetween (site.view d.0) (site.view e.0) (l ++ s.until) request came) at.log_is s.said; answer = by },
+            record { answered = answered; said = subst (λ (l : List Entry). IsSaidBetween (site.view d.0) (site.view e.0) (l ++ s.until) request came) at.log_is s.said },
             (s.since, refl),
           ),
         );
@@ -42,6 +45,9 @@ module _ {D : Type 0} (site : Seen D) (d e : D × Dialing) (request : List ℕ) 
     where
       x : Exchange
       x = record { request = request; limit = limit; answer = answer }
+
+      answered : IsAnswered (site.view d.0) (site.view e.0) d.1.lost d.1.cut (next_number d.1) x
+      answered = record { came = came; went = went; answer = by }
 
   none_more : e.1.made ≡ d.1.made → HasMade site d e
   none_more is = made_not site d e is (λ log at.

@@ -23,7 +23,8 @@ use Rattle.sm_world.specs.declared.acted.Acted.TheVariants as acted
 use Rattle.sm_world.specs.Encoders.{of_encoder_a, keeps, log_of, entries_after}
 use Rattle.sm_world.specs.Numbered.{AreByNumber}
 use Rattle.sm_world.specs.Saying.{IsSaidBetween, TellsOn}
-use Rattle.sm_world.specs.Wider.{said_between}
+use Rattle.sm_world.specs.Went.{CameOf}
+use Rattle.sm_world.specs.Wider.{came_between, said_between}
 use Rattle.sm_world.proofs.Sources.{in_none}
 
 -- ---- multiples
@@ -82,13 +83,14 @@ abbrev pub Lists : ℕ → ℕ → List ℕ → Type 0
 Lists of most xs = (n : ℕ) → 0 < n → n ≤ most → is_listed n xs ≡ (n % of == 0)
 
 due_by : (from to : View) (log : List Entry) (x : Exchange) (came : Acted) (lost cut : Bool) → x.answer ≡ answer_for lost cut x.limit came → CameBy lost x.answer
-    → IsSaidBetween from to log x.request came → DueBy from to lost cut log x
-due_by from to log x came true cut is due said = due
-due_by from to log x acted.Unopened false cut is due said = absurd (subst (CameBy false) is due)
-due_by from to log x acted.Broken false cut is due said = absurd (subst (CameBy false) is due)
-due_by from to log x acted.NoMemory false cut is due said = absurd (subst (CameBy false) is due)
-due_by from to log x (acted.Sent bytes) false cut is due said = record {
+    → CameOf from to x.request came → IsSaidBetween from to log x.request came → DueBy from to lost cut log x
+due_by from to log x came true cut is due out said = due
+due_by from to log x acted.Unopened false cut is due out said = absurd (subst (CameBy false) is due)
+due_by from to log x acted.Broken false cut is due out said = absurd (subst (CameBy false) is due)
+due_by from to log x acted.NoMemory false cut is due out said = absurd (subst (CameBy false) is due)
+due_by from to log x (acted.Sent bytes) false cut is due out said = record {
   went = bytes;
+  out = out;
   said = said;
   answer = is;
   some = λ none. (subst (CameBy false) none due) refl;
@@ -100,11 +102,12 @@ are_due from to lost cut most number log later [] five seven some few short come
 are_due from to lost cut most number log later (x ∷ xs) five seven some few short come (more, by, rest) =
     let long = by_grown from to lost cut (number + 1) (log ++ more) later xs rest in
     let same : log ++ more ≡ log = same_log log more (omega (arith, long, short)) in
-    let answer : x.answer ≡ answer_for (number % 5 == 0) (number % 7 == 0) x.limit by.came =
-    by.answer ∙ ap (λ (b : Bool). answer_for b (is_listed number cut) x.limit by.came) (five number some (omega (arith, few)))
-    ∙ ap (λ (b : Bool). answer_for (number % 5 == 0) b x.limit by.came) (seven number some (omega (arith, few)))
+    let is = by.answered in
+    let answer : x.answer ≡ answer_for (number % 5 == 0) (number % 7 == 0) x.limit is.came =
+    is.answer ∙ ap (λ (b : Bool). answer_for b (is_listed number cut) x.limit is.came) (five number some (omega (arith, few)))
+    ∙ ap (λ (b : Bool). answer_for (number % 5 == 0) b x.limit is.came) (seven number some (omega (arith, few)))
     in (
-      due_by from to log x by.came (number % 5 == 0) (number % 7 == 0) answer come.0 (subst (λ (l : List Entry). IsSaidBetween from to l x.request by.came) same by.said),
+      due_by from to log x is.came (number % 5 == 0) (number % 7 == 0) answer come.0 is.went (subst (λ (l : List Entry). IsSaidBetween from to l x.request is.came) same by.said),
       are_due from to lost cut most (number + 1) log later xs five seven (omega arith) (omega (arith, few)) short come.1
           (subst (λ (l : List Entry). AreByNumber from to lost cut (number + 1) l xs later) same rest),
     )
@@ -114,6 +117,7 @@ due_so : (a b c d : View) → TellsOn a b → TellsOn c d → (lost cut : Bool) 
 due_so a b c d before behind true cut log x due = due
 due_so a b c d before behind false cut log x due = record {
   went = due.went;
+  out = came_between a b c d before behind x.request (acted.Sent due.went) due.out;
   said = said_between a b c d before behind log x.request (acted.Sent due.went) due.said;
   answer = due.answer;
   some = due.some;

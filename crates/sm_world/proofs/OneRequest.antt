@@ -32,7 +32,8 @@ use Rattle.sm_world.specs.Wider.{replies_by}
 use Rattle.sm_world.proofs.Steps.{IsAct, AreActs, acts_front, acts_last, Causes, AllCause, cause_front, cause_last}
 use Rattle.sm_world.proofs.GetText.{IsAsked, IsFew, front_gives, few_behind}
 use Rattle.sm_world.proofs.OriginReplies.{no_memory_replies, too_many_replies, asked_is_reply, refused_is_reply}
-use Rattle.sm_world.proofs.Fronts.{begun, begun_by, begun_both, began_one, deals_both, still_out, AreFirst, first_of_first, came_by_then, begins_once, among_after}
+use Rattle.sm_world.specs.Bringing.{begun, begun_by}
+use Rattle.sm_world.proofs.Fronts.{begun_both, began_one, deals_both, still_out, AreFirst, first_of_first, came_by_then, begins_once, among_after}
 
 -- ---- what was sent
 

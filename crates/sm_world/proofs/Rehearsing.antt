@@ -87,6 +87,8 @@ module _ {P : Type 0} (m : Meaning P) (number size : ℕ) (policies : List P) (f
         stood = begins.stands;
         empty = begins.log;
         none_made = begins.made;
+        none_lost = begins.lost;
+        none_cut = begins.cut;
         done = done;
         pushed_made = made;
         crash = record {

@@ -28,12 +28,12 @@ use Rattle.sm_fetch.specs.Origins.{FromOrigin, IsOfOrigin, Grows as Lasts, Answe
 use Rattle.sm_world.specs.declared.acted.Acted.{Acted}
 use Rattle.sm_world.specs.declared.acted.Acted.TheVariants as acted
 use Rattle.sm_world.specs.Answering.{HasSent, halved, answer_for}
-use Rattle.sm_world.specs.Bringing.{Brings}
+use Rattle.sm_world.specs.Bringing.{begun, Brings}
 use Rattle.sm_world.specs.Replying.{IsReplyFront}
 use Rattle.sm_world.specs.Saying.{StandsAt, IsSaidBetween, IsSaidBy, IsCrowdedSince, IsLonger, TellsOn, WasCrowded, Says, SaysOn}
 use Rattle.sm_world.specs.Wider.{said_between, tells_same}
 use Rattle.sm_world.specs.Worlds.{World, IsOpen, Stands, Grows}
-use Rattle.sm_world.proofs.Fronts.{AreFirst, begun, deals_both, none_above, taken_of}
+use Rattle.sm_world.proofs.Fronts.{AreFirst, deals_both, none_above, taken_of}
 use Rattle.sm_world.proofs.Steps.{AreActs, AllCause, Counted, all_cause, path_counted, run_acts}
 use Rattle.sm_world.proofs.OneRequest.{Stands as Stood, Good, sent_both, along, answers as spoken}
 use Rattle.sm_world.proofs.Standing.{some_of, at_some, serves_to}
@@ -64,19 +64,19 @@ nothing_behind [] ys is = is
 nothing_behind (x ∷ xs) ys is = absurd (cc)
 
 -- the script that was told, and the one with events behind it
-script_on : (a b : Option (List Deal)) (events : List Event) → IsSome a → Both a b (λ was now. now ≡ was ++ deals_of events) → (was : List Deal) × (a ≡ Some was) × (b ≡ Some (was ++ deals_of events))
+pub script_on : (a b : Option (List Deal)) (events : List Event) → IsSome a → Both a b (λ was now. now ≡ was ++ deals_of events) → (was : List Deal) × (a ≡ Some was) × (b ≡ Some (was ++ deals_of events))
 script_on None None events some both = absurd (cc)
 script_on None (Some b) events some both = absurd both
 script_on (Some a) None events some both = absurd both
 script_on (Some a) (Some b) events some both = (a, refl, ap (λ (l : List Deal). Some l) both)
 
-taken_in : (a b : Option (List Deal)) (was deals : List Deal) → a ≡ Some was → Both a b (AreTaken deals) → (now : List Deal) × AreTaken deals was now
+pub taken_in : (a b : Option (List Deal)) (was deals : List Deal) → a ≡ Some was → Both a b (AreTaken deals) → (now : List Deal) × AreTaken deals was now
 taken_in None b was deals is both = absurd (cc)
 taken_in (Some a) None was deals is both = absurd both
 taken_in (Some a) (Some b) was deals is both = (b, (let same : a ≡ was = cc in subst (λ (l : List Deal). AreTaken deals l b) same both))
 
 -- two that are told
-both_some : {A : Type 0} (a b : Option A) (R : A → A → Type 0) (x y : A) → a ≡ Some x → b ≡ Some y → R x y → Both a b R
+pub both_some : {A : Type 0} (a b : Option A) (R : A → A → Type 0) (x y : A) → a ≡ Some x → b ≡ Some y → R x y → Both a b R
 both_some {A = A} a b R x y is_a is_b so = subst (λ (o : Option A). Both o b R) (sym is_a) (subst (λ (o : Option A). Both (Some x) o R) (sym is_b) so)
 
 -- ---- what was served

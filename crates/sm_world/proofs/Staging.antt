@@ -1,6 +1,7 @@
 -- What pushes leave, one after another.
-use Rattle.std.proofs.Common.{◌≡◌, ◌≢◌, ℕ, zero, suc, ◌+◌, ◌-◌, ◌*◌, ◌≤◌, ◌<◌, ◌^◌, Bool, true, false, if◌then◌else◌, List, [], ◌∷◌, ◌++◌, Some, Result, Ok, Err, refl, sym, ◌∙◌, ap, subst, arith, append_assoc, append-nil}
+use Rattle.std.proofs.Common.{◌≡◌, ◌≢◌, ℕ, zero, suc, ◌+◌, ◌-◌, ◌*◌, ◌≤◌, ◌<◌, ◌^◌, Bool, true, false, if◌then◌else◌, List, [], ◌∷◌, ◌++◌, length, Some, Result, Ok, Err, refl, sym, ◌∙◌, ap, subst, arith, append_assoc, append-nil}
 use Rattle.std.specs.Prelude.{OnOk, map}
+use Rattle.std.proofs.lemmas.List.{append_cancel_left}
 use Rattle.sm_fetch.specs.declared.dial.Answer.{Answer}
 use Rattle.sm_fetch.specs.declared.dial.Answer.TheVariants as answers
 use Rattle.sm_fetch.specs.declared.dial.Exchange.{Exchange}
@@ -11,13 +12,14 @@ use Rattle.sm_fetch.specs.Exchanges.{logged}
 use Rattle.sm_fetch.specs.Fetched.{PushedBody}
 use Rattle.sm_fetch.specs.Spelt.{SpellsPush}
 use Rattle.sm_reply.specs.Replies.{counts_line}
-use Rattle.sm_site.specs.Memory.{site_seen}
+use Rattle.sm_site.specs.Memory.{site_seen, site_view}
 use Rattle.sm_site.specs.declared.memory.MemorySite.{MemorySite}
 use Rattle.sm_fetch.specs.Requests.{push_request, push_limit}
-use Rattle.sm_world.specs.Deeds.{Deed, IsDone, AreDone, before_a, chance_by, deeds_in, fragments_in, of_b, requests_of, round_of}
+use Rattle.sm_world.specs.Deeds.{Deed, IsDone, AreDone, before_a, chance_by, deeds_in, fragments_in, of_b, push_of, requests_of, round_of}
 use Rattle.sm_world.specs.Deeds.Deed.{Pushes, Stops, Crashes}
-use Rattle.sm_world.specs.Dialing.{Dialing}
+use Rattle.sm_world.specs.Dialing.{Dialing, next_number}
 use Rattle.sm_world.specs.Later.{IsLater}
+use Rattle.sm_world.specs.Numbered.{IsAnswered, AreAnswered}
 use Rattle.sm_world.specs.LaterLaws.{continues_later, continues_same, continues_then}
 use Rattle.sm_world.specs.Rounds.{behind, crashes, is_crash, is_refused, kind_at, kind_by, refusals, state_at, state_by}
 use Rattle.sm_world.specs.declared.kind.Kind.{Kind}
@@ -81,7 +83,7 @@ asked_by place id [] a b same = record {
 }
 asked_by place id (Pushes n body ∷ deeds) a b (mid, done, rest) =
     let r = asked_by place id deeds mid b rest in
-    let x : Exchange = record { request = push_request place id body; limit = push_limit; answer = done.answer } in
+    let x : Exchange = push_of place id body done.answer in
     record {
       more = x ∷ r.more;
       made = r.made ∙ ap (λ (l : List Exchange). l ++ r.more) done.made ∙ append_assoc a.1.made (x ∷ []) r.more;
@@ -118,15 +120,20 @@ module _ (old new : Stage) (place : new.place ≡ old.place) (id : new.id ≡ ol
       → Says fragments came t → fragments ≤ 3 → new.known ≡ old.known + known_by t → new.refused ≡ old.refused + refused_by t
       → IsLater site_seen old.dial new.dial → HasPushed old new (Pushes fragments body ∷ []) 0 (refused_by t) 3
   has_pushed body came t fragments p says few known refused later =
-      let x : Exchange = record { request = push_request old.place old.id body; limit = push_limit; answer = p.answer } in
+      let x : Exchange = push_of old.place old.id body p.answer in
       let made : new.dial.1.made ≡ old.dial.1.made ++ x ∷ [] =
       one_more old.dial.1.made new.dial.1.made _ _ p.answer came p.log p.spells (said_something fragments came t says)
+      in
+      let same : later.exchanges.more ≡ x ∷ [] = append_cancel_left old.dial.1.made later.exchanges.more (x ∷ []) (sym later.exchanges.made ∙ made) in
+      let answered : IsAnswered (site_view old.dial.0) (site_view new.dial.0) old.dial.1.lost old.dial.1.cut (next_number old.dial.1) x =
+      (subst (λ (l : List Exchange). AreAnswered (site_view old.dial.0) (site_view new.dial.0) old.dial.1.lost old.dial.1.cut old.dial.1.since (length old.dial.1.made) l) same
+      later.exchanges.answered).0
       in
       record {
         place = place;
         id = id;
         header = header;
-        done = done_one old.place old.id (Pushes fragments body) old.dial new.dial (record { answer = p.answer; made = made; later = later });
+        done = done_one old.place old.id (Pushes fragments body) old.dial new.dial (record { answer = p.answer; made = made; answered = answered; later = later });
         more = x ∷ [];
         made = made;
         known = known_by t;

@@ -4,13 +4,15 @@ use Rattle.sm_fetch.specs.declared.dial.Answer.{Answer}
 use Rattle.sm_fetch.specs.declared.dial.Answer.TheVariants as answers
 use Rattle.sm_site.specs.declared.event.Event.{Event}
 use Rattle.sm_site.specs.Clauses.{Both, Rose}
-use Rattle.sm_site.specs.Meanings.{View, Item, sent_on}
+use Rattle.sm_site.specs.Meanings.{View, Deal, Item, sent_on}
 use Rattle.sm_site.specs.Meanings.Deal.{Over}
 use Rattle.sm_site.specs.Scripts.{deals_of}
 use Rattle.sm_serve.specs.Connections.{events_in}
 use Rattle.sm_serve.specs.Run.{at}
+use Rattle.sm_serve.specs.Serving.{AreTaken}
 use Rattle.sm_serve.specs.declared.state.State.{State}
 use Rattle.sm_world.specs.Bringing.{Brings}
+use Rattle.sm_world.specs.Went.{GoesOutBy}
 use Rattle.sm_world.specs.declared.acted.Acted.{Acted}
 use Rattle.sm_world.specs.declared.acted.Acted.TheVariants as acted
 
@@ -41,7 +43,8 @@ faults_after faults answers.NoMemory = faults
 abbrev pub IsServed : List Item → Type 0
 IsServed items = ((before : List Item) × (m : ℕ) × (items ≡ before ++ at m Over)) ⊎ (2 ^ 64 - 1 ≤ events_in items)
 
--- The request was put behind the script, on a connection of its own; then all was served, and these bytes went out on the connection.
+-- The request was put behind the script, on a connection of its own; then all was served, the next events of the script were taken, and these
+-- bytes went out on the connection.
 pub record Handed {D : Type 0} (view : D → View) (old new : D) (request bytes : List ℕ) : Type 0 where
   pub conn : ℕ
   pub high : 2 ^ 63 ≤ conn
@@ -49,6 +52,9 @@ pub record Handed {D : Type 0} (view : D → View) (old new : D) (request bytes 
   pub brings : Brings conn request events
   pub between : D
   pub added : Both (view old).script (view between).script (λ was now. now ≡ was ++ deals_of events)
+  pub deals : List Deal
+  pub taken : Both (view between).script (view new).script (AreTaken deals)
+  pub told : Both (view old).transcript (view new).transcript (GoesOutBy conn request bytes deals)
   pub served : IfSome (view new).transcript IsServed
   pub sent : IfSome (view new).transcript (λ items. bytes ≡ sent_on conn items)
 

@@ -20,6 +20,7 @@ use Rattle.sm_world.specs.Dialing.{Dialing}
 use Rattle.sm_world.specs.Encoders.{entries_after, log_of}
 use Rattle.sm_world.specs.Saying.{IsSaidBetween, TellsOn}
 use Rattle.sm_world.specs.Stages.{HasEntries, StaysOn}
+use Rattle.sm_world.specs.Went.{CameOf}
 use Rattle.sm_world.specs.Worlds.{World, Stands}
 use Rattle.sm_world.specs.declared.client.Client.{Client}
 use Rattle.sm_world.specs.declared.clients.Clients.{Clients}
@@ -31,10 +32,11 @@ plan_of name count = record { place = place; streams = name ∷ []; from = None;
 
 -- ---- what is lost and cut
 
--- Of what an origin with this log replied these bytes went out, and they came up to the limit, or the first half of them, rounded down; and
--- something came. What came in place of a reply had its cause on the way from one view of the site to another.
+-- Of what an origin with this log replied these bytes went out on a connection of the request, and they came up to the limit, or the first half of
+-- them, rounded down; and something came. What came in place of a reply had its cause on the way from one view of the site to another.
 pub record Comes (old new : View) (log : List Entry) (cut : Bool) (x : Exchange) : Type 0 where
   pub went : List ℕ
+  pub out : CameOf old new x.request (acted.Sent went)
   pub said : IsSaidBetween old new log x.request (acted.Sent went)
   pub answer : x.answer ≡ answers.Bytes (take x.limit (halved cut went))
   pub some : x.answer ≢ answers.Bytes []

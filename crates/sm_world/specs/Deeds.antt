@@ -2,6 +2,7 @@
 use Rattle.std.specs.Prelude.{◌≡◌, ℕ, zero, suc, ◌+◌, ◌*◌, ◌%◌, List, [], ◌∷◌, ◌++◌, None, Some, IfSome, codes}
 use Rattle.sm_model.specs.FragText.{frag_text}
 use Rattle.sm_fetch.specs.declared.dial.Answer.{Answer}
+use Rattle.sm_fetch.specs.declared.dial.Exchange.{Exchange}
 use Rattle.sm_fetch.specs.declared.place.Place.{Place}
 use Rattle.sm_fetch.specs.Requests.{push_request, push_limit}
 use Rattle.sm_site.specs.declared.memory.MemorySite.{MemorySite}
@@ -9,9 +10,10 @@ use Rattle.sm_site.specs.Image.{bytes_of}
 use Rattle.sm_site.specs.Memory.{faults_of, site_seen, site_view, site_left_by, state_of}
 use Rattle.sm_site.specs.Sites.{SameCounts}
 use Rattle.sm_world.specs.Answering.{one_more}
-use Rattle.sm_world.specs.Dialing.{Dialing}
+use Rattle.sm_world.specs.Dialing.{Dialing, next_number}
 use Rattle.sm_world.specs.Encoders.{fragment_of, of_encoder_a}
 use Rattle.sm_world.specs.Later.{IsLater}
+use Rattle.sm_world.specs.Numbered.{IsAnswered}
 use Rattle.sm_world.specs.Rounds.{drawn, stirred, state_by, state_at, kind_at}
 use Rattle.sm_world.specs.declared.kind.Kind.{Kind}
 use Rattle.sm_world.specs.declared.kind.Kind.TheVariants.{Known, Clash, Overlap, Crash, Same, Alone}
@@ -85,10 +87,15 @@ fragments_in (Crashes choice ∷ deeds) = fragments_in deeds
 
 -- ---- what they make of an origin in memory
 
--- one exchange was told, of the push of this body
+-- the exchange of the push of this body
+abbrev pub push_of : Place → List ℕ → List ℕ → Answer → Exchange
+push_of to id body answer = record { request = push_request to id body; limit = push_limit; answer = answer }
+
+-- one exchange was told, of the push of this body, and its answer is what came of that push at the site
 pub record IsPush (place : Place) (id body : List ℕ) (old new : MemorySite × Dialing) : Type 0 where
   pub answer : Answer
-  pub made : new.1.made ≡ old.1.made ++ (record { request = push_request place id body; limit = push_limit; answer = answer }) ∷ []
+  pub made : new.1.made ≡ old.1.made ++ push_of place id body answer ∷ []
+  pub answered : IsAnswered (site_view old.0) (site_view new.0) old.1.lost old.1.cut (next_number old.1) (push_of place id body answer)
   pub later : IsLater site_seen old new
 
 -- so many writes and syncs still pass

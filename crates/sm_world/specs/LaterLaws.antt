@@ -1,13 +1,13 @@
 -- What the laws of a dial on a site stand on: what becomes of it over one call after another.
-use Rattle.std.proofs.Common.{◌≡◌, ℕ, ◌+◌, ◌≤◌, List, [], ◌∷◌, ◌++◌, length, refl, sym, ◌∙◌, ap, subst, arith, append_assoc, append-nil, length-append}
+use Rattle.std.proofs.Common.{◌≡◌, ℕ, ◌+◌, ◌-◌, ◌≤◌, List, [], ◌∷◌, ◌++◌, length, refl, sym, ◌∙◌, ap, subst, arith, append_assoc, append-nil, length-append}
 use Rattle.sm_model.specs.declared.entry.Entry.{Entry}
 use Rattle.sm_site.specs.Meanings.{View, Seen}
 use Rattle.sm_fetch.specs.declared.dial.Exchange.{Exchange}
 use Rattle.sm_world.specs.Dialing.{Dialing, next_number}
 use Rattle.sm_world.specs.Later.{HasMade, IsLater, Continues}
-use Rattle.sm_world.specs.Numbered.{IsByNumber, AreByNumber}
+use Rattle.sm_world.specs.Numbered.{IsAnswered, AreAnswered, IsByNumber, AreByNumber}
 use Rattle.sm_world.specs.Saying.{StandsAt, TellsOn}
-use Rattle.sm_world.specs.Wider.{said_between, tells_same, tells_then}
+use Rattle.sm_world.specs.Wider.{came_between, said_between, tells_same, tells_then}
 use Rattle.sm_world.specs.Worlds.{World, Grows}
 
 grows_not : (w : World) → Grows w w
@@ -24,12 +24,34 @@ grows_then u v w a b = record {
 -- ---- exchanges by their numbers
 
 -- for causes on a longer way
+answered_wider : (a b c d : View) → TellsOn a b → TellsOn c d → (lost cut : List ℕ) (n : ℕ) (x : Exchange) → IsAnswered b c lost cut n x → IsAnswered a d lost cut n x
+answered_wider a b c d before behind lost cut n x is =
+    record { came = is.came; went = came_between a b c d before behind x.request is.came is.went; answer = is.answer }
+
+all_wider : (a b c d : View) → TellsOn a b → TellsOn c d → (lost cut : List ℕ) (since n : ℕ) (xs : List Exchange) → AreAnswered b c lost cut since n xs
+    → AreAnswered a d lost cut since n xs
+all_wider a b c d before behind lost cut since n [] all = tt
+all_wider a b c d before behind lost cut since n (x ∷ xs) all = (
+  answered_wider a b c d before behind lost cut (n - since + 1) x all.0,
+  all_wider a b c d before behind lost cut since (n + 1) xs all.1,
+)
+
+all_both : (from to : View) (lost cut : List ℕ) (since n m : ℕ) (xs ys : List Exchange) → m ≡ n + length xs → AreAnswered from to lost cut since n xs
+    → AreAnswered from to lost cut since m ys → AreAnswered from to lost cut since n (xs ++ ys)
+all_both from to lost cut since n m [] ys is all then =
+    subst (λ (k : ℕ). AreAnswered from to lost cut since k ys) (let e : m ≡ n = omega (arith, is) in e) then
+all_both from to lost cut since n m (x ∷ xs) ys is all then = (all.0, all_both from to lost cut since (n + 1) m xs ys (omega (arith, is)) all.1 then)
+
 by_wider : (a b c d : View) → TellsOn a b → TellsOn c d → (lost cut : List ℕ) (n : ℕ) (log : List Entry) (xs : List Exchange) (later : List Entry)
     → AreByNumber b c lost cut n log xs later → AreByNumber a d lost cut n log xs later
+unfolding answered_wider
 by_wider a b c d before behind lost cut n log [] later on = on
 by_wider a b c d before behind lost cut n log (x ∷ xs) later (more, by, rest) = (
   more,
-  record { came = by.came; said = said_between a b c d before behind (log ++ more) x.request by.came by.said; answer = by.answer },
+  record {
+    answered = answered_wider a b c d before behind lost cut n x by.answered;
+    said = said_between a b c d before behind (log ++ more) x.request by.answered.came by.said;
+  },
   by_wider a b c d before behind lost cut (n + 1) (log ++ more) xs later rest,
 )
 
@@ -60,6 +82,7 @@ module _ {D : Type 0} (site : Seen D) where
   made_not d e same on = record {
     more = [];
     made = same ∙ sym (append-nil d.1.made);
+    answered = tt;
     on = λ within log at. (let x = on log at in (log ++ x.0, x.1, (x.0, refl)));
   }
 
@@ -68,11 +91,26 @@ module _ {D : Type 0} (site : Seen D) where
   made_then d e f lost cut since before behind a b = record {
     more = a.more ++ b.more;
     made = b.made ∙ ap (λ (l : List Exchange). l ++ b.more) a.made ∙ append_assoc d.1.made a.more b.more;
+    answered = answered;
     on = λ within log at. on within log at;
   }
     where
       long : length e.1.made ≡ length d.1.made + length a.more
       long = ap (λ (l : List Exchange). length l) a.made ∙ length-append d.1.made a.more
+
+      later : AreAnswered (site.view e.0) (site.view f.0) d.1.lost d.1.cut d.1.since (length e.1.made) b.more
+      later =
+          subst (λ (n : ℕ). AreAnswered (site.view e.0) (site.view f.0) d.1.lost d.1.cut n (length e.1.made) b.more) since
+          (subst (λ (l : List ℕ). AreAnswered (site.view e.0) (site.view f.0) l d.1.cut e.1.since (length e.1.made) b.more) lost
+          (subst (λ (l : List ℕ). AreAnswered (site.view e.0) (site.view f.0) e.1.lost l e.1.since (length e.1.made) b.more) cut b.answered))
+
+      answered : AreAnswered (site.view d.0) (site.view f.0) d.1.lost d.1.cut d.1.since (length d.1.made) (a.more ++ b.more)
+      answered =
+          all_both (site.view d.0) (site.view f.0) d.1.lost d.1.cut d.1.since (length d.1.made) (length e.1.made) a.more b.more long
+          (all_wider (site.view d.0) (site.view d.0) (site.view e.0) (site.view f.0) (tells_same (site.view d.0)) behind d.1.lost d.1.cut d.1.since
+          (length d.1.made) a.more a.answered)
+          (all_wider (site.view d.0) (site.view e.0) (site.view f.0) (site.view f.0) before (tells_same (site.view f.0)) d.1.lost d.1.cut d.1.since
+          (length e.1.made) b.more later)
 
       on : d.1.since ≤ length d.1.made → (log : List Entry) → StandsAt site d.1.state d.0 log
           → (later : List Entry) × StandsAt site f.1.state f.0 later

@@ -1,5 +1,6 @@
 pub mod Dialing
 pub mod Bringing
+pub mod Went
 pub mod Answering
 pub mod Numbered
 pub mod Pushed

@@ -39,6 +39,8 @@ pub record Rehearsed {P : Type 0} (m : Meaning P) (number size : ℕ) (policies 
   pub stood : Stands site_seen before start.1.state start.0
   pub empty : before.log ≡ []
   pub none_made : start.1.made ≡ []
+  pub none_lost : start.1.lost ≡ []
+  pub none_cut : start.1.cut ≡ []
   pub done : AreDone place (codes "a") (deeds_in header_text size number) start pushed
   pub pushed_made : pushed.1.made ≡ pushes
   pub crash : CrashedBehind pushed r.dial (pushes ++ ones)

@@ -32,7 +32,7 @@ pub record HasPushed (old new : Stage) (deeds : List Deed) (crashes refusals mos
   pub crashed : old.dial.1.crashes + crashes < 2 ^ 62 → new.dial.1.crashes ≡ old.dial.1.crashes + crashes
   pub stays_on : StaysOn old.dial new.dial
 
--- Nothing has happened yet: the store is empty.
+-- Nothing has happened yet: the store is empty, and no exchange is to be lost or cut.
 pub record Begins (s : Stage) : Type 0 where
   pub world : World
   pub stands : Stands site_seen world s.dial.1.state s.dial.0
@@ -42,6 +42,8 @@ pub record Begins (s : Stage) : Type 0 where
   pub id : s.id ≡ codes "a"
   pub header : s.header ≡ header_text
   pub made : s.dial.1.made ≡ []
+  pub lost : s.dial.1.lost ≡ []
+  pub cut : s.dial.1.cut ≡ []
   pub crashes : s.dial.1.crashes ≡ 0
   pub known : s.known ≡ 0
   pub refused : s.refused ≡ 0

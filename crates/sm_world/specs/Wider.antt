@@ -7,6 +7,7 @@ use Rattle.sm_site.specs.Meanings.{View, Item, SameLink}
 use Rattle.sm_site.specs.Sites.{SameBut}
 use Rattle.sm_world.specs.Replying.{Replaces, IsReplyTo, IsReplyFront, given}
 use Rattle.sm_world.specs.Saying.{IsCrowdedSince, IsLonger, IsSaidBetween, IsSaidBy, TellsOn}
+use Rattle.sm_world.specs.Went.{CameOf, GoesOut, IsAnsweredSince}
 use Rattle.sm_world.specs.declared.acted.Acted.{Acted}
 use Rattle.sm_world.specs.declared.acted.Acted.TheVariants as acted
 
@@ -29,52 +30,72 @@ longer_same : (o : Option (List Item)) → Both o o IsLonger
 longer_same None = tt
 longer_same (Some items) = ([], sym (append-nil items))
 
+-- two ways, one behind the other
+both_then : (R S T : List Item → List Item → Type 0) (a b c : Option (List Item)) → ((x y z : List Item) → R x y → S y z → T x z) → Both a b R → Both b c S → Both a c T
+both_then R S T None None None so one two = tt
+both_then R S T None None (Some z) so one two = two
+both_then R S T None (Some y) None so one two = tt
+both_then R S T None (Some y) (Some z) so one two = absurd one
+both_then R S T (Some x) None None so one two = one
+both_then R S T (Some x) None (Some z) so one two = absurd one
+both_then R S T (Some x) (Some y) None so one two = two
+both_then R S T (Some x) (Some y) (Some z) so one two = so x y z one two
+
 longer_then : (a b c : Option (List Item)) → Both a b IsLonger → Both b c IsLonger → Both a c IsLonger
-longer_then None None None one two = tt
-longer_then None None (Some z) one two = two
-longer_then None (Some y) None one two = tt
-longer_then None (Some y) (Some z) one two = one
-longer_then (Some x) None None one two = one
-longer_then (Some x) None (Some z) one two = absurd one
-longer_then (Some x) (Some y) None one two = two
-longer_then (Some x) (Some y) (Some z) (more, is) (further, then) =
-    (more ++ further, then ∙ ap (λ (l : List Item). l ++ further) is ∙ append_assoc x more further)
+longer_then a b c one two = both_then IsLonger IsLonger IsLonger a b c
+    (λ x y z first then. (first.0 ++ then.0, then.1 ∙ ap (λ (l : List Item). l ++ then.0) first.1 ∙ append_assoc x first.0 then.0)) one two
 
 crowded_before : (a b c : Option (List Item)) → Both a b IsLonger → Both b c IsCrowdedSince → Both a c IsCrowdedSince
-crowded_before None None None one two = tt
-crowded_before None None (Some z) one two = two
-crowded_before None (Some y) None one two = tt
-crowded_before None (Some y) (Some z) one two = absurd one
-crowded_before (Some x) None None one two = one
-crowded_before (Some x) None (Some z) one two = absurd one
-crowded_before (Some x) (Some y) None one two = two
-crowded_before (Some x) (Some y) (Some z) (more, is) w = record {
-  until = more ++ w.until;
-  since = w.since;
-  goes_on = w.goes_on ∙ ap (λ (l : List Item). l ++ w.since) (ap (λ (l : List Item). l ++ w.until) is ∙ append_assoc x more w.until);
-  before = w.before;
-  stretch = w.stretch;
-  ends = sym (append_assoc x more w.until) ∙ sym (ap (λ (l : List Item). l ++ w.until) is) ∙ w.ends;
-  many = w.many;
-}
+crowded_before a b c one two = both_then IsLonger IsCrowdedSince IsCrowdedSince a b c
+    (λ x y z first w. (let same : y ++ w.until ≡ x ++ (first.0 ++ w.until) = ap (λ (l : List Item). l ++ w.until) first.1 ∙ append_assoc x first.0 w.until in record {
+      until = first.0 ++ w.until;
+      since = w.since;
+      goes_on = w.goes_on ∙ ap (λ (l : List Item). l ++ w.since) same;
+      before = w.before;
+      stretch = w.stretch;
+      ends = sym same ∙ w.ends;
+      many = w.many;
+    }))
+    one two
 
 crowded_behind : (a b c : Option (List Item)) → Both a b IsCrowdedSince → Both b c IsLonger → Both a c IsCrowdedSince
-crowded_behind None None None one two = tt
-crowded_behind None None (Some z) one two = two
-crowded_behind None (Some y) None one two = tt
-crowded_behind None (Some y) (Some z) one two = absurd one
-crowded_behind (Some x) None None one two = one
-crowded_behind (Some x) None (Some z) one two = absurd one
-crowded_behind (Some x) (Some y) None one two = two
-crowded_behind (Some x) (Some y) (Some z) w (more, is) = record {
-  until = w.until;
-  since = w.since ++ more;
-  goes_on = is ∙ ap (λ (l : List Item). l ++ more) w.goes_on ∙ append_assoc (x ++ w.until) w.since more;
-  before = w.before;
-  stretch = w.stretch;
-  ends = w.ends;
-  many = w.many;
-}
+crowded_behind a b c one two = both_then IsCrowdedSince IsLonger IsCrowdedSince a b c
+    (λ x y z w then. record {
+      until = w.until;
+      since = w.since ++ then.0;
+      goes_on = then.1 ∙ ap (λ (l : List Item). l ++ then.0) w.goes_on ∙ append_assoc (x ++ w.until) w.since then.0;
+      before = w.before;
+      stretch = w.stretch;
+      ends = w.ends;
+      many = w.many;
+    })
+    one two
+
+answered_before : (request bytes : List ℕ) (a b c : Option (List Item)) → Both a b IsLonger → Both b c (IsAnsweredSince request bytes) → Both a c (IsAnsweredSince request bytes)
+answered_before request bytes a b c one two = both_then IsLonger (IsAnsweredSince request bytes) (IsAnsweredSince request bytes) a b c
+    (λ x y z first w. (let same : y ++ w.until ≡ x ++ (first.0 ++ w.until) = ap (λ (l : List Item). l ++ w.until) first.1 ∙ append_assoc x first.0 w.until in record {
+      until = first.0 ++ w.until;
+      stretch = w.stretch;
+      since = w.since;
+      goes_on = w.goes_on ∙ ap (λ (l : List Item). (l ++ w.stretch) ++ w.since) same;
+      conn = w.conn;
+      high = w.high;
+      out = subst (λ (l : List Item). GoesOut w.conn request bytes l w.stretch) same w.out;
+    }))
+    one two
+
+answered_behind : (request bytes : List ℕ) (a b c : Option (List Item)) → Both a b (IsAnsweredSince request bytes) → Both b c IsLonger → Both a c (IsAnsweredSince request bytes)
+answered_behind request bytes a b c one two = both_then (IsAnsweredSince request bytes) IsLonger (IsAnsweredSince request bytes) a b c
+    (λ x y z w then. record {
+      until = w.until;
+      stretch = w.stretch;
+      since = w.since ++ then.0;
+      goes_on = then.1 ∙ ap (λ (l : List Item). l ++ then.0) w.goes_on ∙ append_assoc ((x ++ w.until) ++ w.stretch) w.since then.0;
+      conn = w.conn;
+      high = w.high;
+      out = w.out;
+    })
+    one two
 
 -- ---- views
 
@@ -152,3 +173,15 @@ said_between a b c d before behind log request came said =
     (λ crowded. crowded_before a.transcript b.transcript d.transcript before.transcript
     (crowded_behind b.transcript c.transcript d.transcript crowded behind.transcript))
     said
+
+-- ---- what came
+
+pub came_between : (a b c d : View) → TellsOn a b → TellsOn c d → (request : List ℕ) (came : Acted) → CameOf b c request came → CameOf a d request came
+came_between a b c d before behind request acted.Unopened went =
+    rose_wider a.disk_faults b.disk_faults c.disk_faults d.disk_faults before.disk_faults behind.disk_faults went
+came_between a b c d before behind request acted.Broken went =
+    rose_wider a.link_faults b.link_faults c.link_faults d.link_faults before.link_faults behind.link_faults went
+came_between a b c d before behind request acted.NoMemory went = tt
+came_between a b c d before behind request (acted.Sent bytes) went =
+    answered_before request bytes a.transcript b.transcript d.transcript before.transcript
+    (answered_behind request bytes b.transcript c.transcript d.transcript went behind.transcript)

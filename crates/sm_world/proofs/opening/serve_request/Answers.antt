@@ -3,6 +3,7 @@ use Rattle.sm_world.proofs.Standing.{serves_on}
 use Rattle.sm_world.proofs.Calls.{grows_not, handed, rose_from, served_all}
 use Rattle.sm_world.specs.declared.acted.Acted.TheVariants as acted
 use Rattle.sm_world.specs.Wider.{tells_but, tells_then}
+use Rattle.sm_world.proofs.Answered.{goes_out}
 use Rattle.sm_world.proofs.Speaking.{says_nothing, says_sent, tells_served}
 use Rattle.sm_world.proofs.opening.serve_request.Goals as goal
 
@@ -40,9 +41,16 @@ returns-in-NoMemory-clause-goes_on g c w open_ =
 pub returns-in-Done-clause-cause : goal.returns-in-Done-clause-cause
 returns-in-Done-clause-cause g c =
     let kept = c.bring.ensures.stays c.requires.stands.0 c.args.state.now c.requires.stands.1 in
+    let brought = c.in-Some.ensures.brings in
     handed g.S.Disk.seen (Some c.args.state.now) c.serve.new.state
     c.args.site.now c.bring.new.site c.serve.new.site c.args.request.now c.in-Some.conn c.sent_on.result
-    c.sent_on.ensures c.in-Some.ensures.first c.in-Some.ensures.brings
+    c.sent_on.ensures c.in-Some.ensures.first
+    (λ bytes sent. goes_out g.S.Disk.seen kept.run c.args.state.now c.args.site.now c.bring.new.site c.serve.new.state c.serve.new.site
+    (g.S.Link.numbers c.args.site.now) c.in-Some.conn c.args.request.now brought.0 bytes (g.met.S.Crashing.tells c.args.site.now).script
+    c.in-Some.ensures.above c.in-Some.ensures.live c.in-Some.ensures.sent c.bring.ensures.view.transcript brought.1 brought.2 sent
+    kept.serves c.in-Done.turns c.in-Done.behind c.in-Done.short 18446744073709551615 (omega arith) (c.in-Done.ensures.runs kept.run kept.serves)
+    (c.serve.ensures.goes_on kept.run kept.serves))
+    brought
     (served_all g.S.Disk.seen kept.run c.in-Done.turns c.in-Done.behind c.in-Done.short 18446744073709551615
     c.serve.new.state c.serve.new.site (omega arith) (c.in-Done.ensures.runs kept.run kept.serves))
 

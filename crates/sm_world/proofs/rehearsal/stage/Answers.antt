@@ -1,4 +1,4 @@
-use Rattle.std.proofs.Common.{List, [], ap, refl, subst, sym}
+use Rattle.std.proofs.Common.{List, [], ap, refl, subst, sym, ◌∙◌}
 use Rattle.std.specs.Prelude.{IfSome}
 use Rattle.std.specs.FinMap as map
 use Rattle.sm_model.specs.declared.entry.Entry.{Entry}
@@ -32,6 +32,8 @@ returns c =
       id = c.in_ok-name.ensures;
       header = c.in_ok-header.ensures;
       made = ap (λ (d : Dialing). d.made) is;
+      lost = ap (λ (d : Dialing). d.lost) is ∙ c.from_vec-lost.ensures ∙ c.new-4.ensures.items;
+      cut = ap (λ (d : Dialing). d.cut) is ∙ c.from_vec-cut.ensures ∙ c.new-5.ensures.items;
       crashes = ap (λ (d : Dialing). d.crashes) is;
       known = refl;
       refused = refl;

@@ -2,6 +2,7 @@ use Rattle.std.proofs.Common.{◌≡◌, ⊎_elim, inl, inr, ℕ, ◌+◌, ◌-�
 use Rattle.sm_fetch.specs.Exchanges.{IsWithin}
 use Rattle.sm_world.specs.Worlds.{GoesOn}
 use Rattle.sm_world.specs.Later.{IsLater}
+use Rattle.sm_world.proofs.Answered.{came_of}
 use Rattle.sm_world.proofs.Numbering.{answer_within, later_exchange, since_within}
 use Rattle.sm_fetch.specs.Origins.{AnswersFrom}
 use Rattle.sm_site.specs.Faults.{is_listed}
@@ -11,6 +12,7 @@ use Rattle.sm_world.specs.Saying.{StandsAt, SaysOn}
 use Rattle.sm_world.proofs.Speaking.{answers_on}
 use Rattle.sm_world.specs.Answering.{HasCause, answer_for}
 use Rattle.sm_world.specs.Dialing.{next_number}
+use Rattle.sm_world.specs.Went.{CameOf}
 use Rattle.sm_world.proofs.exchange.OriginDialDial.exchange.Goals as goal
 
 pub returns-clause-answers : goal.returns-clause-answers
@@ -71,6 +73,9 @@ returns-clause-goes_on g c =
     let says : SaysOn g.S.Disk.seen s.state s.site c.args.request.now came state e =
     subst (λ (o : Option State). SaysOn g.S.Disk.seen o s.site c.args.request.now came state e) c.take-state.ensures.value c.ask-state.ensures.says
     in
+    let went : CameOf (g.S.Disk.seen.view s.site) (g.S.Disk.seen.view e) c.args.request.now came =
+    came_of g.S.Disk.seen c.take-state.result state s.site e c.args.request.now came c.ask-state.ensures.cause
+    in
     let number : c.number-number.result ≡ n = c.number-number.ensures ∙ sym (ap (λ (v : _). next_number v.1) c.self.view_is) in
     let lost : c.contains-lost.result ≡ is_listed n s.lost = c.contains-lost.ensures ∙ ap (λ (k : ℕ). is_listed k s.lost) number in
     let cut : c.contains-cut.result ≡ is_listed n s.cut = c.contains-cut.ensures ∙ ap (λ (k : ℕ). is_listed k s.cut) number in
@@ -87,7 +92,7 @@ returns-clause-goes_on g c =
         crashes = s.crashes;
       },
     )) c.self.view_is
-    (later_exchange g.S.Disk.seen _ _ c.args.request.now c.args.limit came says c.told.result c.told.ensures.made
+    (later_exchange g.S.Disk.seen _ _ c.args.request.now c.args.limit came says went c.told.result c.told.ensures.made
     (⊎_elim (λ (wants : c.told.result ≡ answers.NoMemory). inl wants)
     (λ (same : c.told.result ≡ c.answer_for-answer.result). inr (same ∙ c.answer_for-answer.ensures ∙ ap (λ (b : Bool). answer_for b c.contains-cut.result c.args.limit came) lost
     ∙ ap (λ (b : Bool). answer_for (is_listed n s.lost) b c.args.limit came) cut))
