@@ -172,7 +172,8 @@ pub record TriesLadder {D : Type 0} (site : Seen D) (input input' : End) (old ne
 -- was asked for.
 abbrev pub UnreadyBy : {D : Type 0} → Seen D → Bool → End → End → D → D → StoreFault → Type 0
 UnreadyBy site ladder input input' old new why =
-    (WhyUnopened (site.view old) (site.view new) why × (input' ≡ input) × LeavesLog site old new) ⊎ (IsTrue ladder × TriesLadder site input input' old new (Err why))
+    (WhyUnopened (site.view old) (site.view new) why × (input' ≡ input) × LeavesLog site old new)
+    ⊎ (IsTrue ladder × TriesLadder site input input' old new (Err why))
 
 -- Why nothing was served. Nothing was taken from the link and nothing was sent, and what is no store wasn't written.
 pub record WhyUnready {D : Type 0} (site : Seen D) (ladder : Bool) (input input' : End) (old new : D) (why : StoreFault) : Type 0 where

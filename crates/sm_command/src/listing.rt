@@ -151,7 +151,8 @@ fn list_disk<D: Disk>(alloc: Global, disk: &mut D) -> Result<Bytes, StoreFault>
 /// made, and nothing else is written.
 pub fn list_store<S: Site>(alloc: Global, site: &mut S, store: String) -> Result<Bytes, StoreFault>
     // No other folder is chosen, none is made, and no port is chosen.
-    ensures chosen { IsChosen result (record { store = string_bytes store; make = false; port = 0; bind = None; journal = None }) (S.Disk.seen.view site.old) (S.Disk.seen.view site.new) }
+    ensures chosen { IsChosen result (record { store = string_bytes store; make = false; port = 0; bind = None; journal = None })
+        (S.Disk.seen.view site.old) (S.Disk.seen.view site.new) }
     ensures listed { IfOk result (λ text. IfSome (S.Disk.seen.view site.old).contents (λ c. (log : List Entry) × IsStore log c × (text ≡ lines_of log))) }
     ensures why { IfErr result (λ why. WhyUnlisted S.Disk.seen site.old site.new why) }
     // Where each image that a crash might have left was one store, a crash leaves that store at each moment.

@@ -33,7 +33,8 @@ text_is b name bitrate log header written channel found id times head is small s
 -- a header that fits, and that went out with a front of the texts behind it
 pub begun : (told : Type 0) (b name : List ℕ) (bitrate : ℕ) (log : List Entry) (header written : List ℕ) (channel declared : List Track) (found : Option ℕ) (id : ℕ) (times : List (ℕ × ℕ)) (held held' : Option (List ℕ))
     → input_refusal b ≡ None → IsHead b header channel name bitrate found → found ≡ Some id → unfit_in declared channel found name bitrate ≡ None → channel_of log ≡ Some declared
-    → id < 2 ^ 32 → written ≡ header → times ≡ times_in log name → (told → (n : ℕ) × Appends held held' (written ++ take n (texts_from 1 id (kept_among log name bitrate times)))) → IsBegun told log b name bitrate held held'
+    → id < 2 ^ 32 → written ≡ header → times ≡ times_in log name → (told → (n : ℕ) × Appends held held' (written ++ take n (texts_from 1 id (kept_among log name bitrate times))))
+    → IsBegun told log b name bitrate held held'
 unfolding text_is
 begun told b name bitrate log header written channel declared found id times held held' clear head is none some small same all front = record {
   clear = clear;

@@ -32,7 +32,7 @@ TakesTo told log name bitrate old new input input' output output' (ends.Unopened
 TakesTo told log name bitrate old new input input' output output' (ends.Unread fault) = WhyUnread input_most input input' fault × (output' ≡ output)
 
 -- What a store comes to: a log, which is the store's where the disk tells its contents, and what came of it, or why the input was not read; or
--- why no store was opened, in which case nothing was read. In both cases nothing was written.
+-- why no store was opened, and nothing was read. Where the input was not read or no store was opened, nothing was written.
 abbrev pub ComesTo : List ℕ → ℕ → View → View → End → End → End → End → StoreExport → Type 0
 ComesTo name bitrate old new input input' output output' (ends.Ended e) =
     (log : List Entry) × IfSome old.contents (IsStore log) × IsTaken (IsSome old.contents) log name bitrate old new input input' output output' e

@@ -13,7 +13,8 @@ returns-in-Ok-clause-selected g c = selected c.or_starved.result (at_edge (strin
 
 pub returns-clause-selected : goal.returns-clause-selected
 returns-clause-selected g c =
-    unselected c.in-Err.fault c.refused.result c.or_starved-in-Err.result (at_edge (string_bytes c.args.order.store)) (g.S.Disk.seen.view c.args.site.now) (g.S.Disk.seen.view c.follow_store.new.site) c.refused.ensures c.or_starved-in-Err.ensures c.in-Err.ensures.chosen
+    unselected c.in-Err.fault c.refused.result c.or_starved-in-Err.result (at_edge (string_bytes c.args.order.store))
+    (g.S.Disk.seen.view c.args.site.now) (g.S.Disk.seen.view c.follow_store.new.site) c.refused.ensures c.or_starved-in-Err.ensures c.in-Err.ensures.chosen
 
 pub returns-in-Ok-clause-means : goal.returns-in-Ok-clause-means
 returns-in-Ok-clause-means g c =

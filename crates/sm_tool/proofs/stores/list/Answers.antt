@@ -5,7 +5,8 @@ use Rattle.sm_tool.proofs.stores.list.Goals as goal
 
 pub returns-in-Err-clause-selected : goal.returns-in-Err-clause-selected
 returns-in-Err-clause-selected g c =
-    unselected c.in-Err.fault c.refused.result c.or_starved.result (at_folder (string_bytes c.args.store)) (g.S.Disk.seen.view c.args.site.now) (g.S.Disk.seen.view c.list_store.new.site) c.refused.ensures c.or_starved.ensures c.in-Err.ensures.chosen
+    unselected c.in-Err.fault c.refused.result c.or_starved.result (at_folder (string_bytes c.args.store))
+    (g.S.Disk.seen.view c.args.site.now) (g.S.Disk.seen.view c.list_store.new.site) c.refused.ensures c.or_starved.ensures c.in-Err.ensures.chosen
 
 pub returns-in-Err-clause-means : goal.returns-in-Err-clause-means
 returns-in-Err-clause-means g c =
