@@ -191,7 +191,7 @@ fn add_both<R: Threads + Drop>(
 }
 
 // The players that run.
-type Running = Vec<PlayerHandle<CountingLink<MemorySite>, NoForward, Meeting>>;
+type Running = Vec<PlayerHandle<CountingLink<MemorySite>, NoForward>>;
 
 // Starts a player for each reader, and answers how many were refused.
 fn start<R: Threads + Drop>(crew: &mut Two<R>, readers: Readers, running: &mut Running) -> u32 {

@@ -22,32 +22,33 @@ pub struct Parts<W: Drop, F: Drop, G: Drop> {
     pub gate: G,
 }
 
-/// A player that ended: how, and its parts and its reader as it left them.
+/// How a player ended. Clauses know its wire, its forward and its reader as it left them, which the thread drops.
 #[derive(Drop)]
-pub struct PlayerEnd<W: Wire + Drop, F: Forward + Drop, G: Drop> {
-    pub played: Played,
-    pub parts: Parts<W, F, G>,
-    pub reader: ShelfReader,
+pub struct PlayerEnd<W: Wire + Drop, F: Forward + Drop> {
+    played: Played,
+    wire: Snapshot<W>,
+    forward: Snapshot<F>,
+    reader: Snapshot<ShelfReader>,
 }
 
-impl<W: Wire + Drop, F: Forward + Drop, G: Drop> Model for PlayerEnd<W, F, G> {
+impl<W: Wire + Drop, F: Forward + Drop> Model for PlayerEnd<W, F> {
     ghost use Rattle.sm_players.specs.Starting.{Ended};
 
     ghost Value = { Ended };
 
     ghost view = { λ e. record {
       played = e.played;
-      told = (W.seen.view e.parts.wire).transcript;
-      link_faults = (W.seen.view e.parts.wire).link_faults;
-      asked = F.asked e.parts.forward;
-      seen = e.reader.seen;
+      told = (W.seen.view e.wire.value).transcript;
+      link_faults = (W.seen.view e.wire.value).link_faults;
+      asked = F.asked e.forward.value;
+      seen = e.reader.value.seen;
     } };
 }
 
-impl<W: Wire + Drop, F: Forward + Drop, G: Drop> PlayerEnd<W, F, G> {
-    /// How it ended. All else is dropped.
-    pub fn into_played(self) -> Played
-        ensures { result ≡ self.played }
+impl<W: Wire + Drop, F: Forward + Drop> PlayerEnd<W, F> {
+    /// How it ended.
+    pub fn played(&self) -> Played
+        ensures { result ≡ self.now.played }
     {
         self.played
     }
@@ -77,12 +78,12 @@ impl<W: Wire + Drop, F: Forward + Drop> Model for Launched<W, F> {
     } };
 }
 
-impl<W: Wire + Drop, F: Forward + Drop, G: Drop> Promise<PlayerEnd<W, F, G>> for Launched<W, F> {
+impl<W: Wire + Drop, F: Forward + Drop> Promise<PlayerEnd<W, F>> for Launched<W, F> {
     ghost kept_by = { λ launched end. IsPlayed launched end };
 }
 
 /// The thread of a player.
-pub type PlayerHandle<W, F, G> = PromisedHandle<PlayerEnd<W, F, G>, Launched<W, F>>;
+pub type PlayerHandle<W, F> = PromisedHandle<PlayerEnd<W, F>, Launched<W, F>>;
 
 impl<W: Wire + Drop, F: Forward + Drop> Launched<W, F> {
     /// These, and so many events at most.
@@ -102,13 +103,13 @@ impl<W: Wire + Drop, F: Forward + Drop> Launched<W, F> {
     }
 }
 
-/// Lets a player play, and hands back what it was given.
+/// Lets a player play, and tells how it ended.
 pub fn play<W: Wire + Drop, F: Forward + Drop, G: Gate + Drop>(
     alloc: Global,
     parts: Parts<W, F, G>,
     reader: ShelfReader,
     turns: u64,
-) -> PlayerEnd<W, F, G>
+) -> PlayerEnd<W, F>
     ensures { IsPlayed (record {
       told = (W.seen.view parts.wire).transcript;
       link_faults = (W.seen.view parts.wire).link_faults;
@@ -129,15 +130,16 @@ pub fn play<W: Wire + Drop, F: Forward + Drop, G: Gate + Drop>(
     );
     PlayerEnd {
         played,
-        parts,
-        reader,
+        wire: Snapshot::of(&parts.wire),
+        forward: Snapshot::of(&parts.forward),
+        reader: Snapshot::of(&reader),
     }
 }
 
 /// Joins players one after the other, and counts how they ended. Each has played from what it was given.
-pub fn join_all<R: Threads, W: Wire + Drop, F: Forward + Drop, G: Drop>(
+pub fn join_all<R: Threads, W: Wire + Drop, F: Forward + Drop>(
     rt: &R,
-    handles: Vec<PlayerHandle<W, F, G>>,
+    handles: Vec<PlayerHandle<W, F>>,
 ) -> Finished
     requires few { vec_len handles < 4294967296 }
     ensures played { HavePlayed (map (λ h. h.promise) handles.items) result }
@@ -147,7 +149,7 @@ pub fn join_all<R: Threads, W: Wire + Drop, F: Forward + Drop, G: Drop>(
     let mut finished = Finished::none();
     while let Some(handle) = handles.pop() {
         let end = handle.join(rt);
-        finished.add(end.into_played());
+        finished.add(end.played());
     }
     finished
 }

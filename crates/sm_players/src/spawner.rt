@@ -150,7 +150,7 @@ pub trait Spawner {
     final fn start(
         &mut self,
         reader: ShelfReader,
-    ) -> Result<PlayerHandle<Self::Wire, Self::Forward, Self::Gate>, SpawnError>
+    ) -> Result<PlayerHandle<Self::Wire, Self::Forward>, SpawnError>
         ensures ok { OnOk result (started self.new ≡ started self.old + 1) }
         ensures given { IfOk result (λ handle. (handle.promise.seen ≡ reader.seen) × (handle.promise.turns ≡ limit self.old)) }
         ensures err { OnErr result (started self.new ≡ started self.old) }
@@ -180,10 +180,7 @@ pub trait Spawner {
     }
 
     /// Asks all players to end, and joins these: each has played from what it was given. `faulted` is above 0 only where the count rose.
-    final fn finish(
-        &mut self,
-        handles: Vec<PlayerHandle<Self::Wire, Self::Forward, Self::Gate>>,
-    ) -> Finished
+    final fn finish(&mut self, handles: Vec<PlayerHandle<Self::Wire, Self::Forward>>) -> Finished
         requires few { vec_len handles < 4294967296 }
         ensures counted { counted self.new ≡ result }
         ensures played { HavePlayed (map (λ h. h.promise) handles.items) result }

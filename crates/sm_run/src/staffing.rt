@@ -8,9 +8,7 @@ use sm_players::{PlayerHandle, SpawnError, Spawner};
 use sm_shelf::Readers;
 
 /// The players that run, in the order in which they were started.
-pub type Running<P> = Vec<
-    PlayerHandle<<P as Spawner>::Wire, <P as Spawner>::Forward, <P as Spawner>::Gate>,
->;
+pub type Running<P> = Vec<PlayerHandle<<P as Spawner>::Wire, <P as Spawner>::Forward>>;
 
 /// Starts a player for each reader.
 pub fn start_all<P: Spawner>(

@@ -23,7 +23,7 @@ loop-handle-preserved g c =
       joined =
           joined_one _ (map (λ h. h.promise) c.loop-handle.handles.items) (map (λ h. h.promise) c.pop.new.self.items) c.in-Some.handle.promise c.join-end.result
           c.loop-handle.finished c.add.new.self (ap (map (λ h. h.promise)) c.in-Some.ensures.items ∙ map-append (λ h. h.promise) c.pop.new.self.items (c.in-Some.handle ∷ [])) c.join-end.ensures
-          (c.add.ensures.one ∙ ap (λ (p : Played). with_one p c.loop-handle.finished) c.into_played.ensures) c.loop-handle.invariant.joined;
+          (c.add.ensures.one ∙ ap (λ (p : Played). with_one p c.loop-handle.finished) c.played.ensures) c.loop-handle.invariant.joined;
     }
 
 pub returns-clause-played : goal.returns-clause-played
