@@ -48,11 +48,11 @@ fn put_path(alloc: Global, out: &mut Vec<u8>, path: &[u8]) -> Result<(), NoMemor
     put_escaped(alloc, out, path, PATH_ESCAPES)
 }
 
-fn put_level(alloc: Global, out: &mut Vec<u8>, bitrate: u32) -> Result<(), NoMemory>
+fn put_level(out: &mut Vec<u8>, bitrate: u32) -> Result<(), NoMemory>
     ensures { OnOk result (out.new.items ≡ out.old.items ++ level_text bitrate) }
 {
     put(out, b"QualityLevels(")?;
-    put_number(alloc, out, bitrate as u64)?;
+    put_number(out, bitrate as u64)?;
     put(out, b")/")
 }
 
@@ -62,7 +62,7 @@ fn put_place(alloc: Global, out: &mut Vec<u8>, stream: &[u8], time: u64) -> Resu
     put(out, b"Fragments(")?;
     put_name(alloc, out, stream)?;
     put(out, b"=")?;
-    put_number(alloc, out, time)?;
+    put_number(out, time)?;
     put(out, b")")
 }
 
@@ -72,7 +72,7 @@ fn put_form(alloc: Global, out: &mut Vec<u8>, target: &Target) -> Result<(), NoM
     match target {
         Target::Manifest => put(out, b"Manifest"),
         Target::Fragment(address) => {
-            put_level(alloc, out, address.bitrate)?;
+            put_level(out, address.bitrate)?;
             put_place(alloc, out, address.stream.as_bytes(), address.time)
         }
         Target::Streams(id) => {

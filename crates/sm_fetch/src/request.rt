@@ -25,13 +25,13 @@ fn put_line(out: &mut Vec<u8>, method: &[u8], target: &[u8]) -> Result<(), NoMem
     put(out, b"\r\n")
 }
 
-fn put_host(alloc: Global, out: &mut Vec<u8>, place: &Place) -> Result<(), NoMemory>
+fn put_host(out: &mut Vec<u8>, place: &Place) -> Result<(), NoMemory>
     ensures { OnOk result (out.new.items ≡ out.old.items ++ host_line place.now.host place.now.port) }
 {
     put(out, b"Host: ")?;
     put(out, place.host.as_slice())?;
     put(out, b":")?;
-    put_number(alloc, out, place.port as u64)?;
+    put_number(out, place.port as u64)?;
     put(out, b"\r\n")
 }
 
@@ -47,7 +47,7 @@ fn put_get(alloc: Global, place: &Place, target: &[u8]) -> Result<Bytes, NoMemor
 {
     let mut out = Vec::new(alloc);
     put_line(&mut out, b"GET", target)?;
-    put_host(alloc, &mut out, place)?;
+    put_host(&mut out, place)?;
     put_close(&mut out)?;
     put(&mut out, b"\r\n")?;
     Ok(Bytes::from_vec(out))
@@ -62,13 +62,7 @@ pub(crate) fn put_manifest_request(alloc: Global, place: &Place) -> Result<Bytes
 }
 
 // What the first byte of the text adds, where so many are the rest of a field, and how many of the next are.
-fn put_next(
-    alloc: Global,
-    out: &mut Vec<u8>,
-    skip: u64,
-    address: &Address,
-    text: &[u8],
-) -> Result<u64, NoMemory>
+fn put_next(out: &mut Vec<u8>, skip: u64, address: &Address, text: &[u8]) -> Result<u64, NoMemory>
     requires { 0 < length text.now }
     ensures { IfOk result (λ next. out.new.items ++ filled_behind next address.now.bitrate address.now.time (drop 1 text.now)
         ≡ out.old.items ++ filled_behind skip address.now.bitrate address.now.time text.now) }
@@ -77,11 +71,11 @@ fn put_next(
         return Ok(skip - 1);
     }
     if is_bitrate_field(text) {
-        put_number(alloc, out, address.bitrate as u64)?;
+        put_number(out, address.bitrate as u64)?;
         return Ok(8);
     }
     if is_start_field(text) {
-        put_number(alloc, out, address.time)?;
+        put_number(out, address.time)?;
         return Ok(11);
     }
     out.push(text[0])?;
@@ -89,17 +83,12 @@ fn put_next(
 }
 
 // The Url with the bitrate and the start in the places of its fields.
-fn put_filled(
-    alloc: Global,
-    out: &mut Vec<u8>,
-    url: &[u8],
-    address: &Address,
-) -> Result<(), NoMemory>
+fn put_filled(out: &mut Vec<u8>, url: &[u8], address: &Address) -> Result<(), NoMemory>
     ensures { OnOk result (out.new.items ≡ out.old.items ++ filled address.now.bitrate address.now.time url.now) }
 {
     let mut skip: u64 = 0;
     for i in 0..url.len() {
-        skip = put_next(alloc, out, skip, address, &url[i..])?;
+        skip = put_next(out, skip, address, &url[i..])?;
     }
     Ok(())
 }
@@ -114,7 +103,7 @@ fn fragment_target(
 {
     // Nothing stands behind the path of a target that names nothing.
     let mut target = put_target(alloc, place.path.as_slice(), &Target::Unknown)?.into_vec(alloc)?;
-    put_filled(alloc, &mut target, url, address)?;
+    put_filled(&mut target, url, address)?;
     Ok(target)
 }
 
@@ -166,11 +155,11 @@ fn put_coding(out: &mut Vec<u8>) -> Result<(), NoMemory>
     put(out, b"\r\n")
 }
 
-fn put_post(alloc: Global, out: &mut Vec<u8>, place: &Place, target: &[u8]) -> Result<(), NoMemory>
+fn put_post(out: &mut Vec<u8>, place: &Place, target: &[u8]) -> Result<(), NoMemory>
     ensures { OnOk result (out.new.items ≡ out.old.items ++ post_head place.now.host place.now.port target.now) }
 {
     put_line(out, b"POST", target)?;
-    put_host(alloc, out, place)?;
+    put_host(out, place)?;
     put_coding(out)?;
     put_close(out)?;
     put(out, b"\r\n")
@@ -206,7 +195,7 @@ pub(crate) fn put_push_request(
 {
     let target = push_target(alloc, place, id)?;
     let mut out = Vec::new(alloc);
-    put_post(alloc, &mut out, place, target.as_slice())?;
+    put_post(&mut out, place, target.as_slice())?;
     put_chunked(alloc, &mut out, body)?;
     Ok(Bytes::from_vec(out))
 }

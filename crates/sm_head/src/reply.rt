@@ -1,11 +1,10 @@
 //! Replies written.
-ghost use Rattle.std.specs.Prelude.{◌≡◌, ◌++◌, decimal, OnOk, IfOk};
+ghost use Rattle.std.specs.Prelude.{◌≡◌, ◌++◌, OnOk, IfOk};
 ghost use Rattle.http.specs.StatusCode.{IsStatusCode};
 ghost use Rattle.sm_head.specs.Replies.{kind_text, phrase, status_line, type_line, length_line, close_line, reply_head, reply_text};
 
 use http::StatusCode;
-use itoa::Buffer;
-use sm_model::{Bytes, NoMemory, put};
+use sm_model::{Bytes, NoMemory, put, put_number};
 use std::alloc::Global;
 
 /// What the body of a reply is.
@@ -52,14 +51,6 @@ fn put_phrase(out: &mut Vec<u8>, status: u16) -> Result<(), NoMemory>
         },
         Err(_) => unreachable!(),
     }
-}
-
-// A number in decimal digits, which are written on the stack.
-fn put_number(out: &mut Vec<u8>, number: u64) -> Result<(), NoMemory>
-    ensures { OnOk result (out.new.items ≡ out.old.items ++ decimal number) }
-{
-    let mut digits = Buffer::new();
-    put(out, digits.format(number).as_bytes())
 }
 
 fn put_status(out: &mut Vec<u8>, status: u16) -> Result<(), NoMemory>

@@ -2,7 +2,7 @@
 ghost use Rattle.std.specs.Prelude.{◌≡◌, ◌++◌, decimal, OnOk};
 
 use crate::NoMemory;
-use std::alloc::Global;
+use itoa::Buffer;
 
 /// Puts these bytes behind what stands there.
 pub fn put(out: &mut Vec<u8>, piece: &[u8]) -> Result<(), NoMemory>
@@ -13,9 +13,9 @@ pub fn put(out: &mut Vec<u8>, piece: &[u8]) -> Result<(), NoMemory>
 }
 
 /// Puts a number there in decimal digits, without leading zeros.
-pub fn put_number(alloc: Global, out: &mut Vec<u8>, number: u64) -> Result<(), NoMemory>
+pub fn put_number(out: &mut Vec<u8>, number: u64) -> Result<(), NoMemory>
     ensures { OnOk result (out.new.items ≡ out.old.items ++ decimal number) }
 {
-    let text = format!(in alloc; "{number}")?;
-    put(out, text.as_bytes())
+    let mut digits = Buffer::new();
+    put(out, digits.format(number).as_bytes())
 }
