@@ -73,28 +73,20 @@ fn row_at(defaults: &Defaults, word: u32, at: usize, body: &[u8], first: bool) -
     }
 }
 
-// The sample of an index.
-#[tactic(auto, using(crate::proofs::Facts::row_room, crate::proofs::Facts::run_eight, crate::proofs::Facts::rows_front), unfolding(sm_model::specs::Fields::row))]
-fn row(defaults: &Defaults, body: &[u8], index: usize) -> Row
-    requires fits { IsTrue (trun_fits body.now) }
-    requires within { index < number32_at 4 body.now }
-    ensures { result ≡ row defaults.now body.now index }
-{
-    let word = u32_at(body, 0);
-    let at = rows_at(word) + index * row_len(word);
-    row_at(defaults, word, at, body, index == 0)
-}
-
-// All samples. The room for them is taken once, after the length was compared with the count.
-#[tactic(auto, using(crate::proofs::Facts::run_eight, crate::proofs::RowLemmas::rows_none, crate::proofs::RowLemmas::rows_more))]
+// All samples. The room for them is taken once, after the length was compared with the count, and where the fields stand is found once.
+#[tactic(auto, using(crate::proofs::Facts::run_eight, crate::proofs::Facts::row_room, crate::proofs::Facts::rows_front, crate::proofs::RowLemmas::rows_none, crate::proofs::RowLemmas::rows_more, crate::proofs::RowLemmas::row_here))]
 pub(crate) fn rows_of(alloc: Global, defaults: &Defaults, body: &[u8]) -> Result<Rows, NoMemory>
     requires { IsTrue (trun_fits body.now) }
     ensures { IfOk result (λ samples. samples ≡ rows defaults.now body.now (number32_at 4 body.now)) }
 {
+    let word = u32_at(body, 0);
     let count = u32_at(body, 4);
+    let len = row_len(word);
+    let mut at = rows_at(word);
     let mut rows = Vec::with_capacity(alloc, count as usize)?;
     for i in 0..count {
-        rows.push(row(defaults, body, i as usize))?;
+        rows.push(row_at(defaults, word, at, body, i == 0))?;
+        at += len;
     }
     Ok(Rows::from_vec(rows))
 }
