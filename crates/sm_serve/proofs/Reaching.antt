@@ -84,7 +84,8 @@ module _ {D : Type 0} (site : Seen D) where
 
     pub behind_follows : Follows n true h behind
     behind_follows = follows_itself n h behind refl refl refl refl refl
-        (on_stepped (is_told (site.view e)) h acted.x point_of (acts_on n item more act acted.x phase does acted.conn_is acted.is_step refl refl refl)) (λ j other. other_counts n j _ h.point.counts other) (asked_push h.steps acted.x n acted.conn_is)
+        (on_stepped (is_told (site.view e)) h acted.x point_of (acts_on n item more act acted.x phase does acted.conn_is acted.is_step refl refl refl))
+        (λ j other. other_counts n j _ h.point.counts other) (asked_push h.steps acted.x n acted.conn_is)
 
     pub behind_counts : behind.point.counts n ≡ counts_after item reply.counted (h.point.counts n)
     behind_counts = these_counts n _ h.point.counts ∙ ap (λ (r : Reply). counts_after item r.counted (h.point.counts n)) acted.reply_is

@@ -24,7 +24,8 @@ grows_then u v w a b = record {
 -- ---- exchanges by their numbers
 
 -- for causes on a longer way
-answered_wider : (a b c d : View) → TellsOn a b → TellsOn c d → (lost cut : List ℕ) (n : ℕ) (x : Exchange) → IsAnswered b c lost cut n x → IsAnswered a d lost cut n x
+answered_wider : (a b c d : View) → TellsOn a b → TellsOn c d → (lost cut : List ℕ) (n : ℕ) (x : Exchange)
+    → IsAnswered b c lost cut n x → IsAnswered a d lost cut n x
 answered_wider a b c d before behind lost cut n x is =
     record { came = is.came; went = came_between a b c d before behind x.request is.came is.went; answer = is.answer }
 

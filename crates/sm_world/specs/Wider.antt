@@ -31,7 +31,8 @@ longer_same None = tt
 longer_same (Some items) = ([], sym (append-nil items))
 
 -- two ways, one behind the other
-both_then : (R S T : List Item → List Item → Type 0) (a b c : Option (List Item)) → ((x y z : List Item) → R x y → S y z → T x z) → Both a b R → Both b c S → Both a c T
+both_then : (R S T : List Item → List Item → Type 0) (a b c : Option (List Item))
+    → ((x y z : List Item) → R x y → S y z → T x z) → Both a b R → Both b c S → Both a c T
 both_then R S T None None None so one two = tt
 both_then R S T None None (Some z) so one two = two
 both_then R S T None (Some y) None so one two = tt
@@ -47,7 +48,8 @@ longer_then a b c one two = both_then IsLonger IsLonger IsLonger a b c
 
 crowded_before : (a b c : Option (List Item)) → Both a b IsLonger → Both b c IsCrowdedSince → Both a c IsCrowdedSince
 crowded_before a b c one two = both_then IsLonger IsCrowdedSince IsCrowdedSince a b c
-    (λ x y z first w. (let same : y ++ w.until ≡ x ++ (first.0 ++ w.until) = ap (λ (l : List Item). l ++ w.until) first.1 ∙ append_assoc x first.0 w.until in record {
+    (λ x y z first w. (let same : y ++ w.until ≡ x ++ (first.0 ++ w.until)
+    = ap (λ (l : List Item). l ++ w.until) first.1 ∙ append_assoc x first.0 w.until in record {
       until = first.0 ++ w.until;
       since = w.since;
       goes_on = w.goes_on ∙ ap (λ (l : List Item). l ++ w.since) same;
@@ -71,9 +73,11 @@ crowded_behind a b c one two = both_then IsCrowdedSince IsLonger IsCrowdedSince 
     })
     one two
 
-answered_before : (request bytes : List ℕ) (a b c : Option (List Item)) → Both a b IsLonger → Both b c (IsAnsweredSince request bytes) → Both a c (IsAnsweredSince request bytes)
+answered_before : (request bytes : List ℕ) (a b c : Option (List Item))
+    → Both a b IsLonger → Both b c (IsAnsweredSince request bytes) → Both a c (IsAnsweredSince request bytes)
 answered_before request bytes a b c one two = both_then IsLonger (IsAnsweredSince request bytes) (IsAnsweredSince request bytes) a b c
-    (λ x y z first w. (let same : y ++ w.until ≡ x ++ (first.0 ++ w.until) = ap (λ (l : List Item). l ++ w.until) first.1 ∙ append_assoc x first.0 w.until in record {
+    (λ x y z first w. (let same : y ++ w.until ≡ x ++ (first.0 ++ w.until)
+    = ap (λ (l : List Item). l ++ w.until) first.1 ∙ append_assoc x first.0 w.until in record {
       until = first.0 ++ w.until;
       stretch = w.stretch;
       since = w.since;
@@ -84,7 +88,8 @@ answered_before request bytes a b c one two = both_then IsLonger (IsAnsweredSinc
     }))
     one two
 
-answered_behind : (request bytes : List ℕ) (a b c : Option (List Item)) → Both a b (IsAnsweredSince request bytes) → Both b c IsLonger → Both a c (IsAnsweredSince request bytes)
+answered_behind : (request bytes : List ℕ) (a b c : Option (List Item))
+    → Both a b (IsAnsweredSince request bytes) → Both b c IsLonger → Both a c (IsAnsweredSince request bytes)
 answered_behind request bytes a b c one two = both_then (IsAnsweredSince request bytes) IsLonger (IsAnsweredSince request bytes) a b c
     (λ x y z w then. record {
       until = w.until;

@@ -50,7 +50,8 @@ returns-in_err-turn-clause-chosen g c =
 
 pub returns-clause-chosen : goal.returns-clause-chosen
 returns-clause-chosen g c =
-    chosen_still c.open_beside.result c.args.selection (g.S.Disk.seen.view c.args.site.now) (g.S.Disk.seen.view c.choose.new.site) (g.S.Disk.seen.view c.open_beside.new.disk) c.in_ok-choose.ensures.chosen c.open_beside.ensures.disk_alone.link.chosen
+    chosen_still c.open_beside.result c.args.selection (g.S.Disk.seen.view c.args.site.now) (g.S.Disk.seen.view c.choose.new.site)
+    (g.S.Disk.seen.view c.open_beside.new.disk) c.in_ok-choose.ensures.chosen c.open_beside.ensures.disk_alone.link.chosen
 
 pub returns-clause-silent : goal.returns-clause-silent
 returns-clause-silent g c =

@@ -35,4 +35,6 @@ pub returns-in-Err-clause-means : goal.returns-in-Err-clause-means
 returns-in-Err-clause-means g c = (unopened_chosen (g.S.Disk.seen.view c.args.site.now) (g.S.Disk.seen.view c.choose.new.site) c.in-Err.fault c.in-Err.ensures.why, refl, refl)
 
 pub returns-in-Ok-clause-chosen : goal.returns-in-Ok-clause-chosen
-returns-in-Ok-clause-chosen g c = chosen_for c.export_disk.result _ (g.S.Disk.seen.view c.args.site.now) (g.S.Disk.seen.view c.choose.new.site) (g.S.Disk.seen.view c.export_disk.new.disk) c.in-Ok.ensures.chosen c.export_disk.ensures.disk_alone.link.chosen
+returns-in-Ok-clause-chosen g c =
+    chosen_for c.export_disk.result _ (g.S.Disk.seen.view c.args.site.now) (g.S.Disk.seen.view c.choose.new.site)
+    (g.S.Disk.seen.view c.export_disk.new.disk) c.in-Ok.ensures.chosen c.export_disk.ensures.disk_alone.link.chosen

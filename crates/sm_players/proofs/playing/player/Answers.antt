@@ -15,7 +15,8 @@ loop-init g c = record {
   link_faults = omega arith;
   later = omega arith;
   plays =
-      subst (λ (ls : List Live). Played c.args.reader.now.seen (g.W.Link.seen.view c.args.wire.now).transcript (g.W.Link.seen.view c.args.wire.now).transcript (g.F.Forward.asked c.args.forward.now) (g.F.Forward.asked c.args.forward.now) 0 ls
+      subst (λ (ls : List Live). Played c.args.reader.now.seen (g.W.Link.seen.view c.args.wire.now).transcript
+      (g.W.Link.seen.view c.args.wire.now).transcript (g.F.Forward.asked c.args.forward.now) (g.F.Forward.asked c.args.forward.now) 0 ls
       false (standing c.args.reader.now.seen 0)) (sym c.new-lives.ensures.items) (played_nothing c.args.reader.now.seen (g.W.Link.seen.view c.args.wire.now).transcript (g.F.Forward.asked c.args.forward.now));
 }
 

@@ -76,7 +76,11 @@ returns-in-Err-clause-err g c = λ log s.
     let took = c.in-Took.ensures in
     let gave = subst (λ (a : Address). Gives (AsksFragment c.args.plan.now.place c.args.url.now a) miss_of c.args.plan.now.tries took.0 (got.Fragment c.in-Took.raw)) c.in-Ok.ensures took.2 in
     stops_one stop.NoMemory w took.0 [] took.1 (adds_none g.met.D.Disk.no_later c.args.disk.now c.args.archive.now log s)
-    (inl (record { absent = inr (subst (λ (a : Address). kept_at log a ≡ None) c.in-Ok.ensures none); tries = gives_tries (AsksFragment c.args.plan.now.place w.url w.address) miss_of c.args.plan.now.tries took.0 (got.Fragment c.in-Took.raw) gave; tried_is = refl }))
+    (inl (record {
+      absent = inr (subst (λ (a : Address). kept_at log a ≡ None) c.in-Ok.ensures none);
+      tries = gives_tries (AsksFragment c.args.plan.now.place w.url w.address) miss_of c.args.plan.now.tries took.0 (got.Fragment c.in-Took.raw) gave;
+      tried_is = refl;
+    }))
 
 pub returns-in-GaveUp-clause-err : goal.returns-in-GaveUp-clause-err
 returns-in-GaveUp-clause-err g c = λ log s.
@@ -97,4 +101,8 @@ returns-in-NoMemory-clause-err g c = λ log s.
     let none = none_there (kept_at log c.in-Ok.address) c.is_kept.result (c.is_kept.ensures s.bodies s.body log None s.keeps) c.if-is_kept.false in
     let out = c.in-NoMemory.ensures in
     stops_one stop.NoMemory w out.0 [] out.1 (adds_none g.met.D.Disk.no_later c.args.disk.now c.args.archive.now log s)
-    (inl (record { absent = inr (subst (λ (a : Address). kept_at log a ≡ None) c.in-Ok.ensures none); tries = subst (λ (a : Address). Tries (AsksFragment c.args.plan.now.place c.args.url.now a) c.args.plan.now.tries out.0) c.in-Ok.ensures out.2; tried_is = refl }))
+    (inl (record {
+      absent = inr (subst (λ (a : Address). kept_at log a ≡ None) c.in-Ok.ensures none);
+      tries = subst (λ (a : Address). Tries (AsksFragment c.args.plan.now.place c.args.url.now a) c.args.plan.now.tries out.0) c.in-Ok.ensures out.2;
+      tried_is = refl;
+    }))
