@@ -9,6 +9,7 @@ mod sequence;
 mod track;
 mod whole;
 
+pub use cut::samples_fit;
 pub use law::{
     canonical_texts_are_no_prefixes, fragments_show_themselves, joins_are_cut_once,
     written_sequence_is_read,

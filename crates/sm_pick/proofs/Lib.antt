@@ -1,3 +1,5 @@
+mod Passing
+mod Skimming
 mod Searching
 mod Looking
 mod Picking

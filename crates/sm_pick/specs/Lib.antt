@@ -1,3 +1,4 @@
 pub mod Due
 pub mod Search
 pub mod Sentences
+pub mod Skim

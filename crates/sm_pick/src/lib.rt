@@ -7,6 +7,7 @@ mod reading;
 mod search;
 mod seek;
 mod sentences;
+mod skim;
 
 pub use picked::Picked;
 pub use reading::pick;

@@ -12,7 +12,7 @@ use sm_model::NoMemory;
 use std::alloc::Global;
 
 // So many bytes are read at once.
-const PIECE: usize = 65_536;
+const PIECE: usize = 131_072;
 
 // Room for one piece.
 fn room(alloc: Global) -> Result<Vec<u8>, NoMemory>
@@ -41,7 +41,8 @@ fn read_piece<I: Source>(input: &mut I, room: &mut Vec<u8>, most: u64) -> Result
 
 /// Reads the input to its end, and picks the first fragment with that track_ID and time, in ticks of its track's timescale.
 ///
-/// It holds one piece of the input, all items that the piece completes, what the push holds, and the fragment that was found.
+/// It holds one piece of the input, what the push holds, one item that the piece completes, and the fragment that was found. Of a
+/// fragment that isn't sought it holds no `mdat`, unless its samples don't lie inside.
 /// Whatever it answers, the input has lost exactly the bytes that were read: all of them for an answer, 268,435,457 where that
 /// is too long, and at most 268,435,456 where reading failed or memory ran out.
 pub fn pick<I: Source>(

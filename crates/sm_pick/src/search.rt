@@ -1,27 +1,30 @@
 //! Looking for one fragment in the body of a push, as its pieces come.
-ghost use Rattle.std.specs.Prelude.{◌≡◌, ◌≤◌, ◌<◌, ◌+◌, ◌++◌, ◌^◌, ℕ, true, List, [], length, slice_index_or, OnOk, IfOk, Some};
+ghost use Rattle.std.specs.Prelude.{◌≡◌, ◌≤◌, ◌<◌, ◌+◌, ◌++◌, ◌^◌, ℕ, true, List, [], length, slice_index_or, OnOk, IfOk, None};
 ghost use Rattle.std.specs.Option.{option_or};
 ghost use Rattle.sm_model.specs.Items.{Given, first_from};
 ghost use Rattle.sm_push.specs.Body.{body_end};
+ghost use Rattle.sm_push.specs.Standing.{IsPartial};
 ghost use Rattle.sm_ends.specs.Ended.{input_most};
 ghost use Rattle.sm_pick.specs.Due.{IsDue, refusal_line};
-ghost use Rattle.sm_pick.specs.Search.{fragments_in, fragment_of, Hits, IsAmong, Looks, RefusedBy};
+ghost use Rattle.sm_pick.specs.Search.{fragments_in, fragment_of, Hits, IsAmong, IsLooking, LooksBy, Looks};
 
 use crate::picked::Picked;
 use crate::seek::{Hit, seek};
 use crate::sentences::sentence;
+use crate::skim::Skim;
 use sm_model::{Bytes, Fragment, Item, Items, NoMemory, Refusal};
 use sm_moof::put_fragment;
-use sm_push::{Push, PushFault, front, items_are_no_more_than_bytes, items_are_valid};
+use sm_push::{StepFault, front, items_are_no_more_than_bytes, items_are_valid};
 use std::alloc::Global;
 
-/// What is known of the bytes that came so far. A fragment that isn't sought is dropped with its piece.
+/// What is known of the bytes that came so far. The samples of a fragment that isn't sought are passed over, and what comes of
+/// it all the same is dropped with its piece.
 #[derive(Drop)]
 pub struct Search {
     track: u32,
     time: u64,
-    push: Push,
-    // How many fragments came.
+    skim: Skim,
+    // How many fragments came, or are passed over.
     count: u32,
     // The first one that is sought, behind its place among them, from 1.
     found: Option<(u32, Fragment)>,
@@ -50,16 +53,6 @@ fn found_at(items: Items, hit: Option<Hit>) -> Option<(u32, Fragment)>
     Some((hit.place, fragment))
 }
 
-// The refusal; none where memory ran out.
-fn refusal_of(fault: PushFault) -> Option<Refusal>
-    ensures { RefusedBy fault result }
-{
-    match fault {
-        PushFault::Refused { before: _, refusal } => Some(refusal),
-        PushFault::Failed | PushFault::NoMemory => None,
-    }
-}
-
 /// The line that says where the input is refused, and why, and the sentence of the cause behind it.
 pub fn refusal_line(alloc: Global, refusal: &Refusal) -> Result<Bytes, NoMemory>
     ensures { IfOk result (λ line. line ≡ refusal_line refusal.now) }
@@ -82,7 +75,7 @@ impl Search {
         Search {
             track,
             time,
-            push: Push::headerless(alloc),
+            skim: Skim::new(alloc),
             count: 0,
             found: None,
             refusal: None,
@@ -93,7 +86,7 @@ impl Search {
     fn note(&mut self, items: Items)
         requires { self.old.count + length items < 2 ^ 32 }
         ensures asked { (self.new.track ≡ self.old.track) × (self.new.time ≡ self.old.time) }
-        ensures push { (self.new.push ≡ self.old.push) × (self.new.refusal ≡ self.old.refusal) }
+        ensures rest { (self.new.skim ≡ self.old.skim) × (self.new.refusal ≡ self.old.refusal) }
         ensures count { self.new.count ≡ self.old.count + fragments_in items }
         ensures found { self.new.found ≡ option_or self.old.found (first_from (self.old.count + 1) self.old.track self.old.time items) }
     {
@@ -104,9 +97,22 @@ impl Search {
         }
     }
 
+    // Passes over the `mdat` that was begun, where it is that of a fragment that isn't sought: only its place counts.
+    fn pass_other(&mut self)
+        requires partial { IsPartial self.old.skim.kept }
+        requires few { self.old.count + 1 < 2 ^ 32 }
+        ensures asked { (self.new.track ≡ self.old.track) × (self.new.time ≡ self.old.time) × (self.new.refusal ≡ self.old.refusal) }
+        ensures looks { (b : List ℕ) → IsLooking self.old b → LooksBy None self.new b }
+    {
+        if self.skim.pass(self.track, self.time) {
+            self.count += 1;
+        }
+    }
+
     // Takes a part of a piece.
     fn take_part(&mut self, piece: &[u8]) -> Result<(), NoMemory>
-        requires { (b : List ℕ) × Looks self.old b × (length b + length piece.now ≤ input_most) }
+        requires looks { (b : List ℕ) × Looks self.old b × (length b + length piece.now ≤ input_most) }
+        requires within { self.old.refusal ≡ None → 0 < self.old.skim.kept.skip → length piece.now ≤ self.old.skim.kept.skip }
         ensures looks { (b : List ℕ) → Looks self.old b → OnOk result (Looks self.new (b ++ piece.now)) }
         ensures asked { (self.new.track ≡ self.old.track) × (self.new.time ≡ self.old.time) }
     {
@@ -115,14 +121,32 @@ impl Search {
         if self.refusal.is_some() {
             return Ok(());
         }
-        match self.push.feed(piece) {
-            Ok(items) => self.note(items),
-            Err(fault) => match refusal_of(fault) {
-                Some(refusal) => self.refusal = Some(refusal),
-                None => return Err(NoMemory),
-            },
+        if 0 < self.skim.kept.skip {
+            self.skim.skip(piece.len() as u64);
+            return Ok(());
+        }
+        match self.skim.feed(piece) {
+            Ok(items) => {
+                self.note(items);
+                self.pass_other();
+            }
+            Err(StepFault::Refused(refusal)) => self.refusal = Some(refusal),
+            Err(StepFault::NoMemory) => return Err(NoMemory),
         }
         Ok(())
+    }
+
+    // How many bytes are taken at once.
+    fn due(&self) -> u64
+        requires { (b : List ℕ) × Looks self.now b }
+        ensures some { 0 < result }
+        ensures within { self.now.refusal ≡ None → 0 < self.now.skim.kept.skip → result ≤ self.now.skim.kept.skip }
+    {
+        if self.refusal.is_some() {
+            u64::MAX
+        } else {
+            self.skim.due()
+        }
     }
 
     /// Takes the next piece. It hands it on in parts that complete one item at the most, so that no more than one fragment
@@ -135,7 +159,7 @@ impl Search {
         let mut done = 0;
         while done < piece.len() {
             let rest = &piece[done..];
-            let count = self.push.due().min(rest.len() as u64) as usize;
+            let count = self.due().min(rest.len() as u64) as usize;
             self.take_part(&rest[..count])?;
             done += count;
         }
@@ -143,21 +167,16 @@ impl Search {
     }
 
     // Why the bytes are no whole push, if they are none.
-    fn refusal_at_end(&mut self) -> Result<Option<Refusal>, NoMemory>
-        ensures refusal { (b : List ℕ) → Looks self.old b → IfOk result (λ r. r ≡ body_end true b) }
+    fn refusal_at_end(&mut self) -> Option<Refusal>
+        requires { (b : List ℕ) × Looks self.old b }
+        ensures refusal { (b : List ℕ) → Looks self.old b → result ≡ body_end true b }
         ensures asked { (self.new.track ≡ self.old.track) × (self.new.time ≡ self.old.time) × (self.new.found ≡ self.old.found)
             × (self.new.count ≡ self.old.count) }
     {
         if self.refusal.is_some() {
-            return Ok(self.refusal.take());
+            return self.refusal.take();
         }
-        match self.push.end() {
-            Ok(()) => Ok(None),
-            Err(fault) => match refusal_of(fault) {
-                Some(refusal) => Ok(Some(refusal)),
-                None => Err(NoMemory),
-            },
-        }
+        self.skim.end()
     }
 
     // What the bytes come to, which are all.
@@ -166,7 +185,7 @@ impl Search {
         ensures { (b : List ℕ) → Looks self.old b → IfOk result (λ answer. IsDue self.old.track self.old.time b answer) }
     {
         items_are_valid();
-        if let Some(refusal) = self.refusal_at_end()? {
+        if let Some(refusal) = self.refusal_at_end() {
             return Ok(Picked::Refused(refusal_line(alloc, &refusal)?));
         }
         match &self.found {

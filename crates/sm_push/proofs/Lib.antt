@@ -1,18 +1,18 @@
 mod HeadLemmas
-mod Fronts
-mod Stable
-mod Walking
-mod Steps
+pub mod Fronts
+pub mod Stable
+pub mod Walking
+pub mod Steps
 mod Counts
 mod HeaderLemmas
 mod HeaderValid
 mod Boxes
 mod Splits
-mod Limits
+pub mod Limits
 mod Valid
 mod MoofLemmas
 mod WrittenHeader
-mod RuleHeads
+pub mod RuleHeads
 mod RuleSteps
 pub mod RuleBodies
 mod Joined

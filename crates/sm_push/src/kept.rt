@@ -7,7 +7,7 @@ ghost use Rattle.sm_push.specs.Steps.{given_in, HoldsBoxes};
 ghost use Rattle.sm_push.specs.Standing.{IsPartial, Advances, Settles, PieceGives, StaysInside, Grows, rest_of, kept_header};
 ghost use Rattle.sm_push.specs.Held.{kept_bytes, lacking, missing_of};
 
-use crate::decide::decide;
+use crate::decisions::decide;
 use crate::fault::{StepFault, refuse};
 use crate::held::Held;
 use crate::state::{BoxDecision, HeaderStage, PushState};

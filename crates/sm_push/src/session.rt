@@ -36,7 +36,8 @@ impl Model for Push {
     ghost invariant = { λ p. IsReady p.failed p.kept };
 }
 
-fn start(alloc: Global, headerless: bool) -> Kept
+/// What a push keeps before its first byte.
+pub fn start(alloc: Global, headerless: bool) -> Kept
     ensures { result ≡ record { state = Body.push_start headerless; held = []; skip = 0 } }
 {
     Kept {

@@ -12,8 +12,11 @@ loop-done-init c = record {
   time = refl;
 }
 
-pub take_part-requires : goal.take_part-requires
-take_part-requires c = (
+pub due-requires : goal.due-requires
+due-requires c = (c.requires.0 ++ take c.loop-done.done c.args.piece.now, c.loop-done.invariant.looks c.requires.0 c.requires.1)
+
+pub take_part-requires-clause-looks : goal.take_part-requires-clause-looks
+take_part-requires-clause-looks c = (
   c.requires.0 ++ take c.loop-done.done c.args.piece.now,
   c.loop-done.invariant.looks c.requires.0 c.requires.1,
   omega (

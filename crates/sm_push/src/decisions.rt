@@ -20,9 +20,9 @@ const MANIFEST_TYPE: [u8; 16] = [
     0xa5, 0xd4, 0x0b, 0x30, 0xe8, 0x14, 0x11, 0xdd, 0xba, 0x2f, 0x08, 0x00, 0x20, 0x0c, 0x9a, 0x66,
 ];
 
-// What is done with the box that the bytes begin. It looks at their first 32 at most, and takes no memory.
+/// What is done with the box that the bytes begin. It looks at their first 32 at most, and takes no memory.
 #[tactic(auto, using(crate::proofs::HeadLemmas::decision_is))]
-pub(crate) fn decide(state: &PushState, bytes: &[u8]) -> BoxDecision
+pub fn decide(state: &PushState, bytes: &[u8]) -> BoxDecision
     ensures { result ≡ decision state.now bytes.now }
 {
     match BoxHead::read(bytes) {
