@@ -237,7 +237,8 @@ fn play_both<R: Threads + Drop>(
     if running.len() > 2 {
         bail!("more than two players run");
     }
-    let finished = crew.finish(running);
+    let room = Vec::with_capacity(alloc, running.len())?;
+    let finished = crew.finish(running, room);
     tell_met(alloc, finished.done, refused, &shared, tale)
 }
 

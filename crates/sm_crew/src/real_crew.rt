@@ -1,12 +1,15 @@
 //! The spawner over sockets.
-ghost use Rattle.std.specs.Prelude.{◌≡◌, ◌≤◌, ◌<◌, IfOk, IsErrOf};
+ghost use Rattle.std.specs.Prelude.{◌≡◌, ◌≤◌, ◌<◌, IfOk, IsErrOf, vec_len};
 ghost use Rattle.sm_site.specs.Clauses.{Rose};
+ghost use Rattle.sm_players.specs.Ends.{ends_of};
+ghost use Rattle.sm_players.specs.Starting.{count_of};
 
 use crate::listeners::Listeners;
 use crate::loop_forward::LoopForward;
 use sm_model::NoMemory;
-use sm_players::{Crew, Finished, NoGate, Parts, SpawnError, Spawner, Stop, Wiring};
+use sm_players::{Crew, Forward, NoGate, Parts, PlayerEnd, SpawnError, Spawner, Stop, Wiring};
 use sm_real::{Doing, OpenFault, Sharing, TcpLink, Trouble, Viewers};
+use sm_site::Link;
 use std::alloc::Global;
 use std::io::{self, ErrorKind};
 use std::net::{Net, TcpListener, TcpStream};
@@ -159,7 +162,7 @@ impl<
 
     ghost chosen = { λ c. c.crew.wired };
 
-    ghost counted = { λ c. c.crew.finished };
+    ghost ended = { λ c. ends_of ⟦<TcpLink<R> as Link>⟧.seen.view ⟦<LoopForward<R> as Forward>⟧.asked c.crew.ends.items };
 
     ghost may_start = { λ c. c.crew.started < 18446744073709551615 };
 
@@ -209,7 +212,17 @@ impl<
         self.crew.stop();
     }
 
-    fn note(&mut self, finished: Finished) {
-        self.crew.note(finished);
+    // These are the clauses of the trait, which have to stand here for such an argument.
+    fn note(&mut self, ends: Vec<PlayerEnd<TcpLink<R>, LoopForward<R>>>)
+        requires few { vec_len ends < 4294967296 }
+        ensures ended { ends_of ⟦<TcpLink<R> as Link>⟧.seen.view ⟦<LoopForward<R> as Forward>⟧.asked self.new.crew.ends.items
+            ≡ ends_of ⟦<TcpLink<R> as Link>⟧.seen.view ⟦<LoopForward<R> as Forward>⟧.asked ends.items }
+        ensures faulted { 0 < (count_of (ends_of ⟦<TcpLink<R> as Link>⟧.seen.view ⟦<LoopForward<R> as Forward>⟧.asked self.new.crew.ends.items)).faulted
+            → Rose self.old.crew.faults self.new.crew.faults }
+        ensures chosen { self.new.crew.wired ≡ self.old.crew.wired }
+        ensures started { self.new.crew.started ≡ self.old.crew.started }
+        ensures later { self.old.crew.faults ≤ self.new.crew.faults }
+    {
+        self.crew.note(ends);
     }
 }

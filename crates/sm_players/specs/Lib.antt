@@ -7,4 +7,5 @@ pub mod Playing
 pub mod Given
 pub mod Wiring
 pub mod Starting
+pub mod Ends
 pub mod Adding

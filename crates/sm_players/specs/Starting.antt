@@ -49,8 +49,7 @@ abbrev pub count_of : List Ended → Finished
 count_of [] = record { done = 0; faulted = 0; starved = 0 }
 count_of (e ∷ es) = with_one e.played (count_of es)
 
--- each of them played, and how they ended was counted so
-pub record HavePlayed (launches : List Launch) (finished : Finished) : Type 0 where
-  pub ends : List Ended
+-- each of them played, these are their ends one for one, and they were counted so
+pub record HavePlayed (launches : List Launch) (ends : List Ended) (finished : Finished) : Type 0 where
   pub each : AreEnds launches ends
   pub counted : finished ≡ count_of ends

@@ -1,10 +1,14 @@
 //! The spawner that is given its players' parts.
-ghost use Rattle.std.specs.Prelude.{◌≡◌, ◌<◌};
+ghost use Rattle.std.specs.Prelude.{◌≡◌, ◌≤◌, ◌<◌, vec_len};
+ghost use Rattle.sm_site.specs.Clauses.{Rose};
+ghost use Rattle.sm_players.specs.Ends.{ends_of};
+ghost use Rattle.sm_players.specs.Starting.{count_of};
 
 use crate::forward::Forward;
 use crate::gate::Gate;
-use crate::launched::Parts;
-use crate::spawner::{Finished, SpawnError, Spawner};
+use crate::joined::count;
+use crate::launched::{Parts, PlayerEnd};
+use crate::spawner::{SpawnError, Spawner};
 use crate::stop::Stop;
 use crate::wire::Wire;
 use crate::wired::Wired;
@@ -24,7 +28,7 @@ pub struct Crew<R: Threads + Drop, W: Drop, F: Drop, G: Drop> {
     parts: VecDeque<Parts<W, F, G>>,
     faults: u64,
     started: u64,
-    finished: Finished,
+    ends: Vec<PlayerEnd<W, F>>,
     wired: Wired,
 }
 
@@ -46,7 +50,7 @@ impl<R: Threads + Drop, W: Drop, F: Drop, G: Drop> Crew<R, W, F, G> {
             parts: VecDeque::new(alloc),
             faults: 0,
             started: 0,
-            finished: Finished::none(),
+            ends: Vec::new(alloc),
             wired: Wired::never(),
         }
     }
@@ -97,7 +101,7 @@ impl<
 
     ghost limit = { λ c. c.turns };
 
-    ghost counted = { λ c. c.finished };
+    ghost ended = { λ c. ends_of W.seen.view F.asked c.ends.items };
 
     ghost chosen = { λ c. c.wired };
 
@@ -142,10 +146,18 @@ impl<
         self.stop.ask();
     }
 
-    fn note(&mut self, finished: Finished) {
-        if finished.faulted > 0 {
+    // These are the clauses of the trait, which have to stand here for such an argument.
+    fn note(&mut self, ends: Vec<PlayerEnd<W, F>>)
+        requires few { vec_len ends < 4294967296 }
+        ensures ended { ends_of W.seen.view F.asked self.new.ends.items ≡ ends_of W.seen.view F.asked ends.items }
+        ensures faulted { 0 < (count_of (ends_of W.seen.view F.asked self.new.ends.items)).faulted → Rose self.old.faults self.new.faults }
+        ensures chosen { self.new.wired ≡ self.old.wired }
+        ensures started { self.new.started ≡ self.old.started }
+        ensures later { self.old.faults ≤ self.new.faults }
+    {
+        if count(&ends).faulted > 0 {
             self.faults = self.faults.saturating_add(1);
         }
-        self.finished = finished;
+        self.ends = ends;
     }
 }

@@ -1,12 +1,12 @@
 //! What a player in a thread of its own is given, and what it hands back.
-ghost use Rattle.std.specs.Prelude.{◌≡◌, ◌+◌, ◌<◌, map, vec_len};
-ghost use Rattle.sm_players.specs.Starting.{HavePlayed, IsPlayed};
+ghost use Rattle.std.specs.Prelude.{◌≡◌};
+ghost use Rattle.sm_players.specs.Ends.{end_of};
+ghost use Rattle.sm_players.specs.Starting.{IsPlayed};
 
 use crate::forward::Forward;
 use crate::gate::Gate;
 use crate::played::Played;
 use crate::playing::player;
-use crate::spawner::Finished;
 use crate::wire::Wire;
 use sm_shelf::ShelfReader;
 use std::alloc::Global;
@@ -22,30 +22,17 @@ pub struct Parts<W: Drop, F: Drop, G: Drop> {
     pub gate: G,
 }
 
-/// How a player ended. Clauses know its wire, its forward and its reader as it left them, which the thread drops.
+/// How a player ended. Clauses know its wire, its forward and its reader as it left them, which the thread drops. Only a player that played makes
+/// one, and none is copied: elsewhere an end is had by joining its thread alone.
 #[derive(Drop)]
-pub struct PlayerEnd<W: Wire + Drop, F: Forward + Drop> {
+pub struct PlayerEnd<W: Drop, F: Drop> {
     played: Played,
     wire: Snapshot<W>,
     forward: Snapshot<F>,
     reader: Snapshot<ShelfReader>,
 }
 
-impl<W: Wire + Drop, F: Forward + Drop> Model for PlayerEnd<W, F> {
-    ghost use Rattle.sm_players.specs.Starting.{Ended};
-
-    ghost Value = { Ended };
-
-    ghost view = { λ e. record {
-      played = e.played;
-      told = (W.seen.view e.wire.value).transcript;
-      link_faults = (W.seen.view e.wire.value).link_faults;
-      asked = F.asked e.forward.value;
-      seen = e.reader.value.seen;
-    } };
-}
-
-impl<W: Wire + Drop, F: Forward + Drop> PlayerEnd<W, F> {
+impl<W: Drop, F: Drop> PlayerEnd<W, F> {
     /// How it ended.
     pub fn played(&self) -> Played
         ensures { result ≡ self.now.played }
@@ -79,7 +66,7 @@ impl<W: Wire + Drop, F: Forward + Drop> Model for Launched<W, F> {
 }
 
 impl<W: Wire + Drop, F: Forward + Drop> Promise<PlayerEnd<W, F>> for Launched<W, F> {
-    ghost kept_by = { λ launched end. IsPlayed launched end };
+    ghost kept_by = { λ launched end. IsPlayed launched (end_of W.seen.view F.asked end) };
 }
 
 /// The thread of a player.
@@ -116,7 +103,7 @@ pub fn play<W: Wire + Drop, F: Forward + Drop, G: Gate + Drop>(
       asked = F.asked parts.forward;
       seen = reader.seen;
       turns = turns;
-    }) result }
+    }) (end_of W.seen.view F.asked result) }
 {
     let mut parts = parts;
     let mut reader = reader;
@@ -134,22 +121,4 @@ pub fn play<W: Wire + Drop, F: Forward + Drop, G: Gate + Drop>(
         forward: Snapshot::of(&parts.forward),
         reader: Snapshot::of(&reader),
     }
-}
-
-/// Joins players one after the other, and counts how they ended. Each has played from what it was given.
-pub fn join_all<R: Threads, W: Wire + Drop, F: Forward + Drop>(
-    rt: &R,
-    handles: Vec<PlayerHandle<W, F>>,
-) -> Finished
-    requires few { vec_len handles < 4294967296 }
-    ensures played { HavePlayed (map (λ h. h.promise) handles.items) result }
-    ensures all { result.done + result.faulted + result.starved ≡ vec_len handles }
-{
-    let mut handles = handles;
-    let mut finished = Finished::none();
-    while let Some(handle) = handles.pop() {
-        let end = handle.join(rt);
-        finished.add(end.played());
-    }
-    finished
 }

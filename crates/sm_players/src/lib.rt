@@ -5,6 +5,7 @@
 mod crew;
 mod forward;
 mod gate;
+mod joined;
 mod launched;
 pub mod law;
 mod live;

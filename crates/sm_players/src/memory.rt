@@ -1,16 +1,19 @@
 //! A spawner without a network.
-ghost use Rattle.std.specs.Prelude.{◌<◌, None};
+ghost use Rattle.std.specs.Prelude.{◌≡◌, ◌≤◌, ◌<◌, None, vec_len};
+ghost use Rattle.sm_site.specs.Clauses.{Rose};
 ghost use Rattle.sm_players.specs.Adding.{PartsAlone};
+ghost use Rattle.sm_players.specs.Ends.{ends_of};
+ghost use Rattle.sm_players.specs.Starting.{count_of};
 
 use crate::crew::Crew;
 use crate::forward::{Forward, ForwardError};
 use crate::gate::NoGate;
-use crate::launched::Parts;
-use crate::spawner::{Finished, SpawnError, Spawner};
+use crate::launched::{Parts, PlayerEnd};
+use crate::spawner::{SpawnError, Spawner};
 use crate::stop::Stop;
 use crate::wiring::Wiring;
 use sm_model::{Bytes, NoMemory, Target};
-use sm_site::{MemorySite, Numbers, Script};
+use sm_site::{Link, MemorySite, Numbers, Script};
 use std::alloc::Global;
 use std::thread::Threads;
 
@@ -89,7 +92,7 @@ impl<R: Threads + Drop> Spawner for MemorySpawner<R> {
 
     ghost chosen = { λ m. m.crew.wired };
 
-    ghost counted = { λ m. m.crew.finished };
+    ghost ended = { λ m. ends_of ⟦<MemorySite as Link>⟧.seen.view ⟦<NoForward as Forward>⟧.asked m.crew.ends.items };
 
     ghost may_start = { λ m. m.crew.started < 18446744073709551615 };
 
@@ -133,7 +136,17 @@ impl<R: Threads + Drop> Spawner for MemorySpawner<R> {
         self.crew.stop();
     }
 
-    fn note(&mut self, finished: Finished) {
-        self.crew.note(finished);
+    // These are the clauses of the trait, which have to stand here for such an argument.
+    fn note(&mut self, ends: Vec<PlayerEnd<MemorySite, NoForward>>)
+        requires few { vec_len ends < 4294967296 }
+        ensures ended { ends_of ⟦<MemorySite as Link>⟧.seen.view ⟦<NoForward as Forward>⟧.asked self.new.crew.ends.items
+            ≡ ends_of ⟦<MemorySite as Link>⟧.seen.view ⟦<NoForward as Forward>⟧.asked ends.items }
+        ensures faulted { 0 < (count_of (ends_of ⟦<MemorySite as Link>⟧.seen.view ⟦<NoForward as Forward>⟧.asked self.new.crew.ends.items)).faulted
+            → Rose self.old.crew.faults self.new.crew.faults }
+        ensures chosen { self.new.crew.wired ≡ self.old.crew.wired }
+        ensures started { self.new.crew.started ≡ self.old.crew.started }
+        ensures later { self.old.crew.faults ≤ self.new.crew.faults }
+    {
+        self.crew.note(ends);
     }
 }

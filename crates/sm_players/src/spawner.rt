@@ -1,13 +1,14 @@
 //! What starts players.
-ghost use Rattle.std.specs.Prelude.{◌≡◌, ℕ, ◌+◌, ◌<◌, ◌≤◌, map, vec_len, None, Some, IfOk, OnOk, OnErr, IsErrOf};
+ghost use Rattle.std.specs.Prelude.{◌≡◌, ℕ, ◌+◌, ◌<◌, ◌≤◌, List, [], map, vec_capacity, vec_len, None, Some, IfOk, OnOk, OnErr, IsErrOf};
 ghost use Rattle.sm_site.specs.Clauses.{Rose};
-ghost use Rattle.sm_players.specs.declared.spawner.Finished.{Finished};
-ghost use Rattle.sm_players.specs.Starting.{HavePlayed, with_one};
+ghost use Rattle.sm_players.specs.Ends.{ends_of};
+ghost use Rattle.sm_players.specs.Starting.{Ended, HavePlayed, count_of, with_one};
 ghost use Rattle.sm_players.specs.Wiring.{Wired, rewired};
 
 use crate::forward::Forward;
 use crate::gate::Gate;
-use crate::launched::{Launched, Parts, PlayerHandle, join_all, play};
+use crate::joined::{count, join_all};
+use crate::launched::{Launched, Parts, PlayerEnd, PlayerHandle, play};
 use crate::played::Played;
 use crate::wire::Wire;
 use crate::wiring::Wiring;
@@ -82,8 +83,8 @@ pub trait Spawner {
     /// Where its wires are, once it was selected, and how often it was.
     ghost chosen: { Self → Wired };
 
-    /// What the last `finish` counted.
-    ghost counted: { Self → Finished };
+    /// How the players ended that were joined last, in the order of their handles.
+    ghost ended: { Self → List Ended };
 
     /// One more may be started.
     ghost may_start: { Self → Type 0 };
@@ -138,10 +139,11 @@ pub trait Spawner {
         ensures started { started self.new ≡ started self.old }
         ensures later { spawn_faults self.old ≤ spawn_faults self.new };
 
-    /// Notes how players ended that were joined.
-    fn note(&mut self, finished: Finished)
-        ensures counted { counted self.new ≡ finished }
-        ensures faulted { 0 < finished.faulted → Rose (spawn_faults self.old) (spawn_faults self.new) }
+    /// Keeps the ends of the players that were joined.
+    fn note(&mut self, ends: Vec<PlayerEnd<Self::Wire, Self::Forward>>)
+        requires few { vec_len ends < 4294967296 }
+        ensures ended { ended self.new ≡ ends_of Self.Wire.seen.view Self.Forward.asked ends.items }
+        ensures faulted { 0 < (count_of (ended self.new)).faulted → Rose (spawn_faults self.old) (spawn_faults self.new) }
         ensures chosen { chosen self.new ≡ chosen self.old }
         ensures started { started self.new ≡ started self.old }
         ensures later { spawn_faults self.old ≤ spawn_faults self.new };
@@ -179,11 +181,16 @@ pub trait Spawner {
         }
     }
 
-    /// Asks all players to end, and joins these: each has played from what it was given. `faulted` is above 0 only where the count rose.
-    final fn finish(&mut self, handles: Vec<PlayerHandle<Self::Wire, Self::Forward>>) -> Finished
+    /// Asks all players to end, and joins these. Their ends go into the room and from there to the spawner, one for each handle in order: each has
+    /// played from what it was given. `faulted` is above 0 only where the count rose.
+    final fn finish(
+        &mut self,
+        handles: Vec<PlayerHandle<Self::Wire, Self::Forward>>,
+        room: Vec<PlayerEnd<Self::Wire, Self::Forward>>,
+    ) -> Finished
         requires few { vec_len handles < 4294967296 }
-        ensures counted { counted self.new ≡ result }
-        ensures played { HavePlayed (map (λ h. h.promise) handles.items) result }
+        requires room { (room.items ≡ []) × (vec_len handles ≤ vec_capacity room) }
+        ensures played { HavePlayed (map (λ h. h.promise) handles.items) (ended self.new) result }
         ensures all { result.done + result.faulted + result.starved ≡ vec_len handles }
         ensures chosen { chosen self.new ≡ chosen self.old }
         ensures started { started self.new ≡ started self.old }
@@ -191,8 +198,9 @@ pub trait Spawner {
         ensures later { spawn_faults self.old ≤ spawn_faults self.new }
     {
         self.stop();
-        let finished = join_all(self.runtime(), handles);
-        self.note(finished);
+        let ends = join_all(self.runtime(), handles, room);
+        let finished = count(&ends);
+        self.note(ends);
         finished
     }
 }

@@ -2,8 +2,7 @@
 use Rattle.std.proofs.Common.{◌≡◌, ℕ, ◌+◌, List, [], ◌∷◌, ◌++◌, append-nil, append_assoc, sym, ap, subst, ◌∙◌, arith}
 use Rattle.std.proofs.lemmas.List.{length-append}
 use Rattle.std.proofs.lemmas.List.Elements.{All-nil, All-push}
-use Rattle.sm_players.specs.declared.spawner.Finished.{Finished}
-use Rattle.sm_players.specs.Starting.{HavePlayed, Launch}
+use Rattle.sm_players.specs.Starting.{AreEnds, Launch}
 use Rattle.sm_run.specs.Staff.{Starts, IsFresh, Joins, Staff}
 
 pub starts_none : (limit started started' : ℕ) (running running' : List Launch) → started' ≡ started → running' ≡ running
@@ -32,11 +31,11 @@ starts_one limit started now then running p q l next fresh behind so =
 pub starts_from : (limit started now : ℕ) (running p : List Launch) → running ≡ [] → Starts limit started now running p → Starts limit started now [] p
 starts_from limit started now running p none so = subst (λ (ls : List Launch). Starts limit started now ls p) none so
 
-pub joins : (old new : Staff) (now : ℕ) (p : List Launch) (finished : Finished) → Starts old.limit old.started now [] p → new.started ≡ now
-    → HavePlayed p finished → new.counted ≡ finished → Joins old new
-joins old new now p finished so same played counted = record {
+pub joins : (old new : Staff) (now : ℕ) (p : List Launch) → Starts old.limit old.started now [] p → new.started ≡ now → AreEnds p new.ended
+    → Joins old new
+joins old new now p so same played = record {
   players = so.more;
   fresh = so.fresh;
   count = same ∙ so.count;
-  played = subst (λ (ls : List Launch). HavePlayed ls new.counted) so.behind (subst (λ (f : Finished). HavePlayed p f) (sym counted) played);
+  played = subst (λ (ls : List Launch). AreEnds ls new.ended) so.behind played;
 }

@@ -6,26 +6,26 @@ use Rattle.sm_shelf.specs.Shelf.{Sight}
 use Rattle.sm_players.specs.declared.spawner.Finished.{Finished}
 use Rattle.sm_players.specs.declared.spawner.SpawnError.{SpawnError}
 use Rattle.sm_players.specs.declared.spawner.SpawnError.TheVariants.{Failed}
-use Rattle.sm_players.specs.Starting.{HavePlayed, Launch}
+use Rattle.sm_players.specs.Starting.{AreEnds, Ended, Launch, count_of}
 use Rattle.sm_players.specs.Wiring.{Wired, Wires, rewired}
 use Rattle.sm_words.specs.Words.{Serving}
 
 -- what a spawner tells of itself: how often it has failed, how many players it started, how many events one takes at most, where its wires are and
--- how often they were asked for, and what it counted when it joined players last
+-- how often they were asked for, and how the players ended that were joined last
 pub record Staff : Type 0 where
   pub faults : ℕ
   pub started : ℕ
   pub limit : ℕ
   pub chosen : Wired
-  pub counted : Finished
+  pub ended : List Ended
 
-abbrev pub staff_of : {P : Type 0} → (P → ℕ) → (P → ℕ) → (P → ℕ) → (P → Wired) → (P → Finished) → P → Staff
-staff_of faults started limit chosen counted p = record {
+abbrev pub staff_of : {P : Type 0} → (P → ℕ) → (P → ℕ) → (P → ℕ) → (P → Wired) → (P → List Ended) → P → Staff
+staff_of faults started limit chosen ended p = record {
   faults = faults p;
   started = started p;
   limit = limit p;
   chosen = chosen p;
-  counted = counted p;
+  ended = ended p;
 }
 
 -- so many players beside the loop of the words, at its address
@@ -47,19 +47,19 @@ pub record Starts (limit started started' : ℕ) (running running' : List Launch
   pub count : started' ≡ started + length more
   pub behind : running' ≡ running ++ more
 
--- Fresh players were started, asked to end and joined: each has played since it was started, and how they ended was counted.
+-- Fresh players were started, asked to end and joined: each has played since it was started, up to the end that the spawner tells of it.
 pub record Joins (old new : Staff) : Type 0 where
   pub players : List Launch
   pub fresh : All (IsFresh old.limit) players
   pub count : new.started ≡ old.started + length players
-  pub played : HavePlayed players new.counted
+  pub played : AreEnds players new.ended
 
--- As many players were started as were asked, there, where wires were asked for once. Behind the loop they were joined, and this was counted.
+-- As many players were started as were asked, there, where wires were asked for once. Behind the loop they were joined, and this counts their ends.
 pub record IsStaffed (wires : Wires) (old new : Staff) (finished : Finished) : Type 0 where
   pub joins : Joins old new
   pub started : new.started ≡ old.started + wires.players
   pub chosen : new.chosen ≡ rewired old.chosen (Some wires)
-  pub counted : new.counted ≡ finished
+  pub counted : finished ≡ count_of new.ended
   pub all : finished.done + finished.faulted + finished.starved ≡ wires.players
   pub blamed : 0 < finished.faulted → Rose old.faults new.faults
   pub later : old.faults ≤ new.faults

@@ -82,8 +82,8 @@ fn show<R: Wait, I: Source, S: Site, P: Spawner>(
     requires fits { IsShowable (serving_of order) players }
     ensures means { ShowAnswers S.Disk.seen (serving_of order) players
         (end_of I.left I.faults input.old) (end_of I.left I.faults input.new) site.old site.new
-        (staff_of P.spawn_faults P.started P.limit P.chosen P.counted spawner.old)
-        (staff_of P.spawn_faults P.started P.limit P.chosen P.counted spawner.new) result }
+        (staff_of P.spawn_faults P.started P.limit P.chosen P.ended spawner.old)
+        (staff_of P.spawn_faults P.started P.limit P.chosen P.ended spawner.new) result }
     ensures counted { I.faults input.old ≤ I.faults input.new }
     ensures stores { KeepsStores S.Disk.seen site.old site.new ((line : List ℕ) × (result ≡ answers.NotAStore line)) }
 {
@@ -145,8 +145,8 @@ pub fn run<R: Wait, I: Source, O: Sink, S: Site, C: Dial, T: Tracks, P: Spawner>
         (around (end_of I.left I.faults input.old) (line_of C.log C.dial_faults C.chosen dial.old) (tape_of T.held T.faults tracks.old))
         (around (end_of I.left I.faults input.new) (line_of C.log C.dial_faults C.chosen dial.new) (tape_of T.held T.faults tracks.new))
         (end_of O.held O.faults output.old) (end_of O.held O.faults output.new) site.old site.new dial.old dial.new
-        (staff_of P.spawn_faults P.started P.limit P.chosen P.counted spawner.old)
-        (staff_of P.spawn_faults P.started P.limit P.chosen P.counted spawner.new) result }
+        (staff_of P.spawn_faults P.started P.limit P.chosen P.ended spawner.old)
+        (staff_of P.spawn_faults P.started P.limit P.chosen P.ended spawner.new) result }
     // What the dial promises of whatever is done with it holds of the call.
     ensures goes_on { C.later dial.old dial.new }
 {

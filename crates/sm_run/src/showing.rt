@@ -95,13 +95,16 @@ pub fn show<R: Wait, S: Site, P: Spawner>(
         → IsSome (S.Disk.seen.view site.old).contents
         → (desk : Desk) × (run : HasServed S.Disk.seen h e.served turns state.new site.new) × HasShown h e.served run.later desk) }
     ensures link_fault { IfOk result (λ e. e.served ≡ served.LinkFault → Rose (S.Disk.seen.view site.old).link_faults (S.Disk.seen.view site.new).link_faults) }
-    ensures staffed { IfOk result (λ e. IsStaffed wiring (staff_of P.spawn_faults P.started P.limit P.chosen P.counted spawner.old)
-        (staff_of P.spawn_faults P.started P.limit P.chosen P.counted spawner.new) e.finished) }
-    ensures why { IfErr result (λ why. IsUnstaffed wiring (staff_of P.spawn_faults P.started P.limit P.chosen P.counted spawner.old)
-        (staff_of P.spawn_faults P.started P.limit P.chosen P.counted spawner.new) why) }
+    ensures staffed { IfOk result (λ e. IsStaffed wiring (staff_of P.spawn_faults P.started P.limit P.chosen P.ended spawner.old)
+        (staff_of P.spawn_faults P.started P.limit P.chosen P.ended spawner.new) e.finished) }
+    ensures why { IfErr result (λ why. IsUnstaffed wiring (staff_of P.spawn_faults P.started P.limit P.chosen P.ended spawner.old)
+        (staff_of P.spawn_faults P.started P.limit P.chosen P.ended spawner.new) why) }
     ensures idle { OnErr result (Recalls S.Disk.seen state.old site.old site.new) }
     ensures site_chosen { (S.Disk.seen.view site.new).chosen ≡ (S.Disk.seen.view site.old).chosen }
 {
+    let Ok(room) = Vec::with_capacity(alloc, wiring.players as usize) else {
+        return Err(SpawnError::NoMemory);
+    };
     let Ok((writer, readers)) = make(rt, alloc, wiring.players) else {
         return Err(SpawnError::NoMemory);
     };
@@ -118,7 +121,7 @@ pub fn show<R: Wait, S: Site, P: Spawner>(
         wiring,
         turns,
     );
-    let finished = spawner.finish(running);
+    let finished = spawner.finish(running, room);
     writer.end(rt);
     let served = ended?;
     Ok(Ended { served, finished })

@@ -40,11 +40,11 @@ fn show_state<R: Wait, I: Source, S: Site, P: Spawner>(
     requires players { (0 < wiring.players) × (wiring.players ≤ 16) }
     ensures run { IfOk result (λ e. ShownFrom S.Disk.seen ladder (I.left input.old)
         (I.left input.new) turns state.old site.old site.new e.served) }
-    ensures staffed { IfOk result (λ e. IsStaffed wiring (staff_of P.spawn_faults P.started P.limit P.chosen P.counted spawner.old)
-        (staff_of P.spawn_faults P.started P.limit P.chosen P.counted spawner.new) e.finished) }
+    ensures staffed { IfOk result (λ e. IsStaffed wiring (staff_of P.spawn_faults P.started P.limit P.chosen P.ended spawner.old)
+        (staff_of P.spawn_faults P.started P.limit P.chosen P.ended spawner.new) e.finished) }
     ensures why { IfErr result (λ why. StopsShort S.Disk.seen ladder wiring (end_of I.left I.faults input.old) (end_of I.left I.faults input.new)
-        (staff_of P.spawn_faults P.started P.limit P.chosen P.counted spawner.old)
-        (staff_of P.spawn_faults P.started P.limit P.chosen P.counted spawner.new) state.old site.old site.new why) }
+        (staff_of P.spawn_faults P.started P.limit P.chosen P.ended spawner.old)
+        (staff_of P.spawn_faults P.started P.limit P.chosen P.ended spawner.new) state.old site.old site.new why) }
     ensures silent { OnErr result ((S.Disk.seen.view site.new).transcript ≡ (S.Disk.seen.view site.old).transcript) }
     ensures no_fewer { OnErr result (NoFewer (S.Disk.seen.view site.old) (S.Disk.seen.view site.new)) }
     ensures counted { I.faults input.old ≤ I.faults input.new }
@@ -80,11 +80,11 @@ pub fn show_store<R: Wait, I: Source, S: Site, P: Spawner>(
     requires players { (0 < wiring.players) × (wiring.players ≤ 16) }
     ensures chosen { IsSelectedWith result selection (S.Disk.seen.view site.old) (S.Disk.seen.view site.new) }
     ensures run { IfOk result (λ e. RunsShown S.Disk.seen ladder (I.left input.old) (I.left input.new) turns site.old site.new e.served) }
-    ensures staffed { IfOk result (λ e. IsStaffed wiring (staff_of P.spawn_faults P.started P.limit P.chosen P.counted spawner.old)
-        (staff_of P.spawn_faults P.started P.limit P.chosen P.counted spawner.new) e.finished) }
+    ensures staffed { IfOk result (λ e. IsStaffed wiring (staff_of P.spawn_faults P.started P.limit P.chosen P.ended spawner.old)
+        (staff_of P.spawn_faults P.started P.limit P.chosen P.ended spawner.new) e.finished) }
     ensures why { IfErr result (λ why. WhyUnshown S.Disk.seen ladder wiring (end_of I.left I.faults input.old) (end_of I.left I.faults input.new)
-        (staff_of P.spawn_faults P.started P.limit P.chosen P.counted spawner.old)
-        (staff_of P.spawn_faults P.started P.limit P.chosen P.counted spawner.new) site.old site.new why) }
+        (staff_of P.spawn_faults P.started P.limit P.chosen P.ended spawner.old)
+        (staff_of P.spawn_faults P.started P.limit P.chosen P.ended spawner.new) site.old site.new why) }
     ensures counted { I.faults input.old ≤ I.faults input.new }
     // However it ends, what a crash may leave at any moment since the call began is the store that was there, gone on, and holds what the
     // call had shown by then.

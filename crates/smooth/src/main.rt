@@ -78,8 +78,8 @@ fn run_words<R: Wait, I: Source, O: Sink, S: Site, C: Dial, T: Tracks, P: Spawne
         (around (end_of I.left I.faults input.old) (line_of C.log C.dial_faults C.chosen dial.old) (tape_of T.held T.faults tracks.old))
         (around (end_of I.left I.faults input.new) (line_of C.log C.dial_faults C.chosen dial.new) (tape_of T.held T.faults tracks.new))
         (end_of O.held O.faults output.old) (end_of O.held O.faults output.new) site.old site.new dial.old dial.new
-        (staff_of P.spawn_faults P.started P.limit P.chosen P.counted crew.old)
-        (staff_of P.spawn_faults P.started P.limit P.chosen P.counted crew.new) (exit_status result) }
+        (staff_of P.spawn_faults P.started P.limit P.chosen P.ended crew.old)
+        (staff_of P.spawn_faults P.started P.limit P.chosen P.ended crew.new) (exit_status result) }
     ensures goes_on { C.later dial.old dial.new }
 {
     match words {

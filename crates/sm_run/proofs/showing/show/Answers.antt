@@ -10,11 +10,14 @@ use Rattle.sm_run.proofs.showing.show.Goals as goal
 pub returns-clause-shown : goal.returns-clause-shown
 returns-clause-shown g c h serves some =
     let log = h.point.machine.log in
-    let s = c.in_ok-served.ensures.shown h serves some (subst (λ (w : Desk). Belongs log w) (sym c.in-Ok.ensures.writer) (nothing_belongs log)) in
+    let s = c.in_ok-served.ensures.shown h serves some (subst (λ (w : Desk). Belongs log w) (sym c.in-Ok-make.ensures.writer) (nothing_belongs log)) in
     (c.serve_beside-ended.new.writer, s.0, s.1)
 
 pub returns-in_default-clause-idle : goal.returns-in_default-clause-idle
 returns-in_default-clause-idle g c = recalls_here g.S.Disk.seen c.args.state.now c.args.site.now c.requires.stands
+
+pub returns-in_default-make-clause-idle : goal.returns-in_default-make-clause-idle
+returns-in_default-make-clause-idle g c = recalls_here g.S.Disk.seen c.args.state.now c.args.site.now c.requires.stands
 
 pub returns-clause-staffed : goal.returns-clause-staffed
 returns-clause-staffed g c =
@@ -23,7 +26,7 @@ returns-clause-staffed g c =
     let ran = c.in_ok-served.ensures in
     let f = c.finish-finished.ensures in
     let players : c.wiring.inside.players ≡ c.args.wiring.players = ap (λ (w : Wires). w.players) c.wiring.view_is in
-    let readers = c.in-Ok.ensures.readers.0 ∙ players in
+    let readers = c.in-Ok-make.ensures.readers.0 ∙ players in
     let none = c.new-running.ensures.len in
     let count = ran.count in
     let all : c.finish-finished.result.done + c.finish-finished.result.faulted + c.finish-finished.result.starved ≡ vec_len c.serve_beside-ended.new.running = f.all in
@@ -32,13 +35,13 @@ returns-clause-staffed g c =
     let later_yet = f.later in
     record {
       joins =
-          joins (staff_of s.spawn_faults s.started s.limit s.chosen s.counted old)
-          (staff_of s.spawn_faults s.started s.limit s.chosen s.counted c.finish-finished.new.self) (s.started c.serve_beside-ended.new.spawner)
-          (map (λ h. h.promise) c.serve_beside-ended.new.running.items) c.finish-finished.result
-          (starts_from _ _ _ _ _ (ap (map (λ h. h.promise)) c.new-running.ensures.items) ran.starts) f.started f.played f.counted;
+          joins (staff_of s.spawn_faults s.started s.limit s.chosen s.ended old)
+          (staff_of s.spawn_faults s.started s.limit s.chosen s.ended c.finish-finished.new.self) (s.started c.serve_beside-ended.new.spawner)
+          (map (λ h. h.promise) c.serve_beside-ended.new.running.items)
+          (starts_from _ _ _ _ _ (ap (map (λ h. h.promise)) c.new-running.ensures.items) ran.starts) f.started f.played.each;
       started = f.started ∙ first ∙ ap (λ (n : ℕ). s.started old + n) readers;
       chosen = f.chosen ∙ ran.wires;
-      counted = f.counted;
+      counted = f.played.counted;
       all = omega (arith, all, count, first, readers, none);
       blamed = λ some. later_rose (s.spawn_faults old) (s.spawn_faults c.serve_beside-ended.new.spawner) (s.spawn_faults c.finish-finished.new.self) later (f.faulted some);
       later = omega (arith, later, later_yet);
