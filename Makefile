@@ -4,7 +4,7 @@ PROGRAM := crates/smooth/out/smooth
 BENCH := crates/smooth_bench/out/smooth_bench
 PREFIX := /usr/local
 
-.PHONY: run test build install check bench clean
+.PHONY: run test build install check bench wrong-bodies clean
 
 # Starts an origin, pushes a sample, shows the manifest, plays the sample back, and ends.
 run: build
@@ -13,6 +13,10 @@ run: build
 # The merge gate.
 test:
 	bash .ci/run
+
+# Tries all wrong bodies, of which the gate tries one of each crate, and writes docs/WRONG_BODIES.md.
+wrong-bodies:
+	scripts/check_edits --write
 
 # Proves what the program stands on, as many crates side by side as there are processors, tells each as it is done, and builds
 # the program. `rt run` runs it as well, without words, which it refuses.
