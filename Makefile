@@ -1,10 +1,11 @@
 # Needs the toolchain's command `rt` on the path, bash and Python 3.9; `check` and `bench` use other programs too, each where it is installed.
 
-PROGRAM := crates/smooth/out/smooth
+BUILT := crates/smooth/out/smooth
+PROGRAM := $(BUILT)
 BENCH := crates/smooth_bench/out/smooth_bench
 PREFIX := /usr/local
 
-.PHONY: run test build install check bench wrong-bodies clean
+.PHONY: run test build install uninstall check bench wrong-bodies clean
 
 # Starts an origin, pushes a sample, shows the manifest, plays the sample back, and ends.
 run: build
@@ -22,20 +23,17 @@ wrong-bodies:
 # the program. `rt run` runs it as well, without words, which it refuses.
 build:
 	scripts/prove smooth
-	rm -f $(PROGRAM)
+	rm -f $(BUILT)
 	cd crates/smooth && { rt run < /dev/null > /dev/null; test -x out/smooth; }
 
-# The program, the tools that watch it and that push to it for ever, its manual page and the four units for systemd: for one event, for
-# many, for an edge and for a standby.
-install: build
-	install -D -m 755 $(PROGRAM) $(DESTDIR)$(PREFIX)/bin/smooth
-	install -m 755 examples/smooth-watch examples/smooth-encode $(DESTDIR)$(PREFIX)/bin
-	install -D -m 644 docs/smooth.1 $(DESTDIR)$(PREFIX)/share/man/man1/smooth.1
-	install -d $(DESTDIR)$(PREFIX)/lib/systemd/system
-	sed 's|@PREFIX@|$(PREFIX)|' examples/smooth.service > $(DESTDIR)$(PREFIX)/lib/systemd/system/smooth.service
-	sed 's|@PREFIX@|$(PREFIX)|' examples/smooth@.service > $(DESTDIR)$(PREFIX)/lib/systemd/system/smooth@.service
-	sed 's|@PREFIX@|$(PREFIX)|' examples/smooth-edge.service > $(DESTDIR)$(PREFIX)/lib/systemd/system/smooth-edge.service
-	sed 's|@PREFIX@|$(PREFIX)|' examples/smooth-standby.service > $(DESTDIR)$(PREFIX)/lib/systemd/system/smooth-standby.service
+# Installs the program that is there, or the one of PROGRAM=FILE, with its tools, manual page and units: scripts/install has the list.
+# It proves and builds nothing, and needs no toolchain. DESTDIR= and PREFIX= say where to.
+install:
+	@PREFIX='$(PREFIX)' DESTDIR='$(DESTDIR)' scripts/install '$(PROGRAM)'
+
+# Takes away what `install` put there. Stores, journals and /etc/smooth stay.
+uninstall:
+	@PREFIX='$(PREFIX)' DESTDIR='$(DESTDIR)' scripts/install --remove
 
 # Holds the program against a plain reference in Python, on the samples and on many inputs made of them, and tries it with ffmpeg,
 # curl, nginx and strace, each where it is installed, and with the session of README; then kills, a loss of power, an hour of a push, slow
