@@ -5,11 +5,12 @@ PROGRAM := $(BUILT)
 BENCH := crates/smooth_bench/out/smooth_bench
 PREFIX := /usr/local
 
-.PHONY: run test build install uninstall check bench wrong-bodies clean
+.PHONY: run test build install uninstall deb check bench wrong-bodies clean
 
-# Starts an origin, pushes a sample, shows the manifest, plays the sample back, and ends.
-run: build
-	bash scripts/run_sample $(PROGRAM)
+# Starts an origin, pushes a sample, shows the manifest, plays the sample back, and ends: with the program that `build` proved, or else
+# with one that is built in some minutes and not proved, and says so.
+run:
+	@scripts/first_run
 
 # The merge gate.
 test:
@@ -25,6 +26,8 @@ build:
 	scripts/prove smooth
 	rm -f $(BUILT)
 	cd crates/smooth && { rt run < /dev/null > /dev/null; test -x out/smooth; }
+	mkdir -p out/bin
+	ln -sf ../../$(BUILT) out/bin/smooth
 
 # Installs the program that is there, or the one of PROGRAM=FILE, with its tools, manual page and units: scripts/install has the list.
 # It proves and builds nothing, and needs no toolchain. DESTDIR= and PREFIX= say where to.
@@ -34,6 +37,10 @@ install:
 # Takes away what `install` put there. Stores, journals and /etc/smooth stay.
 uninstall:
 	@PREFIX='$(PREFIX)' DESTDIR='$(DESTDIR)' scripts/install --remove
+
+# Makes out/smooth_VERSION_amd64.deb of the program that `build` proved, and out/SHA256SUMS. It takes no other program.
+deb:
+	@scripts/make_deb
 
 # Holds the program against a plain reference in Python, on the samples and on many inputs made of them, and tries it with ffmpeg,
 # curl, nginx and strace, each where it is installed, and with the session of README; then kills, a loss of power, an hour of a push, slow
@@ -59,4 +66,4 @@ bench: build
 	SMOOTH=$(PROGRAM) scripts/bench_relay
 
 clean:
-	rm -rf crates/*/out
+	rm -rf crates/*/out out
