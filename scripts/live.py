@@ -1,5 +1,6 @@
 """What the scripts share that try the running program with others: an origin of its own, requests to it, and pushes."""
 
+import atexit
 import http.client
 import os
 import re
@@ -9,7 +10,9 @@ import struct
 import subprocess
 import sys
 import tempfile
+import threading
 import time
+import traceback
 import xml.etree.ElementTree as xml
 
 HERE = os.path.dirname(os.path.abspath(__file__))
@@ -40,6 +43,45 @@ def name():
 def test(holds, words):
     if not holds:
         sys.exit(f"{name()}: {words}")
+
+
+class Task(threading.Thread):
+    """Work in a thread, which has begun. What ends it, `test` included, is told at once, is raised where `end` waits for it, and makes the
+    check fail even where nothing does."""
+
+    failed = []
+
+    def __init__(self, work, *words):
+        super().__init__(daemon=True)
+        self.work, self.words_of_it, self.gave, self.fault = work, words, None, None
+        self.start()
+
+    def run(self):
+        try:
+            self.gave = self.work(*self.words_of_it)
+        except BaseException as fault:  # pylint: disable=broad-except
+            self.fault = fault
+            Task.failed.append(fault)
+            told = str(fault) if isinstance(fault, SystemExit) else traceback.format_exc()
+            print(f"{name()}: in a thread: {told}", file=sys.stderr, flush=True)
+
+    def end(self, seconds=300):
+        """Waits for the end of the work, and gives what it gave."""
+        self.join(seconds)
+        test(not self.is_alive(), f"{self.work.__name__} has not ended within {seconds} s")
+        if self.fault is not None:
+            raise self.fault
+        return self.gave
+
+
+def fail_where_a_thread_did():
+    if Task.failed:
+        sys.stdout.flush()
+        sys.stderr.flush()
+        os._exit(1)
+
+
+atexit.register(fail_where_a_thread_did)
 
 
 def lines_of(printed):
