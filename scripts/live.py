@@ -36,6 +36,11 @@ def need(*programs):
             sys.exit(0)
 
 
+def left_out(part, why):
+    """Says that a part of the check isn't tried. `check_all` tells it in its last line."""
+    print(f"{name()}: left out: {part}, since {why}", flush=True)
+
+
 def name():
     return os.path.basename(sys.argv[0])
 
