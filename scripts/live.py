@@ -1,21 +1,28 @@
 """What the scripts share that try the running program with others: an origin of its own, requests to it, and pushes."""
 
+import atexit
 import http.client
 import os
 import re
 import shutil
+import signal
 import socket
 import struct
 import subprocess
 import sys
 import tempfile
+import threading
 import time
+import traceback
 import xml.etree.ElementTree as xml
 
 HERE = os.path.dirname(os.path.abspath(__file__))
 PROGRAM = os.environ.get("SMOOTH") or os.path.join(HERE, "..", "crates", "smooth", "out", "smooth")
 SAMPLE = os.path.join(HERE, "..", "examples", "push.isml")
 TFXD = bytes.fromhex("6d1d9b0542d544e680e2141daff757b2")
+TFRF = bytes.fromhex("d4807ef2ca3946958e5426cb9e46a79f")
+# how long a check may take, in seconds: no wait of it for a program is longer
+MOST = int(os.environ.get("CHECK_SECONDS", "3600"))
 # ffmpeg with these makes fragments of 1.92 s in every track, from 0 on: 48 pictures, and 90 frames of sound.
 PICTURES = 25
 GROUP = 48
@@ -24,13 +31,21 @@ BITRATES = (400_000, 200_000)
 
 
 def need(*programs):
-    """Ends the script well, with a word, where one of these is missing."""
+    """Ends the script well, with a word, where one of these is missing, and with a failure where a check takes too long."""
+    if name().startswith("check_"):
+        signal.signal(signal.SIGALRM, lambda *_: test(False, f"not done within {MOST} s"))
+        signal.alarm(MOST)
     if not os.access(PROGRAM, os.X_OK):
         sys.exit(f"{name()}: no program at {PROGRAM}")
     for program in programs:
         if not shutil.which(program):
             print(f"{name()}: skipped, since {program} is missing")
             sys.exit(0)
+
+
+def left_out(part, why):
+    """Says that a part of the check isn't tried. `check_all` tells it in its last line."""
+    print(f"{name()}: left out: {part}, since {why}", flush=True)
 
 
 def name():
@@ -40,6 +55,45 @@ def name():
 def test(holds, words):
     if not holds:
         sys.exit(f"{name()}: {words}")
+
+
+class Task(threading.Thread):
+    """Work in a thread, which has begun. What ends it, `test` included, is told at once, is raised where `end` waits for it, and makes the
+    check fail even where nothing does."""
+
+    failed = []
+
+    def __init__(self, work, *words):
+        super().__init__(daemon=True)
+        self.work, self.words_of_it, self.gave, self.fault = work, words, None, None
+        self.start()
+
+    def run(self):
+        try:
+            self.gave = self.work(*self.words_of_it)
+        except BaseException as fault:  # pylint: disable=broad-except
+            self.fault = fault
+            Task.failed.append(fault)
+            told = str(fault) if isinstance(fault, SystemExit) else traceback.format_exc()
+            print(f"{name()}: in a thread: {told}", file=sys.stderr, flush=True)
+
+    def end(self, seconds=300):
+        """Waits for the end of the work, and gives what it gave."""
+        self.join(seconds)
+        test(not self.is_alive(), f"{self.work.__name__} has not ended within {seconds} s")
+        if self.fault is not None:
+            raise self.fault
+        return self.gave
+
+
+def fail_where_a_thread_did():
+    if Task.failed:
+        sys.stdout.flush()
+        sys.stderr.flush()
+        os._exit(1)
+
+
+atexit.register(fail_where_a_thread_did)
 
 
 def lines_of(printed):
@@ -200,6 +254,31 @@ def read(fragment):
     test((moof, mdat) == (b"moof", b"mdat"), "what is served is no fragment")
     at = first.index(TFXD) + 20
     return int.from_bytes(first[at : at + 8], "big"), int.from_bytes(first[at + 8 : at + 16], "big"), second[8:]
+
+
+def ahead(fragment):
+    """The times ahead that a fragment tells, with their durations."""
+    moof = next(boxes(fragment))[1]
+    if TFRF not in moof:
+        return []
+    at = moof.index(TFRF) + 16
+    wide = 8 if moof[at] else 4
+    found = [int.from_bytes(moof[at + 5 + n * wide : at + 5 + (n + 1) * wide], "big") for n in range(2 * moof[at + 4])]
+    return list(zip(found[::2], found[1::2]))
+
+
+def check_ahead(origin):
+    """Each fragment that is listed tells the next two listed times of its stream, as many as there are. Gives how many fragments did."""
+    count = 0
+    for stream, (bitrates, times) in origin.listing().items():
+        for place, (start, _) in enumerate(times):
+            for bitrate in bitrates:
+                status, data = origin.get(path_of(bitrate, stream, start))
+                test(status == 200, f"{stream} {bitrate} {start} is listed and answered by {status}")
+                told, due = ahead(data), times[place + 1 : place + 3]
+                test(told == due, f"{stream} {bitrate} {start} tells the times {told} ahead, and {due} are listed")
+                count += 1
+    return count
 
 
 def spent(*pids):

@@ -19,7 +19,7 @@ mod tags;
 mod told;
 
 use anyhow::{Result, bail};
-use sm_rows::{Caller, Case, run_pages, told};
+use sm_rows::{Caller, Case, run_pages};
 use std::alloc::Global;
 
 // In the order in which they are read: names and blocks of one are known in those behind it.
@@ -50,7 +50,6 @@ impl Caller for Rows {
             None => call,
         };
         match name {
-            "sm_rows" => Ok(told(alloc, case, case.bytes(alloc, "bytes")?.as_slice())?),
             "sm_model" => model::answer(alloc, case),
             "sm_box" => boxes::answer(alloc, case),
             "sm_traf" | "sm_moof" => fragments::answer(alloc, case),

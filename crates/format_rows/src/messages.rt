@@ -256,7 +256,7 @@ fn fronts_from(alloc: Global, bytes: &[u8], first: usize) -> Result<String> {
 
 fn fronts(alloc: Global, case: &Case<'_>) -> Result<String> {
     let bytes = case.bytes(alloc, "bytes")?;
-    let first = usize::try_from(case.number(alloc, "from")?)?;
+    let first = usize::try_from(case.number(alloc, "since")?)?;
     fronts_from(alloc, bytes.as_slice(), first)
 }
 

@@ -7,13 +7,21 @@
 //!     block TRACKS
 //!     track video video 350000
 //!
+//!     keys sm_traf read_traf = body track private numbers
+//!
 //!     row a name in plain words
 //!     call sm_traf read_traf
+//!     from section ISO/IEC-14496-12 8.8
 //!     use TRACKS
 //!     body $HEAD $PART 7 41
 //!       zeros 4
 //!     gives the first line of what is to come
 //!     gives-hex u32 7
+//!
+//! `from` says where the values of the row are from: `section STANDARD PART`, where the standard may be a page of `docs/`;
+//! `program NAME`, for another program; `reference scripts/NAME`, for a reference of this repository; `learnt`, where any of
+//! them was learnt from the program itself; `plain`, for a row of a plain program of the definitions, which the product doesn't
+//! contain. A row without it is refused. `keys` says which lines a call reads, and a row with another line is refused.
 //!
 //! A blank line ends a row and a block, and a line that begins with a blank goes on with the one before. A line is a key and
 //! its value; keys may stand several times, and their order counts. A name and a block are said once. `use` puts the lines of
@@ -45,6 +53,7 @@ mod pages;
 mod parts;
 mod row;
 pub mod scripts;
+mod source;
 pub mod stored;
 pub mod tales;
 mod token;

@@ -43,6 +43,11 @@ impl Line {
         self.value.as_str()
     }
 
+    // Whether it says what is to come.
+    pub(crate) fn is_wanted(&self) -> bool {
+        matches!(self.key(), "gives" | "gives-hex" | "gives-text")
+    }
+
     /// Says what is wrong with this line.
     pub fn fault(&self, what: &'static str) -> RowFault {
         RowFault::new(self.number, what)

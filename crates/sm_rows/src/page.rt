@@ -5,6 +5,7 @@ use crate::common::COMMON;
 use crate::definition::{Definition, expanded};
 use crate::line::{Line, lines_of};
 use crate::row::Row;
+use crate::source::is_source;
 use crate::token::{Token, tokens_of};
 use crate::words::Words;
 use std::alloc::Global;
@@ -16,11 +17,19 @@ struct Block {
     lines: Vec<Line>,
 }
 
-/// What texts of rows say: names and blocks, and the rows that were read last.
+// The keys of the lines that a call reads.
+#[derive(Debug, Drop)]
+struct Keys {
+    call: String,
+    keys: Vec<Token>,
+}
+
+/// What texts of rows say: names, blocks and the keys of calls, and the rows that were read last.
 #[derive(Debug, Drop)]
 pub struct Page {
     definitions: Vec<Definition>,
     blocks: Vec<Block>,
+    calls: Vec<Keys>,
     rows: Vec<Row>,
 }
 
@@ -38,6 +47,7 @@ impl Page {
         let mut page = Page {
             definitions: Vec::new(alloc),
             blocks: Vec::new(alloc),
+            calls: Vec::new(alloc),
             rows: Vec::new(alloc),
         };
         page.read(alloc, COMMON)?;
@@ -58,15 +68,39 @@ impl Page {
         Ok(())
     }
 
-    /// Reads a text: its names and blocks are added to those that are known, and its rows take the place of the former. After
-    /// a fault the page has the lines in front of it.
+    /// Reads a text: its names, blocks and keys are added to those that are known, and its rows take the place of the former.
+    /// After a fault of a line the page has the lines in front of it. A row that doesn't say where its values are from, or that
+    /// has a line which its call doesn't read, is a fault too.
     pub fn read(&mut self, alloc: Global, text: &str) -> Result<(), RowFault> {
         self.rows = Vec::new(alloc);
         let mut place = Place::Top;
         for line in lines_of(alloc, text)? {
             place = self.take(alloc, place, line)?;
         }
+        for row in self.rows.iter() {
+            self.check(row)?;
+        }
         Ok(())
+    }
+
+    // Whether a row says where its values are from, and has no line that its call doesn't read.
+    fn check(&self, row: &Row) -> Result<(), RowFault> {
+        if row.source.is_empty() {
+            return Err(RowFault::new(row.number, "the row doesn't say where its values are from"));
+        }
+        let Some(known) = self.keys_of(row.call.as_str()) else {
+            return Err(RowFault::new(row.number, "nothing says which lines the call reads"));
+        };
+        for line in row.lines.iter() {
+            if !line.is_wanted() && !known.keys.iter().any(|key| key.is(line.key())) {
+                return Err(line.fault("the call reads no such line"));
+            }
+        }
+        Ok(())
+    }
+
+    fn keys_of(&self, call: &str) -> Option<&Keys> {
+        self.calls.iter().find(|keys| keys.call.as_str() == call)
     }
 
     // Takes a line, and says where the next one stands.
@@ -91,6 +125,10 @@ impl Page {
         match line.key.as_str() {
             "let" => {
                 self.add_definition(alloc, &line)?;
+                Ok(Place::Top)
+            }
+            "keys" => {
+                self.add_keys(alloc, &line)?;
                 Ok(Place::Top)
             }
             "block" => {
@@ -118,11 +156,12 @@ impl Page {
                     number,
                     name: value,
                     call: String::new(alloc),
+                    source: String::new(alloc),
                     lines: Vec::new(alloc),
                 })?;
                 Ok(Place::Row)
             }
-            _ => Err(line.fault("neither a row nor a name nor a block begins here")),
+            _ => Err(line.fault("no row, name, block or keys begin here")),
         }
     }
 
@@ -171,6 +210,20 @@ impl Page {
         Ok(())
     }
 
+    fn add_keys(&mut self, alloc: Global, line: &Line) -> Result<(), RowFault> {
+        let Some((call, keys)) = line.value().split_once(" =") else {
+            return Err(line.fault("keys without a call"));
+        };
+        if self.keys_of(call).is_some() {
+            return Err(line.fault("the keys of the call are said already"));
+        }
+        self.calls.push(Keys {
+            call: String::from_str(alloc, call)?,
+            keys: tokens_of(alloc, line.number, keys)?,
+        })?;
+        Ok(())
+    }
+
     // Adds a line to the last row.
     fn add(&mut self, alloc: Global, line: Line) -> Result<(), RowFault> {
         let Some(row) = self.rows.last_mut() else {
@@ -179,6 +232,13 @@ impl Page {
         match line.key.as_str() {
             "call" => {
                 row.call = line.value;
+                Ok(())
+            }
+            "from" => {
+                if !is_source(line.value()) || !row.source.is_empty() {
+                    return Err(line.fault("a source of no meaning, or a second one"));
+                }
+                row.source = line.value;
                 Ok(())
             }
             "use" => {
