@@ -11,7 +11,7 @@ from live import HERE, free_port, test
 
 
 class Proxy:
-    """The example on other ports and with other files. `more` has further words to be replaced, `log` the lines of what was asked."""
+    """The example on other ports and with other files. `more` has further words to be replaced."""
 
     def __init__(self, origin, more=(), connections=512):
         self.folder = tempfile.mkdtemp(prefix="smooth-nginx-")
@@ -21,15 +21,15 @@ class Proxy:
             text = example.read()
         listens = f"listen 127.0.0.1:{self.plain}; listen 127.0.0.1:{self.port} ssl"
         changes = [("127.0.0.1:8080", f"127.0.0.1:{origin.port}"), ("listen 443 ssl", listens), ("/var/cache/nginx/smooth", f"{self.folder}/cache"),
-                   ("/etc/ssl/certs/live.example.org.pem", f"{self.folder}/pem"), ("/etc/ssl/private/live.example.org.key", f"{self.folder}/key"), *more]
+                   ("/etc/ssl/certs/live.example.org.pem", f"{self.folder}/pem"), ("/etc/ssl/private/live.example.org.key", f"{self.folder}/key"),
+                   ("/var/log/nginx/smooth.log", f"{self.folder}/asked"), *more]
         for old, new in changes:
             test(old in text, f"examples/nginx.conf lacks {old}")
             text = text.replace(old, new)
         front = f"daemon off; pid {self.folder}/pid; error_log {self.folder}/log;" + (" user root;" if os.getuid() == 0 else "")
         paths = " ".join(f"{name}_temp_path {self.folder}/{name};" for name in ("client_body", "proxy", "fastcgi", "uwsgi", "scgi"))
-        asked = f"log_format asked '$status $upstream_status $upstream_cache_status $uri'; access_log {self.folder}/asked asked;"
         with open(os.path.join(self.folder, "conf"), "w") as conf:
-            conf.write(f"{front}\nevents {{ worker_connections {connections}; }}\nhttp {{ {asked} {paths}\n{text}\n}}\n")
+            conf.write(f"{front}\nevents {{ worker_connections {connections}; }}\nhttp {{ {paths}\n{text}\n}}\n")
 
     def __enter__(self):
         self.start()
@@ -60,7 +60,7 @@ class Proxy:
         return f"{'https' if tls else 'http'}://127.0.0.1:{self.port if tls else self.plain}/live.isml/{path}"
 
     def asked(self):
-        """For each request its status, the status that the origin gave where it was asked, and the address."""
+        """For each request the time, the client's address, its status, the status that the origin gave where it was asked, and the address."""
         with open(os.path.join(self.folder, "asked")) as lines:
-            found = [re.fullmatch(r"(\d+) (\S+(?:[,:] \S+)*) (\S+) (\S+)\n", line) for line in lines]
-        return [(int(it[1]), it[2], it[4]) for it in found if it]
+            found = [re.fullmatch(r'([\d.]+) (\S+) \d+ (\d+) (.*) \S+ [\d.]+ "\S+ (\S+) .*"\n', line) for line in lines]
+        return [(float(it[1]), it[2], int(it[3]), it[4], it[5]) for it in found if it]
