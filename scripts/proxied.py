@@ -42,7 +42,8 @@ class Proxy:
     def certificate(self, name, subject):
         """A key and a certificate that it signed itself."""
         ends = ["-keyout", f"{self.folder}/{name}key", "-out", f"{self.folder}/{name}pem"]
-        subprocess.run(["openssl", "req", "-x509", "-newkey", "rsa:2048", "-nodes", "-subj", f"/CN={subject}", "-days", "1", *ends], check=True, stderr=subprocess.DEVNULL)
+        words = ["openssl", "req", "-x509", "-newkey", "rsa:2048", "-nodes", "-subj", f"/CN={subject}", "-days", "1", *ends]
+        subprocess.run(words, check=True, stderr=subprocess.DEVNULL)
 
     def start(self):
         self.certificate("", "localhost")
