@@ -177,6 +177,11 @@ class Origin:
                 time.sleep(0.01)
         sys.exit(f"{name()}: the origin does not listen")
 
+    def pids(self):
+        """The process, and those that it started, where the program is a script in front of another one."""
+        found = subprocess.run(["pgrep", "-P", str(self.process.pid)], stdout=subprocess.PIPE, check=False).stdout.split()
+        return [self.process.pid, *map(int, found)]
+
     def kill(self):
         if self.process:
             self.process.kill()
