@@ -3,6 +3,7 @@
 import atexit
 import http.client
 import os
+import random
 import re
 import shutil
 import signal
@@ -127,8 +128,9 @@ def is_free(port):
 
 
 def free_pair():
-    """A port that nobody has, as nobody has the next one."""
-    return next(port for port in iter(free_port, None) if port < 65_535 and is_free(port + 1))
+    """A port that nobody has, as nobody has the next one, below those from which the system takes the ports of connections: while nobody
+    listens there, a connection could else meet itself."""
+    return next(port for port in iter(lambda: random.randrange(10_000, 32_000), None) if is_free(port) and is_free(port + 1))
 
 
 def boxes(data):
