@@ -5,7 +5,7 @@ PROGRAM := $(BUILT)
 BENCH := crates/smooth_bench/out/smooth_bench
 PREFIX := /usr/local
 
-.PHONY: run test build install uninstall deb check bench wrong-bodies clean
+.PHONY: run test build install uninstall deb check check-checks bench wrong-bodies clean
 
 # Starts an origin, pushes a sample, shows the manifest, plays the sample back, and ends: with the program that `build` proved, or else
 # with one that is built in some minutes and not proved, and says so.
@@ -44,10 +44,14 @@ deb:
 
 # Holds the program against a plain reference in Python, on the samples and on many inputs made of them, and tries it with ffmpeg,
 # curl, nginx and strace, each where it is installed, and with the session of README; then kills, a loss of power, an hour of a push, slow
-# readers, whether memory comes back, many clients at once, and whoever means it ill. The last line says what ran. `scripts/check_kill 100` and `scripts/check_crash` are the long forms;
-# `scripts/check_checks` shows that the checks can fail.
+# readers, whether memory comes back, many clients at once, and whoever means it ill. The last line says which checks ran whole, and what was
+# left out and why. `scripts/check_kill 100` and `scripts/check_crash` are the long forms.
 check: build
 	bash scripts/check_all $(PROGRAM)
+
+# Shows that the checks can fail: each is run over a program that does one thing wrong, and has to find it. CONTRIBUTING has the table.
+check-checks: build
+	SMOOTH=$(PROGRAM) scripts/check_checks --write
 
 # Figures of the readers, the store and the running origin: docs/PERFORMANCE.md says what they came to.
 bench: build

@@ -3,6 +3,7 @@
 import atexit
 import http.client
 import os
+import random
 import re
 import shutil
 import signal
@@ -127,8 +128,9 @@ def is_free(port):
 
 
 def free_pair():
-    """A port that nobody has, as nobody has the next one."""
-    return next(port for port in iter(free_port, None) if port < 65_535 and is_free(port + 1))
+    """A port that nobody has, as nobody has the next one, below those from which the system takes the ports of connections: while nobody
+    listens there, a connection could else meet itself."""
+    return next(port for port in iter(lambda: random.randrange(10_000, 32_000), None) if is_free(port) and is_free(port + 1))
 
 
 def boxes(data):
@@ -176,6 +178,11 @@ class Origin:
             except OSError:
                 time.sleep(0.01)
         sys.exit(f"{name()}: the origin does not listen")
+
+    def pids(self):
+        """The process, and those that it started, where the program is a script in front of another one."""
+        found = subprocess.run(["pgrep", "-P", str(self.process.pid)], stdout=subprocess.PIPE, check=False).stdout.split()
+        return [self.process.pid, *map(int, found)]
 
     def kill(self):
         if self.process:
@@ -306,9 +313,10 @@ def load(pids, url, connections, seconds, script=None, spent=spent):
 
 
 class Nginx:
-    """An nginx on a folder of files, with so many workers; uploads by PUT are stored."""
+    """An nginx on a folder of files, with so many workers; uploads by PUT are stored. Where `tuned`, files stay open between requests, so that
+    one costs no open, fstat and close; `nopush` sends a head and its file together."""
 
-    def __init__(self, files, sendfile, at=None, workers=1):
+    def __init__(self, files, sendfile, at=None, workers=1, tuned=False, nopush=False):
         self.folder = tempfile.mkdtemp(prefix="nginx-", dir=at)
         self.port = free_port()
         os.chmod(self.folder, 0o777)
@@ -317,7 +325,8 @@ class Nginx:
 {'user root;' if os.getuid() == 0 else ''}
 events {{ worker_connections 512; }}
 http {{
-    access_log off; sendfile {'on' if sendfile else 'off'}; tcp_nopush off; tcp_nodelay on; keepalive_requests 1000000000;
+    access_log off; sendfile {'on' if sendfile else 'off'}; tcp_nopush {'on' if nopush else 'off'}; tcp_nodelay on;
+    keepalive_requests 1000000000; {'open_file_cache max=1000 inactive=1h; open_file_cache_valid 1h;' if tuned else ''}
     client_body_temp_path {self.folder}/body; client_max_body_size 0; proxy_temp_path {self.folder}/a; fastcgi_temp_path {self.folder}/b;
     uwsgi_temp_path {self.folder}/c; scgi_temp_path {self.folder}/d;
     server {{
