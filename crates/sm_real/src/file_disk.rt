@@ -149,33 +149,33 @@ impl<R: Files<File = File> + Drop> Disk for FileDisk<R> {
         self.reads = self.reads.saturating_add(1);
         let read = match &mut self.folder {
             Some(folder) => folder.read_at(&self.rt, self.alloc, file, at, into),
-            None => Err(nowhere()),
+            None => Err(Trouble::new(Doing::Reading(file), nowhere())),
         };
         match read {
             Ok(()) => Ok(()),
-            Err(e) => Err(self.fail(Trouble::new(Doing::Reading(file), e))),
+            Err(trouble) => Err(self.fail(trouble)),
         }
     }
 
     fn write_at(&mut self, file: u32, at: u64, bytes: &[u8]) -> Result<(), Failed> {
         let written = match &mut self.folder {
             Some(folder) => folder.write_at(&self.rt, self.alloc, file, at, bytes),
-            None => Err(nowhere()),
+            None => Err(Trouble::new(Doing::Writing(file), nowhere())),
         };
         match written {
             Ok(()) => Ok(()),
-            Err(e) => Err(self.fail(Trouble::new(Doing::Writing(file), e))),
+            Err(trouble) => Err(self.fail(trouble)),
         }
     }
 
     fn sync(&mut self, file: u32) -> Result<(), Failed> {
         let synced = match &mut self.folder {
             Some(folder) => folder.sync(&self.rt, self.alloc, file),
-            None => Err(nowhere()),
+            None => Err(Trouble::new(Doing::Syncing(file), nowhere())),
         };
         match synced {
             Ok(()) => Ok(()),
-            Err(e) => Err(self.fail(Trouble::new(Doing::Syncing(file), e))),
+            Err(trouble) => Err(self.fail(trouble)),
         }
     }
 }

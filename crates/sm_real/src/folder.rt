@@ -1,5 +1,5 @@
 // A folder of files with numbers, locked against all others.
-ghost use Rattle.std.specs.Prelude.{◌≡◌, ◌≢◌, ◌<◌, ◌^◌, [], true, IfOk, OnOk, IsErr};
+ghost use Rattle.std.specs.Prelude.{◌≡◌, ◌≢◌, ◌<◌, ◌^◌, [], true, is_ok, IfOk, OnOk, IsErr};
 ghost use Rattle.sm_real.specs.AtRest.{IsAtRest, IsPending, IsSynced, IsUnread};
 
 use crate::file_limit::{may_reach, past_limit};
@@ -9,7 +9,7 @@ use std::alloc::{AllocError, Global};
 use std::fs::{self, File, OpenOptions, TryLockError};
 use std::io::{self, ErrorKind};
 use std::os::fd::AsRawFd;
-use std::os::unix::fs::FileExt;
+use std::os::unix::fs::{FileExt, MetadataExt};
 use std::path::Path;
 use std::rt::Files;
 
@@ -23,6 +23,15 @@ struct Writing {
     handle: File,
     // Nothing was written to it since it was last synced.
     synced: bool,
+}
+
+// What a name of the folder stands for.
+#[derive(Clone, Copy, PartialEq, Eq)]
+enum Named {
+    Nothing,
+    File,
+    // A folder, a pipe or a device.
+    Other,
 }
 
 /// An open folder. File k is named by k in eight digits, and `.seg`.
@@ -41,6 +50,8 @@ pub struct Folder {
     // No name came since the folder was last synced.
     named: bool,
     broken: bool,
+    // A descriptor that is given up where no more files may be open, so that one that is to be written can be.
+    reserve: Option<File>,
 }
 
 impl Folder {
@@ -66,6 +77,7 @@ impl Folder {
             reading: None,
             named: true,
             broken: false,
+            reserve: None,
         }
     }
 
@@ -94,16 +106,16 @@ impl Folder {
         file: u32,
         at: u64,
         into: &mut [u8],
-    ) -> io::Result<()> {
+    ) -> Result<(), Trouble> {
         if let Some(writing) = &self.writing
             && writing.file == file
         {
-            return fill(&writing.handle, at, into);
+            return doing(Doing::Reading(file), fill(&writing.handle, at, into));
         }
         if let Some(reading) = &mut self.reading
             && reading.file == file
         {
-            return reading.fill(at, into);
+            return doing(Doing::Reading(file), reading.fill(at, into));
         }
         // Where no more files may be open, the one that is given up makes room.
         self.reading = None;
@@ -112,12 +124,22 @@ impl Folder {
                 let mut reading = Reading::new(alloc, file, handle);
                 let filled = reading.fill(at, into);
                 self.reading = Some(reading);
-                filled
+                doing(Doing::Reading(file), filled)
             }
             None => {
                 into.fill(0);
                 Ok(())
             }
+        }
+    }
+
+    // What stands at a name.
+    fn named(files: &impl Files<File = File>, name: &str) -> io::Result<Named> {
+        match fs::metadata(files, name) {
+            Ok(found) if found.is_file() => Ok(Named::File),
+            Ok(_) => Ok(Named::Other),
+            Err(e) if e.kind() == ErrorKind::NotFound => Ok(Named::Nothing),
+            Err(e) => Err(e),
         }
     }
 
@@ -127,16 +149,26 @@ impl Folder {
         files: &impl Files<File = File>,
         alloc: Global,
         file: u32,
+    ) -> Result<Option<File>, Trouble> {
+        doing(Doing::OpeningFile(file), self.look_for(files, alloc, file))
+    }
+
+    fn look_for(
+        &self,
+        files: &impl Files<File = File>,
+        alloc: Global,
+        file: u32,
     ) -> io::Result<Option<File>> {
         let name = self.name(alloc, file)?;
-        match File::open(files, name.as_str()) {
-            Ok(handle) => Ok(Some(handle)),
-            Err(e) if e.kind() == ErrorKind::NotFound => Ok(None),
-            Err(e) => Err(e),
+        match Folder::named(files, name.as_str())? {
+            Named::Nothing => Ok(None),
+            Named::File => Ok(Some(File::open(files, name.as_str())?)),
+            Named::Other => Err(no_file()),
         }
     }
 
-    /// Writes these bytes from a place on. It fails where the file is shorter, as one is that was cut from outside.
+    /// Writes these bytes from a place on. It fails where the file is shorter, as one is that was cut from outside, and where another one
+    /// or none has its name.
     pub fn write_at(
         &mut self,
         files: &impl Files<File = File>,
@@ -144,7 +176,7 @@ impl Folder {
         file: u32,
         at: u64,
         bytes: &[u8],
-    ) -> io::Result<()>
+    ) -> Result<(), Trouble>
         ensures pending { OnOk result (bytes.now ≢ [] → IsPending file self.new) }
         ensures unread { OnOk result (bytes.now ≢ [] → IsUnread file self.new) }
         ensures broken { self.old.broken ≡ true → bytes.now ≢ [] → IsErr result }
@@ -153,10 +185,37 @@ impl Folder {
             return Ok(());
         }
         let mut writing = self.turn_to(files, alloc, file)?;
+        let is_first = writing.synced;
         writing.synced = false;
-        let written = put(&writing.handle, at, bytes);
+        let stands = if is_first {
+            self.test_name(files, alloc, &writing)
+        } else {
+            Ok(())
+        };
+        let written = match stands {
+            Ok(()) => put(&writing.handle, at, bytes),
+            Err(e) => Err(e),
+        };
         self.writing = Some(writing);
-        written
+        doing(Doing::Writing(file), written)
+    }
+
+    // Whether the file that is written still has its name. One that was removed or replaced from outside would take bytes that are lost with
+    // its last descriptor.
+    fn test_name(
+        &self,
+        files: &impl Files<File = File>,
+        alloc: Global,
+        writing: &Writing,
+    ) -> io::Result<()> {
+        let own = writing.handle.metadata()?;
+        let name = self.name(alloc, writing.file)?;
+        match fs::metadata(files, name.as_str()) {
+            Ok(found) if found.ino() == own.ino() && found.dev() == own.dev() => Ok(()),
+            Ok(_) => Err(replaced()),
+            Err(e) if e.kind() == ErrorKind::NotFound => Err(replaced()),
+            Err(e) => Err(e),
+        }
     }
 
     // Gives up what was read of this file.
@@ -179,36 +238,79 @@ impl Folder {
         files: &impl Files<File = File>,
         alloc: Global,
         file: u32,
-    ) -> io::Result<Writing>
+    ) -> Result<Writing, Trouble>
         ensures file { IfOk result (λ writing. writing.file ≡ file) }
         ensures unread { OnOk result (IsUnread file self.new) }
         ensures broken { self.old.broken ≡ true → IsErr result }
     {
-        self.test()?;
+        if let Err(e) = self.test() {
+            return Err(Trouble::new(Doing::Writing(file), e));
+        }
         self.unread(file);
         if let Some(writing) = self.writing.take() {
             if writing.file == file {
                 return Ok(writing);
             }
             if !writing.synced {
-                self.note(writing.handle.sync_data())?;
+                doing(
+                    Doing::Syncing(writing.file),
+                    self.note(writing.handle.sync_data()),
+                )?;
             }
         }
+        let opened = self.open_or_make(files, alloc, file);
+        let handle = doing(Doing::OpeningFile(file), opened)?;
+        self.keep_reserve();
+        Ok(Writing {
+            file,
+            handle,
+            synced: true,
+        })
+    }
+
+    // A file, open to be written. It is made where it isn't there.
+    fn open_or_make(
+        &mut self,
+        files: &impl Files<File = File>,
+        alloc: Global,
+        file: u32,
+    ) -> io::Result<File>
+        ensures reading { self.new.reading ≡ self.old.reading }
+        ensures writing { self.new.writing ≡ self.old.writing }
+        ensures broken { self.new.broken ≡ self.old.broken }
+    {
         let name = self.name(alloc, file)?;
         let mut how = OpenOptions::new();
         how.read(true).write(true);
-        let opened = match how.open(files, name.as_str()) {
-            Err(e) if e.kind() == ErrorKind::NotFound => {
+        match Folder::named(files, name.as_str())? {
+            Named::Nothing => {
                 self.named = false;
-                how.create(true).open(files, name.as_str())
+                how.create(true);
+            }
+            Named::File => {}
+            Named::Other => return Err(no_file()),
+        }
+        match how.open(files, name.as_str()) {
+            Err(e) if e.raw_os_error() == Some(libc::EMFILE) && self.reserve.is_some() => {
+                self.reserve = None;
+                how.open(files, name.as_str())
             }
             opened => opened,
-        };
-        Ok(Writing {
-            file,
-            handle: opened?,
-            synced: true,
-        })
+        }
+    }
+
+    // Takes a descriptor in advance, where there is one.
+    fn keep_reserve(&mut self)
+        ensures reading { self.new.reading ≡ self.old.reading }
+        ensures writing { self.new.writing ≡ self.old.writing }
+        ensures named { self.new.named ≡ self.old.named }
+        ensures broken { self.new.broken ≡ self.old.broken }
+    {
+        if self.reserve.is_none()
+            && let Ok(copy) = self.handle.try_clone()
+        {
+            self.reserve = Some(copy);
+        }
     }
 
     // Whether anything may still be brought to rest.
@@ -240,14 +342,19 @@ impl Folder {
         files: &impl Files<File = File>,
         alloc: Global,
         file: u32,
-    ) -> io::Result<()>
+    ) -> Result<(), Trouble>
         ensures at_rest { OnOk result (IsAtRest file self.new) }
         ensures unread { OnOk result (IsUnread file self.new) }
         ensures broken { self.old.broken ≡ true → IsErr result }
     {
-        self.test()?;
+        if let Err(e) = self.test() {
+            return Err(Trouble::new(Doing::Syncing(file), e));
+        }
         self.sync_bytes(files, alloc, file)?;
-        self.sync_names()
+        match self.sync_names() {
+            Ok(()) => Ok(()),
+            Err(e) => Err(Trouble::new(Doing::Syncing(file), e)),
+        }
     }
 
     fn sync_bytes(
@@ -255,14 +362,14 @@ impl Folder {
         files: &impl Files<File = File>,
         alloc: Global,
         file: u32,
-    ) -> io::Result<()>
+    ) -> Result<(), Trouble>
         ensures synced { OnOk result (IsSynced file self.new) }
         ensures unread { OnOk result (IsUnread file self.new) }
     {
         self.unread(file);
         match self.writing.take() {
             Some(mut writing) if writing.file == file => {
-                self.note(writing.handle.sync_data())?;
+                doing(Doing::Syncing(file), self.note(writing.handle.sync_data()))?;
                 writing.synced = true;
                 self.writing = Some(writing);
                 Ok(())
@@ -271,8 +378,8 @@ impl Folder {
                 self.writing = writing;
                 match self.look(files, alloc, file)? {
                     Some(handle) => {
-                        self.note(handle.sync_data())?;
-                        forget(&handle)
+                        doing(Doing::Syncing(file), self.note(handle.sync_data()))?;
+                        doing(Doing::Syncing(file), forget(&handle))
                     }
                     None => Ok(()),
                 }
@@ -293,6 +400,29 @@ impl Folder {
         }
         Ok(())
     }
+}
+
+// What was being done where the system refused it.
+fn doing<T: Drop>(doing: Doing, done: io::Result<T>) -> Result<T, Trouble>
+    ensures { is_ok result ≡ is_ok done }
+{
+    match done {
+        Ok(value) => Ok(value),
+        Err(e) => Err(Trouble::new(doing, e)),
+    }
+}
+
+// What is said of a name that stands for something else than a file with bytes.
+fn no_file() -> io::Error {
+    io::Error::new(ErrorKind::InvalidInput, "it is no regular file")
+}
+
+// What is said of a file that has lost its name.
+fn replaced() -> io::Error {
+    io::Error::new(
+        ErrorKind::NotFound,
+        "it was removed or replaced from outside",
+    )
 }
 
 // Opens a folder that is there, for itself alone.

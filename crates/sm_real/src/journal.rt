@@ -2,9 +2,9 @@
 
 use crate::Trouble;
 use crate::digits::{put_number, put_seconds};
-use crate::outlet::Outlet;
+use crate::outlet::{LOST, Outlet};
 use crate::stamp::Stamp;
-use crate::talk::{Asked, Talk};
+use crate::talk::{Asked, Span, Stored, Talk};
 use crate::tally::Tally;
 use crate::viewers::Viewers;
 use std::alloc::{AllocError, Global};
@@ -20,17 +20,27 @@ const WAIT: u128 = 200;
 // How far two lines of counts lie apart, in milliseconds.
 const APART: u128 = 10_000;
 
+// The shortest time between two writes while the link is busy, in milliseconds.
+const SHORT_WAIT: u128 = 10;
+
 // The most bytes of lines that wait.
 const MOST: usize = 1_048_576;
 
+// Lines are lost up to where there is room for so many bytes again: those of a line that says how many were, and one behind it.
+const ROOM: usize = 2_048;
+
 // From so many bytes on they are written within a round.
 const LONG: usize = 524_288;
+
+// What stands in front of the name of an encoder.
+const STREAMS: &[u8] = b"Streams(";
 
 // The most bytes of the line of a refusal that are told.
 const CAUSE: usize = 128;
 
 /// A journal, whose lines wait in memory until the link comes to the end of a round. What fails harms nothing but the journal: lines
-/// that can't be kept or written are counted, and the next one that goes out says how many there were.
+/// that can't be kept or written are counted, and the next one that goes out says how many there were. A file that is cut to nothing
+/// begins with the line of the start again.
 #[derive(Drop)]
 pub struct Journal {
     alloc: Global,
@@ -119,8 +129,14 @@ impl Journal {
 
     /// A store is served at this port.
     pub fn begin(&mut self, store: &str, port: u16, opened: Opened) {
+        let from = self.line.len();
         let made = self.tell_begin(store, port, opened);
         self.put(made);
+        if let Some(line) = self.line.get(from..)
+            && self.outlet.begin_with(line).is_err()
+        {
+            self.lose();
+        }
     }
 
     fn tell_begin(&mut self, store: &str, port: u16, opened: Opened) -> Result<(), AllocError> {
@@ -179,7 +195,8 @@ impl Journal {
             self.clock = Reading::of(rt, now);
         }
         self.stamp.turn_to(self.clock.stamp_at(now));
-        if now.saturating_duration_since(self.written).as_millis() >= WAIT || self.is_long() {
+        let since = now.saturating_duration_since(self.written).as_millis();
+        if since >= WAIT || since >= SHORT_WAIT && self.is_long() {
             self.written = now;
             self.write();
         }
@@ -212,10 +229,11 @@ impl Journal {
             (" longest ", self.tally.longest),
         ];
         put_counts(&mut self.line, &counts)?;
-        match &self.viewers {
-            Some(viewers) => put_viewers(&mut self.line, viewers),
-            None => Ok(()),
+        if let Some(viewers) = &self.viewers {
+            put_viewers(&mut self.line, viewers)?;
         }
+        let bytes = [(" in ", self.tally.came), (" out ", self.tally.went)];
+        put_counts(&mut self.line, &bytes)
     }
 
     /// A file of the store was brought to rest, which took so long.
@@ -223,9 +241,15 @@ impl Journal {
         self.tally.synced(millis(took));
     }
 
-    /// A fragment or a header was kept.
-    pub fn kept(&mut self) {
+    /// A fragment, which stands there, or a header was kept, of what came on a connection.
+    pub fn kept(&mut self, number: u64, span: Option<Span>) {
         self.tally.kept = self.tally.kept.saturating_add(1);
+        if let Some(span) = span
+            && let Some(place) = self.place(number)
+            && let Some(talk) = self.talks.get_mut(place)
+        {
+            talk.store(span);
+        }
     }
 
     /// A connection was taken.
@@ -249,14 +273,37 @@ impl Journal {
 
     /// These bytes came on a connection.
     pub fn came(&mut self, number: u64, bytes: &[u8], now: Instant) {
+        self.tally.came = self.tally.came.saturating_add(bytes.len() as u64);
         let Some(place) = self.place(number) else {
             return;
         };
-        if let Some(talk) = self.talks.get_mut(place)
-            && talk.note(self.alloc, &mut self.spare, bytes, now).is_err()
-        {
+        let Some(talk) = self.talks.get_mut(place) else {
+            return;
+        };
+        let was_pushing = talk.is_pushing();
+        let noted = talk.note(self.alloc, &mut self.spare, bytes, now);
+        let begins = talk.is_pushing() && !was_pushing;
+        if noted.is_err() {
             self.lose();
         }
+        if begins {
+            let made = self.tell_push(place);
+            self.put(made);
+        }
+    }
+
+    fn tell_push(&mut self, place: usize) -> Result<(), AllocError> {
+        self.head(b"begin")?;
+        let Some(talk) = self.talks.get(place) else {
+            return Ok(());
+        };
+        self.line.extend_from_slice(talk.name.as_bytes())?;
+        put_request(&mut self.line, talk.last())?;
+        if let Some(name) = encoder_of(talk.last()) {
+            self.line.extend_from_slice(b" encoder ")?;
+            put_text(&mut self.line, name)?;
+        }
+        Ok(())
     }
 
     /// Both parts of a reply went out on a connection, or couldn't.
@@ -276,6 +323,7 @@ impl Journal {
             self.tally.pushes = self.tally.pushes.saturating_add(1);
         }
         let bytes = (head.len() as u64).saturating_add(tail.len() as u64);
+        self.tally.went = self.tally.went.saturating_add(bytes);
         let made = self.tell_reply(place, &asked, head, bytes, now, went);
         self.put(made);
         self.give_back(asked);
@@ -319,6 +367,11 @@ impl Journal {
         if !went {
             self.line.extend_from_slice(b" unsent")?;
         }
+        if asked.is_push
+            && let Some(talk) = self.talks.get(place)
+        {
+            put_stored(&mut self.line, talk.stored())?;
+        }
         Ok(())
     }
 
@@ -341,6 +394,7 @@ impl Journal {
             self.tally.pushes = self.tally.pushes.saturating_add(1);
             self.line.extend_from_slice(b" cut")?;
             put_request(&mut self.line, talk.last())?;
+            put_stored(&mut self.line, talk.stored())?;
         }
         Ok(())
     }
@@ -362,9 +416,9 @@ impl Journal {
         Some(first.saturating_add(behind))
     }
 
-    // Begins a line, and in front of it one that says how many were lost.
+    // Begins a line, and in front of it one that says how many were lost, where there is room for both.
     fn head(&mut self, name: &[u8]) -> Result<(), AllocError> {
-        if self.lost > 0 {
+        if self.lost > 0 && self.has_room(ROOM) {
             self.tell_lost()?;
         }
         self.stamp.put(&mut self.line)?;
@@ -372,7 +426,7 @@ impl Journal {
     }
 
     fn tell_lost(&mut self) -> Result<(), AllocError> {
-        self.line.extend_from_slice(b"lost ")?;
+        self.line.extend_from_slice(LOST)?;
         put_number(&mut self.line, self.lost)?;
         self.line.push(b'\n')?;
         self.whole = self.line.len();
@@ -380,10 +434,18 @@ impl Journal {
         Ok(())
     }
 
-    // The line that was made waits with the others, unless too many wait or memory was wanting for it.
+    // Whether so many bytes more may wait.
+    fn has_room(&self, more: usize) -> bool {
+        let waiting = self.outlet.len().saturating_add(self.line.len());
+        waiting.saturating_add(more) <= MOST
+    }
+
+    // The line that was made waits with the others, unless too many wait or memory was wanting for it. Behind one that was lost none waits
+    // before the line that says so.
     fn put(&mut self, made: Result<(), AllocError>) {
         let is_kept = made.is_ok()
-            && self.outlet.len().saturating_add(self.line.len()) <= MOST
+            && self.lost == 0
+            && self.has_room(1)
             && self.line.push(b'\n').is_ok();
         if is_kept {
             self.whole = self.line.len();
@@ -445,6 +507,29 @@ fn put_counts(line: &mut Vec<u8>, counts: &[(&str, u64)]) -> Result<(), AllocErr
         put_number(line, *count)?;
     }
     Ok(())
+}
+
+// What was stored of a push, where anything was.
+fn put_stored(line: &mut Vec<u8>, stored: Option<Stored>) -> Result<(), AllocError> {
+    let Some(stored) = stored else {
+        return Ok(());
+    };
+    let counts = [
+        (" stored ", stored.count),
+        (" from ", stored.span.time),
+        (" until ", stored.span.until),
+    ];
+    put_counts(line, &counts)
+}
+
+// The name of an encoder in the line of its request.
+fn encoder_of(request: &[u8]) -> Option<&[u8]> {
+    let at = request
+        .windows(STREAMS.len())
+        .position(|word| word == STREAMS)?;
+    let name = request.get(at.saturating_add(STREAMS.len())..)?;
+    let end = name.iter().position(|byte| *byte == b')')?;
+    name.get(..end)
 }
 
 // What players tell, where there are any.

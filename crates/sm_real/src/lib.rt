@@ -4,6 +4,7 @@
 #![tactic(auto)]
 
 mod budget;
+mod descriptors;
 mod digits;
 mod families;
 mod fault;

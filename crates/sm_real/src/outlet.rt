@@ -1,7 +1,7 @@
 // Where the lines of a journal go: a file, or a pipe that somebody reads.
 
 use crate::file_limit::{may_reach, past_limit};
-use crate::outgoing::Outgoing;
+use crate::outgoing::{Outgoing, copy};
 use memchr::memchr_iter;
 use mio::unix::SourceFd;
 use mio::{Events, Interest, Poll, Token};
@@ -25,6 +25,9 @@ const PIPE_FULL: usize = 65_536;
 
 const FILE_FULL: usize = 262_144;
 
+/// What a line begins with that says how many were lost.
+pub const LOST: &[u8] = b"lost ";
+
 // What says whether a pipe has room.
 #[derive(Drop)]
 struct Room {
@@ -41,6 +44,12 @@ pub struct Outlet {
     room: Option<Room>,
     // What a pipe hasn't taken yet.
     lines: Outgoing,
+    // The line that each file begins with, if there is one yet.
+    first: Vec<u8>,
+    // The file that was cut is another one for its readers: whether this one has bytes of ours.
+    begun: bool,
+    // The last line was written in part.
+    torn: bool,
 }
 
 impl Outlet {
@@ -56,7 +65,16 @@ impl Outlet {
             room: Room::of(rt, alloc, &file)?,
             file,
             lines: Outgoing::new(alloc),
+            first: Vec::new(alloc),
+            begun: false,
+            torn: false,
         })
+    }
+
+    /// A file that is cut to nothing from now on begins with this line again.
+    pub fn begin_with(&mut self, line: &[u8]) -> Result<(), AllocError> {
+        self.first = copy(self.alloc, line)?;
+        Ok(())
     }
 
     /// How many bytes a pipe hasn't taken yet.
@@ -75,9 +93,10 @@ impl Outlet {
     /// Writes whole lines behind those that wait, or as much of all as is taken at once, and says how many lines were lost.
     pub fn write(&mut self, lines: &[u8]) -> u64 {
         if self.room.is_none() {
-            return match self.append(lines) {
+            let (gone, ended) = self.append(lines);
+            return match ended {
                 Ok(()) => 0,
-                Err(_) => count(lines),
+                Err(_) => count(lines.get(gone..).unwrap_or(b"")),
             };
         }
         if self.lines.push(lines).is_err() {
@@ -102,16 +121,39 @@ impl Outlet {
         0
     }
 
-    // Writes them to a file, which takes what it is given, or has no room.
-    fn append(&self, lines: &[u8]) -> io::Result<()> {
+    // Writes them to a file, which takes what it is given, or has no room: how many bytes have gone, up to the end or a failure.
+    fn append(&mut self, lines: &[u8]) -> (usize, io::Result<()>) {
         if lines.is_empty() {
-            return Ok(());
+            return (0, Ok(()));
         }
+        if let Err(fault) = self.prepare(lines.len()) {
+            return (0, Err(fault));
+        }
+        let (gone, ended) = put(&self.file, lines);
+        self.begun = self.begun || gone > 0;
+        if gone > 0 && gone <= lines.len() {
+            self.torn = lines[gone - 1] != b'\n';
+        }
+        (gone, ended)
+    }
+
+    // Sees that a file takes so many bytes more, behind a whole line: its first one, where it was cut to nothing, or the one that was
+    // written in part, which ends here.
+    fn prepare(&mut self, more: usize) -> io::Result<()> {
         let length = self.file.metadata()?.len();
-        if !may_reach(length.saturating_add(lines.len() as u64)) {
+        let more = (more as u64).saturating_add(self.first.len() as u64);
+        if !may_reach(length.saturating_add(more)) {
             return Err(past_limit());
         }
-        (&self.file).write_all(lines)
+        if length == 0 && self.begun {
+            self.torn = false;
+            (&self.file).write_all(&self.first)?;
+        }
+        if self.torn {
+            (&self.file).write_all(b"\n")?;
+            self.torn = false;
+        }
+        Ok(())
     }
 
     // Writes one piece to a pipe, and says whether there may be more to write.
@@ -137,9 +179,40 @@ impl Outlet {
     }
 }
 
-// How many lines end in these bytes.
+// Writes these bytes to a file: how many have gone, up to the end or a failure.
+fn put(mut file: &File, bytes: &[u8]) -> (usize, io::Result<()>) {
+    let mut gone = 0usize;
+    'writing: for _ in 0..u64::MAX {
+        let rest = bytes.get(gone..).unwrap_or(b"");
+        if rest.is_empty() {
+            break;
+        }
+        match file.write(rest) {
+            Ok(0) => return (gone, Err(ErrorKind::WriteZero.into())),
+            Ok(taken) => gone = gone.saturating_add(taken),
+            Err(fault) if fault.kind() == ErrorKind::Interrupted => {}
+            Err(fault) => return (gone, Err(fault)),
+        }
+    }
+    (gone, Ok(()))
+}
+
+// How many lines end in these bytes. One that says how many were lost stands for those.
 fn count(lines: &[u8]) -> u64 {
-    memchr_iter(b'\n', lines).count() as u64
+    let mut counted = 0u64;
+    let mut from = 0usize;
+    for end in memchr_iter(b'\n', lines) {
+        let line = lines.get(from..end).unwrap_or(b"");
+        counted = counted.saturating_add(lost_in(line).unwrap_or(1));
+        from = end.saturating_add(1);
+    }
+    counted
+}
+
+// How many lines this one says were lost, if it says that.
+fn lost_in(line: &[u8]) -> Option<u64> {
+    let number = line.strip_prefix(LOST)?;
+    str::from_utf8(number).ok()?.parse::<u64>().ok()
 }
 
 // A pipe is opened for reading too: so it opens where nobody reads it yet, and stays where its reader goes away.

@@ -147,12 +147,9 @@ impl Peer {
         }
     }
 
-    /// A turn of the loop on a piece of so many bytes of this peer took so many milliseconds, in which something was sent or brought to
-    /// rest, or not. So many bytes are soon done whatever they are.
-    pub fn weigh(&mut self, length: usize, took: u128, worked: bool, soon: usize)
-        requires most { soon ≤ 65536 }
-    {
-        self.budget.weigh(length, took, worked, soon);
+    /// A turn of the loop on a piece of this peer took so many milliseconds, where so many bytes were soon done whatever they are.
+    pub fn weigh(&mut self, took: u128, soon: usize) {
+        self.budget.weigh(took, soon);
     }
 
     /// So much of the time doesn't count, since nobody could be served.
@@ -228,15 +225,18 @@ impl Peer {
     }
 
     /// One step of this peer: at most one write and one read. It is given up where it has taken nothing of what waits for too long, and
-    /// the system takes nothing now either; or where nothing waits, and it has sent nothing for too long, or the head of a request.
+    /// the system takes nothing now either; or where nothing waits, and it has sent nothing for too long, or the head of a request. No
+    /// more bytes are found than are soon done.
     pub fn visit(
         &mut self,
         alloc: Global,
         buffer: &mut [u8],
+        soon: usize,
         now: Instant,
         patience: &Patience,
     ) -> Found
         ensures fits { FitsIn (length buffer.new) result }
+        ensures soon { 256 ≤ soon → FitsIn soon result }
         ensures stuck { IsLate patience.now.stuck now self.old → (self.new.queue ≡ []) ⊎ (self.old.taken < self.new.taken) }
         ensures silent { self.old.queue ≡ [] → self.old.phase ≡ Phase.Open → self.old.readable ≡ false
             → IsLate patience.now.silent now self.old → result ≡ Found.Left }
@@ -245,9 +245,9 @@ impl Peer {
         ensures number { self.new.number ≡ self.old.number }
     {
         if self.is_queued() {
-            self.go_on(alloc, buffer, now, patience)
+            self.go_on(alloc, buffer, soon, now, patience)
         } else {
-            self.step(buffer, now, patience)
+            self.step(buffer, soon, now, patience)
         }
     }
 
@@ -269,10 +269,12 @@ impl Peer {
         &mut self,
         alloc: Global,
         buffer: &mut [u8],
+        soon: usize,
         now: Instant,
         patience: &Patience,
     ) -> Found
         ensures fits { FitsIn (length buffer.new) result }
+        ensures soon { 256 ≤ soon → FitsIn soon result }
         ensures stuck { IsLate patience.now.stuck now self.old → (self.new.queue ≡ []) ⊎ (self.old.taken < self.new.taken) }
         ensures last_try { (self.new.queue ≡ self.old.queue) ⊎ (self.new.tried ≡ now) }
         ensures number { self.new.number ≡ self.old.number }
@@ -283,12 +285,13 @@ impl Peer {
         if self.is_queued() {
             return Found::Nothing;
         }
-        self.step(buffer, now, patience)
+        self.step(buffer, soon, now, patience)
     }
 
     // A step where nothing waits.
-    fn step(&mut self, buffer: &mut [u8], now: Instant, patience: &Patience) -> Found
+    fn step(&mut self, buffer: &mut [u8], soon: usize, now: Instant, patience: &Patience) -> Found
         ensures fits { FitsIn (length buffer.new) result }
+        ensures soon { 256 ≤ soon → FitsIn soon result }
         ensures queue { self.new.queue ≡ self.old.queue }
         ensures taken { self.new.taken ≡ self.old.taken }
         ensures tried { self.new.tried ≡ self.old.tried }
@@ -296,7 +299,7 @@ impl Peer {
         ensures silent { self.old.phase ≡ Phase.Open → self.old.readable ≡ false → IsLate patience.now.silent now self.old → result ≡ Found.Left }
     {
         match self.phase {
-            Phase::Open => self.listen(buffer, now, patience),
+            Phase::Open => self.listen(buffer, soon, now, patience),
             Phase::Lost => {
                 self.phase = Phase::Broken;
                 Found::Left
@@ -305,20 +308,27 @@ impl Peer {
                 self.shut(now);
                 Found::Nothing
             }
-            Phase::Lingering => self.drain(buffer, now, patience.linger),
+            Phase::Lingering => {
+                if self.drain(buffer, now, patience.linger) {
+                    Found::Gone
+                } else {
+                    Found::Nothing
+                }
+            }
             Phase::Ended | Phase::Broken => Found::Gone,
         }
     }
 
-    fn listen(&mut self, buffer: &mut [u8], now: Instant, patience: &Patience) -> Found
+    fn listen(&mut self, buffer: &mut [u8], soon: usize, now: Instant, patience: &Patience) -> Found
         ensures fits { FitsIn (length buffer.new) result }
+        ensures soon { 256 ≤ soon → FitsIn soon result }
         ensures silent { self.old.readable ≡ false → IsLate patience.now.silent now self.old → result ≡ Found.Left }
         ensures queue { self.new.queue ≡ self.old.queue }
         ensures taken { self.new.taken ≡ self.old.taken }
         ensures tried { self.new.tried ≡ self.old.tried }
         ensures number { self.new.number ≡ self.old.number }
     {
-        let most = self.budget.bytes().min(buffer.len());
+        let most = self.budget.bytes(soon).min(buffer.len());
         let found = if self.readable {
             self.receive(&mut buffer[..most])
         } else if self.is_tiring(now, patience) {
@@ -350,20 +360,19 @@ impl Peer {
         };
     }
 
-    // What still comes is dropped, so that the peer reads what went out before the close.
-    fn drain(&mut self, buffer: &mut [u8], now: Instant, limit: u64) -> Found
-        ensures fits { FitsIn (length buffer.new) result }
+    // What still comes is dropped, so that the peer reads what went out before the close. Says whether nothing more is to come.
+    fn drain(&mut self, buffer: &mut [u8], now: Instant, limit: u64) -> bool
         ensures queue { self.new.queue ≡ self.old.queue }
         ensures taken { self.new.taken ≡ self.old.taken }
         ensures tried { self.new.tried ≡ self.old.tried }
         ensures number { self.new.number ≡ self.old.number }
     {
         if self.is_late(now, limit) {
-            return Found::Gone;
+            return true;
         }
         match self.receive(buffer) {
-            Found::Left | Found::Gone => Found::Gone,
-            Found::Nothing | Found::Bytes(_) => Found::Nothing,
+            Found::Left | Found::Gone => true,
+            Found::Nothing | Found::Bytes(_) => false,
         }
     }
 

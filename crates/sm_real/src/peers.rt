@@ -1,5 +1,5 @@
 // The connections of a link, in the order of their numbers.
-ghost use Rattle.std.specs.Prelude.{◌≡◌, ◌⊎◌, ◌≤◌, ◌<◌, ◌++◌, length, true, false, IfSome, IfNone, OnOk, slice_index_or};
+ghost use Rattle.std.specs.Prelude.{◌≡◌, ◌⊎◌, ◌≤◌, ◌<◌, ◌++◌, length, vec_len, true, false, IfOk, IfSome, IfNone, OnOk, slice_index_or};
 ghost use Rattle.sm_real.specs.Found.{FitsIn};
 ghost use Rattle.sm_real.specs.Numbers.{GivesUp, IsAt, SentTo, Touches};
 ghost use Rattle.sm_real.specs.Waiting.{waits, wait_in_all};
@@ -12,22 +12,24 @@ use sm_site::Failed;
 use std::alloc::{AllocError, Global};
 use std::time::{Duration, Instant};
 
-// The most at once.
-const MOST: usize = 256;
-
-/// The peers, whose numbers rise.
+/// The peers, whose numbers rise, and no more of them than there may be.
 #[derive(Drop)]
 pub struct Peers {
     list: Vec<Peer>,
+    most: usize,
     // The place of the one that was visited last, whose piece the loop mostly has in hand: it is looked for there first.
     last: usize,
+    ghost few: { vec_len list ≤ most },
 }
 
 impl Peers {
     /// None, with room for as many as there may be.
-    pub fn new(alloc: Global) -> Result<Peers, AllocError> {
+    pub fn new(alloc: Global, most: usize) -> Result<Peers, AllocError>
+        ensures { IfOk result (λ peers. peers.most ≡ most) }
+    {
         Ok(Peers {
-            list: Vec::with_capacity(alloc, MOST)?,
+            list: Vec::with_capacity(alloc, most)?,
+            most,
             last: 0,
         })
     }
@@ -38,8 +40,10 @@ impl Peers {
         self.list.len()
     }
 
-    pub fn is_full(&self) -> bool {
-        self.list.len() >= MOST
+    pub fn is_full(&self) -> bool
+        ensures { result ≡ false → length self.now.list.items < self.now.most }
+    {
+        self.list.len() >= self.most
     }
 
     /// How many bytes wait for all together.
@@ -59,23 +63,26 @@ impl Peers {
         }
     }
 
-    /// One step of the one at a place: its number, and what was found. What was received from it stands in the buffer.
+    /// One step of the one at a place: its number, and what was found. What was received from it stands in the buffer, and is no more
+    /// than is soon done.
     pub fn visit(
         &mut self,
         place: usize,
         alloc: Global,
         buffer: &mut [u8],
+        soon: usize,
         now: Instant,
         patience: &Patience,
     ) -> (u64, Found)
         requires there { place < length self.old.list.items }
         ensures fits { FitsIn (length buffer.new) result.1 }
+        ensures soon { 256 ≤ soon → FitsIn soon result.1 }
         ensures whose { IsAt result.0 place self.new.list.items }
         ensures no_other { Touches result.0 self.old.list.items self.new.list.items }
     {
         self.last = place;
         let peer = &mut self.list[place];
-        let found = peer.visit(alloc, buffer, now, patience);
+        let found = peer.visit(alloc, buffer, soon, now, patience);
         (peer.number, found)
     }
 
@@ -105,14 +112,13 @@ impl Peers {
         }
     }
 
-    /// A turn of the loop on a piece of so many bytes of the one with a number took so many milliseconds, in which something was sent or
-    /// brought to rest, or not. So many bytes are soon done whatever they are.
-    pub fn weigh(&mut self, number: u64, length: usize, took: u128, worked: bool, soon: usize)
-        requires most { soon ≤ 65536 }
+    /// A turn of the loop on a piece of the one with a number took so many milliseconds, where so many bytes were soon done whatever they
+    /// are.
+    pub fn weigh(&mut self, number: u64, took: u128, soon: usize)
         ensures { (self.new.list.items ≡ self.old.list.items) ⊎ Touches number self.old.list.items self.new.list.items }
     {
         if let Some(place) = self.place(number) {
-            self.list[place].weigh(length, took, worked, soon);
+            self.list[place].weigh(took, soon);
         }
     }
 
@@ -145,13 +151,17 @@ impl Peers {
 
     /// So much of the time doesn't count for any.
     pub fn forgive(&mut self, gap: Duration) {
-        for peer in &mut self.list {
-            peer.forgive(gap);
+        for place in 0..self.list.len() {
+            if place < self.list.len() {
+                self.list[place].forgive(gap);
+            }
         }
     }
 
     /// Adds one, whose number is above all others.
-    pub fn add(&mut self, peer: Peer) -> Result<(), AllocError> {
+    pub fn add(&mut self, peer: Peer) -> Result<(), AllocError>
+        requires room { length self.old.list.items < self.old.most }
+    {
         self.list.push(peer)?;
         Ok(())
     }

@@ -4,6 +4,7 @@ ghost use Rattle.sm_site.specs.Clauses.{Rose};
 ghost use Rattle.sm_real.specs.Telling.{counts_alone, seen_as, unasked};
 
 use crate::journal::{Journal, Opened};
+use crate::talk::Span;
 use crate::{Doing, FileDisk, OpenFault, TcpLink, Trouble, Viewers};
 use sm_site::{Disk, Event, Failed, Link, LinkError, Selected, Selection, Site, SiteError};
 use std::alloc::Global;
@@ -28,6 +29,33 @@ pub struct RealSite<R: Files<File = File> + Net + Clock + Drop> {
     opening: Option<Opening>,
     // Whom players answer, for the journal.
     viewers: Option<Viewers>,
+    // Where the fragment stands whose record was written last, for the journal.
+    span: Option<Span>,
+}
+
+// Where the fragment of a record stands, if it is one's: behind four bytes of its length, the kind of its body and its track come eight of its
+// time and eight of its duration.
+fn span_of(text: &[u8]) -> Option<Span> {
+    let kind = *text.get(4)?;
+    if kind != 0x02 && kind != 0x12 {
+        return None;
+    }
+    let time = number_at(text, 9)?;
+    let duration = number_at(text, 17)?;
+    Some(Span {
+        time,
+        until: time.saturating_add(duration),
+    })
+}
+
+// The number in the eight bytes at a place.
+fn number_at(text: &[u8], at: usize) -> Option<u64> {
+    match text.get(at..)? {
+        [a, b, c, d, e, f, g, h, ..] => {
+            Some(u64::from_be_bytes([*a, *b, *c, *d, *e, *f, *g, *h]))
+        }
+        _ => None,
+    }
 }
 
 // Since when a store has been opened, and what was read of it.
@@ -79,6 +107,7 @@ impl<R: Files<File = File> + Net + Clock + Copy + Drop> RealSite<R> {
             selected: Selected::never(),
             opening: None,
             viewers: None,
+            span: None,
         }
     }
 }
@@ -244,9 +273,11 @@ impl<R: Files<File = File> + Net + Clock + Drop> Disk for RealSite<R> {
 
     fn write_at(&mut self, file: u32, at: u64, bytes: &[u8]) -> Result<(), Failed> {
         let written = self.disk.write_at(file, at, bytes);
-        // A gate behind the head of a file, which is one byte, is opened for an entry.
-        if written.is_ok() && bytes.len() == 1 && at > 0 {
-            self.link.note_kept();
+        // A gate behind the head of a file, which is one byte, is opened for an entry, whose record was written before.
+        if bytes.len() > 1 {
+            self.span = span_of(bytes);
+        } else if written.is_ok() && bytes.len() == 1 && at > 0 {
+            self.link.note_kept(self.span);
         }
         self.tell_fault(written.is_err());
         written
@@ -256,7 +287,6 @@ impl<R: Files<File = File> + Net + Clock + Drop> Disk for RealSite<R> {
         if let Some(opening) = &mut self.opening {
             opening.note_file();
         }
-        self.link.note_rest();
         let since = self.link.moment();
         let synced = self.disk.sync(file);
         self.link.note_sync(since);

@@ -1,4 +1,5 @@
 // What links have in common that take connections of the same listeners.
+ghost use Rattle.std.specs.Prelude.{◌≡◌, ◌≤◌};
 
 use crate::Viewers;
 use std::alloc::{AllocError, Global};
@@ -8,13 +9,17 @@ use std::sync::atomic::{AtomicBool, AtomicU64, Ordering};
 /// What a link has in common with others that listen at the same place, each in a thread of its own.
 ///
 /// A link takes so many connections, and leaves further ones to those that have fewer; only while all have as many it takes more. So one is
-/// refused where none of them has room, and nowhere else. Each link ends once a flag is raised.
+/// refused where none of them has room, and nowhere else. What waits for the peers of all links is no more than one of them may have, but
+/// for the equal part of each, which it has whatever waits for the others. Each link ends once a flag is raised.
 #[derive(Drop)]
 pub struct Sharing {
     most: usize,
     links: u64,
     // How many of the links have as many connections.
     full: Arc<AtomicU64>,
+    // How many bytes wait for the peers of all links, and what was told there of this one's.
+    waiting: Arc<AtomicU64>,
+    waits: u64,
     ending: Arc<AtomicBool>,
     // This one counts among them.
     counted: bool,
@@ -38,6 +43,8 @@ impl Sharing {
             most,
             links,
             full: Arc::new(alloc, AtomicU64::new(0))?,
+            waiting: Arc::new(alloc, AtomicU64::new(0))?,
+            waits: 0,
             ending,
             counted: false,
             viewers,
@@ -52,12 +59,21 @@ impl Sharing {
             most: self.most,
             links: self.links,
             full: Arc::try_clone(&self.full)?,
+            waiting: Arc::try_clone(&self.waiting)?,
+            waits: 0,
             ending: Arc::try_clone(&self.ending)?,
             counted: false,
             viewers: self.viewers.copy()?,
             told: 0,
             replies: 0,
         })
+    }
+
+    /// How many links there are.
+    pub fn links(&self) -> u64
+        ensures { result ≡ self.now.links }
+    {
+        self.links
     }
 
     /// Whether the link is to end.
@@ -75,17 +91,42 @@ impl Sharing {
         !is_full || self.full.load(Ordering::SeqCst) >= self.links
     }
 
-    /// A reply went out.
-    pub fn replied(&mut self) {
-        self.replies = self.replies.saturating_add(1);
+    /// How many bytes may wait for the peers of this link, where so many may for those of all: what the others leave, and the equal part of
+    /// each link in any case.
+    pub fn room(&self, whole: usize) -> usize
+        ensures { result ≤ whole }
+    {
+        let all = self.waiting.load(Ordering::SeqCst);
+        let others = all.saturating_sub(self.waits).min(whole as u64) as usize;
+        let part = (whole as u64).checked_div(self.links).unwrap_or(0) as usize;
+        (whole - others).max(part)
     }
 
-    /// The link has so many connections, which is told with its replies.
-    pub fn tell(&mut self, connections: usize) {
+    /// A reply went out, and so many bytes wait for the peers of this link.
+    pub fn replied(&mut self, waiting: usize) {
+        self.replies = self.replies.saturating_add(1);
+        self.wait(waiting);
+    }
+
+    /// The link has so many connections, which is told with its replies, and so many bytes wait for them.
+    pub fn tell(&mut self, connections: usize, waiting: usize) {
         let open = connections as u64;
         self.viewers.tell(self.told, open, self.replies);
         self.told = open;
         self.replies = 0;
+        self.wait(waiting);
+    }
+
+    // So many bytes wait for the peers of this link, in place of what was told before.
+    fn wait(&mut self, waiting: usize) {
+        let now = waiting as u64;
+        if now > self.waits {
+            self.waiting.fetch_add(now - self.waits, Ordering::SeqCst);
+        }
+        if now < self.waits {
+            self.waiting.fetch_sub(self.waits - now, Ordering::SeqCst);
+        }
+        self.waits = now;
     }
 
     // One more of the links is full, or one less.

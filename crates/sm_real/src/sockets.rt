@@ -1,5 +1,5 @@
 // Sockets, asked in turn.
-ghost use Rattle.std.specs.Prelude.{◌≡◌, ◌⊎◌, ◌≤◌, ◌<◌, ◌++◌, length, min, OnOk};
+ghost use Rattle.std.specs.Prelude.{◌≡◌, ◌⊎◌, ◌≤◌, ◌<◌, ◌++◌, length, min, IfOk, OnOk};
 ghost use Rattle.sm_real.specs.Found.{IsPiece};
 ghost use Rattle.sm_real.specs.Numbers.{SentAmong, Touches};
 ghost use Rattle.sm_real.specs.Waiting.{wait_in_all};
@@ -7,10 +7,11 @@ ghost use Rattle.sm_real.specs.Whose.{IfPiece, IsHead, IsThere};
 
 use crate::journal::{Journal, Standing};
 use crate::outgoing::copy;
-use crate::pace::Pace;
+use crate::pace::{Pace, Rests};
 use crate::peer::{Found, Peer};
 use crate::peers::Peers;
 use crate::sharing::Sharing;
+use crate::talk::Span;
 use crate::{Doing, Patience, Trouble};
 use mio::net::{TcpListener, TcpStream};
 use mio::{Events, Interest, Poll, Token};
@@ -22,6 +23,9 @@ use std::time::{Clock, Duration, Instant};
 
 // The most bytes of a piece.
 const PIECE: usize = 65_536;
+
+// The most peers at once.
+const PEERS: usize = 256;
 
 // The most reports of one wait.
 const REPORTS: usize = 256;
@@ -52,16 +56,12 @@ pub enum Asked {
     NoMemory,
 }
 
-// Whose piece was given last, when, and whether something was sent or brought to rest since.
+// Whose piece was given last, when, and what was brought to rest for it since.
 #[derive(Clone, Copy)]
 struct Given {
     number: u64,
     at: Instant,
-    // How many bytes it has.
-    length: usize,
-    worked: bool,
-    // How often something was brought to rest for it.
-    rests: u32,
+    rests: Rests,
     // When something was sent for it last, if the clock was read then.
     sent: Option<Instant>,
 }
@@ -71,7 +71,7 @@ impl Given {
     // such a turn does behind that is soon done.
     fn end(&self, rt: &impl Clock) -> Option<Instant> {
         match self.sent {
-            Some(sent) if self.rests == 0 => Some(sent),
+            Some(sent) if self.rests.count == 0 => Some(sent),
             _ => Instant::now(rt).ok(),
         }
     }
@@ -127,16 +127,19 @@ impl Sockets {
         patience: Patience,
     ) -> io::Result<Sockets> {
         let listener = TcpListener::bind(rt, address)?;
-        Sockets::over(rt, alloc, listener, patience)
+        Sockets::over(rt, alloc, listener, patience, PEERS)
     }
 
-    /// Over a listener that doesn't wait.
+    /// Over a listener that doesn't wait, with so many peers at most.
     pub fn over(
         rt: &(impl Net + Clock),
         alloc: Global,
         listener: TcpListener,
         patience: Patience,
-    ) -> io::Result<Sockets> {
+        most: usize,
+    ) -> io::Result<Sockets>
+        ensures { IfOk result (λ sockets. (sockets.peers.most ≡ most) × (sockets.patience ≡ patience)) }
+    {
         let poll = Poll::new(rt)?;
         let mut listener = listener;
         poll.registry()
@@ -148,7 +151,7 @@ impl Sockets {
             listener,
             second: None,
             waiting: true,
-            peers: Peers::new(alloc)?,
+            peers: Peers::new(alloc, most)?,
             patience,
             turn: 0,
             busy: false,
@@ -175,7 +178,10 @@ impl Sockets {
     }
 
     /// Listens by a further listener too, which doesn't wait.
-    pub fn take_second(&mut self, listener: TcpListener) -> io::Result<()> {
+    pub fn take_second(&mut self, listener: TcpListener) -> io::Result<()>
+        ensures peers { self.new.peers ≡ self.old.peers }
+        ensures patience { self.new.patience ≡ self.old.patience }
+    {
         let mut second = listener;
         self.poll
             .registry()
@@ -203,35 +209,36 @@ impl Sockets {
     {
         self.weigh(rt);
         let asked = self.seek(rt, number);
-        if let Asked::Piece(holder, piece) = &asked {
+        if let Asked::Piece(holder, _) = &asked {
             self.given = Some(Given {
                 number: *holder,
                 at: self.done.max(self.now),
-                length: piece.as_slice().len(),
-                worked: false,
-                rests: 0,
+                rests: Rests::none(),
                 sent: None,
             });
         }
         asked
     }
 
-    // Something was sent for the piece that was given last.
-    fn note_work(&mut self)
+    /// Something was brought to rest for the piece that was given last, which took so long.
+    pub fn note_sync(&mut self, took: Duration)
         ensures { self.new.peers ≡ self.old.peers }
     {
         if let Some(given) = &mut self.given {
-            given.worked = true;
+            given.rests.add(took);
+        }
+        if let Some(journal) = &mut self.journal {
+            journal.synced(took);
         }
     }
 
-    /// Something was brought to rest for the piece that was given last.
-    pub fn note_rest(&mut self)
+    /// An entry of the store was kept for the piece that was given last: a fragment, which stands there, or a header.
+    pub fn note_kept(&mut self, span: Option<Span>)
         ensures { self.new.peers ≡ self.old.peers }
     {
-        if let Some(given) = &mut self.given {
-            given.worked = true;
-            given.rests = given.rests.saturating_add(1);
+        let holder = self.holder;
+        if let Some(journal) = &mut self.journal {
+            journal.kept(holder, span);
         }
     }
 
@@ -242,14 +249,9 @@ impl Sockets {
         {
             let took = now.saturating_duration_since(given.at);
             self.done = now;
-            self.pace.note(now, took, given.rests);
-            self.peers.weigh(
-                given.number,
-                given.length,
-                took.as_millis(),
-                given.worked,
-                self.pace.soon(),
-            );
+            self.pace.note(now, &given.rests);
+            self.peers
+                .weigh(given.number, took.as_millis(), self.pace.soon());
         }
     }
 
@@ -305,6 +307,10 @@ impl Sockets {
         self.poll
             .poll(&mut self.events, Some(Duration::from_millis(rest)))?;
         self.turn_to(Instant::now(rt)?);
+        if self.sharing.is_some() {
+            let most = most_waiting(&self.sharing, self.patience.waiting);
+            self.peers.relieve(self.alloc, most);
+        }
         self.tell(rt);
         for readiness in &self.events {
             let token = readiness.token();
@@ -320,7 +326,7 @@ impl Sockets {
     // A round begins for the journal too, which counts the peers now and then, and for those that listen at the same place.
     fn tell(&mut self, rt: &impl Clock) {
         if let Some(sharing) = &mut self.sharing {
-            sharing.tell(self.peers.len());
+            sharing.tell(self.peers.len(), self.peers.waiting());
         }
         let Some(journal) = &mut self.journal else {
             return;
@@ -375,10 +381,11 @@ impl Sockets {
                 continue;
             }
             self.moved = true;
+            let soon = self.pace.soon();
             let buffer = self.buffer.as_mut_slice();
             let (holder, found) = self
                 .peers
-                .visit(place, self.alloc, buffer, self.now, &self.patience);
+                .visit(place, self.alloc, buffer, soon, self.now, &self.patience);
             match found {
                 Found::Nothing => {}
                 Found::Bytes(n) => {
@@ -496,9 +503,9 @@ impl Sockets {
         ensures bounded { wait_in_all self.new.peers.list.items ≤ self.new.patience.waiting }
         ensures sent { OnOk result (SentAmong number (head.now ++ tail.now) self.old.peers.list.items self.new.peers.list.items) }
     {
-        self.note_work();
         let sent = self.peers.send(self.alloc, number, head, tail, self.now);
-        self.peers.relieve(self.alloc, self.patience.waiting);
+        let most = most_waiting(&self.sharing, self.patience.waiting);
+        self.peers.relieve(self.alloc, most);
         self.tell_sent(rt, number, head, tail, sent.is_ok());
         sent
     }
@@ -509,7 +516,7 @@ impl Sockets {
         ensures patience { self.new.patience ≡ self.old.patience }
     {
         if let Some(sharing) = &mut self.sharing {
-            sharing.replied();
+            sharing.replied(self.peers.waiting());
         }
         if let Some(journal) = &mut self.journal
             && let Ok(now) = Instant::now(rt)
@@ -527,5 +534,16 @@ impl Sockets {
     {
         self.peers.close(number);
         self.tell_left(number);
+    }
+}
+
+// How many bytes may wait for all peers of a link together: no more than its limit, and where others listen at the same place, what they
+// leave of it.
+fn most_waiting(sharing: &Option<Sharing>, limit: usize) -> usize
+    ensures { result ≤ limit }
+{
+    match sharing {
+        Some(sharing) => sharing.room(limit),
+        None => limit,
     }
 }

@@ -11,6 +11,20 @@ const TOLD: usize = 256;
 // The most requests of one connection that wait for their replies and are told.
 const WAITING: usize = 1_024;
 
+/// Where a fragment stands in its stream, in ticks of the stream's timescale.
+#[derive(Clone, Copy)]
+pub struct Span {
+    pub time: u64,
+    pub until: u64,
+}
+
+/// What was stored of a push: how many fragments, and from where up to where.
+#[derive(Clone, Copy)]
+pub struct Stored {
+    pub count: u64,
+    pub span: Span,
+}
+
 /// A request that waits for its reply.
 #[derive(Drop)]
 pub struct Asked {
@@ -33,8 +47,9 @@ pub struct Talk {
     // How many lines of that head are whole, and whether the one that is coming has a byte.
     lines: u64,
     is_empty: bool,
-    // What comes is the body of a push.
+    // What comes is the body of a push, of which so much is stored.
     in_body: bool,
+    stored: Option<Stored>,
     // The request that is answered next, and those behind it. The first one stands here itself, since mostly there is no other.
     next: Option<Asked>,
     behind: VecDeque<Asked>,
@@ -49,6 +64,7 @@ impl Talk {
             lines: 0,
             is_empty: true,
             in_body: false,
+            stored: None,
             next: None,
             behind: VecDeque::new(alloc),
         }
@@ -57,6 +73,26 @@ impl Talk {
     /// Whether a push waits for its reply.
     pub fn is_pushing(&self) -> bool {
         self.in_body
+    }
+
+    /// A fragment of the push that comes was stored.
+    pub fn store(&mut self, span: Span) {
+        let stored = match self.stored {
+            Some(stored) => Stored {
+                count: stored.count.saturating_add(1),
+                span: Span {
+                    time: stored.span.time.min(span.time),
+                    until: stored.span.until.max(span.until),
+                },
+            },
+            None => Stored { count: 1, span },
+        };
+        self.stored = Some(stored);
+    }
+
+    /// What was stored of the push that came last, if anything.
+    pub fn stored(&self) -> Option<Stored> {
+        self.stored
     }
 
     /// These bytes came. The spare one is room for the line of a head that begins, and is empty.
@@ -116,6 +152,9 @@ impl Talk {
     fn ask(&mut self, alloc: Global, now: Instant) -> Result<(), AllocError> {
         let asked = self.begun(alloc, now);
         self.in_body = asked.is_push;
+        if asked.is_push {
+            self.stored = None;
+        }
         if self.next.is_none() {
             self.next = Some(asked);
         } else if self.behind.len() < WAITING - 1 {

@@ -11,6 +11,9 @@ pub struct Tally {
     pub syncs: u64,
     /// The longest of them, in milliseconds.
     pub longest: u64,
+    /// The bytes that came, and those of replies.
+    pub came: u64,
+    pub went: u64,
 }
 
 impl Tally {
@@ -22,6 +25,8 @@ impl Tally {
             kept: 0,
             syncs: 0,
             longest: 0,
+            came: 0,
+            went: 0,
         }
     }
 
@@ -39,5 +44,7 @@ impl Tally {
         self.kept = self.kept.saturating_add(later.kept);
         self.syncs = self.syncs.saturating_add(later.syncs);
         self.longest = self.longest.max(later.longest);
+        self.came = self.came.saturating_add(later.came);
+        self.went = self.went.saturating_add(later.went);
     }
 }

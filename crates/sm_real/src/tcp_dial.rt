@@ -19,6 +19,9 @@ const PIECE: usize = 65_536;
 // How long a connection may take to come about, and a peer to take nothing, in seconds.
 const STUCK: u64 = 30;
 
+// How long a peer that took nothing may send nothing, in seconds.
+const LAST: u32 = 3;
+
 // How long an address is waited for that isn't the last one, in seconds.
 const SOON: u64 = 3;
 
@@ -132,7 +135,7 @@ impl<R: Net<Stream = TcpStream> + Clock + Drop> TcpDial<R> {
         }
         stream.set_nodelay(true)?;
         stream.set_read_timeout(Some(Duration::from_secs(1)))?;
-        stream.set_write_timeout(Some(Duration::from_secs(STUCK)))?;
+        stream.set_write_timeout(Some(Duration::from_secs(1)))?;
         Ok(stream)
     }
 
@@ -160,8 +163,9 @@ impl<R: Net<Stream = TcpStream> + Clock + Drop> TcpDial<R> {
             Ok(stream) => stream,
             Err(e) => return Err(self.refused(Doing::Connecting, e)),
         };
-        let sent = (&stream).write_all(request);
-        let (taken, ended) = self.take(&stream, limit)?;
+        let sent = send(&stream, request);
+        let patience = if sent.is_ok() { SILENT } else { LAST };
+        let (taken, ended) = self.take(&stream, limit, patience)?;
         if sent.is_ok() && ended || self.is_reply(&taken)? {
             return Ok(Bytes::from_vec(taken));
         }
@@ -173,8 +177,14 @@ impl<R: Net<Stream = TcpStream> + Clock + Drop> TcpDial<R> {
         Err(OpenFault::Failed)
     }
 
-    // What comes up to the end, the limit, a failure or the end of the time, and whether it was one of the first two.
-    fn take(&self, stream: &TcpStream, limit: u64) -> Result<(Vec<u8>, bool), OpenFault>
+    // What comes up to the end, the limit, a failure, so many seconds without a byte or the end of the time, and whether it was one of the
+    // first two.
+    fn take(
+        &self,
+        stream: &TcpStream,
+        limit: u64,
+        patience: u32,
+    ) -> Result<(Vec<u8>, bool), OpenFault>
         ensures within { IfOk result (λ r. vec_len r.0 ≤ limit) }
     {
         let mut buffer = Box::new(self.alloc, [0u8; PIECE]).map_err(AllocError::from)?;
@@ -199,7 +209,7 @@ impl<R: Net<Stream = TcpStream> + Clock + Drop> TcpDial<R> {
                     ErrorKind::Interrupted => {}
                     ErrorKind::WouldBlock | ErrorKind::TimedOut => {
                         silent = silent.saturating_add(1);
-                        if silent >= SILENT || self.is_reply(&taken)? {
+                        if silent >= patience || self.is_reply(&taken)? {
                             break;
                         }
                     }
@@ -227,9 +237,46 @@ impl<R: Net<Stream = TcpStream> + Clock + Drop> TcpDial<R> {
     }
 }
 
+// What is said of a peer that reads no more.
+fn takes_nothing() -> io::Error {
+    io::Error::new(ErrorKind::TimedOut, "the other end takes nothing")
+}
+
 // What is said of a reply that didn't come whole.
 fn broken_off() -> io::Error {
     io::Error::new(ErrorKind::TimedOut, "the reply broke off or took too long")
+}
+
+// Sends all of these bytes, piece by piece. It fails where the peer takes none for so long.
+fn send(mut stream: &TcpStream, bytes: &[u8]) -> io::Result<()> {
+    let mut gone = 0usize;
+    let mut stuck = 0u64;
+    'sending: for _ in 0..u64::MAX {
+        let Some(rest) = bytes.get(gone..) else {
+            break;
+        };
+        if rest.is_empty() {
+            break;
+        }
+        match stream.write(&rest[..rest.len().min(PIECE)]) {
+            Ok(0) => return Err(ErrorKind::WriteZero.into()),
+            Ok(count) => {
+                gone = gone.saturating_add(count);
+                stuck = 0;
+            }
+            Err(e) => match e.kind() {
+                ErrorKind::Interrupted => {}
+                ErrorKind::WouldBlock | ErrorKind::TimedOut => {
+                    stuck = stuck.saturating_add(1);
+                    if stuck >= STUCK {
+                        return Err(takes_nothing());
+                    }
+                }
+                _ => return Err(e),
+            },
+        }
+    }
+    Ok(())
 }
 
 // Reads once, at most so many bytes.

@@ -1,11 +1,13 @@
 // The link over sockets.
-ghost use Rattle.std.specs.Prelude.{◌≡◌, ◌≢◌, ◌≤◌, IsErrOf, None, Some, is_ok, is_some, true, false};
+ghost use Rattle.std.specs.Prelude.{◌≡◌, ◌≢◌, ◌≤◌, IsErrOf, IfSome, None, Some, is_ok, is_some, true, false};
 ghost use Rattle.sm_site.specs.Clauses.{Rose};
 ghost use Rattle.sm_real.specs.Telling.{counts_alone, seen_as, unasked};
 
+use crate::descriptors::test_descriptors;
 use crate::families::{no_address, takes_both};
 use crate::journal::{Journal, Opened};
 use crate::sockets::{Asked, Sockets};
+use crate::talk::Span;
 use crate::{Doing, OpenFault, Patience, Sharing, Trouble};
 use mio::net::TcpListener as Listener;
 use sm_site::{Event, Failed, Link, LinkError, Selection};
@@ -13,6 +15,9 @@ use std::alloc::Global;
 use std::io::{self, ErrorKind};
 use std::net::{IpAddr, Ipv4Addr, Ipv6Addr, Net, SocketAddr, TcpListener};
 use std::time::{Clock, Instant};
+
+// The most peers of a link that others listen beside: those that it answers, and as many that it refuses.
+const SHARED_PEERS: usize = 32;
 
 /// A link over sockets, which are asked in turn. It tells nothing of what goes over them. Until it listens each call fails.
 ///
@@ -202,24 +207,30 @@ impl<R: Net + Clock + Drop> TcpLink<R> {
     }
 
     /// Listens by these, which are those of other links too; the connections from before are dropped. What it shares with the other links says
-    /// how many connections it takes, and when nothing more comes.
+    /// how many connections it takes, up to 32, and when nothing more comes. It fails where the process may not have descriptors enough for
+    /// all of the links.
     pub fn share(
         &mut self,
         first: TcpListener,
         second: Option<TcpListener>,
         sharing: Sharing,
     ) -> io::Result<()>
+        ensures listens { is_some self.new.sockets ≡ is_ok result }
+        ensures few { IfSome self.new.sockets (λ sockets. sockets.peers.most ≡ 32) }
+        ensures waiting { IfSome self.new.sockets (λ sockets. sockets.patience ≡ self.old.patience) }
         ensures faults { self.new.faults ≡ self.old.faults }
         ensures send_faults { self.new.send_faults ≡ self.old.send_faults }
         ensures numbers { self.new.next_number ≡ self.old.next_number }
     {
         self.sockets = None;
+        test_descriptors(self.alloc, sharing.links())?;
         first.set_nonblocking(true)?;
         let mut sockets = Sockets::over(
             &self.rt,
             self.alloc,
             Listener::from_std(first),
             self.patience,
+            SHARED_PEERS,
         )?;
         if let Some(second) = second {
             second.set_nonblocking(true)?;
@@ -228,19 +239,6 @@ impl<R: Net + Clock + Drop> TcpLink<R> {
         sockets.sharing = Some(sharing);
         self.sockets = Some(sockets);
         Ok(())
-    }
-
-    /// The site brought something to rest for the piece that was given last.
-    pub fn note_rest(&mut self)
-        ensures listens { is_some self.new.sockets ≡ is_some self.old.sockets }
-        ensures trouble { self.new.trouble ≡ self.old.trouble }
-        ensures faults { self.new.faults ≡ self.old.faults }
-        ensures send_faults { self.new.send_faults ≡ self.old.send_faults }
-        ensures numbers { self.new.next_number ≡ self.old.next_number }
-    {
-        if let Some(sockets) = &mut self.sockets {
-            sockets.note_rest();
-        }
     }
 
     /// Tells what happens from now on in a journal.
@@ -284,7 +282,7 @@ impl<R: Net + Clock + Drop> TcpLink<R> {
         }
     }
 
-    /// A file of the store was brought to rest, for the journal, since this moment.
+    /// A file of the store was brought to rest since this moment, for the piece that was given last, and for the journal.
     pub fn note_sync(&mut self, since: Option<Instant>)
         ensures trouble { self.new.trouble ≡ self.old.trouble }
         ensures faults { self.new.faults ≡ self.old.faults }
@@ -293,24 +291,21 @@ impl<R: Net + Clock + Drop> TcpLink<R> {
     {
         if let Some(since) = since
             && let Some(sockets) = &mut self.sockets
-            && let Some(journal) = &mut sockets.journal
             && let Ok(now) = Instant::now(&self.rt)
         {
-            journal.synced(now.saturating_duration_since(since));
+            sockets.note_sync(now.saturating_duration_since(since));
         }
     }
 
-    /// An entry of the store was kept, for the journal.
-    pub fn note_kept(&mut self)
+    /// An entry of the store was kept, a fragment that stands there or a header, for the journal.
+    pub fn note_kept(&mut self, span: Option<Span>)
         ensures trouble { self.new.trouble ≡ self.old.trouble }
         ensures faults { self.new.faults ≡ self.old.faults }
         ensures send_faults { self.new.send_faults ≡ self.old.send_faults }
         ensures numbers { self.new.next_number ≡ self.old.next_number }
     {
-        if let Some(sockets) = &mut self.sockets
-            && let Some(journal) = &mut sockets.journal
-        {
-            journal.kept();
+        if let Some(sockets) = &mut self.sockets {
+            sockets.note_kept(span);
         }
     }
 
@@ -328,12 +323,11 @@ impl<R: Net + Clock + Drop> TcpLink<R> {
         }
     }
 
-    /// This moment, where a journal wants it.
+    /// This moment, where it listens.
     pub fn moment(&self) -> Option<Instant>
         ensures { is_some self.now.sockets ≡ false → result ≡ None }
     {
-        let sockets = self.sockets.as_ref()?;
-        let _journal = sockets.journal.as_ref()?;
+        let _sockets = self.sockets.as_ref()?;
         Instant::now(&self.rt).ok()
     }
 

@@ -1,29 +1,42 @@
 // Heads of requests that don't come to their end.
 ghost use Rattle.std.specs.Prelude.{◌≡◌, None, false};
 
+use memchr::memchr_iter;
 use std::time::{Duration, Instant};
 
 // How far the end of a head has come: an empty line, behind a line feed or behind a carriage return and a line feed
-// (RFC 9112, 2.2).
+// (RFC 9112, 2.2). Empty lines may come first, and end nothing.
 #[derive(Clone, Copy, Debug, PartialEq, Eq)]
 enum Line {
+    // In front of the first line that isn't empty.
+    Before,
     // Within a line.
     Within,
-    // Behind a line feed.
+    // Behind the line feed of one.
     Fed,
-    // Behind a line feed and a carriage return.
+    // Behind that line feed and a carriage return.
     Returned,
     // The head is whole.
     Whole,
 }
 
 impl Line {
-    fn after(self, byte: u8) -> Line {
-        match (self, byte) {
-            (Line::Whole, _) | (Line::Fed | Line::Returned, b'\n') => Line::Whole,
-            (Line::Fed, b'\r') => Line::Returned,
-            (_, b'\n') => Line::Fed,
+    // Behind further bytes, none of which is a line feed.
+    fn behind(self, part: &[u8]) -> Line {
+        match (self, part) {
+            (Line::Whole, _) | (_, []) => self,
+            (Line::Before, [b'\r']) => Line::Before,
+            (Line::Fed, [b'\r']) => Line::Returned,
             _ => Line::Within,
+        }
+    }
+
+    // Behind a line feed.
+    fn fed(self) -> Line {
+        match self {
+            Line::Before => Line::Before,
+            Line::Within => Line::Fed,
+            Line::Fed | Line::Returned | Line::Whole => Line::Whole,
         }
     }
 }
@@ -39,7 +52,7 @@ pub struct Trickle {
 impl Trickle {
     pub fn new() -> Trickle {
         Trickle {
-            line: Line::Within,
+            line: Line::Before,
             since: None,
         }
     }
@@ -49,18 +62,10 @@ impl Trickle {
         if self.line == Line::Whole {
             return;
         }
-        // Whatever came before, a head ends here; mostly all of it came at once.
-        if bytes.ends_with(b"\r\n\r\n") {
-            self.line = Line::Whole;
-            self.since = None;
-            return;
-        }
         if self.since.is_none() {
             self.since = Some(now);
         }
-        for byte in bytes {
-            self.line = self.line.after(*byte);
-        }
+        self.line = line_behind(self.line, bytes);
         if self.line == Line::Whole {
             self.since = None;
         }
@@ -69,7 +74,7 @@ impl Trickle {
     /// A reply goes out. One of status 100 ends no request.
     pub fn reply(&mut self, head: &[u8]) {
         if !head.starts_with(b"HTTP/1.1 1") {
-            self.line = Line::Within;
+            self.line = Line::Before;
             self.since = None;
         }
     }
@@ -92,4 +97,22 @@ impl Trickle {
             self.since = Some(later);
         }
     }
+}
+
+// How far the end of a head has come behind these bytes.
+fn line_behind(line: Line, bytes: &[u8]) -> Line {
+    // Mostly all of a head came at once, and nothing behind it.
+    if bytes.ends_with(b"\r\n\r\n") && !bytes.starts_with(b"\r") && !bytes.starts_with(b"\n") {
+        return Line::Whole;
+    }
+    let mut line = line;
+    let mut from = 0;
+    for end in memchr_iter(b'\n', bytes) {
+        line = line.behind(bytes.get(from..end).unwrap_or(b"")).fed();
+        if line == Line::Whole {
+            return line;
+        }
+        from = end.saturating_add(1);
+    }
+    line.behind(bytes.get(from..).unwrap_or(b""))
 }

@@ -13,6 +13,8 @@ pub enum Doing {
     Opening,
     #[error("opening the journal")]
     Telling,
+    #[error("opening {0:08}.seg")]
+    OpeningFile(u32),
     #[error("looking at {0:08}.seg")]
     Measuring(u32),
     #[error("reading {0:08}.seg")]

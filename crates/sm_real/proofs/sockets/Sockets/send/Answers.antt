@@ -7,5 +7,4 @@ use Rattle.sm_real.proofs.sockets.Sockets.send.Goals as goal
 pub returns-clause-sent : goal.returns-clause-sent
 returns-clause-sent g c =
     subst (λ (peers : Peers). OnOk c.send-sent.result (SentAmong c.args.number (c.args.head.now ++ c.args.tail.now) c.args.self.now.peers.list.items peers.list.items)) (sym c.tell_sent.ensures.peers)
-    (subst (λ (peers : Peers). OnOk c.send-sent.result (SentAmong c.args.number (c.args.head.now ++ c.args.tail.now) peers.list.items c.relieve.new.self.list.items)) c.note_work.ensures
-    (sent_among c.send-sent.result c.args.number _ _ _ _ c.send-sent.ensures.sent c.relieve.ensures.gives_up))
+    (sent_among c.send-sent.result c.args.number _ _ _ _ c.send-sent.ensures.sent c.relieve.ensures.gives_up)
