@@ -3,7 +3,7 @@ use Rattle.std.proofs.Common.{◌≡◌, ◌⊎◌, inl, inr, ℕ, true, List, [
 use Rattle.std.proofs.lemmas.List.{append_cancel_left}
 use Rattle.std.proofs.lemmas.List.Elements.{Contains-append_left, Contains-append_right}
 use Rattle.std.specs.List.{AllByRecursion}
-use Rattle.std.specs.Prelude.{Contains}
+use Rattle.std.specs.Prelude.{Contains, IsSome}
 use Rattle.sm_model.specs.declared.entry.Entry.{Entry}
 use Rattle.sm_model.specs.declared.fragment.Fragment.{Fragment}
 use Rattle.sm_model.specs.declared.track.Track.{Track}
@@ -15,6 +15,7 @@ use Rattle.sm_fetch.specs.declared.place.Place.{Place}
 use Rattle.sm_fetch.specs.Exchanges.{with_all}
 use Rattle.sm_site.specs.Meanings.{Seen}
 use Rattle.sm_archive.specs.declared.archive.Archive.{Archive}
+use Rattle.sm_archive.specs.Store.{IsStore}
 use Rattle.sm_pull.specs.declared.plan.PullPlan.{PullPlan}
 use Rattle.sm_pull.specs.declared.stop.Stop.{Stop}
 use Rattle.sm_pull.specs.declared.stop.Stop.TheVariants as stop
@@ -57,12 +58,22 @@ all_both : (P : Fragment → Type 0) (xs ys : List Fragment) → AllByRecursion 
 all_both P [] ys a b = b
 all_both P (x ∷ xs) ys a b = (a.0, all_both P xs ys a.1 b)
 
+all_front : (P : Fragment → Type 0) (xs ys : List Fragment) → AllByRecursion P (xs ++ ys) → AllByRecursion P xs
+all_front P [] ys all = tt
+all_front P (x ∷ xs) ys all = (all.0, all_front P xs ys all.1)
+
 more_from : (place : Place) (xs ys : List Exchange) (fs : List Fragment) → ((x : Exchange) → Contains xs x → Contains ys x) → AllByRecursion (WasReadFrom place xs) fs → AllByRecursion (WasReadFrom place ys) fs
 more_from place xs ys [] more all = tt
 more_from place xs ys (f ∷ fs) more all = (
   record { url = all.0.url; exchange = all.0.exchange; there = more all.0.exchange all.0.there; raw = all.0.raw; asked = all.0.asked; is = all.0.is },
   more_from place xs ys fs more all.1,
 )
+
+pub one_log : (told : Option (List Exchange)) (b made xs : List Exchange) → told ≡ with_all (Some b) xs → told ≡ Some (b ++ made) → xs ≡ made
+one_log told b made xs is told_is =
+    let same : Some (b ++ xs) ≡ Some (b ++ made) = sym is ∙ told_is in
+    let inner : b ++ xs ≡ b ++ made = cc in
+    append_cancel_left b xs made inner
 
 module _ (by_round : (plan : PullPlan) (channel : List Track) (log : List Entry) (r : Round) → IsRound plan channel log r
     → AllByRecursion (WasRead plan.place (wants_of channel r.listing) r.pulled) r.kept)
@@ -108,12 +119,6 @@ module _ (by_round : (plan : PullPlan) (channel : List Track) (log : List Entry)
   last_read plan channel new log count made added tried ends.DiskFault h = stops_read plan channel new log made added tried h.why h.stops
   last_read plan channel new log count made added tried ends.NoMemory h = stops_read plan channel new log made added tried h.why h.stops
 
-  one_log : (told : Option (List Exchange)) (b made xs : List Exchange) → told ≡ with_all (Some b) xs → told ≡ Some (b ++ made) → xs ≡ made
-  one_log told b made xs is told_is =
-      let same : Some (b ++ xs) ≡ Some (b ++ made) = sym is ∙ told_is in
-      let inner : b ++ xs ≡ b ++ made = cc in
-      append_cancel_left b xs made inner
-
   module _ {D C P : Type 0} (site : Seen D) (t : Dialing C) (m : Meaning P) where
     pulled : (e : Pulling) (in_ in' : End) (before after : D) (c c' : C) (b made : List Exchange) (channel : List Track) (report : RelayReport) → t.log c ≡ Some b → t.log c' ≡ Some (b ++ made)
         → HasRelayed site t.log t.store t.later t.faults t.chosen in_ in' (at_edge e.store) e.place.host (plan_of e) before after c c' channel report → IsPulled site t e in_ in' before after c c' made
@@ -128,12 +133,20 @@ module _ (by_round : (plan : PullPlan) (channel : List Track) (log : List Entry)
         let last = more_from plan.place r.made xs (r.added ++ r.tried) (λ x there. Contains-append_right (made_in r.rounds) r.made x there)
         (last_read plan channel h.after log _ r.made r.added r.tried report.end r.ends) in
         let both = all_both (WasReadFrom plan.place xs) (kept_in r.rounds) (r.added ++ r.tried) first last in
+        let read = subst (λ (ys : List Exchange). AllByRecursion (WasReadFrom plan.place ys) ((kept_in r.rounds ++ r.added) ++ r.tried)) same
+        (subst (λ (fs : List Fragment). AllByRecursion (WasReadFrom plan.place xs) fs) (sym (append_assoc (kept_in r.rounds) r.added r.tried)) both) in
         record {
           channel = channel;
           report = report;
           ran = h;
-          was_read = subst (λ (ys : List Exchange). AllByRecursion (WasReadFrom plan.place ys) ((kept_in r.rounds ++ r.added) ++ r.tried)) same
-              (subst (λ (fs : List Fragment). AllByRecursion (WasReadFrom plan.place xs) fs) (sym (append_assoc (kept_in r.rounds) r.added r.tried)) both);
+          was_read = read;
+          left = λ some u image since is.
+              let at_moment = (r.adds.moments some).each u image since is in
+              let front = at_moment.2 in (
+                front.front,
+                subst (λ (l : List Entry). IsStore l image) front.after_is at_moment.1,
+                all_front (WasReadFrom plan.place made) front.front front.back (subst (λ (fs : List Fragment). AllByRecursion (WasReadFrom plan.place made) fs) front.whole read),
+              );
         }
 
     abbrev Comes : Pulling → End → End → D → D → C → C → List Exchange → Type 0

@@ -2,7 +2,7 @@
 use Rattle.std.proofs.Common.{◌≡◌, ◌⊎◌, inl, inr, ℕ, ◌≤◌, true, List, [], ◌∷◌, ◌++◌, Option, Some, None, refl, sym, ap, subst, ◌∙◌, append_assoc}
 use Rattle.std.proofs.lemmas.List.{append-nil}
 use Rattle.sm_model.specs.declared.act.Act.{Act}
-use Rattle.sm_model.specs.declared.act.Act.TheVariants.{Fragment as Ask}
+use Rattle.sm_model.specs.declared.act.Act.TheVariants.{Frag, Fragment as Ask}
 use Rattle.sm_model.specs.declared.address.Address.{Address}
 use Rattle.sm_model.specs.declared.cause.Cause.{Cause}
 use Rattle.sm_model.specs.declared.cause.Cause.TheVariants as cause
@@ -10,16 +10,19 @@ use Rattle.sm_model.specs.declared.entry.Entry.{Entry}
 use Rattle.sm_model.specs.declared.entry.Entry.TheVariants.{Declare, Keep}
 use Rattle.sm_model.specs.declared.fragment.Fragment.{Fragment}
 use Rattle.sm_model.specs.declared.track.Track.{Track}
+use Rattle.sm_model.specs.Entries.{address_of}
+use Rattle.sm_log.specs.declared.verdict.Judged.{Judged as Verdict}
 use Rattle.sm_log.specs.declared.verdict.Judged.TheVariants as verdicts
-use Rattle.sm_log.specs.Logs.{channel_of, kept_at, IsSound}
+use Rattle.sm_log.specs.Logs.{adds_of, channel_of, kept_at, verdict_by, verdict_on, IsSound}
 use Rattle.sm_site.specs.Clauses.{Rose}
 use Rattle.sm_site.specs.Image.{Image}
 use Rattle.sm_site.specs.Meanings.{Item}
 use Rattle.sm_archive.specs.Store.{IsStore}
 use Rattle.sm_reply.specs.declared.reply.Counted.{Counted}
+use Rattle.sm_reply.specs.declared.reply.Counted.TheVariants.{Known}
 use Rattle.sm_reply.specs.declared.reply.Reply.{Reply}
 use Rattle.sm_reply.specs.Replies.{silent, unplaced, no_memory, reply_of, kept_reply, fragment_reply}
-use Rattle.sm_origin.specs.Machine.{Machine, SameLog, MeetsLimit, Judged, Fresh, There, Not, judged, Clear, Settled, Writes, refused, there, full, kept, unwritten, Row, answered, unread, unsettled, wrote, Step, row, wants as wants_memory, untold, entry_of}
+use Rattle.sm_origin.specs.Machine.{Machine, SameLog, MeetsLimit, Judged, Fresh, There, Not, by_verdict, judged, Clear, Settled, Writes, refused, there, full, kept, unwritten, Row, answered, unread, unsettled, wrote, Step, row, wants as wants_memory, untold, entry_of}
 use Rattle.sm_serve.specs.Faultless.{TakesIn, IsBeyond}
 use Rattle.sm_serve.specs.Moments.{machine_at, IsOneOf, FitsAt}
 use Rattle.sm_serve.specs.Run.{Point, Stepped, IsStep, Moves, opened, crowded, came, unread as unread_piece, passed, left, over, continues, acts_on, wants, done, sent, failed, unsent, shut, declared, recalled, Run, begins, goes_on}
@@ -194,7 +197,59 @@ step_not fails m n act e why r doubt adds not (row by) = let w = row_not fails m
 step_not fails m n act e why r doubt adds not (wants_memory same reply) = (same.log, inr reply)
 step_not fails m n act e why r doubt adds not (untold meant by closes reply) = ((row_not fails m n act e why meant doubt adds not by).0, inr reply)
 
+-- what is there already
+
+writes_there : (fails : Type 0) (m n : Machine) (e : Entry) (counted : Counted) (r : Reply) → judged m.log e ≡ There counted → Writes fails m e n r
+    → (n.log ≡ m.log) × (r ≡ silent counted)
+writes_there fails m n e counted r known (refused w is same reply) = absurd (let bad : There counted ≡ Not w = sym known ∙ is in cc)
+writes_there fails m n e counted r known (there other is same reply) =
+    let both : There other ≡ There counted = sym is ∙ known in
+    let one : other ≡ counted = cc in
+    (same.log, reply ∙ ap silent one)
+writes_there fails m n e counted r known (full new is limit same reply) = absurd (let bad : There counted ≡ Fresh new = sym known ∙ is in cc)
+writes_there fails m n e counted r known (kept new is limit log gone reply) = absurd (let bad : There counted ≡ Fresh new = sym known ∙ is in cc)
+writes_there fails m n e counted r known (unwritten new is limit log gone fault reply) = absurd (let bad : There counted ≡ Fresh new = sym known ∙ is in cc)
+
+row_there : (fails : Type 0) (m n : Machine) (act : Act) (e : Entry) (counted : Counted) (r : Reply) → m.doubt ≡ None → entry_of act ≡ Some e
+    → judged m.log e ≡ There counted → Row fails m act n r → (n.log ≡ m.log) × (r ≡ silent counted)
+row_there fails m n act e counted r doubt adds known (answered none same reply) = absurd (let bad : Some e ≡ None = sym adds ∙ none in cc)
+row_there fails m n act e counted r doubt adds known (unread a place f asks is same fault reply) = absurd (let bad : Some e ≡ None = sym adds ∙ ap entry_of asks in cc)
+row_there fails m n act e counted r doubt adds known (unsettled x d entry was same fault reply) = absurd (let bad : None ≡ Some d = sym doubt ∙ was in cc)
+row_there fails m n act e counted r doubt adds known (wrote x mid entry clear by) =
+    let both : Some x ≡ Some e = sym entry ∙ adds in
+    let one : x ≡ e = cc in
+    let same = clear_same m mid doubt clear in
+    let w = writes_there fails mid n e counted r (ap (λ (l : List Entry). judged l e) same.log ∙ known) (subst (λ (y : Entry). Writes fails mid y n r) one by) in
+    (w.0 ∙ same.log, w.1)
+
+step_there : (fails : Type 0) (m n : Machine) (act : Act) (e : Entry) (counted : Counted) (r : Reply) → m.doubt ≡ None → entry_of act ≡ Some e
+    → judged m.log e ≡ There counted → Step fails m act n r → (n.log ≡ m.log) × ((r ≡ silent counted) ⊎ (r ≡ no_memory))
+step_there fails m n act e counted r doubt adds known (row by) = let w = row_there fails m n act e counted r doubt adds known by in (w.0, inl w.1)
+step_there fails m n act e counted r doubt adds known (wants_memory same reply) = (same.log, inr reply)
+step_there fails m n act e counted r doubt adds known (untold meant by closes reply) = ((row_there fails m n act e counted meant doubt adds known by).0, inr reply)
+
+-- the verdict looks at the address and the duration alone
+by_there : (f g : Fragment) (v : Verdict) → by_verdict f v ≡ There Known → by_verdict g v ≡ There Known
+by_there f g verdicts.New is = absurd (cc)
+by_there f g (verdicts.Known place) is = refl
+by_there f g verdicts.NotDeclared is = absurd (cc)
+by_there f g (verdicts.Clash kept) is = absurd (cc)
+by_there f g (verdicts.Overlap end) is = absurd (cc)
+
+pub whatever_samples : (log : List Entry) (f g : Fragment) → address_of g ≡ address_of f → g.duration ≡ f.duration → judged log (Keep f) ≡ There Known
+    → judged log (Keep g) ≡ There Known
+whatever_samples log f g address duration is =
+    let same : verdict_on log g ≡ verdict_on log f =
+    ap (λ (a : Address). verdict_by (channel_of log) (adds_of log) a g.duration) address
+    ∙ ap (λ (d : ℕ). verdict_by (channel_of log) (adds_of log) (address_of f) d) duration in
+    ap (by_verdict g) same ∙ by_there f g (verdict_on log f) is
+
 module _ (first : Machine) (begin faults : ℕ) (items : List Item) (steps : List Stepped) (p : Point) (run : Run true first begin faults items steps p) where
+  pub is_there : (x : Stepped) → IsOneOf x steps → (f : Fragment) → x.before.doubt ≡ None → x.act ≡ Frag f → judged x.before.log (Keep f) ≡ There Known
+      → (x.after.log ≡ x.before.log) × ((x.reply ≡ silent Known) ⊎ IsOutOfMemory x)
+  is_there x among f doubt pushes known =
+      step_there (DiskFailed x) x.before x.after x.act (Keep f) Known x.reply doubt (ap entry_of pushes) known (one_of first begin faults items steps p run x among).step
+
   pub taken : (x : Stepped) → IsOneOf x steps → (e : Entry) (counted : Counted) → x.before.doubt ≡ None → entry_of x.act ≡ Some e → judged x.before.log e ≡ Fresh counted
       → Takes (DiskFailed x) x.before x.after e counted x.reply
   taken x among e counted doubt adds fresh =

@@ -1,11 +1,14 @@
 -- The words of the promises.
-use Rattle.std.specs.Prelude.{◌≡◌, ◌⊎◌, ◌≤◌, ◌+◌, ◌++◌, ℕ, true, List, [], ◌∷◌, length, Option, Some, IsSome, Contains}
+use Rattle.std.specs.Prelude.{◌≡◌, ◌⊎◌, ◌≤◌, ◌<◌, ◌+◌, ◌++◌, ℕ, true, false, List, [], ◌∷◌, length, map, Option, Some, IsSome, Contains}
 use Rattle.std.specs.List.{AllByRecursion}
 use Rattle.std.specs.Io.KnownBytes.{Appends, Consumes, IsAtEnd}
 use Rattle.sm_model.specs.declared.address.Address.{Address}
+use Rattle.sm_model.specs.declared.cause.Refusal.{Refusal}
 use Rattle.sm_model.specs.declared.entry.Entry.{Entry}
 use Rattle.sm_model.specs.declared.fragment.Fragment.{Fragment}
+use Rattle.sm_model.specs.declared.header.HeaderTrack.{HeaderTrack}
 use Rattle.sm_model.specs.declared.run.RawFragment.{RawFragment}
+use Rattle.sm_model.specs.Items.{Given}
 use Rattle.sm_model.specs.Entries.{address_of}
 use Rattle.sm_model.specs.declared.sample.Sample.{Sample}
 use Rattle.sm_model.specs.declared.track.Track.{Track}
@@ -16,7 +19,14 @@ use Rattle.sm_fetch.specs.declared.dial.Exchange.{Exchange}
 use Rattle.sm_fetch.specs.declared.got.Got.TheVariants as got
 use Rattle.sm_fetch.specs.declared.place.Place.{Place}
 use Rattle.sm_fetch.specs.Spelt.{given}
+use Rattle.sm_fetch.specs.declared.placed.Placed.TheVariants as placed
+use Rattle.sm_pull.specs.Adds.{keeps_of}
 use Rattle.sm_pull.specs.Asks.{AsksFragment}
+use Rattle.sm_push.specs.Body.{body, led_by, refused}
+use Rattle.sm_conn.specs.Parts.{PartItem, IsParts, posted, byte}
+use Rattle.sm_wire.specs.declared.item.WireItem.{WireItem}
+use Rattle.sm_wire.specs.declared.item.WireItem.TheVariants.{Continue}
+use Rattle.sm_wire.specs.Wire.{IsWire}
 use Rattle.sm_site.specs.Image.{Image}
 use Rattle.sm_site.specs.Meanings.{Item, Seen}
 use Rattle.sm_head.specs.declared.reply.Content.TheVariants.{Mp4}
@@ -24,8 +34,10 @@ use Rattle.sm_reply.specs.Replies.{fragment_of, no_memory, ok}
 use Rattle.sm_origin.specs.Machine.{Machine}
 use Rattle.sm_origin.specs.Opening.{HasOneStore}
 use Rattle.sm_origin.specs.Shown.{Claim, Listed, Ahead, Served, Acknowledged, KeptAs}
+use Rattle.sm_archive.specs.Store.{IsStore}
 use Rattle.sm_serve.specs.Moments.{machine_at, FitsAt}
-use Rattle.sm_serve.specs.Run.{Point, Run, Stepped}
+use Rattle.sm_serve.specs.Connections.{is_open, received}
+use Rattle.sm_serve.specs.Run.{Counts, Point, Run, Stepped, act_of, counts_after, idle, no_counts}
 use Rattle.sm_serve.specs.Shown.{Shown}
 use Rattle.sm_export.specs.Exporting.{IsExportText}
 use Rattle.sm_client.specs.declared.plan.Plan.{Plan}
@@ -36,10 +48,18 @@ use Rattle.sm_client.specs.Stands.{Piece}
 use Rattle.sm_client.specs.Turns.{Meaning}
 use Rattle.sm_relay.specs.declared.report.RelayReport.{RelayReport}
 use Rattle.sm_relay.specs.Rounds.{kept_in}
+use Rattle.sm_standby.specs.declared.report.FollowReport.{FollowReport}
+use Rattle.sm_standby.specs.Rounds as following
+use Rattle.sm_standby.specs.Turns as turning
+use Rattle.sm_standby.specs.Turns.{AsksPlaced}
+use Rattle.sm_edge.specs.Following.{HasFollowed}
 use Rattle.sm_edge.specs.Relaying.{HasRelayed}
 use Rattle.sm_tool.specs.Edges.{Dialing, at_edge, plan_of}
-use Rattle.sm_tool.specs.Ran.{Around}
-use Rattle.sm_run.specs.Runs.{Runs}
+use Rattle.sm_tool.specs.declared.answer.Answer.{Answer}
+use Rattle.sm_tool.specs.declared.answer.Answer.TheVariants as answers
+use Rattle.sm_tool.specs.declared.answer.Stop.TheVariants as stops
+use Rattle.sm_tool.specs.Ran.{Around, Means, Prints}
+use Rattle.sm_run.specs.Runs.{Runs, ShowAnswers}
 use Rattle.sm_run.specs.Staff.{Joins, Staff}
 use Rattle.sm_players.specs.Starting.{count_of}
 use Rattle.sm_words.specs.Words.{Pulling, Serve, ServeShown, Serving, asked}
@@ -129,6 +149,52 @@ DiskFailed x = Rose x.faults x.faults_after
 abbrev pub IsOutOfMemory : Stepped → Type 0
 IsOutOfMemory x = x.reply ≡ no_memory
 
+-- ---- requests
+
+-- The steps of a connection acted on these items of what it sent, one after the other, and this is what is counted of its push then. The head 100 is sent
+-- without a step.
+pub data AreActs (n : ℕ) : List Stepped → List WireItem → Counts → Type 0 where
+  nothing : AreActs n [] [] no_counts
+  continued : (steps : List Stepped) (items : List WireItem) (counts : Counts) → AreActs n steps items counts
+      → AreActs n steps (items ++ Continue ∷ []) counts
+  acted : (steps : List Stepped) (items : List WireItem) (counts : Counts) (item : WireItem) (x : Stepped) → AreActs n steps items counts
+      → x.conn ≡ Some n → act_of counts item ≡ Some x.act
+      → AreActs n (steps ++ x ∷ []) (items ++ item ∷ []) (counts_after item x.reply.counted counts)
+  elsewhere : (steps : List Stepped) (items : List WireItem) (counts : Counts) (x : Stepped) → AreActs n steps items counts
+      → (x.conn ≡ Some n → ⊥) → AreActs n (steps ++ x ∷ []) items counts
+
+-- All that a connection sent gives these items, and its steps acted on each.
+pub record AllActedOn (n : ℕ) (items : List Item) (steps : List Stepped) : Type 0 where
+  pub given : List WireItem
+  pub are : IsWire (received n items) given
+  pub counts : Counts
+  pub acts : AreActs n steps given counts
+
+-- The requests of a connection, the headers and fragments of its pushes among them, become its steps: those of a front of what it sent, in their order, and
+-- all of them while it is open and the loop awaits an event.
+pub record BecomeSteps (n : ℕ) (items : List Item) (steps : List Stepped) (p : Point) : Type 0 where
+  -- the bytes that were read, and those that came behind them
+  pub read : List ℕ
+  pub late : List ℕ
+  pub came : received n items ≡ read ++ late
+  -- what those give: the steps acted on these, and not on the rest
+  pub given : List WireItem
+  pub are : IsWire read given
+  pub done : List WireItem
+  pub rest : List WireItem
+  pub front : given ≡ done ++ rest
+  pub counts : Counts
+  pub acts : AreActs n steps done counts
+  pub all : p.phase ≡ idle → is_open n items ≡ true → AllActedOn n items steps
+
+-- What a connection sent begins with a push whose bytes have these items in front of their first fault, and that fault, at its place; whatever is behind it.
+pub record IsFaultyPush (bytes : List ℕ) (items : List Given) (fault : Refusal) : Type 0 where
+  pub push : List ℕ
+  pub behind : List PartItem
+  pub parts : IsParts bytes (posted ∷ (map (λ b. byte b) push ++ behind))
+  pub header : List HeaderTrack
+  pub faulty : body false push ≡ led_by items (refused header fault)
+
 -- ---- playing and exporting
 
 -- The track got fragments, each of which starts where the one before it ended, as many as were wanted; and the log keeps each at the address that was
@@ -168,7 +234,8 @@ pub record WasReadFrom (place : Place) (made : List Exchange) (f : Fragment) : T
   pub asked : AsksFragment place url (address_of f) exchange (got.Fragment raw)
   pub is : f ≡ given f.stream f.bitrate raw
 
--- A relay ran into the store (`HasRelayed`), and all that its rounds kept, or were to keep last, was read in these exchanges with the origin.
+-- A relay ran into the store (`HasRelayed`), and all that its rounds kept, or were to keep last, was read in these exchanges with the origin. A crash leaves what
+-- the store held and a front of what was read so.
 pub record IsPulled {D C : Type 0} (site : Seen D) (t : Dialing C) (edge : Pulling) (input input' : End) (before after : D) (dial dial' : C)
     (made : List Exchange) : Type 0 where
   pub channel : List Track
@@ -176,6 +243,39 @@ pub record IsPulled {D C : Type 0} (site : Seen D) (t : Dialing C) (edge : Pulli
   pub ran : HasRelayed site t.log t.store t.later t.faults t.chosen input input' (at_edge edge.store) edge.place.host (plan_of edge)
       before after dial dial' channel report
   pub was_read : AllByRecursion (WasReadFrom edge.place made) ((kept_in ran.relayed.rounds ++ ran.relayed.added) ++ ran.relayed.tried)
+  pub left : IsSome (site.view ran.opened).contents → (t : ℕ) (image : Image) → (site.view ran.opened).moment < t → site.left_at after t image
+      → (front : List Fragment) × IsStore (ran.edge.store.log ++ keeps_of front) image × AllByRecursion (WasReadFrom edge.place made) front
+
+-- what the rounds of a standby kept, and what was to be kept last where that came to nothing
+abbrev pub all_followed : List following.Round → following.Part → List Fragment
+all_followed rounds part = (following.kept_by rounds ++ turning.kept_in part.turns) ++ turning.kept_in part.tried
+
+-- One of these exchanges with the primary asked for the address of this fragment, and what its answer spells, whole, is this fragment, with its place in the
+-- log as its number.
+pub record WasReadAt (place : Place) (made : List Exchange) (at : ℕ) (f : Fragment) : Type 0 where
+  pub url : List ℕ
+  pub exchange : Exchange
+  pub there : Contains made exchange
+  pub raw : RawFragment
+  pub asked : AsksPlaced place url (address_of f) exchange (placed.Fragment at raw)
+  pub is : f ≡ given f.stream f.bitrate raw
+
+-- each of these fragments was read so, the first with this place as its number, and each further one with the next
+abbrev pub AllReadAt : Place → List Exchange → ℕ → List Fragment → Type 0
+AllReadAt place made at [] = Unit {0}
+AllReadAt place made at (f ∷ fs) = WasReadAt place made at f × AllReadAt place made (at + 1) fs
+
+-- A standby ran into the store (`HasFollowed`), and all that its rounds kept, or were to keep last, was read in these exchanges with the primary, each at the
+-- place that comes next behind what the store held. A crash leaves that and a front of what was read so.
+pub record IsFollowed {D C : Type 0} (site : Seen D) (t : Dialing C) (edge : Pulling) (input input' : End) (before after : D) (dial dial' : C)
+    (made : List Exchange) : Type 0 where
+  pub channel : List Track
+  pub report : FollowReport
+  pub ran : HasFollowed site t.log t.store t.later t.faults t.chosen input input' (at_edge edge.store) edge.place.host (plan_of edge)
+      before after dial dial' channel report
+  pub was_read : AllReadAt edge.place made (length ran.edge.store.log) (all_followed ran.followed.called.rounds ran.followed.called.part)
+  pub left : IsSome (site.view ran.opened).contents → (t : ℕ) (image : Image) → (site.view ran.opened).moment < t → site.left_at after t image
+      → (front : List Fragment) × IsStore (ran.edge.store.log ++ keeps_of front) image × AllReadAt edge.place made (length ran.edge.store.log) front
 
 -- ---- players
 
@@ -184,3 +284,59 @@ pub record AllPlayed (players : ℕ) (staff staff' : Staff) : Type 0 where
   pub started : staff'.started ≡ staff.started + players
   pub joins : Joins staff staff'
   pub well : (count_of staff'.ended).done ≡ players
+
+-- ---- ends
+
+-- what an exit status says
+pub data Ending : Type 0 where
+  -- what was asked for was done, and its line was written
+  Done : Ending
+  BadWords : Ending
+  -- the input, or the ladder, is none, or is too long
+  BadInput : Ending
+  -- what was asked for isn't there, or may not stand there, or what was read isn't what was written
+  NotDone : Ending
+  DiskFailed : Ending
+  InputFailed : Ending
+  OutputFailed : Ending
+  LinkFailed : Ending
+  OutOfMemory : Ending
+  LimitMet : Ending
+  NoStore : Ending
+
+abbrev pub number_of : Ending → ℕ
+number_of Done = 0
+number_of BadWords = 2
+number_of BadInput = 3
+number_of NotDone = 4
+number_of DiskFailed = 5
+number_of InputFailed = 6
+number_of OutputFailed = 7
+number_of LinkFailed = 8
+number_of OutOfMemory = 9
+number_of LimitMet = 10
+number_of NoStore = 11
+
+-- which answers end so; where what was found could not be written, the output's fault is told instead
+abbrev pub IsSaidOf : Ending → Answer → Type 0
+IsSaidOf Done a = (text : List ℕ) × (a ≡ answers.Found text)
+IsSaidOf BadWords a = (text : List ℕ) × (a ≡ answers.Words text)
+IsSaidOf BadInput a = (a ≡ answers.TooLong) ⊎ ((a ≡ answers.LongLadder) ⊎ ((line : List ℕ) × (a ≡ answers.Refused line)))
+IsSaidOf NotDone a = (a ≡ answers.NotKept) ⊎ (((line : List ℕ) × ((a ≡ answers.Clash line) ⊎ (a ≡ answers.Undone line)))
+    ⊎ ((a ≡ answers.Damaged) ⊎ (a ≡ answers.Unfinished stops.Damaged)))
+IsSaidOf DiskFailed a = (a ≡ answers.DiskFault) ⊎ (a ≡ answers.Unfinished stops.Disk)
+IsSaidOf InputFailed a = a ≡ answers.Unread
+IsSaidOf OutputFailed a = (a ≡ answers.TrackFault) ⊎ ((a ≡ answers.Unfinished stops.Output) ⊎ ((text : List ℕ) × (a ≡ answers.Found text)))
+IsSaidOf LinkFailed a = a ≡ answers.LinkFault
+IsSaidOf OutOfMemory a = (a ≡ answers.Starved) ⊎ (a ≡ answers.Unfinished stops.Memory)
+IsSaidOf LimitMet a = a ≡ answers.Full
+IsSaidOf NoStore a = (line : List ℕ) × (a ≡ answers.NotAStore line)
+
+-- The answer that a run has: it means what was done, alone (`Means`) or with players beside (`ShowAnswers`); its line was printed, and the status tells it.
+pub record HasAnswer {D C P : Type 0} (site : Seen D) (t : Dialing C) (m : Meaning P) (before after : D) (ran : ProgramRan site t m before after)
+    (answer : Answer) : Type 0 where
+  pub written : End
+  pub means : Means site t m ran.policies ran.words ran.around ran.around' ran.output written before after ran.dial ran.dial' answer
+      ⊎ ((s : Serving) × (players : ℕ) × (asked ran.words ≡ Some (ServeShown s players))
+      × ShowAnswers site s players ran.around.input ran.around'.input before after ran.staff ran.staff' answer)
+  pub prints : Prints answer written ran.output' ran.status

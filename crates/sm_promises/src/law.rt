@@ -1,15 +1,19 @@
 //! What is promised. Each law is the contract of a function that does nothing.
-ghost use Rattle.std.specs.Prelude.{◌≡◌, ◌⊎◌, ◌≤◌, ◌<◌, ◌++◌, ◌∷◌, ℕ, true, false, List, map, AllPairs, Contains};
+ghost use Rattle.std.specs.Prelude.{◌≡◌, ◌⊎◌, ◌≤◌, ◌<◌, ◌++◌, ◌∷◌, ℕ, true, false, List, [], map, AllPairs, Contains};
+ghost use Rattle.std.specs.Io.KnownBytes.{Appends};
 ghost use Rattle.std.specs.Prelude.{Option, None, Some, IsSome, is_some};
-ghost use Rattle.sm_model.specs.declared.act.Act.TheVariants.{Fragment as Ask};
+ghost use Rattle.sm_model.specs.declared.act.Act.TheVariants.{Frag, Fragment as Ask};
 ghost use Rattle.sm_model.specs.declared.address.Address.{Address};
 ghost use Rattle.sm_model.specs.declared.cause.Cause.{Cause};
 ghost use Rattle.sm_model.specs.declared.cause.Cause.TheVariants.{DiskFault};
+ghost use Rattle.sm_model.specs.declared.cause.Refusal.{Refusal};
 ghost use Rattle.sm_model.specs.declared.entry.Entry.{Entry};
 ghost use Rattle.sm_model.specs.declared.fragment.Fragment.{Fragment};
 ghost use Rattle.sm_model.specs.declared.entry.Entry.TheVariants.{Keep};
 ghost use Rattle.sm_model.specs.declared.track.Track.{Track};
-ghost use Rattle.sm_model.specs.Items.{Frag, Header};
+ghost use Rattle.sm_model.specs.Entries.{address_of};
+ghost use Rattle.sm_model.specs.Items.{Given, Header};
+ghost use Rattle.sm_model.specs.Items as given;
 ghost use Rattle.sm_log.specs.Adds.{is_declared};
 ghost use Rattle.sm_log.specs.Logs.{channel_of, kept_at, listed_in};
 ghost use Rattle.sm_log.specs.Times.{entry_at};
@@ -19,22 +23,31 @@ ghost use Rattle.sm_site.specs.Image.{Image};
 ghost use Rattle.sm_site.specs.Meanings.{Item};
 ghost use Rattle.sm_archive.specs.Store.{IsStore};
 ghost use Rattle.sm_reply.specs.declared.reply.Counted.{Counted};
-ghost use Rattle.sm_reply.specs.Replies.{manifest_of, reply_of, unplaced};
-ghost use Rattle.sm_origin.specs.Machine.{Fresh, Not, entry_of, judged};
+ghost use Rattle.sm_reply.specs.declared.reply.Counted.TheVariants.{Known};
+ghost use Rattle.sm_reply.specs.Replies.{manifest_of, reply_of, silent, unplaced};
+ghost use Rattle.sm_origin.specs.Machine.{Fresh, Not, There, entry_of, judged};
 ghost use Rattle.sm_origin.specs.Shown.{Listed};
+ghost use Rattle.sm_wire.specs.declared.item.WireItem.{WireItem};
+ghost use Rattle.sm_wire.specs.declared.item.WireItem.TheVariants.{Refuse};
+ghost use Rattle.sm_wire.specs.Wire.{shown};
+ghost use Rattle.sm_serve.specs.Connections.{received};
 ghost use Rattle.sm_serve.specs.Faultless.{IsBeyond, TakesIn};
 ghost use Rattle.sm_serve.specs.Moments.{IsOneOf};
-ghost use Rattle.sm_serve.specs.Run.{Stepped};
+ghost use Rattle.sm_serve.specs.Run.{Counts, Stepped};
 ghost use Rattle.sm_serve.specs.Sent.{IsFrontOfTexts, openings};
 ghost use Rattle.sm_fetch.specs.declared.dial.Exchange.{Exchange};
 ghost use Rattle.sm_export.specs.Qualities.{quality};
 ghost use Rattle.sm_client.specs.declared.plan.Plan.{Plan};
 ghost use Rattle.sm_client.specs.Turns.{Meaning};
+ghost use Rattle.sm_tool.specs.declared.answer.Answer.{Answer};
 ghost use Rattle.sm_tool.specs.Edges.{dialing};
-ghost use Rattle.sm_words.specs.Words.{Export, Play, Pulling, Relay, ServeShown, Serving, asked};
+ghost use Rattle.sm_tool.specs.Rehearsals.{IsRehearsed};
+ghost use Rattle.sm_words.specs.Words.{Export, Play, Pulling, Rehearse, Relay, ServeShown, Serving, Standby, asked};
 ghost use Rattle.sm_promises.specs.Promises.{ProgramRan, BeginsWith, MayBeLeft, Told, KeepsAllTold};
 ghost use Rattle.sm_promises.specs.Promises.{AskToServe, LoopRan, log_at, GivesWhole, DiskFailed, IsOutOfMemory};
-ghost use Rattle.sm_promises.specs.Promises.{AllPlayed, AllWroteKept, IsExported, IsPulled};
+ghost use Rattle.sm_promises.specs.Promises.{AreActs, BecomeSteps, IsFaultyPush};
+ghost use Rattle.sm_promises.specs.Promises.{AllPlayed, AllWroteKept, IsExported, IsFollowed, IsPulled};
+ghost use Rattle.sm_promises.specs.Promises.{Ending, HasAnswer, IsSaidOf, number_of};
 
 use sm_archive::bodies_have_one_log;
 use sm_export::law::{exports_are_read_back, quality_is_in_time_order};
@@ -46,6 +59,7 @@ use sm_relay::what_is_kept_was_read;
 use sm_seglog::law::stores_have_one_reading;
 use sm_serve::law::{runs_only_grow, what_went_out_was_told};
 use sm_site::Site;
+use sm_wire::law::wire_of_front;
 
 /// What was told stays. Run the program with any words. Whatever a crash may leave on the disk at any moment of the run is one store; its log
 /// begins with the one that was found at the start, and keeps all that was acknowledged, listed, announced or served by that moment.
@@ -124,6 +138,37 @@ pub fn replies_are_what_the_log_gives<S: Site>()
     what_went_out_was_told();
 }
 
+/// Each request becomes a step. The acts of the steps of a connection that was opened once are those of what it sent, in its order: of a front of that,
+/// and of all of it while the connection is open and the loop awaits an event. So who asks is answered, and nothing else is done.
+pub fn each_request_becomes_a_step<S: Site>()
+    ensures { (before after : S) (found : List Entry) (base : List Item) (loop : LoopRan S.Disk.seen before after found base)
+        → (n : ℕ) → openings n loop.items ≤ 1 → BecomeSteps n loop.items loop.steps loop.last }
+{
+    wire_of_front();
+}
+
+/// A push is refused for its first fault, at its place, however its bytes are cut. The steps of a connection that sent one act on what stands before
+/// the fault, one after the other, and then on its refusal: on a front of these, and on nothing else.
+pub fn a_push_is_refused_for_its_first_fault<S: Site>()
+    ensures { (before after : S) (found : List Entry) (base : List Item) (loop : LoopRan S.Disk.seen before after found base)
+        → (n : ℕ) → openings n loop.items ≤ 1
+        → (items : List Given) (fault : Refusal) → IsFaultyPush (received n loop.items) items fault
+        → (done rest : List WireItem) × (counts : Counts) × (map shown items ++ Refuse fault ∷ [] ≡ done ++ rest)
+        × AreActs n loop.steps done counts }
+{
+    wire_of_front();
+}
+
+/// A second fragment takes no place. One that comes for an address that is kept, with the kept duration, is acknowledged as known and nothing of it is
+/// kept; whatever its samples are, since they are not compared: the samples that were kept first are the ones that are given.
+pub fn a_second_fragment_takes_no_place<S: Site>()
+    ensures known { (before after : S) (found : List Entry) (base : List Item) (loop : LoopRan S.Disk.seen before after found base)
+        → (x : Stepped) → IsOneOf x loop.steps → (f : Fragment) → x.before.doubt ≡ None → x.act ≡ Frag f → judged x.before.log (Keep f) ≡ There Known
+        → (x.after.log ≡ x.before.log) × ((x.reply ≡ silent Known) ⊎ IsOutOfMemory x) }
+    ensures whatever { (log : List Entry) (f g : Fragment) → address_of g ≡ address_of f → g.duration ≡ f.duration
+        → judged log (Keep f) ≡ There Known → judged log (Keep g) ≡ There Known }
+{}
+
 /// A manifest lists only what is kept, however little of it arrives, and the whole one lists each quality at each listed time.
 pub fn a_manifest_lists_only_what_is_kept<S: Site, C: Dial, P>()
     // What a manifest that was sent by a moment lists, in the part of it that went out, is kept by whatever a crash may leave at that moment.
@@ -166,7 +211,7 @@ pub fn an_export_is_the_kept_run<S: Site, C: Dial, P>()
         → IsExported found name bitrate ran.around.input.told ran.around'.input.told ran.output.told ran.output'.told }
     ensures read_back { (log : List Entry) (image : Image) → IsStore log image → (name : List ℕ) (bitrate : ℕ) (i i' o o' : Option (List ℕ))
         → (x : IsExported log name bitrate i i' o o')
-        → (body false x.text).items ≡ Header x.is.channel ∷ map (λ f. Frag x.is.id f) (quality log name bitrate) }
+        → (body false x.text).items ≡ Header x.is.channel ∷ map (λ f. given.Frag x.is.id f) (quality log name bitrate) }
     ensures all { (log : List Entry) (image : Image) → IsStore log image → (name : List ℕ) (bitrate : ℕ) (f : Fragment)
         → Contains log (Keep f) → f.stream ≡ name → f.bitrate ≡ bitrate → Contains (quality log name bitrate) f }
     ensures in_order { (log : List Entry) (image : Image) → IsStore log image → (name : List ℕ) (bitrate : ℕ)
@@ -180,7 +225,7 @@ pub fn an_export_is_the_kept_run<S: Site, C: Dial, P>()
 }
 
 /// An edge keeps what it read. Where the words ask for a relay, it has put behind the log of its store only fragments that an exchange with its origin
-/// gave, whole, at their address; or it made no exchange.
+/// gave, whole, at their address; a crash at any moment leaves a front of these; or it made no exchange.
 pub fn an_edge_keeps_what_it_read<S: Site, C: Dial, P>()
     ensures { (m : Meaning P) (before after : S)
         → (ran : ProgramRan S.Disk.seen (dialing C.log C.store C.later C.dial_faults C.chosen) m before after)
@@ -192,6 +237,28 @@ pub fn an_edge_keeps_what_it_read<S: Site, C: Dial, P>()
 {
     what_is_kept_was_read();
 }
+
+/// A standby keeps what it read. Where the words ask for one, it has put behind the log of its store only fragments that an exchange with its primary
+/// gave, whole, at their address, each at the place in the log that it has at the primary; a crash at any moment leaves a front of these; or it made no
+/// exchange.
+pub fn a_standby_keeps_what_it_read<S: Site, C: Dial, P>()
+    ensures { (m : Meaning P) (before after : S)
+        → (ran : ProgramRan S.Disk.seen (dialing C.log C.store C.later C.dial_faults C.chosen) m before after)
+        → (edge : Pulling) → asked ran.words ≡ Some (Standby edge)
+        → (earlier made : List Exchange) → C.log ran.dial ≡ Some earlier → C.log ran.dial' ≡ Some (earlier ++ made)
+        → IsFollowed S.Disk.seen (dialing C.log C.store C.later C.dial_faults C.chosen) edge ran.around.input ran.around'.input
+        before after ran.dial ran.dial' made
+        ⊎ (C.log ran.dial' ≡ C.log ran.dial) }
+{}
+
+/// What a rehearsal says was rehearsed. A `rehearse` that ends with status 0 has written the line of a rehearsal of this number and size, whose every
+/// round met what it is drawn to meet (`Rehearsed`).
+pub fn what_a_rehearsal_says_was_rehearsed<S: Site, C: Dial, P>()
+    ensures { (m : Meaning P) (before after : S)
+        → (ran : ProgramRan S.Disk.seen (dialing C.log C.store C.later C.dial_faults C.chosen) m before after)
+        → (number size : ℕ) → asked ran.words ≡ Some (Rehearse number size) → ran.status ≡ 0
+        → (line : List ℕ) × IsRehearsed m number size ran.policies line × Appends ran.output.told ran.output'.told line }
+{}
 
 /// Status 0 of `serve` with players says that as many were started as were asked for, that each played, and that each ended well.
 pub fn the_players_that_were_asked_for_played<S: Site, C: Dial, P>()
@@ -208,4 +275,14 @@ pub fn words_that_name_no_command_touch_nothing<S: Site, C: Dial, P>()
         → (ran : ProgramRan S.Disk.seen (dialing C.log C.store C.later C.dial_faults C.chosen) m before after)
         → asked ran.words ≡ None → (after ≡ before) × (ran.dial' ≡ ran.dial) × (ran.around' ≡ ran.around) × (ran.staff' ≡ ran.staff)
         × ((ran.status ≡ 2) ⊎ (ran.status ≡ 9)) }
+{}
+
+/// Each exit status has its one meaning. Every run ends with the number of one ending, whatever its words were; and its answer, which means what was done,
+/// is one of those that end so. No two endings have one number.
+pub fn each_exit_status_has_its_one_meaning<S: Site, C: Dial, P>()
+    ensures ends { (m : Meaning P) (before after : S)
+        → (ran : ProgramRan S.Disk.seen (dialing C.log C.store C.later C.dial_faults C.chosen) m before after)
+        → (e : Ending) × (ran.status ≡ number_of e) × ((answer : Answer) × IsSaidOf e answer
+        × HasAnswer S.Disk.seen (dialing C.log C.store C.later C.dial_faults C.chosen) m before after ran answer) }
+    ensures one { (e f : Ending) → number_of e ≡ number_of f → e ≡ f }
 {}

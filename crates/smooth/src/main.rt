@@ -27,8 +27,8 @@ use sm_fetch::Dial;
 use sm_model::NoMemory;
 use sm_players::Spawner;
 use sm_policy::{Fixed, Ladder, Policy, Steps};
+use sm_promises::promised;
 use sm_real::{FileTracks, RealSite, TcpDial, Trouble, Viewers};
-use sm_run::run;
 use sm_site::Site;
 use sm_tool::starved;
 use std::alloc::Global;
@@ -84,7 +84,7 @@ fn run_words<R: Wait, I: Source, O: Sink, S: Site, C: Dial, T: Tracks, P: Spawne
 {
     match words {
         Ok(words) => {
-            let status = run(
+            let status = promised(
                 rt, alloc, &words, input, output, site, dial, tracks, crew, policies,
             );
             ExitCode::from(status)
