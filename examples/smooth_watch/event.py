@@ -61,7 +61,8 @@ class Event:
 
     def ages(self):
         """How long ago each stream rose that has to."""
-        return {name: time.monotonic() - it.since for name, it in self.followed.items() if name not in self.streams or not self.streams[name].is_sparse}
+        now = time.monotonic()
+        return {name: now - it.since for name, it in self.followed.items() if name not in self.streams or not self.streams[name].is_sparse}
 
     def speed(self, name):
         """The seconds of a stream that come in a second."""

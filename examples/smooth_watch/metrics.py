@@ -76,6 +76,8 @@ def values(event):
 
 def of_stream(event, name, stream):
     followed = event.followed[name]
+    # Before anything came of the event nobody is late.
+    has_begun = any(it.place for it in event.followed.values())
     if followed.place:
         yield "smooth_stream_end_seconds", (name,), followed.end(stream.scale)
         yield "smooth_stream_last_seconds", (name,), followed.last(stream.scale)
@@ -85,7 +87,8 @@ def of_stream(event, name, stream):
     if name in event.qualities:
         for quality, end in event.qualities[name].ends.items():
             yield "smooth_quality_end_seconds", (name, quality), end / stream.scale
-            yield "smooth_quality_rose_timestamp_seconds", (name, quality), event.qualities[name].rose[quality]
+            if has_begun:
+                yield "smooth_quality_rose_timestamp_seconds", (name, quality), event.qualities[name].rose[quality]
     for quality in stream.qualities:
         yield "smooth_quality_playable", (name, quality), quality not in stream.unplayable
 

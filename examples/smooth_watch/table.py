@@ -59,12 +59,12 @@ def stream_rows(event, name, stream):
 
 
 def encoder_rows(journal):
-    yield f"{'encoder':<12} {'from':<34} {'for':>8}", None
+    yield f"{'encoder':<12} {'from':<24} {'for':>8}", None
     for name, encoder in journal.encoders.items():
         for peer, begun in encoder.pushes.values():
-            yield f"{name or '-':<12} {peer:<34} {since(begun):>8}  on the air", False
+            yield f"{name or '-':<12} {peer:<24} {since(begun):>8}  on the air", False
         if not encoder.pushes and encoder.ended and time.time() - encoder.ended < SHOWN:
-            yield f"{name or '-':<12} {'':<34} {since(encoder.ended):>8}  ended: {encoder.said}", not encoder.said.startswith("kept")
+            yield f"{name or '-':<12} {'':<24} {since(encoder.ended):>8}  ended: {encoder.said}", not encoder.said.startswith("kept")
     if journal.is_fresh():
         now = journal.now
         rates = f"in {now.get('in', 0) * 8 / 1e7:.2f} Mbit/s, out {now.get('out', 0) * 8 / 1e7:.2f} Mbit/s"
