@@ -25,8 +25,8 @@ TARGET = {"*datasource": SOURCE, "*expr": TEXT, "*refId": lambda it: re.fullmatc
           "interval": TEXT, "intervalFactor": NUMBER, "hide": TRUTH}
 STEP = {"*color": TEXT, "*value": lambda it: it is None or isinstance(it, NUMBER)}
 MAPPING = {"*type": one_of("value"), "*options": lambda it: all(set(one) <= {"text", "color", "icon", "index"} for one in it.values())}
-CUSTOM = {"drawStyle": one_of("line", "bars", "points"), "lineInterpolation": one_of("linear", "smooth", "stepBefore", "stepAfter"), "lineWidth": NUMBER,
-          "fillOpacity": NUMBER, "showPoints": one_of("auto", "never", "always"), "spanNulls": TRUTH, "gradientMode": TEXT, "pointSize": NUMBER,
+CUSTOM = {"drawStyle": one_of("line", "bars", "points"), "lineInterpolation": one_of("linear", "smooth", "stepBefore", "stepAfter"),
+          "lineWidth": NUMBER, "fillOpacity": NUMBER, "showPoints": one_of("auto", "never", "always"), "spanNulls": TRUTH, "gradientMode": TEXT, "pointSize": NUMBER,
           "thresholdsStyle": {"*mode": one_of("off", "line", "dashed", "area", "line+area", "dashed+area", "series")}}
 DEFAULTS = {"*color": {"*mode": one_of("thresholds", "palette-classic", "fixed"), "fixedColor": TEXT}, "mappings": [MAPPING], "unit": name_of_unit,
             "*thresholds": {"*mode": one_of("absolute", "percentage"), "*steps": [STEP]}, "custom": CUSTOM, "min": NUMBER, "max": NUMBER,
