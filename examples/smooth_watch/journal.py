@@ -107,7 +107,7 @@ class Journal:
         self.count(self.pushes, "kept" if is_kept else "refused")
         if not is_kept:
             self.refuse("push", line)
-        self.ends(found["conn"], at, line)
+        self.ends(found["conn"], at, line.partition(" stored ")[0])
 
     def take_reply(self, found, at):
         self.count(self.requests, found["status"])
