@@ -3,6 +3,23 @@
 /** So many fragments lie between the end and where a viewer joins. */
 const JOIN = 3;
 
+/**
+ * How fast what is shown goes, by how many fragments it lies behind the event: who has fallen behind catches up, and who joined an event that
+ * had only begun falls back, until what is in front outlasts a delay. Each goes on until the second number.
+ */
+const PACES = { faster: { rate: 1.1, from: 5, until: 4 }, slower: { rate: 0.95, from: 2.2, until: 2.8 } };
+
+/**
+ * The rate at which a viewer who follows the event is shown it.
+ * @param {number} rate the one at which it is shown now @param {number} behind in seconds @param {number} lasts a fragment
+ */
+export function paceOf(rate, behind, lasts) {
+  const { faster, slower } = PACES;
+  if (behind > lasts * (rate > 1 ? faster.until : faster.from)) return faster.rate;
+  if (behind < lasts * (rate < 1 ? slower.until : slower.from)) return slower.rate;
+  return 1;
+}
+
 export class Edge {
   #timelines = [];
   /** When the end was first seen, in seconds of a clock that goes on. */

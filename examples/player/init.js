@@ -97,7 +97,7 @@ function moovOf(kind, quality, scale, entry) {
   const enabled = 7;
   const track = box(
     "trak",
-    fullBox("tkhd", 0, enabled, zeros(8), u32(TRACK_ID), zeros(16), u16(0), u16(isVideo ? 0 : 0x100), zeros(2), MATRIX, ...size),
+    fullBox("tkhd", 0, enabled, zeros(8), u32(TRACK_ID), zeros(20), u16(isVideo ? 0 : 0x100), zeros(2), MATRIX, ...size),
     media,
   );
   const movie = fullBox("mvhd", 0, 0, zeros(8), u32(scale), u32(0), u32(0x10000), u16(0x100), zeros(10), MATRIX, zeros(24), u32(TRACK_ID + 1));

@@ -3,7 +3,7 @@
 import { Bell } from "./bell.js";
 import { BoxError } from "./boxes.js";
 import { Buffer, rangesOf } from "./buffer.js";
-import { Edge } from "./edge.js";
+import { Edge, paceOf } from "./edge.js";
 import { gapAt, isHole } from "./gaps.js";
 import { CodecError, initOf } from "./init.js";
 import { ManifestError, readManifest, zeroOf } from "./manifest.js";
@@ -11,8 +11,6 @@ import { NetError, get } from "./net.js";
 import { AHEAD, Track } from "./track.js";
 import { qualityName, soundName } from "./words.js";
 
-/** A viewer who follows the event and is so many fragments behind it is shown it a little faster, until there are as few as that. */
-const LATE = { from: 5, until: 4, rate: 1.1 };
 /** So many fragments have to lie behind a gap that is stepped over, so that what is shown doesn't stand again at once. */
 const RESERVE = 1.5;
 /** A gap below this is none that a viewer would see, in seconds. */
@@ -279,12 +277,13 @@ export class Player extends EventTarget {
     this.#video.currentTime = gap.until;
   }
 
-  /** Shows an event a little faster, while a viewer who follows it has fallen behind. */
+  /** Shows an event a little faster or more slowly, while a viewer who follows it is too far behind it or too near. */
   #keepUp(position) {
     const { lasts } = this.#edge;
-    const most = (this.#video.playbackRate > 1 ? LATE.until : LATE.from) * lasts;
-    const isLate = this.isLive && this.isFollowing && this.#edge.behind(position, now()) > most;
-    this.#video.playbackRate = isLate && this.#ahead() > RESERVE * lasts ? LATE.rate : 1;
+    const isBound = this.isLive && this.isFollowing && lasts > 0;
+    const pace = isBound ? paceOf(this.#video.playbackRate, this.#edge.behind(position, now()), lasts) : 1;
+    // What isn't there can't be shown faster.
+    this.#video.playbackRate = pace > 1 && this.#ahead() < RESERVE * lasts ? 1 : pace;
   }
 
   /** Tells the browser that nothing more comes, once all of an ended event's rest is there. */
@@ -327,7 +326,8 @@ export class Player extends EventTarget {
 
   /** How many seconds are there in front of what is shown. */
   #ahead() {
-    return this.#tracks.length ? Math.min(...this.#tracks.map((it) => it.buffer.ahead(this.#video.currentTime))) : 0;
+    const isThere = this.#tracks.length && !this.#over.signal.aborted;
+    return isThere ? Math.min(...this.#tracks.map((it) => it.buffer.ahead(this.#video.currentTime))) : 0;
   }
 
   #tell(state) {

@@ -27,15 +27,16 @@ export class Meter {
 }
 
 /**
- * The bitrate to ask for next. It goes down at once, as far as it has to, and up by one, where a whole fragment lies in the buffer.
+ * The bitrate to ask for next. It goes down at once, as far as it has to, and up by one, where that arrives in half the time that is in hand.
  * @param {number[]} bitrates from the lowest on
  * @param {number | null} current the last one that was asked for
  * @param {number | null} rate how many bits a second arrive
- * @param {boolean} hasReserve whether the buffer has a whole fragment in front of what is shown
+ * @param {{ahead: number, lasts: number}} seconds that are in front of what is shown, and that a fragment lasts
  */
-export function choose(bitrates, current, rate, hasReserve) {
+export function choose(bitrates, current, rate, { ahead, lasts }) {
   if (rate === null || current === null) return bitrates[0];
   const affordable = bitrates.findLast((it) => it <= SHARE * rate) ?? bitrates[0];
   if (affordable <= current) return affordable;
-  return hasReserve ? bitrates.find((it) => it > current) : current;
+  const next = bitrates.find((it) => it > current);
+  return (lasts * next) / rate <= ahead / 2 ? next : current;
 }

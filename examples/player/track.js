@@ -161,8 +161,8 @@ export class Track {
 
   #choose(position) {
     const bitrates = this.#qualities.map((it) => it.bitrate);
-    const hasReserve = this.#buffer.ahead(position) >= this.timeline.lasts;
-    const bitrate = this.wanted ?? choose(bitrates, this.#last?.bitrate ?? null, this.meter.rate, hasReserve);
+    const inHand = { ahead: this.#buffer.ahead(position), lasts: this.timeline.lasts };
+    const bitrate = this.wanted ?? choose(bitrates, this.#last?.bitrate ?? null, this.meter.rate, inHand);
     return this.#qualities.find((it) => it.bitrate === bitrate) ?? this.#qualities[0];
   }
 
