@@ -91,7 +91,9 @@ class Browser:
         page = Page(self, target, self.ask("Target.attachToTarget", targetId=target, flatten=True)["sessionId"])
         for part in ("Page", "Runtime", "Network"):
             page.ask(f"{part}.enable")
-        page.ask("Page.navigate", url=address)
+        said = page.ask("Page.navigate", url=address)
+        test("errorText" not in said, f"{address} can't be opened: {said.get('errorText')}")
+        page.run("new Promise((resolve) => document.readyState === 'complete' ? resolve() : addEventListener('load', () => resolve()))")
         return page
 
 

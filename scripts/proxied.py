@@ -2,6 +2,7 @@
 
 import os
 import re
+import signal
 import subprocess
 import tempfile
 import time
@@ -50,6 +51,15 @@ class Proxy:
         self.process = subprocess.Popen(["nginx", "-c", os.path.join(self.folder, "conf")], stderr=subprocess.DEVNULL)
         time.sleep(1)
         test(self.process.poll() is None, "nginx does not take examples/nginx.conf")
+
+    def change(self, old, new):
+        """Puts other words into the configuration while nginx runs."""
+        with open(os.path.join(self.folder, "conf")) as conf:
+            text = conf.read()
+        test(old in text, f"examples/nginx.conf lacks {old}")
+        with open(os.path.join(self.folder, "conf"), "w") as conf:
+            conf.write(text.replace(old, new))
+        self.process.send_signal(signal.SIGHUP)
 
     def stop(self):
         if self.process:

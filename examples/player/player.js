@@ -102,19 +102,22 @@ export class Player extends EventTarget {
     this.#track("video").wanted = bitrate;
   }
 
-  /** Where one can seek: in all that the event has, up to where a viewer joins. @returns {[number, number]} */
-  get seekable() {
-    return [this.#edge.start, this.isLive ? this.#edge.join : this.#edge.end];
+  /** Where the event begins and ends. @returns {[number, number]} */
+  get extent() {
+    return [this.#edge.start, this.#edge.end];
   }
 
+  /** Shows another moment of all that the event has. One at its end leads to the live edge, where a viewer joins. */
   seek(position) {
-    const [first, last] = this.seekable;
+    const last = this.isLive ? this.#edge.join : this.#edge.end;
     this.isFollowing = this.isLive && position >= last;
-    this.#video.currentTime = Math.min(Math.max(position, first), last);
+    // Who is there already stays.
+    if (this.isFollowing && this.#video.currentTime >= last) return;
+    this.#video.currentTime = Math.min(Math.max(position, this.#edge.start), last);
   }
 
   goLive() {
-    this.seek(this.#edge.join);
+    this.seek(Infinity);
     this.play();
   }
 
@@ -188,7 +191,7 @@ export class Player extends EventTarget {
       return new Track(stream, qualities, buffer, this.#zero, below);
     });
     this.#newTimes();
-    this.seek(this.seekable[this.isLive ? 1 : 0]);
+    this.seek(this.isLive ? Infinity : this.#edge.start);
     this.play();
   }
 

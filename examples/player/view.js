@@ -29,11 +29,11 @@ export class View {
     this.#video = this.#parts.video;
     this.#player = player;
     player.addEventListener("change", () => this.#show());
-    this.#bind(root);
+    this.#bind();
     this.#show();
   }
 
-  #bind(root) {
+  #bind() {
     const { play, live, mute, volume, seek, quality, sound, screen, stage } = this.#parts;
     const on = (part, kind, work) => part.addEventListener(kind, work);
     on(play, "click", () => this.#toggle());
@@ -46,7 +46,7 @@ export class View {
     on(quality, "change", () => this.#player.selectQuality(Number(quality.value) || null));
     on(sound, "change", () => this.#player.selectSound(sound.value));
     on(screen, "click", () => this.#fillScreen(stage));
-    on(root, "keydown", (event) => this.#key(event));
+    on(document, "keydown", (event) => this.#key(event));
     for (const kind of ["play", "pause", "volumechange", "ended"]) on(this.#video, kind, () => this.#show());
   }
 
@@ -141,9 +141,9 @@ export class View {
 
   #showTime(position) {
     const { seek, time } = this.#parts;
-    const [first, last] = this.#player.seekable;
+    const [first, last] = this.#player.extent;
     seek.min = first;
-    seek.max = Math.max(first, last, position);
+    seek.max = last;
     seek.disabled = last <= first;
     if (!this.#isDragging) seek.value = position;
     const words = `${clock(position)} of ${clock(last)}`;
