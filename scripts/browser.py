@@ -27,7 +27,7 @@ def found():
 class Browser:
     """A browser with a profile of its own. What a page writes to its console as an error is kept in `errors`."""
 
-    def __init__(self, width=1000, height=860):
+    def __init__(self, width=1000, height=960):
         self.size, self.count, self.errors, self.held, self.events = f"--window-size={width},{height}", 0, [], b"", queue.SimpleQueue()
 
     def __enter__(self):

@@ -8,7 +8,7 @@ import { gapAt, isHole } from "./gaps.js";
 import { CodecError, initOf } from "./init.js";
 import { ManifestError, readManifest, zeroOf } from "./manifest.js";
 import { NetError, get } from "./net.js";
-import { AHEAD, Track } from "./track.js";
+import { Track } from "./track.js";
 import { qualityName, soundName } from "./words.js";
 
 /** So many fragments have to lie behind a gap that is stepped over, so that what is shown doesn't stand again at once. */
@@ -292,7 +292,7 @@ export class Player extends EventTarget {
   /** Tells the browser that nothing more comes, once all of an ended event's rest is there. */
   #finish(position) {
     if (this.isLive || !this.#isOpen || this.#tracks.some(({ buffer }) => buffer.isBusy)) return;
-    if (this.#tracks.every((it) => it.timeline.end <= position + AHEAD && !it.next(position))) this.#source.endOfStream();
+    if (this.#tracks.every((it) => !it.hasMore(position, Infinity))) this.#source.endOfStream();
   }
 
   #moved() {

@@ -7,8 +7,8 @@ import { NetError } from "./net.js";
 import { Meter, choose } from "./quality.js";
 import { Timeline } from "./timeline.js";
 
-/** So many seconds are fetched in front of what is shown, and kept behind it. */
-export const AHEAD = 20;
+/** So many seconds are fetched in front of what is shown, holes not counted, and kept behind it. */
+const AHEAD = 20;
 const BEHIND = 30;
 /** So often a fragment that is listed is asked for before it is left out. */
 const TRIES = 8;
@@ -94,9 +94,13 @@ export class Track {
     this.#kept.clear();
   }
 
-  /** The first fragment from a moment on that is to be fetched. @returns {Fragment | null} */
+  /** The first fragment from a moment on that is to be fetched, unless enough of them are there. @returns {Fragment | null} */
   next(position) {
-    for (const it of this.timeline.between(position, position + AHEAD)) if (this.#isDue(it)) return it;
+    let ahead = 0;
+    for (let it = this.timeline.at(position); it && ahead < AHEAD; it = this.timeline.after(it)) {
+      if (this.#isDue(it)) return it;
+      if (this.#kept.has(it.time)) ahead += it.end - Math.max(it.start, position);
+    }
     return null;
   }
 

@@ -100,6 +100,12 @@ test("a hole is stepped over, and what is listed later is fetched", async () => 
   assert.deepEqual(buffer.pieces.filter(Number.isFinite), [0, 2, 10, 12]);
 });
 
+test("a hole of hours is stepped over", async () => {
+  const { track, buffer } = made({ runs: [run(0, 2), run(10_000, 20)] });
+  await all(track, 0);
+  assert.deepEqual(buffer.pieces.filter(Number.isFinite), [0, 2, ...Array.from({ length: 8 }, (_, at) => 10_000 + 2 * at)]);
+});
+
 test("times are counted from the whole second that the browser takes for 0", async () => {
   const { track, buffer, asked } = made({ runs: [run(1_780_000_001, 1)], zero: 1_780_000_000 });
   await all(track, 0);
