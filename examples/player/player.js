@@ -15,10 +15,12 @@ import { qualityName, soundName } from "./words.js";
 const RESERVE = 1.5;
 /** A gap below this is none that a viewer would see, in seconds. */
 const SMALL = 0.25;
-/** Waits in seconds: between two looks at what is shown, between two tries that came to nothing, and for the first and each manifest. */
+/** Waits in seconds: between two looks at what is shown, and between two tries that came to nothing. */
 const LOOK = 0.25;
 const RETRY = 1;
+/** Waits for a manifest: between two where there is no event yet, and where it has ended, and for how long one may take. */
 const ASK_AGAIN = 2;
+const ASK_SELDOM = 10;
 const PATIENCE = 8;
 
 const now = () => performance.now() / 1000;
@@ -57,7 +59,7 @@ export class Player extends EventTarget {
     this.#address = address;
   }
 
-  /** Plays until `stop`. */
+  /** Plays until nothing more can be played. */
   async start() {
     const { signal } = this.#over;
     this.#video.addEventListener("seeking", () => this.#moved(), { signal });
@@ -68,13 +70,6 @@ export class Player extends EventTarget {
     } catch (error) {
       if (!signal.aborted) this.#break(stateOf(error));
     }
-  }
-
-  stop() {
-    this.#over.abort();
-    this.#bell.ring();
-    this.#video.removeAttribute("src");
-    this.#video.load();
   }
 
   // ---- what a viewer may do
@@ -225,7 +220,7 @@ export class Player extends EventTarget {
   /** Looks for new times again and again. */
   async #read() {
     for (;;) {
-      await this.#rest(Math.min(Math.max(this.#edge.lasts / 2, LOOK), RETRY));
+      await this.#rest(this.isLive ? Math.min(Math.max(this.#edge.lasts / 2, LOOK), RETRY) : ASK_SELDOM);
       try {
         const { isLive, streams } = await this.#manifest();
         const newer = (stream) => streams.find((it) => it.name === stream.name) ?? stream;

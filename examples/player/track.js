@@ -131,16 +131,8 @@ export class Track {
 
   /** Breaks off what is asked for, where another fragment is wanted now, and looks which of those that were there still are. */
   moveTo(position) {
-    this.forget();
+    this.#forget();
     if (this.#asking && this.next(position)?.time !== this.#asking.fragment.time) this.#asking.stop.abort();
-  }
-
-  /** Forgets the fragments that the browser has dropped. */
-  forget() {
-    for (const { time, start, end } of [...this.#kept.values()]) {
-      const middle = (start + end) / 2;
-      if (!this.#buffer.covers(middle, middle)) this.#kept.delete(time);
-    }
   }
 
   /** Takes away what lies far behind what is shown. */
@@ -197,6 +189,14 @@ export class Track {
       if (tries === TRIES) this.missed++;
     }
     return false;
+  }
+
+  /** Forgets the fragments that the browser has dropped. */
+  #forget() {
+    for (const { time, start, end } of [...this.#kept.values()]) {
+      const middle = (start + end) / 2;
+      if (!this.#buffer.covers(middle, middle)) this.#kept.delete(time);
+    }
   }
 
   async #drop(until) {

@@ -127,7 +127,7 @@ export class View {
   #showControls() {
     const { play, live, mute, volume, quality, sound } = this.#parts;
     const { qualities, sounds, isFollowing, isLive } = this.#player;
-    this.#write(play, this.#video.paused ? "Play" : "Pause");
+    this.#write(play, this.#video.paused || this.#player.state.name === "broken" ? "Play" : "Pause");
     this.#write(mute, this.#video.muted ? "Unmute" : "Mute");
     volume.value = this.#video.muted ? 0 : this.#video.volume;
     live.hidden = !isLive;

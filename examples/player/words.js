@@ -15,7 +15,7 @@ const STATES = {
   paused: () => ["Paused"],
   playing: () => [""],
   ended: () => ["The event has ended", "You can watch it again from any point."],
-  browser: () => ["This browser can't play the event", "It has no Media Source Extensions. A current Firefox, Chrome, Edge or Safari has them."],
+  browser: () => ["This browser can't play the event", "It has no Media Source Extensions. A current Firefox, Chrome or Edge has them."],
   codec: ({ codecs }) => ["This browser can't play the event", `${listOf(codecs)}.`],
   broken: ({ message }) => ["The event can't be played on", message || "The browser could not decode it. Press Play to try again."],
 };
