@@ -23,7 +23,7 @@ Ends = (before bytes : List ℕ) (items : List Given) (header : List HeaderTrack
     → Left (Some before) (map (λ b. byte b) bytes ++ parts) (map shown items ++ Refuse r ∷ [])
 
 empty_body : (body false []).items ≡ []
-unfolding body walk
+unfolding walk
 empty_body = refl
 
 posted_wire : (parts : List PartItem) → wire None (posted ∷ parts) ≡ wire (Some []) parts

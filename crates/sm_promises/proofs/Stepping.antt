@@ -233,7 +233,7 @@ by_there : (f g : Fragment) (v : Verdict) → by_verdict f v ≡ There Known →
 by_there f g verdicts.New is = absurd (cc)
 by_there f g (verdicts.Known place) is = refl
 by_there f g verdicts.NotDeclared is = absurd (cc)
-by_there f g (verdicts.Clash kept) is = absurd (cc)
+by_there f g (verdicts.Clash was) is = absurd (cc)
 by_there f g (verdicts.Overlap end) is = absurd (cc)
 
 pub whatever_samples : (log : List Entry) (f g : Fragment) → address_of g ≡ address_of f → g.duration ≡ f.duration → judged log (Keep f) ≡ There Known
