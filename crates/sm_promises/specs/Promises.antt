@@ -173,7 +173,7 @@ pub record IsPulled {D C : Type 0} (site : Seen D) (t : Dialing C) (edge : Pulli
     (made : List Exchange) : Type 0 where
   pub channel : List Track
   pub report : RelayReport
-  pub ran : HasRelayed site t.log t.store t.later t.faults t.chosen input input' (at_edge edge.store) edge.place.host (plan_of edge)
+  pub ran : HasRelayed site t.log t.store t.later t.faults t.chosen input input' (at_edge edge) edge.place.host (plan_of edge)
       before after dial dial' channel report
   pub was_read : AllByRecursion (WasReadFrom edge.place made) ((kept_in ran.relayed.rounds ++ ran.relayed.added) ++ ran.relayed.tried)
 

@@ -3,7 +3,8 @@ ghost use Rattle.std.specs.Prelude.{◌≡◌, ◌≤◌, ◌<◌, length, vec_l
 ghost use Rattle.sm_fetch.specs.Exchanges.{Rose};
 ghost use Rattle.sm_fetch.specs.Origins.{Untold};
 
-use crate::{Doing, OpenFault, Trouble};
+use crate::pulling::Came;
+use crate::{Doing, OpenFault, Pulls, Trouble};
 use sm_fetch::{Answer, Dial, DialError, Reply, read_reply};
 use sm_model::{Bytes, NoMemory};
 use std::alloc::{AllocError, Global};
@@ -64,6 +65,8 @@ pub struct TcpDial<R: Net<Stream = TcpStream> + Clock + Drop> {
     turned_to: Option<Target>,
     faults: u64,
     trouble: Option<Trouble>,
+    // The journal of what is pulled, where there may be one.
+    pulls: Option<Pulls>,
 }
 
 impl<R: Net<Stream = TcpStream> + Clock + Drop> TcpDial<R> {
@@ -80,6 +83,31 @@ impl<R: Net<Stream = TcpStream> + Clock + Drop> TcpDial<R> {
             turned_to: None,
             faults: 0,
             trouble: None,
+            pulls: None,
+        }
+    }
+
+    /// What is asked for from now on is told in this journal, once it is open.
+    pub fn tell_in(&mut self, pulls: Pulls)
+        ensures faults { self.new.faults ≡ self.old.faults }
+        ensures turned_to { self.new.turned_to ≡ self.old.turned_to }
+        ensures trouble { self.new.trouble ≡ self.old.trouble }
+    {
+        self.pulls = Some(pulls);
+    }
+
+    // For the journal, before a request: the moment, where anything is told.
+    fn note_request(&self, request: &[u8]) -> Option<Instant> {
+        let pulls = self.pulls.as_ref()?;
+        pulls.ask(&self.rt, request)
+    }
+
+    // For the journal, what came of a request that was told.
+    fn note_answer(&self, since: Option<Instant>, request: &[u8], came: Came<'_>) {
+        if let Some(pulls) = &self.pulls
+            && let Some(since) = since
+        {
+            pulls.answer(&self.rt, since, request, came);
         }
     }
 
@@ -321,7 +349,12 @@ impl<R: Net<Stream = TcpStream> + Clock + Drop> Dial for TcpDial<R> {
         self.turned_to = None;
         self.trouble = None;
         match self.turn_to(host, port) {
-            Ok(()) => Ok(()),
+            Ok(()) => {
+                if let Some(pulls) = &self.pulls {
+                    pulls.turn_to(host, port);
+                }
+                Ok(())
+            }
             Err(OpenFault::NoMemory) => Err(DialError::NoMemory),
             Err(OpenFault::Failed) => {
                 self.fail();
@@ -332,10 +365,15 @@ impl<R: Net<Stream = TcpStream> + Clock + Drop> Dial for TcpDial<R> {
 
     fn exchange(&mut self, request: &[u8], limit: u64) -> Answer {
         self.trouble = None;
+        let since = self.note_request(request);
         match self.ask(request, limit) {
-            Ok(bytes) => Answer::Bytes(bytes),
+            Ok(bytes) => {
+                self.note_answer(since, request, Came::Bytes(bytes.as_slice()));
+                Answer::Bytes(bytes)
+            }
             Err(OpenFault::NoMemory) => Answer::NoMemory,
             Err(OpenFault::Failed) => {
+                self.note_answer(since, request, Came::Lost(self.trouble));
                 self.fail();
                 Answer::Lost
             }
@@ -343,6 +381,9 @@ impl<R: Net<Stream = TcpStream> + Clock + Drop> Dial for TcpDial<R> {
     }
 
     fn pause(&mut self) {
+        if let Some(pulls) = &self.pulls {
+            pulls.rest(&self.rt);
+        }
         thread::sleep(&self.rt, Duration::from_secs(1));
     }
 }
