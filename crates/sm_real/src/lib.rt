@@ -12,6 +12,7 @@ mod file_disk;
 mod file_limit;
 mod file_tracks;
 mod folder;
+mod haste;
 mod journal;
 mod limits;
 mod opening;
