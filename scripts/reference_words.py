@@ -51,8 +51,16 @@ COMMANDS = {
         ["--from", "--count", "--tries", "--refresh"],
         "play HOST PORT PATH STREAM... [--from N] [--count N] [--tries N] [--refresh N]",
     ),
-    "relay": (TO + [("STORE", STORE)], ["--rounds", "--tries"], "relay HOST PORT PATH STORE [--rounds N] [--tries N] < LADDER"),
-    "standby": (TO + [("STORE", STORE)], ["--rounds", "--tries"], "standby HOST PORT PATH STORE [--rounds N] [--tries N] < LADDER"),
+    "relay": (
+        TO + [("STORE", STORE)],
+        ["--rounds", "--tries", "--journal"],
+        "relay HOST PORT PATH STORE [--rounds N] [--tries N] [--journal FILE] < LADDER",
+    ),
+    "standby": (
+        TO + [("STORE", STORE)],
+        ["--rounds", "--tries", "--journal"],
+        "standby HOST PORT PATH STORE [--rounds N] [--tries N] [--journal FILE] < LADDER",
+    ),
     "pick": ([("TRACK", number(1, 2**32 - 1)), ("TIME", number(0, LAST))], [], "pick TRACK TIME < PUSH > FRAGMENT"),
     "export": (
         [("STORE", STORE), ("NAME", STREAM), ("BITRATE", number(0, 2**32 - 1))],

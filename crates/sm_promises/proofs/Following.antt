@@ -258,7 +258,7 @@ module _ (plan : PullPlan) (channel : List Track) (log : List Entry) (held : Lis
 
 module _ {D C P : Type 0} (site : Seen D) (t : Dialing C) (m : Meaning P) where
   followed : (e : Pulling) (in_ in' : End) (before after : D) (c c' : C) (b made : List Exchange) (channel : List Track) (report : FollowReport) → t.log c ≡ Some b → t.log c' ≡ Some (b ++ made)
-      → HasFollowed site t.log t.store t.later t.faults t.chosen in_ in' (at_edge e.store) e.place.host (plan_of e) before after c c' channel report
+      → HasFollowed site t.log t.store t.later t.faults t.chosen in_ in' (at_edge e) e.place.host (plan_of e) before after c c' channel report
       → IsFollowed site t e in_ in' before after c c' made
   followed e in_ in' before after c c' b made channel report was told h =
       let k = h.followed.called in

@@ -121,7 +121,7 @@ module _ (by_round : (plan : PullPlan) (channel : List Track) (log : List Entry)
 
   module _ {D C P : Type 0} (site : Seen D) (t : Dialing C) (m : Meaning P) where
     pulled : (e : Pulling) (in_ in' : End) (before after : D) (c c' : C) (b made : List Exchange) (channel : List Track) (report : RelayReport) → t.log c ≡ Some b → t.log c' ≡ Some (b ++ made)
-        → HasRelayed site t.log t.store t.later t.faults t.chosen in_ in' (at_edge e.store) e.place.host (plan_of e) before after c c' channel report → IsPulled site t e in_ in' before after c c' made
+        → HasRelayed site t.log t.store t.later t.faults t.chosen in_ in' (at_edge e) e.place.host (plan_of e) before after c c' channel report → IsPulled site t e in_ in' before after c c' made
     pulled e in_ in' before after c c' b made channel report was told h =
         let r = h.relayed in
         let plan = plan_of e in

@@ -240,7 +240,7 @@ pub record IsPulled {D C : Type 0} (site : Seen D) (t : Dialing C) (edge : Pulli
     (made : List Exchange) : Type 0 where
   pub channel : List Track
   pub report : RelayReport
-  pub ran : HasRelayed site t.log t.store t.later t.faults t.chosen input input' (at_edge edge.store) edge.place.host (plan_of edge)
+  pub ran : HasRelayed site t.log t.store t.later t.faults t.chosen input input' (at_edge edge) edge.place.host (plan_of edge)
       before after dial dial' channel report
   pub was_read : AllByRecursion (WasReadFrom edge.place made) ((kept_in ran.relayed.rounds ++ ran.relayed.added) ++ ran.relayed.tried)
   pub left : IsSome (site.view ran.opened).contents → (t : ℕ) (image : Image) → (site.view ran.opened).moment < t → site.left_at after t image
@@ -271,7 +271,7 @@ pub record IsFollowed {D C : Type 0} (site : Seen D) (t : Dialing C) (edge : Pul
     (made : List Exchange) : Type 0 where
   pub channel : List Track
   pub report : FollowReport
-  pub ran : HasFollowed site t.log t.store t.later t.faults t.chosen input input' (at_edge edge.store) edge.place.host (plan_of edge)
+  pub ran : HasFollowed site t.log t.store t.later t.faults t.chosen input input' (at_edge edge) edge.place.host (plan_of edge)
       before after dial dial' channel report
   pub was_read : AllReadAt edge.place made (length ran.edge.store.log) (all_followed ran.followed.called.rounds ran.followed.called.part)
   pub left : IsSome (site.view ran.opened).contents → (t : ℕ) (image : Image) → (site.view ran.opened).moment < t → site.left_at after t image

@@ -132,11 +132,29 @@ impl Journal {
         let from = self.line.len();
         let made = self.tell_begin(store, port, opened);
         self.put(made);
+        self.begin_again(from);
+    }
+
+    // The file begins with the line from that place on where it is cut to nothing.
+    fn begin_again(&mut self, from: usize) {
         if let Some(line) = self.line.get(from..)
             && self.outlet.begin_with(line).is_err()
         {
             self.lose();
         }
+    }
+
+    /// Tells a line of this text, which goes out at once. Where it is the first one, a file that is cut to nothing begins with it again.
+    pub fn tell(&mut self, rt: &impl Clock, now: Instant, text: &[u8], is_first: bool) {
+        self.stamp.turn_to(Reading::of(rt, now).stamp);
+        let from = self.line.len();
+        let made = self.head(text);
+        self.put(made);
+        if is_first {
+            self.begin_again(from);
+        }
+        self.written = now;
+        self.write();
     }
 
     fn tell_begin(&mut self, store: &str, port: u16, opened: Opened) -> Result<(), AllocError> {
@@ -458,7 +476,8 @@ impl Journal {
         }
     }
 
-    fn lose(&mut self) {
+    /// A line is lost.
+    pub fn lose(&mut self) {
         self.lost = self.lost.saturating_add(1);
     }
 
@@ -496,12 +515,12 @@ impl Reading {
     }
 }
 
-fn millis(time: Duration) -> u64 {
+pub(crate) fn millis(time: Duration) -> u64 {
     u64::try_from(time.as_millis()).unwrap_or(u64::MAX)
 }
 
 // Names, and the number of each.
-fn put_counts(line: &mut Vec<u8>, counts: &[(&str, u64)]) -> Result<(), AllocError> {
+pub(crate) fn put_counts(line: &mut Vec<u8>, counts: &[(&str, u64)]) -> Result<(), AllocError> {
     for (name, count) in counts {
         line.extend_from_slice(name.as_bytes())?;
         put_number(line, *count)?;
@@ -541,18 +560,18 @@ fn put_viewers(line: &mut Vec<u8>, viewers: &Viewers) -> Result<(), AllocError> 
     put_counts(line, &counts)
 }
 
-fn put_time(line: &mut Vec<u8>, time: Duration) -> Result<(), AllocError> {
+pub(crate) fn put_time(line: &mut Vec<u8>, time: Duration) -> Result<(), AllocError> {
     line.extend_from_slice(b" seconds ")?;
     put_seconds(line, millis(time))
 }
 
-fn put_store(line: &mut Vec<u8>, store: &str) -> Result<(), AllocError> {
+pub(crate) fn put_store(line: &mut Vec<u8>, store: &str) -> Result<(), AllocError> {
     line.extend_from_slice(b" store ")?;
     put_text(line, store.as_bytes())
 }
 
 // A request line in quotes.
-fn put_request(line: &mut Vec<u8>, request: &[u8]) -> Result<(), AllocError> {
+pub(crate) fn put_request(line: &mut Vec<u8>, request: &[u8]) -> Result<(), AllocError> {
     line.extend_from_slice(b" \"")?;
     put_text(line, request)?;
     line.push(b'"')?;
@@ -560,7 +579,7 @@ fn put_request(line: &mut Vec<u8>, request: &[u8]) -> Result<(), AllocError> {
 }
 
 // Bytes of others: what is no plain character of ASCII, and a quote, is told as a question mark.
-fn put_text(line: &mut Vec<u8>, text: &[u8]) -> Result<(), AllocError> {
+pub(crate) fn put_text(line: &mut Vec<u8>, text: &[u8]) -> Result<(), AllocError> {
     let first = line.len();
     line.extend_from_slice(text)?;
     for byte in line[first..].iter_mut() {

@@ -3,18 +3,16 @@ ghost use Rattle.std.specs.Prelude.{◌≡◌, ◌≤◌, refl, IsErrOf};
 ghost use Rattle.sm_site.specs.Clauses.{Rose};
 ghost use Rattle.sm_real.specs.Telling.{counts_alone, seen_as, unasked};
 
-use crate::journal::{Journal, Opened};
+use crate::journal::Journal;
+use crate::opening::Opening;
 use crate::talk::Span;
-use crate::{Doing, FileDisk, OpenFault, TcpLink, Trouble, Viewers};
+use crate::{Doing, FileDisk, OpenFault, Pulls, TcpLink, Trouble, Viewers};
 use sm_site::{Disk, Event, Failed, Link, LinkError, Selected, Selection, Site, SiteError};
 use std::alloc::Global;
 use std::fs::File;
 use std::net::Net;
 use std::rt::Files;
 use std::time::{Clock, Instant};
-
-// Where the body of the first entry of a file stands.
-const FIRST_BODY: u64 = 18;
 
 /// A disk in a folder and a link over sockets. It tells no contents and no transcript. After a refusal of `select` it has neither a
 /// folder nor a port.
@@ -29,6 +27,8 @@ pub struct RealSite<R: Files<File = File> + Net + Clock + Drop> {
     opening: Option<Opening>,
     // Whom players answer, for the journal.
     viewers: Option<Viewers>,
+    // The journal of what is pulled, where there may be one.
+    pulls: Option<Pulls>,
     // Where the fragment stands whose record was written last, for the journal.
     span: Option<Span>,
 }
@@ -58,37 +58,6 @@ fn number_at(text: &[u8], at: usize) -> Option<u64> {
     }
 }
 
-// Since when a store has been opened, and what was read of it.
-#[derive(Drop)]
-struct Opening {
-    since: Instant,
-    entries: u64,
-    read: u64,
-}
-
-impl Opening {
-    fn new(since: Instant) -> Opening {
-        Opening {
-            since,
-            entries: 0,
-            read: 0,
-        }
-    }
-
-    // A file is looked at: it is brought to rest before. All are, before the first entry is read.
-    fn note_file(&mut self) {
-        self.entries = 0;
-    }
-
-    // So many bytes are read. Behind the head of a file, once all files were looked at, each reading is that of the body of one entry.
-    fn note_read(&mut self, at: u64, bytes: u64) {
-        self.read = self.read.saturating_add(bytes);
-        if at >= FIRST_BODY {
-            self.entries = self.entries.saturating_add(1);
-        }
-    }
-}
-
 impl<R: Files<File = File> + Net + Clock + Copy + Drop> RealSite<R> {
     /// Without a folder and a port, as it is before `select`.
     pub fn new(rt: R, alloc: Global) -> RealSite<R>
@@ -107,6 +76,7 @@ impl<R: Files<File = File> + Net + Clock + Copy + Drop> RealSite<R> {
             selected: Selected::never(),
             opening: None,
             viewers: None,
+            pulls: None,
             span: None,
         }
     }
@@ -156,6 +126,7 @@ impl<R: Files<File = File> + Net + Clock + Drop> RealSite<R> {
         };
         let viewers = self.viewers.take();
         match Journal::open(&self.rt, self.alloc, path.as_str(), viewers) {
+            Ok(journal) if selection.port == 0 => return self.pull_into(selection, journal),
             Ok(journal) => self.link.tell_in(journal),
             Err(e) => {
                 return match self.disk.refused(Trouble::new(Doing::Telling, e)) {
@@ -168,6 +139,31 @@ impl<R: Files<File = File> + Net + Clock + Drop> RealSite<R> {
             self.opening = Some(Opening::new(since));
         }
         Ok(())
+    }
+
+    // Where no port is wanted the journal tells what is pulled into the store.
+    fn pull_into(&self, selection: &Selection, journal: Journal) -> Result<(), SiteError>
+        ensures no_disk { IsErrOf result SiteError.Disk → ⊥ }
+        ensures no_link { IsErrOf result SiteError.Link → ⊥ }
+    {
+        if let Some(pulls) = &self.pulls
+            && let Ok(now) = Instant::now(&self.rt)
+            && pulls
+                .open(self.alloc, journal, selection.store.as_str(), now)
+                .is_err()
+        {
+            return Err(SiteError::NoMemory);
+        }
+        Ok(())
+    }
+
+    /// A journal that is opened from now on for a store without a port tells in this one what is pulled.
+    pub fn pull_in(&mut self, pulls: Pulls)
+        ensures disk { self.new.disk ≡ self.old.disk }
+        ensures link { self.new.link ≡ self.old.link }
+        ensures selected { self.new.selected ≡ self.old.selected }
+    {
+        self.pulls = Some(pulls);
     }
 
     /// A journal that is opened from now on tells of these viewers too.
@@ -204,6 +200,9 @@ impl<R: Files<File = File> + Net + Clock + Drop> RealSite<R> {
         if let Some(selection) = self.selected.selection() {
             self.link.note_end(selection);
         }
+        if let Some(pulls) = &self.pulls {
+            pulls.end(&self.rt);
+        }
     }
 
     // Where a call of the disk failed, the journal tells what the system said of it.
@@ -216,6 +215,9 @@ impl<R: Files<File = File> + Net + Clock + Drop> RealSite<R> {
     {
         if failed && let Some(trouble) = self.disk.trouble() {
             self.link.note_fault(&trouble);
+            if let Some(pulls) = &self.pulls {
+                pulls.fault(&self.rt, &trouble);
+            }
         }
     }
 
@@ -231,12 +233,7 @@ impl<R: Files<File = File> + Net + Clock + Drop> RealSite<R> {
             && let Some(selection) = self.selected.selection()
             && let Some(now) = self.link.moment()
         {
-            let opened = Opened {
-                entries: opening.entries,
-                read: opening.read,
-                took: now.saturating_duration_since(opening.since),
-            };
-            self.link.note_begin(selection, opened);
+            self.link.note_begin(selection, opening.opened(now));
         }
     }
 }
@@ -266,6 +263,9 @@ impl<R: Files<File = File> + Net + Clock + Drop> Disk for RealSite<R> {
         if let Some(opening) = &mut self.opening {
             opening.note_read(at, into.len() as u64);
         }
+        if let Some(pulls) = &self.pulls {
+            pulls.note_read(at, into.len() as u64);
+        }
         let read = self.disk.read_at(file, at, into);
         self.tell_fault(read.is_err());
         read
@@ -278,6 +278,9 @@ impl<R: Files<File = File> + Net + Clock + Drop> Disk for RealSite<R> {
             self.span = span_of(bytes);
         } else if written.is_ok() && bytes.len() == 1 && at > 0 {
             self.link.note_kept(self.span);
+            if let Some(pulls) = &self.pulls {
+                pulls.keep(self.span);
+            }
         }
         self.tell_fault(written.is_err());
         written
@@ -286,6 +289,9 @@ impl<R: Files<File = File> + Net + Clock + Drop> Disk for RealSite<R> {
     fn sync(&mut self, file: u32) -> Result<(), Failed> {
         if let Some(opening) = &mut self.opening {
             opening.note_file();
+        }
+        if let Some(pulls) = &self.pulls {
+            pulls.note_file();
         }
         let since = self.link.moment();
         let synced = self.disk.sync(file);

@@ -18,6 +18,16 @@ pub struct Span {
     pub until: u64,
 }
 
+impl Span {
+    /// From the first of both times up to the last of both ends.
+    pub fn and(self, other: Span) -> Span {
+        Span {
+            time: self.time.min(other.time),
+            until: self.until.max(other.until),
+        }
+    }
+}
+
 /// What was stored of a push: how many fragments, and from where up to where.
 #[derive(Clone, Copy)]
 pub struct Stored {
@@ -80,10 +90,7 @@ impl Talk {
         let stored = match self.stored {
             Some(stored) => Stored {
                 count: stored.count.saturating_add(1),
-                span: Span {
-                    time: stored.span.time.min(span.time),
-                    until: stored.span.until.max(span.until),
-                },
+                span: stored.span.and(span),
             },
             None => Stored { count: 1, span },
         };

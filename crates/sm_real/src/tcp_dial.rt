@@ -3,7 +3,9 @@ ghost use Rattle.std.specs.Prelude.{◌≡◌, ◌≤◌, ◌<◌, length, vec_l
 ghost use Rattle.sm_fetch.specs.Exchanges.{Rose};
 ghost use Rattle.sm_fetch.specs.Origins.{Untold};
 
-use crate::{Doing, OpenFault, Trouble};
+use crate::haste::{Share, Waits};
+use crate::pulling::Came;
+use crate::{Doing, OpenFault, Pulls, Trouble};
 use sm_fetch::{Answer, Dial, DialError, Reply, read_reply};
 use sm_model::{Bytes, NoMemory};
 use std::alloc::{AllocError, Global};
@@ -16,21 +18,10 @@ use std::time::{Clock, Duration, Instant};
 // The most bytes of one read.
 const PIECE: usize = 65_536;
 
-// How long a connection may take to come about, and a peer to take nothing, in seconds.
-const STUCK: u64 = 30;
-
-// How long a peer that took nothing may send nothing, in seconds.
+// How long a peer that took nothing may send nothing, in looks.
 const LAST: u32 = 3;
 
-// How long an address is waited for that isn't the last one, in seconds.
-const SOON: u64 = 3;
-
-// How many seconds a peer may send nothing.
-const SILENT: u32 = 30;
-
-// How many seconds a reply may take, and how many bytes give it one second more.
-const WHOLE: u64 = 120;
-
+// How many bytes of a reply give it one second more.
 const MORE: u64 = 65_536;
 
 // The host and the port of the addresses.
@@ -55,6 +46,8 @@ impl Model for Target {
 /// where no address of the host takes a connection, each but the last within 3 seconds and that one within 30; where the connection
 /// fails, or the peer takes or sends nothing for 30 seconds, before the reply is whole; and where the reply isn't whole two minutes
 /// after the request, and a second more for each 65,536 bytes of it. The address that took a connection comes first from then on.
+/// One in haste waits for 700 milliseconds where the others wait for 3 or 30 seconds, and for a second and not for two minutes. Where its
+/// exchanges took half of a second it rests for the next one, and behind one that was lost for two: meanwhile each exchange is lost at once.
 /// What the system said of the last exchange, where it was lost, is kept for people.
 #[derive(Drop)]
 pub struct TcpDial<R: Net<Stream = TcpStream> + Clock + Drop> {
@@ -64,6 +57,11 @@ pub struct TcpDial<R: Net<Stream = TcpStream> + Clock + Drop> {
     turned_to: Option<Target>,
     faults: u64,
     trouble: Option<Trouble>,
+    // The journal of what is pulled, where there may be one.
+    pulls: Option<Pulls>,
+    waits: Waits,
+    // The share of its owner's time, of one in haste.
+    share: Option<Share>,
 }
 
 impl<R: Net<Stream = TcpStream> + Clock + Drop> TcpDial<R> {
@@ -80,6 +78,82 @@ impl<R: Net<Stream = TcpStream> + Clock + Drop> TcpDial<R> {
             turned_to: None,
             faults: 0,
             trouble: None,
+            pulls: None,
+            waits: Waits::patient(),
+            share: None,
+        }
+    }
+
+    /// The same in haste, for an owner who has others that wait.
+    pub fn brief(rt: R, alloc: Global) -> TcpDial<R>
+        ensures faults { result.faults ≡ 0 }
+        ensures turned_to { result.turned_to ≡ None }
+        ensures trouble { result.trouble ≡ None }
+    {
+        TcpDial {
+            rt,
+            alloc,
+            addresses: Vec::new(alloc),
+            turned_to: None,
+            faults: 0,
+            trouble: None,
+            pulls: None,
+            waits: Waits::brief(),
+            share: Some(Share::new()),
+        }
+    }
+
+    // The moment, of one in haste.
+    fn begin(&self) -> Option<Instant> {
+        match self.share {
+            Some(_) => Instant::now(&self.rt).ok(),
+            None => None,
+        }
+    }
+
+    // Whether it rests at this moment.
+    fn rests(&self, now: Option<Instant>) -> bool {
+        match (&self.share, now) {
+            (Some(share), Some(now)) => share.rests(now),
+            (_, _) => false,
+        }
+    }
+
+    // An exchange began at that moment, and was lost or not.
+    fn note_time(&mut self, begun: Option<Instant>, is_lost: bool)
+        ensures faults { self.new.faults ≡ self.old.faults }
+        ensures turned_to { self.new.turned_to ≡ self.old.turned_to }
+    {
+        let Some(begun) = begun else {
+            return;
+        };
+        let now = Instant::now(&self.rt).unwrap_or(begun);
+        if let Some(share) = &mut self.share {
+            share.take(begun, now, is_lost);
+        }
+    }
+
+    /// What is asked for from now on is told in this journal, once it is open.
+    pub fn tell_in(&mut self, pulls: Pulls)
+        ensures faults { self.new.faults ≡ self.old.faults }
+        ensures turned_to { self.new.turned_to ≡ self.old.turned_to }
+        ensures trouble { self.new.trouble ≡ self.old.trouble }
+    {
+        self.pulls = Some(pulls);
+    }
+
+    // For the journal, before a request: the moment, where anything is told.
+    fn note_request(&self, request: &[u8]) -> Option<Instant> {
+        let pulls = self.pulls.as_ref()?;
+        pulls.ask(&self.rt, request)
+    }
+
+    // For the journal, what came of a request that was told.
+    fn note_answer(&self, since: Option<Instant>, request: &[u8], came: Came<'_>) {
+        if let Some(pulls) = &self.pulls
+            && let Some(since) = since
+        {
+            pulls.answer(&self.rt, since, request, came);
         }
     }
 
@@ -134,8 +208,8 @@ impl<R: Net<Stream = TcpStream> + Clock + Drop> TcpDial<R> {
             self.addresses.swap(0, place);
         }
         stream.set_nodelay(true)?;
-        stream.set_read_timeout(Some(Duration::from_secs(1)))?;
-        stream.set_write_timeout(Some(Duration::from_secs(1)))?;
+        stream.set_read_timeout(Some(self.waits.look))?;
+        stream.set_write_timeout(Some(self.waits.look))?;
         Ok(stream)
     }
 
@@ -144,7 +218,11 @@ impl<R: Net<Stream = TcpStream> + Clock + Drop> TcpDial<R> {
         let mut last = ErrorKind::NotConnected.into();
         for (place, address) in self.addresses.iter().enumerate() {
             let behind = self.addresses.len().saturating_sub(place);
-            let limit = Duration::from_secs(if behind > 1 { SOON } else { STUCK });
+            let limit = if behind > 1 {
+                self.waits.soon
+            } else {
+                self.waits.last
+            };
             match TcpStream::connect_timeout(&self.rt, address, limit) {
                 Ok(stream) => return Ok((place, stream)),
                 Err(e) => last = e,
@@ -163,8 +241,12 @@ impl<R: Net<Stream = TcpStream> + Clock + Drop> TcpDial<R> {
             Ok(stream) => stream,
             Err(e) => return Err(self.refused(Doing::Connecting, e)),
         };
-        let sent = send(&stream, request);
-        let patience = if sent.is_ok() { SILENT } else { LAST };
+        let sent = send(&stream, request, self.waits.stuck);
+        let patience = if sent.is_ok() {
+            self.waits.silent
+        } else {
+            self.waits.silent.min(LAST)
+        };
         let (taken, ended) = self.take(&stream, limit, patience)?;
         if sent.is_ok() && ended || self.is_reply(&taken)? {
             return Ok(Bytes::from_vec(taken));
@@ -177,7 +259,7 @@ impl<R: Net<Stream = TcpStream> + Clock + Drop> TcpDial<R> {
         Err(OpenFault::Failed)
     }
 
-    // What comes up to the end, the limit, a failure, so many seconds without a byte or the end of the time, and whether it was one of the
+    // What comes up to the end, the limit, a failure, so many looks without a byte or the end of the time, and whether it was one of the
     // first two.
     fn take(
         &self,
@@ -223,7 +305,7 @@ impl<R: Net<Stream = TcpStream> + Clock + Drop> TcpDial<R> {
     // Whether a reply of which so many bytes came has taken too long.
     fn is_over(&self, begun: Instant, came: u64) -> bool {
         match begun.elapsed(&self.rt) {
-            Ok(time) => time.as_secs() >= WHOLE + came / MORE,
+            Ok(time) => time.as_secs() >= self.waits.whole.saturating_add(came / MORE),
             Err(_) => true,
         }
     }
@@ -247,8 +329,13 @@ fn broken_off() -> io::Error {
     io::Error::new(ErrorKind::TimedOut, "the reply broke off or took too long")
 }
 
-// Sends all of these bytes, piece by piece. It fails where the peer takes none for so long.
-fn send(mut stream: &TcpStream, bytes: &[u8]) -> io::Result<()> {
+// What is said while nothing is asked.
+fn resting() -> io::Error {
+    io::Error::new(ErrorKind::TimedOut, "the other end was too slow a moment ago")
+}
+
+// Sends all of these bytes, piece by piece. It fails where the peer takes none for so many looks.
+fn send(mut stream: &TcpStream, bytes: &[u8], most: u64) -> io::Result<()> {
     let mut gone = 0usize;
     let mut stuck = 0u64;
     'sending: for _ in 0..u64::MAX {
@@ -268,7 +355,7 @@ fn send(mut stream: &TcpStream, bytes: &[u8]) -> io::Result<()> {
                 ErrorKind::Interrupted => {}
                 ErrorKind::WouldBlock | ErrorKind::TimedOut => {
                     stuck = stuck.saturating_add(1);
-                    if stuck >= STUCK {
+                    if stuck >= most {
                         return Err(takes_nothing());
                     }
                 }
@@ -321,7 +408,12 @@ impl<R: Net<Stream = TcpStream> + Clock + Drop> Dial for TcpDial<R> {
         self.turned_to = None;
         self.trouble = None;
         match self.turn_to(host, port) {
-            Ok(()) => Ok(()),
+            Ok(()) => {
+                if let Some(pulls) = &self.pulls {
+                    pulls.turn_to(host, port);
+                }
+                Ok(())
+            }
             Err(OpenFault::NoMemory) => Err(DialError::NoMemory),
             Err(OpenFault::Failed) => {
                 self.fail();
@@ -332,10 +424,23 @@ impl<R: Net<Stream = TcpStream> + Clock + Drop> Dial for TcpDial<R> {
 
     fn exchange(&mut self, request: &[u8], limit: u64) -> Answer {
         self.trouble = None;
-        match self.ask(request, limit) {
-            Ok(bytes) => Answer::Bytes(bytes),
+        let begun = self.begin();
+        if self.rests(begun) {
+            self.trouble = Some(Trouble::new(Doing::Asking, resting()));
+            self.fail();
+            return Answer::Lost;
+        }
+        let since = self.note_request(request);
+        let asked = self.ask(request, limit);
+        self.note_time(begun, asked.is_err());
+        match asked {
+            Ok(bytes) => {
+                self.note_answer(since, request, Came::Bytes(bytes.as_slice()));
+                Answer::Bytes(bytes)
+            }
             Err(OpenFault::NoMemory) => Answer::NoMemory,
             Err(OpenFault::Failed) => {
+                self.note_answer(since, request, Came::Lost(self.trouble));
                 self.fail();
                 Answer::Lost
             }
@@ -343,6 +448,9 @@ impl<R: Net<Stream = TcpStream> + Clock + Drop> Dial for TcpDial<R> {
     }
 
     fn pause(&mut self) {
+        if let Some(pulls) = &self.pulls {
+            pulls.rest(&self.rt);
+        }
         thread::sleep(&self.rt, Duration::from_secs(1));
     }
 }

@@ -36,9 +36,9 @@ abbrev pub dialing : {C : Type 0} → (C → Option (List Exchange)) → (C → 
     → (C → ℕ) → (C → Option Peer) → Dialing C
 dialing log store later faults chosen = record { log = log; store = store; later = later; faults = faults; chosen = chosen }
 
--- the folder of the words, which is made where it isn't there, and no port
-abbrev pub at_edge : List ℕ → Chosen
-at_edge store = record { store = store; make = true; port = 0; bind = None; journal = None }
+-- the folder of the words, which is made where it isn't there, and no port; what is pulled is told in their journal
+abbrev pub at_edge : Pulling → Chosen
+at_edge e = record { store = e.store; make = true; port = 0; bind = None; journal = e.journal }
 
 abbrev pub plan_of : Pulling → PullPlan
 plan_of e = record { place = e.place; rounds = e.rounds; tries = e.tries }
@@ -134,7 +134,7 @@ HasFollowLine followed.NoMemory = ⊥
 abbrev pub IsUnpulled : {D C : Type 0} → Seen D → Dialing C → Pulling → End → End → D → D → C → C → Answer
     → Type 0
 IsUnpulled site t e input input' d d' c c' answer =
-    (why : StoreFault) × WhyNoEdge site input input' (t.faults c) (t.faults c') (at_edge e.store) d d' why × (t.log c' ≡ t.log c)
+    (why : StoreFault) × WhyNoEdge site input input' (t.faults c) (t.faults c') (at_edge e) d d' why × (t.log c' ≡ t.log c)
     × (Tells why answer ⊎ (answer ≡ Starved))
 
 -- a relay pulled into the store, and how it ended is told, but for want of memory for the line; or no store was opened
@@ -142,7 +142,7 @@ abbrev pub RelayMeans : {D C : Type 0} → Seen D → Dialing C → Pulling → 
     → D → C → C → Answer → Type 0
 RelayMeans site t e input input' d d' c c' answer =
     ((channel : List Track) × (report : RelayReport)
-    × HasRelayed site t.log t.store t.later t.faults t.chosen input input' (at_edge e.store)
+    × HasRelayed site t.log t.store t.later t.faults t.chosen input input' (at_edge e)
     e.place.host (plan_of e) d d' c c' channel report
     × (TellsRelay channel report answer ⊎ ((answer ≡ Starved) × HasRelayLine report.end)))
     ⊎ IsUnpulled site t e input input' d d' c c' answer
@@ -153,7 +153,7 @@ abbrev pub StandbyMeans : {D C : Type 0} → Seen D → Dialing C → Pulling �
     → Type 0
 StandbyMeans site t e input input' d d' c c' answer =
     ((channel : List Track) × (report : FollowReport)
-    × HasFollowed site t.log t.store t.later t.faults t.chosen input input' (at_edge e.store)
+    × HasFollowed site t.log t.store t.later t.faults t.chosen input input' (at_edge e)
     e.place.host (plan_of e) d d' c c' channel report
     × (TellsFollow channel report answer ⊎ ((answer ≡ Starved) × HasFollowLine report.end)))
     ⊎ IsUnpulled site t e input input' d d' c c' answer

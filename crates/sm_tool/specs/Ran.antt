@@ -85,11 +85,11 @@ MeansBy site t m policies wrong (Some (Play plan)) old new out out' d d' c c' an
     PlayMeans m plan policies old.dial new.dial (t.store c) (t.store c') old.tracks new.tracks answer × (out' ≡ out) × (new.input ≡ old.input) × (d' ≡ d)
 MeansBy site t m policies wrong (Some (Relay e)) old new out out' d d' c c' answer =
     RelayMeans site t e old.input new.input d d' c c' answer × (t.faults c ≤ t.faults c') × Grows (t.store c) (t.store c')
-    × IsSilent (site.view d) (site.view d') × IsSelected answer (at_edge e.store) (site.view d) (site.view d')
+    × IsSilent (site.view d) (site.view d') × IsSelected answer (at_edge e) (site.view d) (site.view d')
     × (old.input.faults ≤ new.input.faults) × (out' ≡ out) × (new.tracks ≡ old.tracks)
 MeansBy site t m policies wrong (Some (Standby e)) old new out out' d d' c c' answer =
     StandbyMeans site t e old.input new.input d d' c c' answer × (t.faults c ≤ t.faults c') × Grows (t.store c) (t.store c')
-    × IsSilent (site.view d) (site.view d') × IsSelected answer (at_edge e.store) (site.view d) (site.view d')
+    × IsSilent (site.view d) (site.view d') × IsSelected answer (at_edge e) (site.view d) (site.view d')
     × (old.input.faults ≤ new.input.faults) × (out' ≡ out) × (new.tracks ≡ old.tracks)
 MeansBy site t m policies wrong (Some (Listing folder)) old new out out' d d' c c' answer =
     ListMeans site d d' answer × LeavesLog site d d' × IsSilent (site.view d) (site.view d') × IsSelected answer (at_folder folder) (site.view d) (site.view d')

@@ -113,7 +113,7 @@ fn answer_to<I: Source, O: Sink, S: Site, C: Dial, T: Tracks>(
 /// `play HOST PORT PATH STREAM... [--from N] [--count N] [--tries N] [--refresh N]` plays streams of the channel with that path at that
 /// origin, one after another, the first to track 0, and writes how many fragments it wrote, or why it ended before there were as many
 /// as were wanted. The policies act in turn.
-/// `relay HOST PORT PATH STORE [--rounds N] [--tries N]` reads a ladder from `input`, declares it in the store in that folder, pulls into that
+/// `relay HOST PORT PATH STORE [--rounds N] [--tries N] [--journal FILE]` reads a ladder from `input`, declares it in the store in that folder, pulls into that
 /// what the origin lists of the ladder's tracks, and writes how many fragments it kept, or why it ended before there were as many rounds as
 /// were wanted. `standby` with the same words rebuilds there the log of that origin, fragment by fragment in its order.
 /// `rehearse NUMBER SIZE` runs the world of that number in memory, with so many rounds of pushes and three clients, each with one of

@@ -1,5 +1,5 @@
 //! The commands that pull into a store.
-ghost use Rattle.std.specs.Prelude.{◌≡◌, ◌≤◌, ℕ, List, IfOk, OnErr, slice_get, string_bytes};
+ghost use Rattle.std.specs.Prelude.{◌≡◌, ◌≤◌, ℕ, List, IfOk, OnErr, slice_get};
 ghost use Rattle.sm_command.specs.Lasting.{IsSilent, KeepsStores};
 ghost use Rattle.sm_fetch.specs.Origins.{DialGoesOn};
 ghost use Rattle.sm_words.specs.Orders.{IsPullable, pulling_of};
@@ -139,7 +139,7 @@ pub fn relay<I: Source, S: Site, C: Dial>(
     order: EdgeOrder,
 ) -> Answer
     requires pullable { IsPullable (pulling_of order) }
-    ensures selected { IsSelected result (at_edge (string_bytes order.store)) (S.Disk.seen.view site.old) (S.Disk.seen.view site.new) }
+    ensures selected { IsSelected result (at_edge (pulling_of order)) (S.Disk.seen.view site.old) (S.Disk.seen.view site.new) }
     ensures means { RelayMeans S.Disk.seen (dialing C.log C.store C.later C.dial_faults C.chosen) (pulling_of order)
         (end_of I.left I.faults input.old) (end_of I.left I.faults input.new) site.old site.new dial.old dial.new result }
     ensures dial { DialGoesOn C.store C.later C.dial_faults dial.old dial.new }
@@ -152,7 +152,7 @@ pub fn relay<I: Source, S: Site, C: Dial>(
         make: true,
         port: 0,
         bind: None,
-        journal: None,
+        journal: order.journal,
     };
     let plan = PullPlan {
         place: order.place,
@@ -182,7 +182,7 @@ pub fn standby<I: Source, S: Site, C: Dial>(
     order: EdgeOrder,
 ) -> Answer
     requires pullable { IsPullable (pulling_of order) }
-    ensures selected { IsSelected result (at_edge (string_bytes order.store)) (S.Disk.seen.view site.old) (S.Disk.seen.view site.new) }
+    ensures selected { IsSelected result (at_edge (pulling_of order)) (S.Disk.seen.view site.old) (S.Disk.seen.view site.new) }
     ensures means { StandbyMeans S.Disk.seen (dialing C.log C.store C.later C.dial_faults C.chosen) (pulling_of order)
         (end_of I.left I.faults input.old) (end_of I.left I.faults input.new) site.old site.new dial.old dial.new result }
     ensures dial { DialGoesOn C.store C.later C.dial_faults dial.old dial.new }
@@ -195,7 +195,7 @@ pub fn standby<I: Source, S: Site, C: Dial>(
         make: true,
         port: 0,
         bind: None,
-        journal: None,
+        journal: order.journal,
     };
     let plan = PullPlan {
         place: order.place,

@@ -29,7 +29,7 @@ const SERVE_OPTIONS: [Name; 6] = [
     Name::Players,
 ];
 
-const EDGE_OPTIONS: [Name; 2] = [Name::Rounds, Name::Tries];
+const EDGE_OPTIONS: [Name; 3] = [Name::Rounds, Name::Tries, Name::Journal];
 
 const PLAY_OPTIONS: [Name; 4] = [Name::From, Name::Count, Name::Tries, Name::Refresh];
 

@@ -17,7 +17,7 @@ use Rattle.clap.specs.Walk.{Row, all_of, first_of, has_row, more_values, one_of,
 use Rattle.sm_words.specs.declared.option.Name.{Name}
 use Rattle.sm_words.specs.declared.option.Name.TheVariants.{Port, Ladder, Turns, Bind, Journal, Players, From, Count, Tries, Refresh, Rounds}
 use Rattle.sm_words.specs.Options.{edge_options, has_value, play_options, serve_options}
-use Rattle.sm_words.specs.Words.{Text, Read, PlayTexts, ServeTexts, at_most_one, edge_texts, edge_words_by, only_word, play_texts, play_words_by, read, serve_texts, value_of, value_or_empty, values_of}
+use Rattle.sm_words.specs.Words.{Text, Read, EdgeTexts, PlayTexts, ServeTexts, at_most_one, edge_texts, edge_words_by, only_word, play_texts, play_words_by, read, serve_texts, value_of, value_or_empty, values_of}
 use Rattle.sm_words.specs.Clapped.{edge_app, is_taken, play_app, serve_app}
 use Rattle.sm_words.proofs.Lexing.{id_of}
 use Rattle.sm_words.proofs.Rows.{Rows, rule_for}
@@ -63,32 +63,56 @@ pub edge_none : (app : App) (words : List Text) → app ≡ edge_app → is_take
 edge_none app words same e =
     sym (refused_none edge_app (codes "edge") edge_options edge_built edge_subs refl edge_texts edge_twice words (same_taken app edge_app words false same e))
 
-edge_line : (r : Read) (rounds tries : Option Text) → value_of Rounds r ≡ Some rounds → value_of Tries r ≡ Some tries → edge_texts r ≡ edge_words_by r.words rounds tries
-edge_line r rounds tries a b = rw (a, b) refl
+-- all texts, by what the getters find of the options
+abbrev edge_from : List Text → Option Text → Option Text → Option Text → Option EdgeTexts
+edge_from words rounds tries journal = option_and_then (λ j. edge_words_by words rounds tries j) (value_or_empty journal)
+
+edge_line : (r : Read) (rounds tries journal : Option Text) → value_of Rounds r ≡ Some rounds → value_of Tries r ≡ Some tries → value_of Journal r ≡ Some journal
+    → edge_texts r ≡ edge_from r.words rounds tries journal
+edge_line r rounds tries journal a b c = rw (a, b, c) refl
 
 -- what stands for an option may as well be given
-edge_same : (words : List Text) (rounds tries : Option Text)
-    → edge_words_by words (Some (unwrap_or rounds (codes "1000000"))) (Some (unwrap_or tries (codes "3"))) ≡ edge_words_by words rounds tries
-edge_same [] rounds tries = refl
-edge_same (host ∷ []) rounds tries = refl
-edge_same (host ∷ port ∷ []) rounds tries = refl
-edge_same (host ∷ port ∷ path ∷ []) rounds tries = refl
-edge_same (host ∷ port ∷ path ∷ store ∷ []) rounds tries = refl
-edge_same (host ∷ port ∷ path ∷ store ∷ more ∷ words) rounds tries = refl
+edge_same : (words : List Text) (rounds tries : Option Text) (journal : Text)
+    → edge_words_by words (Some (unwrap_or rounds (codes "1000000"))) (Some (unwrap_or tries (codes "3"))) journal ≡ edge_words_by words rounds tries journal
+edge_same [] rounds tries journal = refl
+edge_same (host ∷ []) rounds tries journal = refl
+edge_same (host ∷ port ∷ []) rounds tries journal = refl
+edge_same (host ∷ port ∷ path ∷ []) rounds tries journal = refl
+edge_same (host ∷ port ∷ path ∷ store ∷ []) rounds tries journal = refl
+edge_same (host ∷ port ∷ path ∷ store ∷ more ∷ words) rounds tries journal = refl
 
-pub edge_told : (app : App) (words all : List Text) (rounds tries : Text) (f : Found) → app ≡ edge_app → (is_taken app words ≡ true) × (rows_of f ≡ matches_of app words) → all ≡ words_in f
-    → rounds ≡ unwrap_or (first_value f (codes "rounds")) (codes "1000000") → tries ≡ unwrap_or (first_value f (codes "tries")) (codes "3")
-    → edge_words_by all (Some rounds) (Some tries) ≡ option_and_then edge_texts (read edge_options words)
-edge_told app words all rounds tries f same taken found r n =
+-- what is read of the words, by what the getters find
+edge_read : (app : App) (words : List Text) (f : Found) → app ≡ edge_app → (is_taken app words ≡ true) × (rows_of f ≡ matches_of app words)
+    → edge_from (words_in f) (first_value f (codes "rounds")) (first_value f (codes "tries")) (first_value f (codes "journal"))
+    ≡ option_and_then edge_texts (read edge_options words)
+edge_read app words f same taken =
     let t = taken_told edge_app (codes "edge") edge_options edge_built edge_subs refl words (same_taken app edge_app words true same taken.0) in
     let rows = matches_of edge_app words in
     let is = same_rows app edge_app words f same taken.1 in
-    ap₂ (λ (a b : Text). edge_words_by all (Some a) (Some b)) r n
-    ∙ edge_same all (first_value f (codes "rounds")) (first_value f (codes "tries"))
-    ∙ ap (λ (ws : List Text). edge_words_by ws (first_value f (codes "rounds")) (first_value f (codes "tries"))) (found ∙ given_words edge_options words f rows t is)
-    ∙ sym (edge_line t.line (first_value f (codes "rounds")) (first_value f (codes "tries")) (given_value Rounds edge_options words f rows t is refl refl)
-    (given_value Tries edge_options words f rows t is refl refl))
+    ap (λ (ws : List Text). edge_from ws (first_value f (codes "rounds")) (first_value f (codes "tries")) (first_value f (codes "journal")))
+    (given_words edge_options words f rows t is)
+    ∙ sym (edge_line t.line (first_value f (codes "rounds")) (first_value f (codes "tries")) (first_value f (codes "journal"))
+    (given_value Rounds edge_options words f rows t is refl refl)
+    (given_value Tries edge_options words f rows t is refl refl)
+    (given_value Journal edge_options words f rows t is refl refl))
     ∙ sym (ap (λ (o : Option Read). option_and_then edge_texts o) t.is)
+
+pub edge_no_journal : (app : App) (words : List Text) (f : Found) → app ≡ edge_app → (is_taken app words ≡ true) × (rows_of f ≡ matches_of app words)
+    → value_or_empty (first_value f (codes "journal")) ≡ None → None ≡ option_and_then edge_texts (read edge_options words)
+edge_no_journal app words f same taken none =
+    sym (ap (λ (v : Option Text). option_and_then (λ j. edge_words_by (words_in f) (first_value f (codes "rounds")) (first_value f (codes "tries")) j) v) none)
+    ∙ edge_read app words f same taken
+
+pub edge_told : (app : App) (words all : List Text) (rounds tries journal : Text) (f : Found) → app ≡ edge_app → (is_taken app words ≡ true) × (rows_of f ≡ matches_of app words) → all ≡ words_in f
+    → rounds ≡ unwrap_or (first_value f (codes "rounds")) (codes "1000000") → tries ≡ unwrap_or (first_value f (codes "tries")) (codes "3")
+    → value_or_empty (first_value f (codes "journal")) ≡ Some journal
+    → edge_words_by all (Some rounds) (Some tries) journal ≡ option_and_then edge_texts (read edge_options words)
+edge_told app words all rounds tries journal f same taken found r n j =
+    ap₂ (λ (a b : Text). edge_words_by all (Some a) (Some b) journal) r n
+    ∙ edge_same all (first_value f (codes "rounds")) (first_value f (codes "tries")) journal
+    ∙ ap (λ (ws : List Text). edge_words_by ws (first_value f (codes "rounds")) (first_value f (codes "tries")) journal) found
+    ∙ sym (ap (λ (v : Option Text). option_and_then (λ j. edge_words_by (words_in f) (first_value f (codes "rounds")) (first_value f (codes "tries")) j) v) j)
+    ∙ edge_read app words f same taken
 
 -- ---- play
 

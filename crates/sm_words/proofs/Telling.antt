@@ -277,24 +277,38 @@ play_twice r o (inr (inr (inr (inl p)))) e =
     ∙ play_no_refresh (value_of From r) (value_of Count r) (value_of Tries r) r.words
 play_twice r o (inr (inr (inr (inr none)))) e = absurd none
 
-abbrev edge_by_values : Value → Value → List Text → Option EdgeTexts
-edge_by_values rounds tries words = option_and_then (λ rounds. option_and_then (λ tries. edge_words_by words rounds tries) tries) rounds
+abbrev edge_by_values : Value → Value → Value → List Text → Option EdgeTexts
+edge_by_values rounds tries journal words =
+    option_and_then (λ rounds.
+    option_and_then (λ tries.
+    option_and_then (λ journal. edge_words_by words rounds tries journal)
+    (option_and_then value_or_empty journal))
+    tries)
+    rounds
 
-edge_no_rounds : (v1 : Value) (ws : List Text) → edge_by_values None v1 ws ≡ None
-edge_no_rounds v1 ws = refl
+edge_no_rounds : (v1 v2 : Value) (ws : List Text) → edge_by_values None v1 v2 ws ≡ None
+edge_no_rounds v1 v2 ws = refl
 
-edge_no_tries : (v0 : Value) (ws : List Text) → edge_by_values v0 None ws ≡ None
-edge_no_tries None ws = refl
-edge_no_tries (Some y0) ws = refl
+edge_no_tries : (v0 v2 : Value) (ws : List Text) → edge_by_values v0 None v2 ws ≡ None
+edge_no_tries None v2 ws = refl
+edge_no_tries (Some y0) v2 ws = refl
+
+edge_no_journal : (v0 v1 : Value) (ws : List Text) → edge_by_values v0 v1 None ws ≡ None
+edge_no_journal None v1 ws = refl
+edge_no_journal (Some y0) None ws = refl
+edge_no_journal (Some y0) (Some y1) ws = refl
 
 pub edge_twice : (r : Read) (o : Name) → IsIn o edge_options → value_of o r ≡ None → edge_texts r ≡ None
 edge_twice r o (inl p) e =
-    ap (λ (v : Value). edge_by_values v (value_of Tries r) r.words) (named_value r o Rounds p e)
-    ∙ edge_no_rounds (value_of Tries r) r.words
+    ap (λ (v : Value). edge_by_values v (value_of Tries r) (value_of Journal r) r.words) (named_value r o Rounds p e)
+    ∙ edge_no_rounds (value_of Tries r) (value_of Journal r) r.words
 edge_twice r o (inr (inl p)) e =
-    ap (λ (v : Value). edge_by_values (value_of Rounds r) v r.words) (named_value r o Tries p e)
-    ∙ edge_no_tries (value_of Rounds r) r.words
-edge_twice r o (inr (inr none)) e = absurd none
+    ap (λ (v : Value). edge_by_values (value_of Rounds r) v (value_of Journal r) r.words) (named_value r o Tries p e)
+    ∙ edge_no_tries (value_of Rounds r) (value_of Journal r) r.words
+edge_twice r o (inr (inr (inl p))) e =
+    ap (λ (v : Value). edge_by_values (value_of Rounds r) (value_of Tries r) v r.words) (named_value r o Journal p e)
+    ∙ edge_no_journal (value_of Rounds r) (value_of Tries r) r.words
+edge_twice r o (inr (inr (inr none))) e = absurd none
 
 -- ---- what is taken, and what is not
 

@@ -60,8 +60,10 @@ abbrev pub edge_app : App
 edge_app =
     with_rule
     (with_rule
+    (with_rule
     (with_rule (behind_name (new_app (codes "edge"))) (option_rule (codes "rounds")))
     (option_rule (codes "tries")))
+    (option_rule (codes "journal")))
     (words_rule (codes "WORDS"))
 
 -- ---- what `clap` reads otherwise than it is meant

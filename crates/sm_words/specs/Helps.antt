@@ -10,8 +10,8 @@ usage_of topic.Serve = codes "usage: smooth serve STORE --port N [--bind ADDRESS
 usage_of topic.List = codes "usage: smooth list STORE\n"
 usage_of topic.Push = codes "usage: smooth push HOST PORT PATH ID < PUSH\n"
 usage_of topic.Play = codes "usage: smooth play HOST PORT PATH STREAM... [--from N] [--count N] [--tries N] [--refresh N]\n"
-usage_of topic.Relay = codes "usage: smooth relay HOST PORT PATH STORE [--rounds N] [--tries N] < LADDER\n"
-usage_of topic.Standby = codes "usage: smooth standby HOST PORT PATH STORE [--rounds N] [--tries N] < LADDER\n"
+usage_of topic.Relay = codes "usage: smooth relay HOST PORT PATH STORE [--rounds N] [--tries N] [--journal FILE] < LADDER\n"
+usage_of topic.Standby = codes "usage: smooth standby HOST PORT PATH STORE [--rounds N] [--tries N] [--journal FILE] < LADDER\n"
 usage_of topic.Pick = codes "usage: smooth pick TRACK TIME < PUSH > FRAGMENT\n"
 usage_of topic.Export = codes "usage: smooth export STORE NAME BITRATE < HEADER > FILE\n"
 usage_of topic.Rehearse = codes "usage: smooth rehearse NUMBER SIZE\n"
@@ -81,7 +81,7 @@ help_of topic.Play =
     ++ (codes "\n"
     ++ (codes "  smooth play localhost 8080 live video audio --count 10\n")))))))))))
 help_of topic.Relay =
-    codes "usage: smooth relay HOST PORT PATH STORE [--rounds N] [--tries N] < LADDER\n"
+    codes "usage: smooth relay HOST PORT PATH STORE [--rounds N] [--tries N] [--journal FILE] < LADDER\n"
     ++ (codes "\n"
     ++ (codes "Pulls what the origin at HOST and PORT lists of /PATH.isml into the store in the folder STORE, which is\n"
     ++ (codes "made where it isn't there. The ladder in the input, at most 1048576 bytes, is the tracks that are pulled;\n"
@@ -90,10 +90,11 @@ help_of topic.Relay =
     ++ (codes "  PORT            1 to 65535\n"
     ++ (codes "  --rounds N      how often the manifest is read, 1 to 1000000; default 1000000\n"
     ++ (codes "  --tries N       how often each thing is asked for, 1 to 16; default 3\n"
+    ++ (codes "  --journal FILE  appends a line for each round and each failed request to FILE\n"
     ++ (codes "\n"
-    ++ (codes "  smooth relay origin.example.com 8080 live /var/lib/smooth/edge < ladder.xml\n"))))))))))
+    ++ (codes "  smooth relay origin.example.com 8080 live /var/lib/smooth/edge < ladder.xml\n")))))))))))
 help_of topic.Standby =
-    codes "usage: smooth standby HOST PORT PATH STORE [--rounds N] [--tries N] < LADDER\n"
+    codes "usage: smooth standby HOST PORT PATH STORE [--rounds N] [--tries N] [--journal FILE] < LADDER\n"
     ++ (codes "\n"
     ++ (codes "Follows the primary at HOST and PORT: rebuilds its store of /PATH.isml, fragment by fragment in its order,\n"
     ++ (codes "in the folder STORE, which is made where it isn't there. The ladder in the input, at most 1048576 bytes,\n"
@@ -102,8 +103,9 @@ help_of topic.Standby =
     ++ (codes "  PORT            1 to 65535\n"
     ++ (codes "  --rounds N      how often the manifest is read, 1 to 1000000; default 1000000\n"
     ++ (codes "  --tries N       how often each thing is asked for, 1 to 16; default 3\n"
+    ++ (codes "  --journal FILE  appends a line for each round and each failed request to FILE\n"
     ++ (codes "\n"
-    ++ (codes "  smooth standby primary.example.com 8080 live /var/lib/smooth/store < ladder.xml\n"))))))))))
+    ++ (codes "  smooth standby primary.example.com 8080 live /var/lib/smooth/store < ladder.xml\n")))))))))))
 help_of topic.Pick =
     codes "usage: smooth pick TRACK TIME < PUSH > FRAGMENT\n"
     ++ (codes "\n"

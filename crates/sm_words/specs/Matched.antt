@@ -37,6 +37,7 @@ edge_texts_of t = record {
   store = string_bytes t.store;
   rounds = string_bytes t.rounds;
   tries = string_bytes t.tries;
+  journal = string_bytes t.journal;
 }
 
 -- none where there is no stream

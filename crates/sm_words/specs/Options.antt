@@ -57,4 +57,4 @@ play_options = From ∷ Count ∷ Tries ∷ Refresh ∷ []
 
 -- the options of `relay` and of `standby`
 abbrev pub edge_options : List Name
-edge_options = Rounds ∷ Tries ∷ []
+edge_options = Rounds ∷ Tries ∷ Journal ∷ []

@@ -20,7 +20,13 @@ serving_of s = record {
 }
 
 abbrev pub pulling_of : EdgeOrder → Pulling
-pulling_of e = record { place = e.place; store = string_bytes e.store; rounds = e.rounds; tries = e.tries }
+pulling_of e = record {
+  place = e.place;
+  store = string_bytes e.store;
+  rounds = e.rounds;
+  tries = e.tries;
+  journal = option_map string_bytes e.journal;
+}
 
 abbrev pub wanted_of : Order → Wanted
 wanted_of (order.Pick track time) = Pick track time

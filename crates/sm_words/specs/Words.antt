@@ -166,13 +166,14 @@ pub record Serving : Type 0 where
   pub bind : Option Text
   pub journal : Option Text
 
--- where an origin's channel is, the folder of the store that it is pulled into, how often its manifest is read, and how often each thing is
--- asked for
+-- where an origin's channel is, the folder of the store that it is pulled into, how often its manifest is read, how often each thing is
+-- asked for, and the file of the journal
 pub record Pulling : Type 0 where
   pub place : Origin
   pub store : Text
   pub rounds : ℕ
   pub tries : ℕ
+  pub journal : Option Text
 
 pub data Wanted : Type 0 where
   -- a track_ID and a time
@@ -403,32 +404,42 @@ pub record EdgeTexts : Type 0 where
   pub store : Text
   pub rounds : Text
   pub tries : Text
+  pub journal : Text
 
 -- where an option isn't given, the manifest is read 1,000,000 times, and each thing is asked for three times at most
-abbrev pub edge_words_by : List Text → Option Text → Option Text → Option EdgeTexts
-edge_words_by [] rounds tries = None
-edge_words_by (host ∷ []) rounds tries = None
-edge_words_by (host ∷ port ∷ []) rounds tries = None
-edge_words_by (host ∷ port ∷ path ∷ []) rounds tries = None
-edge_words_by (host ∷ port ∷ path ∷ store ∷ []) rounds tries = Some (record {
+abbrev pub edge_words_by : List Text → Option Text → Option Text → Text → Option EdgeTexts
+edge_words_by [] rounds tries journal = None
+edge_words_by (host ∷ []) rounds tries journal = None
+edge_words_by (host ∷ port ∷ []) rounds tries journal = None
+edge_words_by (host ∷ port ∷ path ∷ []) rounds tries journal = None
+edge_words_by (host ∷ port ∷ path ∷ store ∷ []) rounds tries journal = Some (record {
   host = host;
   port = port;
   path = path;
   store = store;
   rounds = unwrap_or rounds (codes "1000000");
   tries = unwrap_or tries (codes "3");
+  journal = journal;
 })
-edge_words_by (host ∷ port ∷ path ∷ store ∷ more ∷ words) rounds tries = None
+edge_words_by (host ∷ port ∷ path ∷ store ∷ more ∷ words) rounds tries journal = None
 
 abbrev pub edge_texts : Read → Option EdgeTexts
 edge_texts r =
     option_and_then (λ rounds.
-    option_and_then (λ tries. edge_words_by r.words rounds tries)
+    option_and_then (λ tries.
+    option_and_then (λ journal. edge_words_by r.words rounds tries journal)
+    (option_and_then value_or_empty (value_of Journal r)))
     (value_of Tries r))
     (value_of Rounds r)
 
 abbrev pub pulling_by : EdgeTexts → ℕ → ℕ → ℕ → Text → Pulling
-pulling_by x port rounds tries store = record { place = record { host = x.host; port = port; path = x.path }; store = store; rounds = rounds; tries = tries }
+pulling_by x port rounds tries store = record {
+  place = record { host = x.host; port = port; path = x.path };
+  store = store;
+  rounds = rounds;
+  tries = tries;
+  journal = filled x.journal;
+}
 
 abbrev pub edge_by : EdgeTexts → Option Pulling
 edge_by x =
@@ -505,7 +516,8 @@ alone (word ∷ words) wanted = None
 -- what the words ask for: `pick TRACK TIME`, `serve STORE --port N [--ladder] [--turns N] [--bind ADDRESS] [--journal FILE] [--players N]`,
 -- `push HOST PORT PATH ID`, `list STORE`,
 -- `play HOST PORT PATH STREAM... [--from N] [--count N] [--tries N] [--refresh N]`, `rehearse NUMBER SIZE`, `export STORE NAME BITRATE`,
--- `relay HOST PORT PATH STORE [--rounds N] [--tries N]`, `standby HOST PORT PATH STORE [--rounds N] [--tries N]`,
+-- `relay HOST PORT PATH STORE [--rounds N] [--tries N] [--journal FILE]`,
+-- `standby HOST PORT PATH STORE [--rounds N] [--tries N] [--journal FILE]`,
 -- `help`, `help COMMAND`, `--help`, `version` or `--version`
 unfoldable pub asked : List Text → Option Wanted
 asked [] = None

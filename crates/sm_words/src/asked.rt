@@ -132,8 +132,8 @@ fn alone(words: &[String], order: Order) -> Option<Order>
 /// What the words ask for: `pick TRACK TIME`, `serve STORE --port N [--ladder] [--turns N] [--bind ADDRESS] [--journal FILE] [--players N]`,
 /// `push HOST PORT PATH ID`, `list STORE`,
 /// `play HOST PORT PATH STREAM... [--from N] [--count N] [--tries N] [--refresh N]`, `rehearse NUMBER SIZE`,
-/// `export STORE NAME BITRATE`, `relay HOST PORT PATH STORE [--rounds N] [--tries N]`,
-/// `standby HOST PORT PATH STORE [--rounds N] [--tries N]`, `help`, `help COMMAND`, `--help`, `version` or `--version`. None where they are none of these.
+/// `export STORE NAME BITRATE`, `relay HOST PORT PATH STORE [--rounds N] [--tries N] [--journal FILE]`,
+/// `standby HOST PORT PATH STORE [--rounds N] [--tries N] [--journal FILE]`, `help`, `help COMMAND`, `--help`, `version` or `--version`. None where they are none of these.
 #[tactic(auto, unfolding(crate::specs::Words::asked))]
 pub fn order_of(alloc: Global, words: &[String]) -> Result<Option<Order>, NoMemory>
     ensures { IfOk result (λ order. option_map wanted_of order ≡ asked (map string_bytes words.now)) }

@@ -16,5 +16,7 @@ pub struct EdgeOrder {
     pub rounds: u64,
     /// How often each manifest and each fragment is asked for at most, 1 to 16.
     pub tries: u32,
+    /// The file of the journal.
+    pub journal: Option<String>,
     ghost same: { string_bytes host ≡ place.host },
 }

@@ -25,9 +25,9 @@ pub fn usage_text(topic: Topic) -> &'static str
         Topic::Play =>
             "usage: smooth play HOST PORT PATH STREAM... [--from N] [--count N] [--tries N] [--refresh N]\n",
         Topic::Relay =>
-            "usage: smooth relay HOST PORT PATH STORE [--rounds N] [--tries N] < LADDER\n",
+            "usage: smooth relay HOST PORT PATH STORE [--rounds N] [--tries N] [--journal FILE] < LADDER\n",
         Topic::Standby =>
-            "usage: smooth standby HOST PORT PATH STORE [--rounds N] [--tries N] < LADDER\n",
+            "usage: smooth standby HOST PORT PATH STORE [--rounds N] [--tries N] [--journal FILE] < LADDER\n",
         Topic::Pick => "usage: smooth pick TRACK TIME < PUSH > FRAGMENT\n",
         Topic::Export => "usage: smooth export STORE NAME BITRATE < HEADER > FILE\n",
         Topic::Rehearse => "usage: smooth rehearse NUMBER SIZE\n",
@@ -121,7 +121,7 @@ second to track-1.frag, and so on.
   smooth play localhost 8080 live video audio --count 10
 ";
 
-const RELAY: &str = "usage: smooth relay HOST PORT PATH STORE [--rounds N] [--tries N] < LADDER
+const RELAY: &str = "usage: smooth relay HOST PORT PATH STORE [--rounds N] [--tries N] [--journal FILE] < LADDER
 
 Pulls what the origin at HOST and PORT lists of /PATH.isml into the store in the folder STORE, which is
 made where it isn't there. The ladder in the input, at most 1048576 bytes, is the tracks that are pulled;
@@ -130,11 +130,12 @@ it is declared where the store has none. What is kept is served by serve.
   PORT            1 to 65535
   --rounds N      how often the manifest is read, 1 to 1000000; default 1000000
   --tries N       how often each thing is asked for, 1 to 16; default 3
+  --journal FILE  appends a line for each round and each failed request to FILE
 
   smooth relay origin.example.com 8080 live /var/lib/smooth/edge < ladder.xml
 ";
 
-const STANDBY: &str = "usage: smooth standby HOST PORT PATH STORE [--rounds N] [--tries N] < LADDER
+const STANDBY: &str = "usage: smooth standby HOST PORT PATH STORE [--rounds N] [--tries N] [--journal FILE] < LADDER
 
 Follows the primary at HOST and PORT: rebuilds its store of /PATH.isml, fragment by fragment in its order,
 in the folder STORE, which is made where it isn't there. The ladder in the input, at most 1048576 bytes,
@@ -143,6 +144,7 @@ is that of the primary. Where the primary is gone, serve takes over from the sto
   PORT            1 to 65535
   --rounds N      how often the manifest is read, 1 to 1000000; default 1000000
   --tries N       how often each thing is asked for, 1 to 16; default 3
+  --journal FILE  appends a line for each round and each failed request to FILE
 
   smooth standby primary.example.com 8080 live /var/lib/smooth/store < ladder.xml
 ";

@@ -42,7 +42,7 @@ pub struct ExportTexts {
     pub bitrate: String,
 }
 
-/// The texts that `relay` and `standby` are given, or those that stand for them.
+/// The texts that `relay` and `standby` are given, or those that stand for them; the empty one stands for a journal that isn't.
 #[derive(Debug, Drop)]
 pub struct EdgeTexts {
     pub host: String,
@@ -51,6 +51,7 @@ pub struct EdgeTexts {
     pub store: String,
     pub rounds: String,
     pub tries: String,
+    pub journal: String,
 }
 
 /// The texts that `play` is given, or those that stand for them.
@@ -160,6 +161,7 @@ fn edge_command<'w>(alloc: Global) -> Result<Command<'w>, NoMemory>
 {
     let command = with(command(alloc, "edge"), option(alloc, "rounds"))?;
     let command = with(command, option(alloc, "tries"))?;
+    let command = with(command, option(alloc, "journal"))?;
     with(command, words(alloc, "WORDS"))
 }
 
@@ -393,9 +395,10 @@ fn edge_by_words(
     words: &[String],
     rounds: String,
     tries: String,
+    journal: String,
 ) -> Result<Option<EdgeTexts>, NoMemory>
     ensures { IfOk result (λ texts. option_map edge_texts_of texts
-        ≡ edge_words_by (map string_bytes words.now) (Some (string_bytes rounds)) (Some (string_bytes tries))) }
+        ≡ edge_words_by (map string_bytes words.now) (Some (string_bytes rounds)) (Some (string_bytes tries)) (string_bytes journal)) }
 {
     let [host, port, path, store] = words else {
         return Ok(None);
@@ -407,6 +410,7 @@ fn edge_by_words(
         store: text(alloc, store.as_str())?,
         rounds,
         tries,
+        journal,
     }))
 }
 
@@ -417,10 +421,13 @@ pub fn read_edge(alloc: Global, words: &[String]) -> Result<Option<EdgeTexts>, N
     let Some(matches) = matched(edge_command(alloc)?, words)? else {
         return Ok(None);
     };
+    let Some(journal) = filled_or_none(alloc, &matches, "journal")? else {
+        return Ok(None);
+    };
     let words = others(alloc, &matches)?;
     let rounds = text_or(alloc, &matches, "rounds", MANY)?;
     let tries = text_or(alloc, &matches, "tries", PATIENCE)?;
-    edge_by_words(alloc, words.as_slice(), rounds, tries)
+    edge_by_words(alloc, words.as_slice(), rounds, tries, journal)
 }
 
 // The texts of `play`, by the words and the options.

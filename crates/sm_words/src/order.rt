@@ -342,6 +342,7 @@ pub(crate) fn edge_order(alloc: Global, texts: EdgeTexts) -> Result<Option<EdgeO
         store,
         rounds,
         tries,
+        journal,
     } = texts;
     let (Some(port), Some(rounds), Some(tries)) = (
         number(port.as_str(), 1, 65_535),
@@ -367,6 +368,7 @@ pub(crate) fn edge_order(alloc: Global, texts: EdgeTexts) -> Result<Option<EdgeO
         store,
         rounds,
         tries: tries as u32,
+        journal: filled(journal),
     }))
 }
 

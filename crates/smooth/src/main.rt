@@ -28,7 +28,7 @@ use sm_model::NoMemory;
 use sm_players::Spawner;
 use sm_policy::{Fixed, Ladder, Policy, Steps};
 use sm_promises::promised;
-use sm_real::{FileTracks, RealSite, TcpDial, Trouble, Viewers};
+use sm_real::{FileTracks, Pulls, RealSite, TcpDial, Trouble, Viewers};
 use sm_site::Site;
 use sm_tool::starved;
 use std::alloc::Global;
@@ -138,6 +138,14 @@ fn main(rt: HostRuntime) -> ExitCode {
         return end_starved(&mut output);
     };
     site.tell_of(copy);
+    let Ok(pulls) = Pulls::new(rt.alloc()) else {
+        return end_starved(&mut output);
+    };
+    let Ok(copy) = pulls.copy() else {
+        return end_starved(&mut output);
+    };
+    site.pull_in(copy);
+    dial.tell_in(pulls);
     let Ok(crew) = RealCrew::new(rt, rt.alloc(), viewers) else {
         return end_starved(&mut output);
     };

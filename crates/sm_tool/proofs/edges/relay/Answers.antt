@@ -1,4 +1,4 @@
-use Rattle.std.proofs.Common.{◌∙◌, inl, inr, ap, string_bytes, Result, Err}
+use Rattle.std.proofs.Common.{◌∙◌, inl, inr, ap, Result, Err}
 use Rattle.sm_edge.specs.declared.relaying.StoreRelay.{StoreRelay}
 use Rattle.sm_command.specs.declared.fault.StoreFault.{StoreFault}
 use Rattle.sm_words.specs.Orders.{pulling_of}
@@ -9,11 +9,11 @@ use Rattle.sm_tool.proofs.Storing.{placed_by, selected, unselected}
 use Rattle.sm_tool.proofs.edges.relay.Goals as goal
 
 pub returns-in-Ok-clause-selected : goal.returns-in-Ok-clause-selected
-returns-in-Ok-clause-selected g c = selected c.or_starved.result (at_edge (string_bytes c.args.order.store)) (g.S.Disk.seen.view c.args.site.now) (g.S.Disk.seen.view c.relay_store.new.site) c.in-Ok.ensures.chosen
+returns-in-Ok-clause-selected g c = selected c.or_starved.result (at_edge (pulling_of c.args.order)) (g.S.Disk.seen.view c.args.site.now) (g.S.Disk.seen.view c.relay_store.new.site) c.in-Ok.ensures.chosen
 
 pub returns-clause-selected : goal.returns-clause-selected
 returns-clause-selected g c =
-    unselected c.in-Err.fault c.refused.result c.or_starved-in-Err.result (at_edge (string_bytes c.args.order.store))
+    unselected c.in-Err.fault c.refused.result c.or_starved-in-Err.result (at_edge (pulling_of c.args.order))
     (g.S.Disk.seen.view c.args.site.now) (g.S.Disk.seen.view c.relay_store.new.site) c.refused.ensures c.or_starved-in-Err.ensures c.in-Err.ensures.chosen
 
 pub returns-in-Ok-clause-means : goal.returns-in-Ok-clause-means
@@ -23,7 +23,7 @@ returns-in-Ok-clause-means g c =
     inl (
       r.channel,
       r.report,
-      relayed_at g.S.Disk.seen t _ _ (at_edge (string_bytes c.args.order.store)) (plan_of (pulling_of c.args.order)) c.args.site.now c.relay_store.new.site c.args.dial.now c.relay_store.new.dial r.channel
+      relayed_at g.S.Disk.seen t _ _ (at_edge (pulling_of c.args.order)) (plan_of (pulling_of c.args.order)) c.args.site.now c.relay_store.new.site c.args.dial.now c.relay_store.new.dial r.channel
           _ _ (c.as_str.ensures.value ∙ c.args.order.same) r.report c.in-Ok.ensures.relayed,
       told_or _ c.relayed.result c.or_starved.result c.relayed.ensures.told c.relayed.ensures.unwritten c.or_starved.ensures,
     )
