@@ -331,7 +331,10 @@ fn broken_off() -> io::Error {
 
 // What is said while nothing is asked.
 fn resting() -> io::Error {
-    io::Error::new(ErrorKind::TimedOut, "the other end was too slow a moment ago")
+    io::Error::new(
+        ErrorKind::TimedOut,
+        "the other end was too slow a moment ago",
+    )
 }
 
 // Sends all of these bytes, piece by piece. It fails where the peer takes none for so many looks.
