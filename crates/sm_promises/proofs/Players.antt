@@ -62,14 +62,14 @@ untold (fault.Spawn spawn.NoMemory) text is = cc
 
 module _ {D : Type 0} (site : Seen D) where
   played : (s : Serving) (players : ℕ) (in_ in' : End) (before after : D) (staff staff' : Staff) (text : List ℕ) → ShowAnswers site s players in_ in' before after staff staff' (Found text) → AllPlayed players staff staff'
-  played s players in_ in' before after staff staff' text (inl (inl (end, finished, shown, staffed, tells), chosen)) =
+  played s players in_ in' before after staff staff' text (inl (inl (end, finished, shelf, shown, staffed, tells), chosen)) =
       let z = told end finished text tells in
       let faulted = z.0 in
       let starved = z.1 in
       let all = staffed.all in
       record {
         started = staffed.started;
-        joins = staffed.joins;
+        joins = (shelf.table, staffed.joins);
         well = ap (λ (f : Finished). f.done) (sym staffed.counted) ∙ omega (arith, faulted, starved, all);
       }
   played s players in_ in' before after staff staff' text (inl (inr (w, unshown, tells), chosen)) = absurd (untold w text tells)

@@ -38,7 +38,10 @@ use Rattle.sm_archive.specs.Store.{IsStore}
 use Rattle.sm_serve.specs.Moments.{machine_at, FitsAt}
 use Rattle.sm_serve.specs.Connections.{is_open, received}
 use Rattle.sm_serve.specs.Run.{Counts, Point, Run, Stepped, act_of, counts_after, idle, no_counts}
+use Rattle.sm_serve.specs.declared.outcome.Served.{Served as Outcome}
 use Rattle.sm_serve.specs.Shown.{Shown}
+use Rattle.sm_serve.specs.Standing.{History}
+use Rattle.sm_shelf.specs.Shelf.{Desk}
 use Rattle.sm_export.specs.Exporting.{IsExportText}
 use Rattle.sm_client.specs.declared.plan.Plan.{Plan}
 use Rattle.sm_client.specs.Ends.{texts}
@@ -60,7 +63,9 @@ use Rattle.sm_tool.specs.declared.answer.Answer.TheVariants as answers
 use Rattle.sm_tool.specs.declared.answer.Stop.TheVariants as stops
 use Rattle.sm_tool.specs.Ran.{Around, Means, Prints}
 use Rattle.sm_run.specs.Runs.{Runs, ShowAnswers}
-use Rattle.sm_run.specs.Staff.{Joins, Staff}
+use Rattle.sm_run.specs.Showing.{ShowsRun}
+use Rattle.sm_run.specs.Staff.{IsStaffed, JoinsSome, Staff, wires_of}
+use Rattle.sm_players.specs.declared.spawner.Finished.{Finished}
 use Rattle.sm_players.specs.Starting.{count_of}
 use Rattle.sm_words.specs.Words.{Pulling, Serve, ServeShown, Serving, asked}
 use Rattle.sm_ends.specs.Ended.{End}
@@ -279,11 +284,23 @@ pub record IsFollowed {D C : Type 0} (site : Seen D) (t : Dialing C) (edge : Pul
 
 -- ---- players
 
--- So many players were started and joined behind the loop, each of which played (`Joins`), and each is counted as one that ended well.
+-- So many players were started and joined behind the loop, each of which played (`JoinsSome`: all of one shelf), and each is counted as one that ended well.
 pub record AllPlayed (players : ℕ) (staff staff' : Staff) : Type 0 where
   pub started : staff'.started ≡ staff.started + players
-  pub joins : Joins staff staff'
+  pub joins : JoinsSome staff staff'
   pub well : (count_of staff'.ended).done ≡ players
+
+-- The loop ran from the log that was found, and beside it this was published, turn by turn, on a shelf that was made for it (`ShowsRun`): behind each turn
+-- the digest of a front of the loop's log, and of all of it but where the turn is counted, before the next event was taken. The players read that shelf.
+pub record IsPublished {D : Type 0} (site : Seen D) (s : Serving) (players : ℕ) (before after : D) (staff staff' : Staff) (found : List Entry) : Type 0 where
+  pub ended : Outcome
+  pub finished : Finished
+  pub shelf : Desk
+  pub begun : History
+  pub begin_is : begun.begin ≡ (site.view before).moment
+  pub first_is : begun.first.log ≡ found
+  pub shows : ShowsRun site shelf begun ended s.turns after
+  pub staffed : IsStaffed shelf.table (wires_of s players) staff staff' finished
 
 -- ---- ends
 

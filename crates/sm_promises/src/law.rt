@@ -46,7 +46,7 @@ ghost use Rattle.sm_words.specs.Words.{Export, Play, Pulling, Rehearse, Relay, S
 ghost use Rattle.sm_promises.specs.Promises.{ProgramRan, BeginsWith, MayBeLeft, Told, KeepsAllTold};
 ghost use Rattle.sm_promises.specs.Promises.{AskToServe, LoopRan, log_at, GivesWhole, DiskFailed, IsOutOfMemory};
 ghost use Rattle.sm_promises.specs.Promises.{AreActs, BecomeSteps, IsFaultyPush};
-ghost use Rattle.sm_promises.specs.Promises.{AllPlayed, AllWroteKept, IsExported, IsFollowed, IsPulled};
+ghost use Rattle.sm_promises.specs.Promises.{AllPlayed, AllWroteKept, IsExported, IsFollowed, IsPublished, IsPulled};
 ghost use Rattle.sm_promises.specs.Promises.{Ending, HasAnswer, IsSaidOf, number_of};
 
 use sm_archive::bodies_have_one_log;
@@ -267,6 +267,19 @@ pub fn the_players_that_were_asked_for_played<S: Site, C: Dial, P>()
         → (s : Serving) (players : ℕ) → asked ran.words ≡ Some (ServeShown s players) → ran.status ≡ 0
         → AllPlayed players ran.staff ran.staff' }
 {}
+
+/// What players read is kept. Where the words ask for players, the loop published on one shelf, turn by turn, digests of fronts of its log, each before it
+/// took the next event; and the players that were started read that shelf. Or nothing was taken from a connection and nothing was sent.
+pub fn what_players_read_is_kept<S: Site, C: Dial, P>()
+    ensures { (m : Meaning P) (before after : S)
+        → (ran : ProgramRan S.Disk.seen (dialing C.log C.store C.later C.dial_faults C.chosen) m before after)
+        → (s : Serving) (players : ℕ) → asked ran.words ≡ Some (ServeShown s players)
+        → (found : List Entry) (base : List Item) → BeginsWith S.Disk.seen before found base → IsSome (S.Disk.seen.view after).contents
+        → IsPublished S.Disk.seen s players before after ran.staff ran.staff' found ⊎ ((S.Disk.seen.view after).transcript ≡ Some base) }
+{
+    stores_have_one_reading();
+    bodies_have_one_log();
+}
 
 /// Words that name no command touch nothing: the site, the input, the dial, the tracks and the players are as they were, and the status is 2, or 9
 /// where memory was wanting.
