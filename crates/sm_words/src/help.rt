@@ -121,7 +121,8 @@ second to track-1.frag, and so on.
   smooth play localhost 8080 live video audio --count 10
 ";
 
-const RELAY: &str = "usage: smooth relay HOST PORT PATH STORE [--rounds N] [--tries N] [--journal FILE] < LADDER
+const RELAY: &str =
+    "usage: smooth relay HOST PORT PATH STORE [--rounds N] [--tries N] [--journal FILE] < LADDER
 
 Pulls what the origin at HOST and PORT lists of /PATH.isml into the store in the folder STORE, which is
 made where it isn't there. The ladder in the input, at most 1048576 bytes, is the tracks that are pulled;
@@ -135,7 +136,8 @@ it is declared where the store has none. What is kept is served by serve.
   smooth relay origin.example.com 8080 live /var/lib/smooth/edge < ladder.xml
 ";
 
-const STANDBY: &str = "usage: smooth standby HOST PORT PATH STORE [--rounds N] [--tries N] [--journal FILE] < LADDER
+const STANDBY: &str =
+    "usage: smooth standby HOST PORT PATH STORE [--rounds N] [--tries N] [--journal FILE] < LADDER
 
 Follows the primary at HOST and PORT: rebuilds its store of /PATH.isml, fragment by fragment in its order,
 in the folder STORE, which is made where it isn't there. The ladder in the input, at most 1048576 bytes,
