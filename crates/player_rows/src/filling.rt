@@ -9,6 +9,7 @@ use anyhow::{Result, bail};
 use sm_catalog::{Catalog, Judged};
 use sm_model::{Address, Channel, Fragment};
 use sm_shelf::ShelfWriter;
+use sm_site::MemorySite;
 use std::alloc::Global;
 use std::sync::Wait;
 
@@ -53,9 +54,9 @@ impl Filling {
     }
 
     /// Fills a shelf, and answers whether it was filled.
-    pub fn fill<R: Wait>(&self, rt: &R, writer: &mut ShelfWriter) -> bool {
+    pub fn fill<R: Wait>(&self, rt: &R, site: &MemorySite, writer: &mut ShelfWriter) -> bool {
         writer
-            .fill(rt, &self.catalog, self.fragments.as_slice())
+            .fill(rt, site, &self.catalog, self.fragments.as_slice())
             .is_ok()
     }
 }

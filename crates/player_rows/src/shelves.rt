@@ -14,6 +14,7 @@ use sm_rows::stored::add_to;
 use sm_rows::tales::Tale;
 use sm_rows::{Case, Line, Words};
 use sm_shelf::{Readers, ShelfWriter, Told, make};
+use sm_site::{MemorySite, Numbers, Script};
 use std::alloc::Global;
 use std::sync::Wait;
 use std::thread::Threads;
@@ -36,33 +37,51 @@ fn outcome(is_done: bool, tale: &mut Tale) -> Result<()> {
     tale.say("out of memory")
 }
 
-fn put<R: Wait>(rt: &R, writer: &mut ShelfWriter, entry: &Entry, tale: &mut Tale) -> Result<()>
+// A site at which nothing comes.
+fn site(alloc: Global) -> MemorySite {
+    MemorySite::new(
+        alloc,
+        Script::from_vec(Vec::new(alloc)),
+        Numbers::from_vec(Vec::new(alloc)),
+        Numbers::from_vec(Vec::new(alloc)),
+    )
+}
+
+fn put<R: Wait>(
+    rt: &R,
+    alloc: Global,
+    writer: &mut ShelfWriter,
+    entry: &Entry,
+    tale: &mut Tale,
+) -> Result<()>
     requires { IsValidEntry entry.now }
 {
-    let is_done = writer.put(rt, entry).is_ok();
+    let is_done = writer.put(rt, &site(alloc), entry).is_ok();
     outcome(is_done, tale)
 }
 
 fn declare<R: Wait>(
     rt: &R,
+    alloc: Global,
     writer: &mut ShelfWriter,
     ladder: Channel,
     tale: &mut Tale,
 ) -> Result<()>
     requires { IsChannel ladder }
 {
-    put(rt, writer, &Entry::Declare(ladder), tale)
+    put(rt, alloc, writer, &Entry::Declare(ladder), tale)
 }
 
 fn keep<R: Wait>(
     rt: &R,
+    alloc: Global,
     writer: &mut ShelfWriter,
     fragment: Fragment,
     tale: &mut Tale,
 ) -> Result<()>
     requires { IsValid fragment }
 {
-    put(rt, writer, &Entry::Keep(fragment), tale)
+    put(rt, alloc, writer, &Entry::Keep(fragment), tale)
 }
 
 impl Stage {
@@ -95,7 +114,7 @@ impl Stage {
     // Fills the shelf with the catalog.
     fn fill<R: Wait>(&self, rt: &R, writer: &mut ShelfWriter, tale: &mut Tale) -> Result<()> {
         match &self.filling {
-            Some(filling) => outcome(filling.fill(rt, writer), tale),
+            Some(filling) => outcome(filling.fill(rt, &site(self.alloc), writer), tale),
             None => bail!("no catalog"),
         }
     }
@@ -120,7 +139,7 @@ impl Stage {
     fn stray<R: Threads + Wait>(&mut self, rt: &R, tale: &mut Tale) -> Result<()> {
         let ladder = channel(self.alloc, &mut self.tracks)?;
         let (mut writer, _readers) = make(rt, self.alloc, 1)?;
-        let declared = declare(rt, &mut writer, ladder, tale);
+        let declared = declare(rt, self.alloc, &mut writer, ladder, tale);
         let learnt = self.seats.learn(writer.tell());
         writer.end(rt);
         declared?;
@@ -146,11 +165,11 @@ impl Stage {
             "fill" => self.fill(rt, writer, tale),
             "declare" => {
                 let ladder = channel(self.alloc, &mut self.tracks)?;
-                declare(rt, writer, ladder, tale)
+                declare(rt, self.alloc, writer, ladder, tale)
             }
             "keep" => {
                 let fragment = fragment(self.alloc, words)?;
-                keep(rt, writer, fragment, tale)
+                keep(rt, self.alloc, writer, fragment, tale)
             }
             "height" => tale.count(writer.height()),
             _ => self.tell(rt, writer, line, words, tale),

@@ -5,5 +5,5 @@ mod listeners;
 mod loop_forward;
 mod real_crew;
 
-pub use loop_forward::LoopForward;
+pub use loop_forward::{DialForward, LoopForward};
 pub use real_crew::RealCrew;

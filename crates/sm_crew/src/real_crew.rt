@@ -5,10 +5,10 @@ ghost use Rattle.sm_players.specs.Ends.{ends_of};
 ghost use Rattle.sm_players.specs.Starting.{count_of};
 
 use crate::listeners::Listeners;
-use crate::loop_forward::LoopForward;
+use crate::loop_forward::{DialForward, LoopForward};
 use sm_model::NoMemory;
 use sm_players::{Crew, Forward, NoGate, Parts, PlayerEnd, SpawnError, Spawner, Stop, Wiring};
-use sm_real::{Doing, OpenFault, Sharing, TcpLink, Trouble, Viewers};
+use sm_real::{Doing, OpenFault, Sharing, TcpDial, TcpLink, Trouble, Viewers};
 use sm_site::Link;
 use std::alloc::Global;
 use std::io::{self, ErrorKind};
@@ -104,7 +104,8 @@ impl<R: Threads + Net<Listener = TcpListener, Stream = TcpStream> + Clock + Copy
         if let Err(e) = link.share(listeners.first, listeners.second, sharing) {
             return Err(self.refused(port, e));
         }
-        let forward = LoopForward::new(self.rt, self.alloc, wiring.bind.as_deref(), wiring.port)?;
+        let dial = TcpDial::new(self.rt, self.alloc);
+        let forward = DialForward::over(dial, self.alloc, &wiring.bind, wiring.port)?;
         Ok(self.crew.add(link, forward, NoGate)?)
     }
 }

@@ -5,9 +5,10 @@ use Rattle.sm_players.specs.declared.launched.PlayerEnd.{PlayerEnd}
 use Rattle.sm_players.specs.Asking.{Asking}
 use Rattle.sm_players.specs.Starting.{Ended}
 
--- how a player ended, by what its wire tells and its forward was asked
+-- how a player ended, by the reader that it was given, what its wire tells and its forward was asked
 abbrev pub end_of : {W F : Type 0} → (W → View) → (F → Option (List Asking)) → PlayerEnd W F → Ended
 end_of view asked e = record {
+  table = e.given.value.table;
   played = e.played;
   told = (view e.wire.value).transcript;
   link_faults = (view e.wire.value).link_faults;

@@ -1,6 +1,7 @@
 -- Players in threads of their own.
 use Rattle.std.specs.Prelude.{◌≡◌, ℕ, ◌+◌, List, [], ◌∷◌, Option}
 use Rattle.sm_log.specs.Digests.{Digest, Extends}
+use Rattle.sm_shelf.specs.Shelf.{Table}
 use Rattle.sm_site.specs.Clauses.{Rose}
 use Rattle.sm_site.specs.Meanings.{Item}
 use Rattle.sm_players.specs.declared.played.Played.{Played}
@@ -9,17 +10,19 @@ use Rattle.sm_players.specs.declared.spawner.Finished.{Finished}
 use Rattle.sm_players.specs.Asking.{Asking}
 use Rattle.sm_players.specs.Playing.{HasPlayed}
 
--- what a player was given: what its wire told and how often that had failed, what its forward had been asked, what its reader had seen, and how
--- many events it takes at most
+-- what a player was given: the shelf that its reader is of, what its wire told and how often that had failed, what its forward had been asked, what
+-- its reader had seen, and how many events it takes at most
 pub record Launch : Type 0 where
+  pub table : Table
   pub told : Option (List Item)
   pub link_faults : ℕ
   pub asked : Option (List Asking)
   pub seen : Digest
   pub turns : ℕ
 
--- how a player ended, and what its wire tells, its forward was asked and its reader has seen then
+-- how a player ended, of which shelf the reader was that it was given, and what its wire tells, its forward was asked and its reader has seen then
 pub record Ended : Type 0 where
+  pub table : Table
   pub played : Played
   pub told : Option (List Item)
   pub link_faults : ℕ
@@ -28,6 +31,7 @@ pub record Ended : Type 0 where
 
 -- from there the player played up to here
 pub record IsPlayed (l : Launch) (e : Ended) : Type 0 where
+  pub table : e.table ≡ l.table
   pub plays : HasPlayed l.seen e.seen l.told e.told l.asked e.asked l.turns e.played
   pub on : Extends e.seen l.seen
   pub link_fault : e.played ≡ LinkFault → Rose l.link_faults e.link_faults

@@ -22,7 +22,7 @@ pub struct Parts<W: Drop, F: Drop, G: Drop> {
     pub gate: G,
 }
 
-/// How a player ended. Clauses know its wire, its forward and its reader as it left them, which the thread drops. Only a player that played makes
+/// How a player ended. Clauses know its wire, its forward and its reader as it left them, which the thread drops, and its reader as it was given. Only a player that played makes
 /// one, and none is copied: elsewhere an end is had by joining its thread alone.
 #[derive(Drop)]
 pub struct PlayerEnd<W: Drop, F: Drop> {
@@ -30,6 +30,7 @@ pub struct PlayerEnd<W: Drop, F: Drop> {
     wire: Snapshot<W>,
     forward: Snapshot<F>,
     reader: Snapshot<ShelfReader>,
+    given: Snapshot<ShelfReader>,
 }
 
 impl<W: Drop, F: Drop> PlayerEnd<W, F> {
@@ -57,6 +58,7 @@ impl<W: Wire + Drop, F: Forward + Drop> Model for Launched<W, F> {
     ghost Value = { Launch };
 
     ghost view = { λ l. record {
+      table = l.reader.value.table;
       told = (W.seen.view l.wire.value).transcript;
       link_faults = (W.seen.view l.wire.value).link_faults;
       asked = F.asked l.forward.value;
@@ -78,6 +80,7 @@ impl<W: Wire + Drop, F: Forward + Drop> Launched<W, F> {
         ensures told { result.told ≡ (W.seen.view wire.now).transcript }
         ensures link_faults { result.link_faults ≡ (W.seen.view wire.now).link_faults }
         ensures asked { result.asked ≡ F.asked forward.now }
+        ensures table { result.table ≡ reader.now.table }
         ensures seen { result.seen ≡ reader.now.seen }
         ensures turns { result.turns ≡ turns }
     {
@@ -98,6 +101,7 @@ pub fn play<W: Wire + Drop, F: Forward + Drop, G: Gate + Drop>(
     turns: u64,
 ) -> PlayerEnd<W, F>
     ensures { IsPlayed (record {
+      table = reader.table;
       told = (W.seen.view parts.wire).transcript;
       link_faults = (W.seen.view parts.wire).link_faults;
       asked = F.asked parts.forward;
@@ -107,6 +111,7 @@ pub fn play<W: Wire + Drop, F: Forward + Drop, G: Gate + Drop>(
 {
     let mut parts = parts;
     let mut reader = reader;
+    let given = Snapshot::of(&reader);
     let played = player(
         alloc,
         &mut parts.wire,
@@ -120,5 +125,6 @@ pub fn play<W: Wire + Drop, F: Forward + Drop, G: Gate + Drop>(
         wire: Snapshot::of(&parts.wire),
         forward: Snapshot::of(&parts.forward),
         reader: Snapshot::of(&reader),
+        given,
     }
 }

@@ -154,7 +154,7 @@ pub trait Spawner {
         reader: ShelfReader,
     ) -> Result<PlayerHandle<Self::Wire, Self::Forward>, SpawnError>
         ensures ok { OnOk result (started self.new ≡ started self.old + 1) }
-        ensures given { IfOk result (λ handle. (handle.promise.seen ≡ reader.seen) × (handle.promise.turns ≡ limit self.old)) }
+        ensures given { IfOk result (λ handle. (handle.promise.table ≡ reader.table) × (handle.promise.seen ≡ reader.seen) × (handle.promise.turns ≡ limit self.old)) }
         ensures err { OnErr result (started self.new ≡ started self.old) }
         ensures failed { IsErrOf result SpawnError.Failed → Rose (spawn_faults self.old) (spawn_faults self.new) }
         ensures chosen { chosen self.new ≡ chosen self.old }

@@ -1,6 +1,7 @@
 -- From a store that was opened to a run beside players.
-use Rattle.std.proofs.Common.{inl, ◌≡◌, ◌≤◌, ℕ, Bool, List, [], ◌++◌, Option, Some, None, Result, Ok, Err, refl, sym, ap, subst, ◌∙◌, arith}
-use Rattle.std.specs.Prelude.{IfSome, IsSome, IfOk, IfErr, OnErr, is_some}
+use Rattle.std.proofs.Common.{inl, ◌≡◌, ◌≤◌, ℕ, Bool, List, [], ◌++◌, Option, Some, None, Result, Ok, Err, refl, sym, ap, subst, ◌∙◌, append_assoc, arith}
+use Rattle.std.proofs.lemmas.List.{map-append}
+use Rattle.std.specs.Prelude.{All, IfSome, IsSome, IfOk, IfErr, OnErr, is_some}
 use Rattle.sm_model.specs.declared.entry.Entry.{Entry}
 use Rattle.sm_model.specs.declared.track.Track.{Track}
 use Rattle.sm_site.specs.Clauses.{Rose}
@@ -20,10 +21,12 @@ use Rattle.sm_command.specs.Lasting.{AtEachMoment, NoFewer}
 use Rattle.sm_command.specs.Serving.{Found, GoesUnseen, IsBegun}
 use Rattle.sm_command.proofs.Starting.{IsPrepared, early, serves_early, why_stopped}
 use Rattle.sm_shelf.specs.Laying.{nothing}
-use Rattle.sm_shelf.specs.Shelf.{Belongs, Desk}
-use Rattle.sm_show.specs.Marks.{HasShown}
-use Rattle.sm_show.specs.Recalling.{Recalls, Rests}
-use Rattle.sm_show.proofs.Resting.{since_then}
+use Rattle.sm_log.specs.Digests.{Digest}
+use Rattle.sm_shelf.specs.Past.{Publishing, all_at, last_of, publishing}
+use Rattle.sm_shelf.specs.Shelf.{Belongs, Desk, IsOf, bare}
+use Rattle.sm_show.specs.Marks.{HasShown, ShownUp, past_after, told_at}
+use Rattle.sm_show.specs.Recalling.{Publishes, Recalls, Rests}
+use Rattle.sm_show.proofs.Resting.{last_then, since_then}
 use Rattle.sm_players.specs.Wiring.{Wires}
 use Rattle.sm_run.specs.declared.fault.ShowFault.{ShowFault}
 use Rattle.sm_run.specs.declared.fault.ShowFault.TheVariants as fault
@@ -33,8 +36,8 @@ use Rattle.sm_run.specs.Staff.{Staff}
 use Rattle.sm_ends.specs.Ended.{End}
 
 -- a shelf with nothing belongs to each log
-pub nothing_belongs : (log : List Entry) → Belongs log (record { published = nothing; pending = [] })
-nothing_belongs log = ((0, omega arith, refl), λ k op below. absurd (omega (arith, below)))
+pub nothing_belongs : (log : List Entry) → (desk : Desk) → desk.published ≡ nothing → desk.pending ≡ [] → Belongs log desk
+nothing_belongs log desk none empty = ((0, omega arith, none), subst (All (IsOf log)) (sym empty) (λ k op below. absurd (omega (arith, below))))
 
 some_told : (a b : Option Image) → is_some a ≡ is_some b → IsSome a → IsSome b
 some_told None b e some = absurd (cc)
@@ -61,13 +64,13 @@ begun_since old mid found first m channel base was h few is is_first is_base b =
 }
 
 -- from a state that is prepared the loop ran, and this was shown
-pub shown_from : {D : Type 0} (site : Seen D) (ladder : Bool) (told told' : Option (List ℕ)) (turns : ℕ) (state : State) (d : D)
+pub shown_from : {D : Type 0} (site : Seen D) (shelf : Desk) (ladder : Bool) (told told' : Option (List ℕ)) (turns : ℕ) (state : State) (d : D)
     (state' : State) (d' : D) (after : State) (e : D) (end : Outcome) → IsPrepared site ladder told told' state d state' d' → (site.view d').link_faults ≡ (site.view d).link_faults
     → (end ≡ served.LinkFault → Rose (site.view d').link_faults (site.view e).link_faults)
     → ((h : History) → Serves site h state' d' → Served site h end turns after e)
-    → ((h : History) → Serves site h state' d' → IsSome (site.view d').contents → (desk : Desk) × (run : Served site h end turns after e) × HasShown h end run.later desk)
-    → ShownFrom site ladder told told' turns state d e end
-shown_from site ladder told told' turns state d state' d' after e end p same blamed runs shows = record {
+    → ((h : History) → Serves site h state' d' → IsSome (site.view d').contents → (run : Served site h end turns after e) × HasShown h end run.later (bare shelf.table) shelf)
+    → ShownFrom site shelf ladder told told' turns state d e end
+shown_from site shelf ladder told told' turns state d state' d' after e end p same blamed runs shows = record {
   from = record {
     channel = p.channel;
     input = p.input;
@@ -79,7 +82,7 @@ shown_from site ladder told told' turns state d state' d' after e end p same bla
       let s = runs h.0 h.3 in
       let here : is_told (site.view e) ≡ is_told (site.view d') = s.still_told ∙ ap (λ (v : View). is_told v) s.since.found ∙ sym h.3.keeps.still_told in
       let x = shows h.0 h.3 (some_told (site.view e).contents (site.view d').contents here some) in
-      (h.0, h.1, h.2, (after, x.0, x.1, x.2));
+      (h.0, h.1, h.2, (after, x.0, x.1));
 }
 
 -- ---- the whole
@@ -91,7 +94,7 @@ pub runs_shown : {D : Type 0} (site : Seen D) (pass : (d : D) → IfSome (site.v
     (ladder : Bool) (told told' : Option (List ℕ)) (turns : ℕ) (state : State) (old mid new : D) (r : Result Ended ShowFault) → Found site state old mid
     → Begins site state mid → ((log : List Entry) → HasOneStore log (site.may_leave old) → AtEachMoment site old mid (IsStore log))
     → (site.view mid).transcript ≡ (site.view old).transcript → NoFewer (site.view old) (site.view mid)
-    → IfOk r (λ e. ShownFrom site ladder told told' turns state mid new e.served) → IfOk r (λ e. RunsShown site ladder told told' turns old new e.served)
+    → IfOk r (λ e. ShownFrom site e.shelf ladder told told' turns state mid new e.served) → IfOk r (λ e. RunsShown site e.shelf ladder told told' turns old new e.served)
 runs_shown site pass at_now now_at one_list one_log ladder told told' turns state old mid new (Err why) f begin all same le s = tt
 runs_shown site pass at_now now_at one_list one_log ladder told told' turns state old mid new (Ok e) f begin all same le s =
     let early_is = λ (some : IsSome (site.view old).contents) (log : List Entry) (one : HasOneStore log (site.may_leave old)) (base : List Item) (is : (site.view old).transcript ≡ Some base).
@@ -158,26 +161,51 @@ module _ {D : Type 0} (site : Seen D) where
     survives = s.survives;
   }
 
-  pub shown_before : (h : History) (state : State) (mid : D) (end : Outcome) (later : History) (desk : Desk) (u : Rests site h state mid) → IsSome (site.view mid).contents
-      → HasShown u.later end later desk → HasShown h end later desk
-  shown_before h state mid (served.Done taken behind short) later desk u told s = (
-    s.0,
-    record {
-      begun = s.1.begun;
-      since = since_then h u.later s.1.begun u.since s.1.since;
-      same = s.1.same ∙ u.same;
-      log = s.1.log ∙ u.log told;
-      first = s.1.first;
-      front = s.1.front;
-      counted = s.1.counted;
-      last_is = s.1.last_is;
-      belongs = s.1.belongs;
-    },
-    s.2,
-    s.3,
-  )
-  shown_before h state mid served.LinkFault later desk u told s = s
-  shown_before h state mid served.NoMemory later desk u told s = s
+  -- reading back tells nothing
+  rests_told : (h : History) (state : State) (mid : D) (u : Rests site h state mid) → told_at u.later ≡ told_at h
+  rests_told h state mid u = ap (λ (is : List Item). Some (u.later.base ++ is)) u.same ∙ ap (λ (is : List Item). Some (is ++ h.items)) u.since.base
+
+  -- the same of shelves that are equal
+  pub shown_on : (h : History) (end : Outcome) (turns : ℕ) (state : State) (d : D) (a a' b b' : Desk) → a ≡ a' → b ≡ b'
+      → (run : Served site h end turns state d) × HasShown h end run.later a b → (run : Served site h end turns state d) × HasShown h end run.later a' b'
+  shown_on h end turns state d a a' b b' first last s =
+      (s.0, subst (λ (x : Desk). HasShown h end s.0.later x b') first (subst (λ (x : Desk). HasShown h end s.0.later a x) last s.1))
+
+  shown_up : (h : History) (state : State) (mid : D) (later : History) (turns behind short : ℕ) (before between desk : Desk) (u : Rests site h state mid) → IsSome (site.view mid).contents
+      → Publishes (told_at h) before between → ShownUp u.later later turns behind short between desk → ShownUp h later turns behind short before desk
+  shown_up h state mid later turns behind short before between desk u told more s =
+      let was = s.shows in
+      record {
+        last = s.last;
+        shows = record {
+          begun = was.begun;
+          since = since_then h u.later was.begun u.since was.since;
+          same = was.same ∙ u.same;
+          log = was.log ∙ u.log told;
+          added = more.digests ++ was.added;
+          first = was.first;
+          first_is = was.first_is ∙ ap (λ (d : Digest). last_of d was.added) more.last ∙ sym (last_then before.published more.digests was.added);
+          front = was.front;
+          counted = was.counted;
+          in_order = was.in_order;
+          last_is = was.last_is;
+          past = was.past ∙ ap (λ (l : List Publishing). past_after l was.counted.marks)
+              (ap (λ (t : Option (List Item)). between.past ++ all_at t was.added) (rests_told h state mid u)
+              ∙ ap (λ (l : List Publishing). l ++ all_at (told_at h) was.added) more.past
+              ∙ append_assoc before.past (all_at (told_at h) more.digests) (all_at (told_at h) was.added)
+              ∙ ap (λ (l : List Publishing). before.past ++ l) (sym (map-append (publishing (told_at h)) more.digests was.added)));
+          belongs = was.belongs;
+        };
+        since = s.since;
+        belongs = s.belongs;
+      }
+
+  -- what was shown from there on was shown from before
+  pub shown_before : (h : History) (state : State) (mid : D) (end : Outcome) (later : History) (before between desk : Desk) (u : Rests site h state mid) → IsSome (site.view mid).contents
+      → Publishes (told_at h) before between → HasShown u.later end later between desk → HasShown h end later before desk
+  shown_before h state mid (served.Done taken behind short) later before between desk u told more s = shown_up h state mid later taken behind short before between desk u told more s
+  shown_before h state mid served.LinkFault later before between desk u told more s = (s.0, s.1, s.2, shown_up h state mid later s.0 s.1 s.2 before between desk u told more s.3)
+  shown_before h state mid served.NoMemory later before between desk u told more s = (s.0, s.1, s.2, shown_up h state mid later s.0 s.1 s.2 before between desk u told more s.3)
 
   -- a run that went on unseen up to it goes on unseen behind it
   pub unseen_behind : (h : History) (state : State) (mid new : D) → Recalls site state mid new → GoesUnseen site h state mid → GoesUnseen site h state new

@@ -3,6 +3,7 @@ use Rattle.std.specs.Prelude.{◌≡◌, ◌≤◌, ◌⊎◌, ℕ, List, Option
 use Rattle.sm_site.specs.Meanings.{Seen}
 use Rattle.sm_client.specs.Turns.{Meaning}
 use Rattle.sm_serve.specs.declared.outcome.Served.{Served as Outcome}
+use Rattle.sm_shelf.specs.Shelf.{Desk}
 use Rattle.sm_players.specs.declared.spawner.Finished.{Finished}
 use Rattle.sm_command.specs.Lasting.{KeepsStores}
 use Rattle.sm_tool.specs.declared.answer.Answer.{Answer}
@@ -22,12 +23,12 @@ abbrev pub shown_by : Option Wanted → Option (Serving × ℕ)
 shown_by (Some (ServeShown s players)) = Some (s, players)
 shown_by wanted = None
 
--- The loop ran beside the players that were asked for, and how it and they ended is told; or no event was waited for, and why is told.
+-- The loop ran beside the players that were asked for, which read the shelf that it published on, and how it and they ended is told; or no event was waited for, and why is told.
 abbrev pub ShowMeans : {D : Type 0} (site : Seen D) → Serving → ℕ → End → End
     → D → D → Staff → Staff → Answer → Type 0
 ShowMeans site s players input input' d d' staff staff' answer =
-    ((end : Outcome) × (finished : Finished) × RunsShown site s.ladder input.told input'.told s.turns d d' end
-    × IsStaffed (wires_of s players) staff staff' finished × TellsShown end finished answer)
+    ((end : Outcome) × (finished : Finished) × (shelf : Desk) × RunsShown site shelf s.ladder input.told input'.told s.turns d d' end
+    × IsStaffed shelf.table (wires_of s players) staff staff' finished × TellsShown end finished answer)
     ⊎ ((why : ShowFault) × WhyUnshown site s.ladder (wires_of s players) input input' staff staff' d d' why
     × TellsUnshown why answer)
 

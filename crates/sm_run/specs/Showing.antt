@@ -9,7 +9,7 @@ use Rattle.sm_serve.specs.Standing.{History}
 use Rattle.sm_serve.specs.Serving.{Begins, Serves, Served}
 use Rattle.sm_command.specs.Lasting.{NoFewer}
 use Rattle.sm_command.specs.Serving.{Found, HasRun, IsBegun, PrepareMeans, RunsFrom, StopsFrom, WhyUnready}
-use Rattle.sm_shelf.specs.Shelf.{Desk}
+use Rattle.sm_shelf.specs.Shelf.{Desk, bare}
 use Rattle.sm_show.specs.Marks.{HasShown}
 use Rattle.sm_show.specs.Recalling.{Recalls}
 use Rattle.sm_players.specs.Wiring.{Wires}
@@ -19,20 +19,20 @@ use Rattle.sm_run.specs.declared.showing.Ended.{Ended}
 use Rattle.sm_run.specs.Staff.{IsUnstaffed, Staff}
 use Rattle.sm_ends.specs.Ended.{End}
 
--- the loop served from here to its end, and behind each turn this was published beside it
-abbrev pub ShowsRun : {D : Type 0} (site : Seen D) → History → Outcome
+-- the loop served from here to its end, and behind each turn this was published beside it, on a shelf that was made for it and was this in the end
+abbrev pub ShowsRun : {D : Type 0} (site : Seen D) → Desk → History → Outcome
     → ℕ → D → Type 0
-ShowsRun site h end turns d =
-    (state : State) × (desk : Desk) × (served : Served site h end turns state d) × HasShown h end served.later desk
+ShowsRun site shelf h end turns d =
+    (state : State) × (served : Served site h end turns state d) × HasShown h end served.later (bare shelf.table) shelf
 
 -- ---- from a state that was just opened
 
 -- The loop ran; and from wherever a run began it is one, with the ladder's step in front, beside which this was published.
-pub record ShownFrom {D : Type 0} (site : Seen D) (ladder : Bool)
+pub record ShownFrom {D : Type 0} (site : Seen D) (shelf : Desk) (ladder : Bool)
     (told told' : Option (List ℕ)) (turns : ℕ) (state : State) (d d' : D) (end : Outcome) : Type 0 where
   pub from : RunsFrom site ladder told told' turns state d d' end
   pub shown : IsSome (site.view d').contents → (b : History) → Serves site b state d → b.items ≡ [] → b.steps ≡ []
-      → (h : History) × (h.begin ≡ b.begin) × IsBegun b.found.disk_faults b.first from.channel b.base h × ShowsRun site h end turns d'
+      → (h : History) × (h.begin ≡ b.begin) × IsBegun b.found.disk_faults b.first from.channel b.base h × ShowsRun site shelf h end turns d'
 
 -- no ladder was read or it was refused, and nothing was asked of the spawner; or what was asked of a ladder was done, what is to be shown was read back,
 -- and players are lacking
@@ -48,17 +48,17 @@ StopsShort {D} site ladder wires input input' staff staff' state d d' (fault.Spa
 -- ---- the whole
 
 -- The loop ran beside the players, as it does alone. Where the disk tells its contents, what was published was the digest of a front of the log before
--- the first event and behind each turn, and the turns are counted behind which it wasn't that of the whole log; where each image that a crash might
--- leave was one store, so it is along the run of the whole call.
-pub record RunsShown {D : Type 0} (site : Seen D) (ladder : Bool)
+-- the first event and behind each turn, and the turns are counted behind which it wasn't that of the whole log. All that was published is told turn by
+-- turn, each digest before the next event was taken. Where each image that a crash might leave was one store, so it is along the run of the whole call.
+pub record RunsShown {D : Type 0} (site : Seen D) (shelf : Desk) (ladder : Bool)
     (told told' : Option (List ℕ)) (turns : ℕ) (old new : D) (end : Outcome) : Type 0 where
   pub run : HasRun site ladder told told' turns old new end
   pub shown : IsSome (site.view new).contents → (base : List Item) → (site.view old).transcript ≡ Some base
       → (h : History) × (h.begin ≡ (site.view run.opened).moment) × IsBegun (site.view old).disk_faults run.found.machine run.channel base h
-      × ShowsRun site h end turns new
+      × ShowsRun site shelf h end turns new
   pub whole : IsSome (site.view old).contents → IsSome (site.view new).contents → (log : List Entry) → HasOneStore log (site.may_leave old) → (base : List Item)
       → (site.view old).transcript ≡ Some base → (h : History) × (h.begin ≡ (site.view old).moment)
-      × IsBegun (site.view old).disk_faults run.found.machine run.channel base h × ShowsRun site h end turns new
+      × IsBegun (site.view old).disk_faults run.found.machine run.channel base h × ShowsRun site shelf h end turns new
 
 -- The store was opened, what was asked of a ladder was done, and at most what is to be shown was read back. Nothing was taken from the link, and
 -- nothing was sent.

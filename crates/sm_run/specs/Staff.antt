@@ -1,8 +1,8 @@
 -- What was done with players.
-use Rattle.std.specs.Prelude.{◌≡◌, ◌⊎◌, ◌<◌, ◌≤◌, ◌+◌, All, ℕ, List, ◌++◌, length, false, Option, None, Some}
+use Rattle.std.specs.Prelude.{◌≡◌, ◌⊎◌, ◌<◌, ◌≤◌, ◌+◌, All, ℕ, List, ◌++◌, length, Option, None, Some}
 use Rattle.sm_site.specs.Clauses.{Rose}
 use Rattle.sm_shelf.specs.Laying.{nothing}
-use Rattle.sm_shelf.specs.Shelf.{Sight}
+use Rattle.sm_shelf.specs.Shelf.{Sight, Table, unread}
 use Rattle.sm_players.specs.declared.spawner.Finished.{Finished}
 use Rattle.sm_players.specs.declared.spawner.SpawnError.{SpawnError}
 use Rattle.sm_players.specs.declared.spawner.SpawnError.TheVariants.{Failed}
@@ -32,31 +32,35 @@ staff_of faults started limit chosen ended p = record {
 abbrev pub wires_of : Serving → ℕ → Wires
 wires_of s players = record { port = s.port; players = players; bind = s.bind }
 
--- a reader that has seen nothing
-abbrev pub IsUnread : Sight → Type 0
-IsUnread sight = sight ≡ record { seen = nothing; lost = false }
+-- a reader of that shelf that has seen nothing
+abbrev pub IsUnread : Table → Sight → Type 0
+IsUnread shelf sight = sight ≡ unread shelf
 
 -- a player that began with such a reader, and takes so many events at most
-abbrev pub IsFresh : ℕ → Launch → Type 0
-IsFresh limit l = (l.seen ≡ nothing) × (l.turns ≡ limit)
+abbrev pub IsFresh : Table → ℕ → Launch → Type 0
+IsFresh shelf limit l = (l.table ≡ shelf) × (l.seen ≡ nothing) × (l.turns ≡ limit)
 
 -- from so many players that were started to so many, and from the ones that run to the ones that run then: each one more is fresh
-pub record Starts (limit started started' : ℕ) (running running' : List Launch) : Type 0 where
+pub record Starts (shelf : Table) (limit started started' : ℕ) (running running' : List Launch) : Type 0 where
   pub more : List Launch
-  pub fresh : All (IsFresh limit) more
+  pub fresh : All (IsFresh shelf limit) more
   pub count : started' ≡ started + length more
   pub behind : running' ≡ running ++ more
 
--- Fresh players were started, asked to end and joined: each has played since it was started, up to the end that the spawner tells of it.
-pub record Joins (old new : Staff) : Type 0 where
+-- Fresh players of one shelf were started, asked to end and joined: each has played since it was started, up to the end that the spawner tells of it.
+pub record Joins (shelf : Table) (old new : Staff) : Type 0 where
   pub players : List Launch
-  pub fresh : All (IsFresh old.limit) players
+  pub fresh : All (IsFresh shelf old.limit) players
   pub count : new.started ≡ old.started + length players
   pub played : AreEnds players new.ended
 
--- As many players were started as were asked, there, where wires were asked for once. Behind the loop they were joined, and this counts their ends.
-pub record IsStaffed (wires : Wires) (old new : Staff) (finished : Finished) : Type 0 where
-  pub joins : Joins old new
+-- so it was on some shelf
+abbrev pub JoinsSome : Staff → Staff → Type 0
+JoinsSome old new = (shelf : Table) × Joins shelf old new
+
+-- As many players of this shelf were started as were asked, there, where wires were asked for once. Behind the loop they were joined, and this counts their ends.
+pub record IsStaffed (shelf : Table) (wires : Wires) (old new : Staff) (finished : Finished) : Type 0 where
+  pub joins : Joins shelf old new
   pub started : new.started ≡ old.started + wires.players
   pub chosen : new.chosen ≡ rewired old.chosen (Some wires)
   pub counted : finished ≡ count_of new.ended
@@ -72,6 +76,6 @@ AsksWires wires old new = (new.chosen ≡ rewired old.chosen (Some wires)) ⊎ (
 pub record IsUnstaffed (wires : Wires) (old new : Staff) (why : SpawnError) : Type 0 where
   pub few : new.started < old.started + wires.players
   pub no_fewer : old.started ≤ new.started
-  pub joined : (Joins old new × AsksWires wires old new) ⊎ (new ≡ old)
+  pub joined : (JoinsSome old new × AsksWires wires old new) ⊎ (new ≡ old)
   pub blamed : why ≡ Failed → Rose old.faults new.faults
   pub later : old.faults ≤ new.faults

@@ -5,7 +5,7 @@ ghost use Rattle.sm_origin.specs.Machine.{Machine};
 ghost use Rattle.sm_serve.specs.Standing.{History, StandsOn};
 ghost use Rattle.sm_serve.specs.Serving.{Known, Serves, Served as HasServed};
 ghost use Rattle.sm_serve.specs.declared.outcome.Served.TheVariants as served;
-ghost use Rattle.sm_shelf.specs.Shelf.{Belongs, Desk};
+ghost use Rattle.sm_shelf.specs.Shelf.{Belongs, bare};
 ghost use Rattle.sm_show.specs.Marks.{HasShown};
 ghost use Rattle.sm_show.specs.Recalling.{Recalls};
 ghost use Rattle.sm_players.specs.declared.spawner.SpawnError.TheVariants.{Failed};
@@ -16,17 +16,18 @@ use crate::staffing::{Running, start_all};
 use sm_model::NoMemory;
 use sm_players::{Finished, SpawnError, Spawner, Wiring};
 use sm_serve::{Served, State};
-use sm_shelf::{Readers, ShelfWriter, make};
+use sm_shelf::{Readers, ShelfEnd, ShelfWriter, make};
 use sm_show::{catch_up, serve_shown};
 use sm_site::Site;
 use std::alloc::Global;
 use std::sync::Wait;
 
-/// How the loop ended, and how its players did.
-#[derive(Debug, Drop)]
+/// How the loop ended, and how its players did; and what is left of the shelf that it published on, which these read.
+#[derive(Drop)]
 pub struct Ended {
     pub served: Served,
     pub finished: Finished,
+    pub shelf: ShelfEnd,
 }
 
 // Starts the players, once they have something to show, and serves beside them.
@@ -45,12 +46,12 @@ fn serve_beside<R: Wait, S: Site, P: Spawner>(
     requires known { Known S.Disk.seen state.old site.old }
     requires port { wiring.port ≤ 65534 }
     requires some { 0 < length readers }
-    requires unread { All IsUnread readers }
+    requires unread { All (IsUnread writer.old.table) readers }
     ensures runs { IfOk result (λ end. (h : History) → Serves S.Disk.seen h state.old site.old
         → HasServed S.Disk.seen h end turns state.new site.new) }
     ensures shown { IfOk result (λ end. (h : History) → Serves S.Disk.seen h state.old site.old
         → IsSome (S.Disk.seen.view site.old).contents → Belongs h.point.machine.log writer.old
-        → (run : HasServed S.Disk.seen h end turns state.new site.new) × HasShown h end run.later writer.new) }
+        → (run : HasServed S.Disk.seen h end turns state.new site.new) × HasShown h end run.later writer.old writer.new) }
     ensures link_faults { (S.Disk.seen.view site.old).link_faults ≤ (S.Disk.seen.view site.new).link_faults }
     ensures link_fault { IfOk result (λ end. end ≡ served.LinkFault → Rose (S.Disk.seen.view site.old).link_faults (S.Disk.seen.view site.new).link_faults) }
     ensures site_chosen { (S.Disk.seen.view site.new).chosen ≡ (S.Disk.seen.view site.old).chosen }
@@ -60,7 +61,8 @@ fn serve_beside<R: Wait, S: Site, P: Spawner>(
         ⊎ (P.chosen spawner.new ≡ rewired (P.chosen spawner.old) None)) }
     ensures few { OnErr result (P.started spawner.new < P.started spawner.old + length readers) }
     ensures no_fewer { P.started spawner.old ≤ P.started spawner.new }
-    ensures starts { Starts (P.limit spawner.old) (P.started spawner.old) (P.started spawner.new)
+    ensures table { writer.new.table ≡ writer.old.table }
+    ensures starts { Starts writer.old.table (P.limit spawner.old) (P.started spawner.old) (P.started spawner.new)
         (map (λ h. h.promise) running.old.items) (map (λ h. h.promise) running.new.items) }
     ensures count { vec_len running.new + P.started spawner.old ≡ vec_len running.old + P.started spawner.new }
     ensures running { vec_len running.new ≤ vec_len running.old + length readers }
@@ -93,9 +95,9 @@ pub fn show<R: Wait, S: Site, P: Spawner>(
         → HasServed S.Disk.seen h e.served turns state.new site.new) }
     ensures shown { IfOk result (λ e. (h : History) → Serves S.Disk.seen h state.old site.old
         → IsSome (S.Disk.seen.view site.old).contents
-        → (desk : Desk) × (run : HasServed S.Disk.seen h e.served turns state.new site.new) × HasShown h e.served run.later desk) }
+        → (run : HasServed S.Disk.seen h e.served turns state.new site.new) × HasShown h e.served run.later (bare e.shelf.table) e.shelf) }
     ensures link_fault { IfOk result (λ e. e.served ≡ served.LinkFault → Rose (S.Disk.seen.view site.old).link_faults (S.Disk.seen.view site.new).link_faults) }
-    ensures staffed { IfOk result (λ e. IsStaffed wiring (staff_of P.spawn_faults P.started P.limit P.chosen P.ended spawner.old)
+    ensures staffed { IfOk result (λ e. IsStaffed e.shelf.table wiring (staff_of P.spawn_faults P.started P.limit P.chosen P.ended spawner.old)
         (staff_of P.spawn_faults P.started P.limit P.chosen P.ended spawner.new) e.finished) }
     ensures why { IfErr result (λ why. IsUnstaffed wiring (staff_of P.spawn_faults P.started P.limit P.chosen P.ended spawner.old)
         (staff_of P.spawn_faults P.started P.limit P.chosen P.ended spawner.new) why) }
@@ -122,7 +124,11 @@ pub fn show<R: Wait, S: Site, P: Spawner>(
         turns,
     );
     let finished = spawner.finish(running, room);
-    writer.end(rt);
+    let shelf = writer.end(rt);
     let served = ended?;
-    Ok(Ended { served, finished })
+    Ok(Ended {
+        served,
+        finished,
+        shelf,
+    })
 }

@@ -2,6 +2,7 @@
 ghost use Rattle.std.specs.Prelude.{◌≡◌, ◌≤◌, ◌<◌, ◌+◌, All, length, map, vec_len, OnOk, OnErr, IsErrOf};
 ghost use Rattle.sm_site.specs.Clauses.{Rose};
 ghost use Rattle.sm_players.specs.declared.spawner.SpawnError.TheVariants.{Failed};
+ghost use Rattle.sm_shelf.specs.Shelf.{Table};
 ghost use Rattle.sm_run.specs.Staff.{IsUnread, Starts};
 
 use sm_players::{PlayerHandle, SpawnError, Spawner};
@@ -16,12 +17,11 @@ pub fn start_all<P: Spawner>(
     readers: Readers,
     running: &mut Running<P>,
 ) -> Result<(), SpawnError>
-    requires unread { All IsUnread readers }
     ensures ok { OnOk result (P.started spawner.new ≡ P.started spawner.old + length readers) }
     ensures err { OnErr result (P.started spawner.new < P.started spawner.old + length readers) }
     ensures no_fewer { P.started spawner.old ≤ P.started spawner.new }
-    // Those that were started run.
-    ensures starts { Starts (P.limit spawner.old) (P.started spawner.old) (P.started spawner.new)
+    // Those that were started run, with readers of the shelf that all of these are of.
+    ensures starts { (shelf : Table) → All (IsUnread shelf) readers → Starts shelf (P.limit spawner.old) (P.started spawner.old) (P.started spawner.new)
         (map (λ h. h.promise) running.old.items) (map (λ h. h.promise) running.new.items) }
     ensures count { vec_len running.new + P.started spawner.old ≡ vec_len running.old + P.started spawner.new }
     ensures few { vec_len running.new ≤ vec_len running.old + length readers }

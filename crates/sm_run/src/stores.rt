@@ -38,9 +38,9 @@ fn show_state<R: Wait, I: Source, S: Site, P: Spawner>(
     requires stands { (m : Machine) × StandsOn S.Disk.seen m state.old.origin site.old }
     requires port { wiring.port ≤ 65534 }
     requires players { (0 < wiring.players) × (wiring.players ≤ 16) }
-    ensures run { IfOk result (λ e. ShownFrom S.Disk.seen ladder (I.left input.old)
+    ensures run { IfOk result (λ e. ShownFrom S.Disk.seen e.shelf ladder (I.left input.old)
         (I.left input.new) turns state.old site.old site.new e.served) }
-    ensures staffed { IfOk result (λ e. IsStaffed wiring (staff_of P.spawn_faults P.started P.limit P.chosen P.ended spawner.old)
+    ensures staffed { IfOk result (λ e. IsStaffed e.shelf.table wiring (staff_of P.spawn_faults P.started P.limit P.chosen P.ended spawner.old)
         (staff_of P.spawn_faults P.started P.limit P.chosen P.ended spawner.new) e.finished) }
     ensures why { IfErr result (λ why. StopsShort S.Disk.seen ladder wiring (end_of I.left I.faults input.old) (end_of I.left I.faults input.new)
         (staff_of P.spawn_faults P.started P.limit P.chosen P.ended spawner.old)
@@ -79,8 +79,8 @@ pub fn show_store<R: Wait, I: Source, S: Site, P: Spawner>(
     requires port { wiring.port ≤ 65534 }
     requires players { (0 < wiring.players) × (wiring.players ≤ 16) }
     ensures chosen { IsSelectedWith result selection (S.Disk.seen.view site.old) (S.Disk.seen.view site.new) }
-    ensures run { IfOk result (λ e. RunsShown S.Disk.seen ladder (I.left input.old) (I.left input.new) turns site.old site.new e.served) }
-    ensures staffed { IfOk result (λ e. IsStaffed wiring (staff_of P.spawn_faults P.started P.limit P.chosen P.ended spawner.old)
+    ensures run { IfOk result (λ e. RunsShown S.Disk.seen e.shelf ladder (I.left input.old) (I.left input.new) turns site.old site.new e.served) }
+    ensures staffed { IfOk result (λ e. IsStaffed e.shelf.table wiring (staff_of P.spawn_faults P.started P.limit P.chosen P.ended spawner.old)
         (staff_of P.spawn_faults P.started P.limit P.chosen P.ended spawner.new) e.finished) }
     ensures why { IfErr result (λ why. WhyUnshown S.Disk.seen ladder wiring (end_of I.left I.faults input.old) (end_of I.left I.faults input.new)
         (staff_of P.spawn_faults P.started P.limit P.chosen P.ended spawner.old)

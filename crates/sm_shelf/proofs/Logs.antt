@@ -1,14 +1,17 @@
 -- What belongs to a log stays of it.
-use Rattle.std.proofs.Common.{◌≡◌, ◌⊎◌, inl, inr, Result, Ok, Err, OnOk, OnErr, List, [], ◌∷◌, ◌++◌, fold, map, All, sym, ap, ◌∙◌, subst, zero, suc, arith}
+use Rattle.std.proofs.Common.{◌≡◌, ◌⊎◌, inl, inr, Option, List, [], ◌∷◌, ◌++◌, fold, map, All, sym, ap, ◌∙◌, subst, zero, suc, arith}
 use Rattle.std.proofs.lemmas.List.{map-append}
 use Rattle.std.proofs.lemmas.List.Elements.{All-append}
+use Rattle.atomic_table.specs.Seated.{TableId}
 use Rattle.sm_model.specs.declared.entry.Entry.{Entry}
 use Rattle.sm_log.specs.Logs.{IsSound}
 use Rattle.sm_log.specs.Digests.{Digest}
+use Rattle.sm_site.specs.Meanings.{Item}
 use Rattle.sm_shelf.specs.declared.laid.Laid.{Laid}
 use Rattle.sm_shelf.specs.Laying.{Op, laid}
 use Rattle.sm_shelf.specs.Shelf.{applied, op_in}
-use Rattle.sm_shelf.specs.Shelf.{Desk, Belongs, IsFront, IsOf}
+use Rattle.sm_shelf.specs.Past.{Publishing, publishing}
+use Rattle.sm_shelf.specs.Shelf.{Desk, Belongs, IsFront, IsOf, shows_next}
 use Rattle.sm_shelf.proofs.Grows.{fold_ops}
 use Rattle.sm_shelf.proofs.Fronts.{laid_front}
 
@@ -44,12 +47,6 @@ waits_of log old new op belongs of is = (
   ],
 )
 
--- either way it stays of the log
-pub laid_of : {T E : Type 0} (r : Result T E) (log : List Entry) (old new : Desk) (op : Op) → IsSound log → Belongs log old → IsOf log op
-    → OnOk r (Published old new op) → OnErr r (Waits old new op) → Belongs log new
-laid_of (Ok x) log old new op sound belongs of ok err = published_of log old new op sound belongs of ok
-laid_of (Err e) log old new op sound belongs of ok err = waits_of log old new op belongs of err
-
 -- ---- the operations of the core
 
 pub pushed_ops : (ls ls' : List Laid) (l : Laid) → ls' ≡ ls ++ l ∷ [] → map op_in ls' ≡ map op_in ls ++ op_in l ∷ []
@@ -63,31 +60,30 @@ folded_ops ls ls' l d d' is folded = folded ∙ fold_ops ls' d ∙ ap (fold laid
 pub kept_of : (log : List Entry) (old new : Desk) → new.published ≡ old.published → new.pending ≡ old.pending → Belongs log old → Belongs log new
 kept_of log old new d p belongs = (subst (IsFront log) (sym d) belongs.0, subst (All (IsOf log)) (sym p) belongs.1)
 
-abbrev pub desk : Digest → List Op → Desk
-desk d ops = record { published = d; pending = ops }
+abbrev pub desk : TableId → Digest → List Op → List Publishing → Desk
+desk t d ops past = record { table = t; published = d; pending = ops; past = past }
 
-desk_is : (d e : Digest) (p q : List Op) → d ≡ e → p ≡ q → desk d p ≡ desk e q
-desk_is d e p q a b = ap (λ (x : Digest). desk x p) a ∙ ap (λ (x : List Op). desk e x) b
+desk_is : (t : TableId) (d e : Digest) (p q : List Op) (x y : List Publishing) → d ≡ e → p ≡ q → x ≡ y → desk t d p x ≡ desk t e q y
+desk_is t d e p q x y a b c = ap (λ (z : Digest). desk t z p x) a ∙ ap (λ (z : List Op). desk t e z x) b ∙ ap (λ (z : List Publishing). desk t e q z) c
 
-pub laid_ok : {T E : Type 0} (r : Result T E) (old : Desk) (d0 d d' : Digest) (ls ls' left : List Laid) (l : Laid) → desk d0 (map op_in ls) ≡ old → d ≡ d0 → ls' ≡ ls ++ l ∷ []
-    → OnOk r ((d' ≡ fold applied d ls') × (left ≡ [])) → OnOk r (desk d' (map op_in left) ≡ desk (fold laid old.published (old.pending ++ op_in l ∷ [])) [])
-laid_ok (Ok x) old d0 d d' ls ls' left l view at is ok =
-    subst (λ (o : Desk). desk d' (map op_in left) ≡ desk (fold laid o.published (o.pending ++ op_in l ∷ [])) []) view
-    (desk_is d' (fold laid d0 (map op_in ls ++ op_in l ∷ [])) (map op_in left) []
-    (folded_ops ls ls' l d d' is ok.0 ∙ ap (λ (e : Digest). fold laid e (map op_in ls ++ op_in l ∷ [])) at) (ap (map op_in) ok.1))
-laid_ok (Err e) old d0 d d' ls ls' left l view at is ok = tt
+-- it was published, and noted
+pub laid_ok : (old : Desk) (told : Option (List Item)) (t : TableId) (d0 d d' : Digest) (ls ls' left : List Laid) (past past' : List Publishing) (l : Laid)
+    → desk t d0 (map op_in ls) past ≡ old → d ≡ d0 → ls' ≡ ls ++ l ∷ [] → (d' ≡ fold applied d ls') × (left ≡ []) → past' ≡ past ++ publishing told d' ∷ []
+    → desk t d' (map op_in left) past' ≡ shows_next old told (fold laid old.published (old.pending ++ op_in l ∷ []))
+laid_ok old told t d0 d d' ls ls' left past past' l view at is ok noted =
+    let e : d' ≡ fold laid d0 (map op_in ls ++ op_in l ∷ []) =
+    folded_ops ls ls' l d d' is ok.0 ∙ ap (λ (e : Digest). fold laid e (map op_in ls ++ op_in l ∷ [])) at in
+    subst (λ (o : Desk). desk t d' (map op_in left) past' ≡ shows_next o told (fold laid o.published (o.pending ++ op_in l ∷ []))) view
+    (desk_is t d' (fold laid d0 (map op_in ls ++ op_in l ∷ [])) (map op_in left) [] past' (past ++ publishing told (fold laid d0 (map op_in ls ++ op_in l ∷ [])) ∷ [])
+    e (ap (map op_in) ok.1) (noted ∙ ap (λ (z : Digest). past ++ publishing told z ∷ []) e))
 
-pub laid_err : {T E : Type 0} (r : Result T E) (old : Desk) (d0 d d' : Digest) (ls ls' left : List Laid) (l : Laid) → desk d0 (map op_in ls) ≡ old → d ≡ d0 → ls' ≡ ls ++ l ∷ []
-    → OnErr r ((d' ≡ d) × (left ≡ ls')) → OnErr r ((d' ≡ old.published) × ((map op_in left ≡ old.pending) ⊎ (map op_in left ≡ old.pending ++ op_in l ∷ [])))
-laid_err (Ok x) old d0 d d' ls ls' left l view at is err = tt
-laid_err (Err e) old d0 d d' ls ls' left l view at is err =
+-- it waits
+pub laid_err : (old : Desk) (t : TableId) (d0 d d' : Digest) (ls ls' left : List Laid) (past : List Publishing) (l : Laid) → desk t d0 (map op_in ls) past ≡ old → d ≡ d0
+    → ls' ≡ ls ++ l ∷ [] → (d' ≡ d) × (left ≡ ls') → (d' ≡ old.published) × ((map op_in left ≡ old.pending) ⊎ (map op_in left ≡ old.pending ++ op_in l ∷ []))
+laid_err old t d0 d d' ls ls' left past l view at is err =
     subst (λ (o : Desk). (d' ≡ o.published) × ((map op_in left ≡ o.pending) ⊎ (map op_in left ≡ o.pending ++ op_in l ∷ []))) view
     (err.0 ∙ at, inr (ap (map op_in) err.1 ∙ pushed_ops ls ls' l is))
 
-published_is : {T E : Type 0} (r : Result T E) (old new : Desk) (op : Op) → OnOk r (new ≡ desk (fold laid old.published (old.pending ++ op ∷ [])) []) → OnOk r (Published old new op)
-published_is (Ok x) old new op is = (ap (λ (o : Desk). o.published) is, ap (λ (o : Desk). o.pending) is)
-published_is (Err e) old new op is = tt
-
-pub laid_log : {T E : Type 0} (r : Result T E) (log : List Entry) (old new : Desk) (op : Op) → IsSound log → Belongs log old → IsOf log op
-    → OnOk r (new ≡ desk (fold laid old.published (old.pending ++ op ∷ [])) []) → OnErr r (Waits old new op) → Belongs log new
-laid_log r log old new op sound belongs of ok err = laid_of r log old new op sound belongs of (published_is r old new op ok) err
+pub next_log : (log : List Entry) (old new : Desk) (told : Option (List Item)) (op : Op) → IsSound log → Belongs log old → IsOf log op
+    → new ≡ shows_next old told (fold laid old.published (old.pending ++ op ∷ [])) → Belongs log new
+next_log log old new told op sound belongs of is = published_of log old new op sound belongs of (ap (λ (o : Desk). o.published) is, ap (λ (o : Desk). o.pending) is)

@@ -1,4 +1,5 @@
 pub mod Parts
 pub mod Laying
+pub mod Past
 pub mod Shelf
 pub mod Shown

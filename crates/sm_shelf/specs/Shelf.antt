@@ -1,13 +1,16 @@
 -- The words of the shelf's contracts.
-use Rattle.std.specs.Prelude.{◌≡◌, ◌+◌, ◌≤◌, All, take, ℕ, Bool, List, length, Option, None, Some, slice_get}
+use Rattle.std.specs.Prelude.{◌≡◌, ◌+◌, ◌≤◌, [], ◌∷◌, ◌++◌, All, take, ℕ, Bool, false, List, length, Option, None, Some, slice_get}
 use mathlib.Core.Option.{some}
 use lib.ListN.{get_elem?}
+use Rattle.atomic_table.specs.Seated.{TableId}
 use Rattle.sm_model.specs.declared.entry.Entry.{Entry}
 use Rattle.sm_model.specs.declared.entry.Entry.TheVariants as entry
 use Rattle.sm_model.specs.declared.track.Track.{Track}
 use Rattle.sm_log.specs.Digests.{Digest, Extends, digest_of}
+use Rattle.sm_site.specs.Meanings.{Item}
 use Rattle.sm_shelf.specs.declared.laid.Laid.{Laid}
-use Rattle.sm_shelf.specs.Laying.{Op, Whole, Next, op_of, laid}
+use Rattle.sm_shelf.specs.Laying.{Op, Whole, Next, nothing, op_of, laid}
+use Rattle.sm_shelf.specs.Past.{Publishing, publishing}
 
 -- ---- operations
 
@@ -32,15 +35,34 @@ Keeps = KeepsBy Extends
 abbrev pub Sees : Digest → Digest → Digest → Digest → Type 0
 Sees = SeesBy Extends
 
--- what contracts see of a reader: the digest that it has seen, and whether it is lost
+-- which table a shelf is: no two shelves share one
+abbrev pub Table : Type 0
+Table = TableId
+
+-- what contracts see of a reader: which table it sits at, the digest that it has seen, and whether it is lost
 pub record Sight : Type 0 where
+  pub table : Table
   pub seen : Digest
   pub lost : Bool
 
--- what contracts see of the writer: what is published, and what was laid behind it and waits
+-- what contracts see of the writer: which table its shelf is, what is published, what was laid behind it and waits, and all that was published so far
 pub record Desk : Type 0 where
+  pub table : Table
   pub published : Digest
   pub pending : List Op
+  pub past : List Publishing
+
+-- a shelf that was just made
+abbrev pub bare : Table → Desk
+bare table = record { table = table; published = nothing; pending = []; past = [] }
+
+-- this is published on it next, and nothing waits behind it
+abbrev pub shows_next : Desk → Option (List Item) → Digest → Desk
+shows_next desk told d = record { table = desk.table; published = d; pending = []; past = desk.past ++ publishing told d ∷ [] }
+
+-- a reader of that table that has seen nothing
+abbrev pub unread : Table → Sight
+unread table = record { table = table; seen = nothing; lost = false }
 
 -- ---- logs
 

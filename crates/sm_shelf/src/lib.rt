@@ -5,6 +5,7 @@
 mod found;
 mod laid;
 pub mod law;
+mod past;
 mod readers;
 mod replies;
 mod rule;
@@ -17,4 +18,4 @@ mod writer;
 pub use readers::ShelfReader;
 pub use shown::Shown;
 pub use told::Told;
-pub use writer::{Readers, ShelfWriter, make};
+pub use writer::{Readers, ShelfEnd, ShelfWriter, make};

@@ -16,7 +16,8 @@ use sm_model::{Act, Address, Channel};
 use std::alloc::Global;
 use std::marker::Model;
 
-/// A reader of a shelf. Contracts see the digest that it has seen, and whether it is lost: a lost one answers `NoMemory` for good.
+/// A reader of a shelf. Contracts see which table it sits at, the digest that it has seen, and whether it is lost: a lost one answers
+/// `NoMemory` for good.
 /// It keeps the channel once it has seen it, and the manifest that it wrote last.
 #[derive(Drop)]
 pub struct ShelfReader {
@@ -33,7 +34,7 @@ impl Model for ShelfReader {
 
     ghost Value = { Sight };
 
-    ghost view = { λ r. record { seen = known r.seat.place; lost = r.lost } };
+    ghost view = { λ r. record { table = r.seat.place.table_id; seen = known r.seat.place; lost = r.lost } };
 
     ghost invariant = { λ r. IsReader r.channel r.listed (known r.seat.place) };
 }
@@ -89,7 +90,7 @@ fn ask(seat: &mut Seat, alloc: Global, count: Option<u64>) -> Listing
 
 impl ShelfReader {
     pub(crate) fn over(seat: Seat) -> ShelfReader
-        ensures { result ≡ record { seen = known seat.place; lost = false } }
+        ensures { result ≡ record { table = seat.place.table_id; seen = known seat.place; lost = false } }
     {
         ShelfReader {
             seat,

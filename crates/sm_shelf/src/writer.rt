@@ -8,27 +8,48 @@ ghost use Rattle.sm_log.specs.Logs.{IsSound};
 ghost use Rattle.sm_log.specs.Digests.{window_of};
 ghost use Rattle.sm_shelf.specs.Parts.{IsListing, IsEnd, addresses_in};
 ghost use Rattle.sm_shelf.specs.Laying.{Whole, op_of, op_at, filling, nothing, laid, IsFit, IsValidEntry};
-ghost use Rattle.sm_shelf.specs.Shelf.{applied, op_in, Belongs, IsFront, IsOf, height_of};
+ghost use Rattle.sm_shelf.specs.Shelf.{applied, bare, op_in, shows_next, unread, Belongs, IsFront, IsOf, height_of};
 
 use crate::laid::{Laid, What};
+use crate::past::{Past, note};
 use crate::readers::ShelfReader;
-use crate::rule::{Core, Looks, Note, Seat};
+use crate::rule::{Core, Looks, Note, Published, Seat};
 use crate::stock::Stock;
 use crate::told::Told;
 use crate::window::{Window, window_of};
 use core::mem::replace_with;
+use left_right::reader::Factory;
 use left_right::writer::Writer;
 use sm_catalog::Catalog;
 use sm_model::{Entry, Fragment, NoMemory};
+use sm_site::Site;
 use std::alloc::{AllocError, Global};
 use std::marker::Model;
 use std::snapshot::Snapshot;
 use std::sync::{Arc, Wait};
 
-/// The one who publishes. Contracts see what is published, and what was laid behind it and waits. It is not `Drop`: finish with `end`.
+// Which shelf it is: no two that are made have one name. It has no bytes.
+#[derive(Drop)]
+struct ShelfName {
+    made: Snapshot<Factory<Stock, Stock, Published>>,
+}
+
+impl Model for ShelfName {
+    ghost use Rattle.std.specs.Arc.{arc_value};
+    ghost use Rattle.sm_shelf.specs.Shelf.{Table};
+
+    ghost Value = { Table };
+
+    ghost view = { λ n. (arc_value n.made.value.board).shared.table_id };
+}
+
+/// The one who publishes. Contracts see which table its shelf is, what is published, what was laid behind it and waits, and all that was published so
+/// far. It is not `Drop`: finish with `end`.
 pub struct ShelfWriter {
     alloc: Global,
     core: Core,
+    name: ShelfName,
+    past: Past,
 }
 
 impl Model for ShelfWriter {
@@ -38,9 +59,23 @@ impl Model for ShelfWriter {
 
     ghost Value = { Desk };
 
-    ghost view = { λ w. record { published = w.core.desk.shown.value; pending = map op_in (drop w.core.behind w.core.log.items) } };
+    ghost view = { λ w. record { table = w.name; published = w.core.desk.shown.value; pending = map op_in (drop w.core.behind w.core.log.items); past = w.past.items } };
 
     ghost invariant = { λ w. known w.core.desk.place ≡ w.core.desk.shown.value };
+}
+
+/// What is left of a shelf that was taken down. Contracts see what its writer was at the end. It has no bytes.
+#[derive(Drop)]
+pub struct ShelfEnd {
+    writer: Snapshot<ShelfWriter>,
+}
+
+impl Model for ShelfEnd {
+    ghost use Rattle.sm_shelf.specs.Shelf.{Desk};
+
+    ghost Value = { Desk };
+
+    ghost view = { λ e. e.writer.value };
 }
 
 /// Readers to hand out, each to a thread of its own. Contracts see them as a list.
@@ -130,25 +165,34 @@ fn entry_at(alloc: Global, place: u64, entry: &Entry) -> Result<What, NoMemory>
 
 impl ShelfWriter {
     // Publishes this behind what was pending, all at once.
-    fn lay<R: Wait>(&mut self, rt: &R, one: Laid) -> Result<(), NoMemory>
-        ensures ok { OnOk result (self.new ≡ record { published = fold laid self.old.published (self.old.pending ++ op_in one ∷ []); pending = [] }) }
+    fn lay<R: Wait, S: Site>(&mut self, rt: &R, site: &S, one: Laid) -> Result<(), NoMemory>
+        ensures ok { OnOk result (self.new ≡ shows_next self.old (S.Disk.seen.view site.now).transcript (fold laid self.old.published (self.old.pending ++ op_in one ∷ []))) }
         ensures err { OnErr result ((self.new.published ≡ self.old.published)
             × ((self.new.pending ≡ self.old.pending) ⊎ (self.new.pending ≡ self.old.pending ++ op_in one ∷ []))) }
+        ensures table { self.new.table ≡ self.old.table }
+        ensures past { OnErr result (self.new.past ≡ self.old.past) }
         ensures log { (log : List Entry) → IsSound log → Belongs log self.old → IsOf log (op_in one) → Belongs log self.new }
     {
         if self.core.append(one).is_err() {
             return Err(NoMemory);
         }
-        publish(rt, &mut self.core)
+        match publish(rt, &mut self.core) {
+            Ok(()) => {
+                note(&mut self.past, &self.core, site);
+                Ok(())
+            }
+            Err(NoMemory) => Err(NoMemory),
+        }
     }
 
     /// Publishes a log up to some entry, all at once, on a shelf that has nothing: its catalog, and its last fragments, of which those are
     /// shown that fit the window of 67,108,864 bytes of samples. On a shelf that has something it changes nothing. It waits for readers
     /// that are inside. At `Err` what was published stays, and it may be pending: then the next call publishes it first. Samples that
-    /// have several owners are not copied.
-    pub fn fill<R: Wait>(
+    /// have several owners are not copied. The site is for clauses alone: by it they know the transcript at the time.
+    pub fn fill<R: Wait, S: Site>(
         &mut self,
         rt: &R,
+        site: &S,
         catalog: &Catalog,
         window: &[Fragment],
     ) -> Result<(), NoMemory>
@@ -156,36 +200,36 @@ impl ShelfWriter {
         requires valid { All IsValid window.now }
         requires within { length window.now ≤ length catalog.now.adds }
         requires last { IsEnd (addresses_in catalog.now.adds) (map address_of window.now) }
-        ensures ok { OnOk result (self.new ≡ record {
-          published = fold laid self.old.published (self.old.pending ++ Whole (filling catalog.now window.now) ∷ []);
-          pending = [];
-        }) }
+        ensures ok { OnOk result (self.new ≡ shows_next self.old (S.Disk.seen.view site.now).transcript
+            (fold laid self.old.published (self.old.pending ++ Whole (filling catalog.now window.now) ∷ []))) }
         ensures err { OnErr result ((self.new.published ≡ self.old.published) × ((self.new.pending ≡ self.old.pending)
             ⊎ (self.new.pending ≡ self.old.pending ++ Whole (filling catalog.now window.now) ∷ []))) }
+        ensures table { self.new.table ≡ self.old.table }
+        ensures past { OnErr result (self.new.past ≡ self.old.past) }
         // Where it brings a front of a log to which all on the shelf belongs, all belongs to it still.
         ensures log { (log : List Entry) → IsSound log → Belongs log self.old → IsFront log (filling catalog.now window.now) → Belongs log self.new }
     {
         let what = filled(self.alloc, catalog, window)?;
-        self.lay(rt, Laid { what })
+        self.lay(rt, site, Laid { what })
     }
 
     /// Publishes the entry that stands in the log behind what is published, all at once. What doesn't stand there, or is pending already,
     /// changes nothing. It waits for readers that are inside. At `Err` what was published stays, and the entry may be pending: then the
     /// next call, for this entry again, publishes it first. Samples that have several owners are not copied.
-    pub fn put<R: Wait>(&mut self, rt: &R, entry: &Entry) -> Result<(), NoMemory>
+    pub fn put<R: Wait, S: Site>(&mut self, rt: &R, site: &S, entry: &Entry) -> Result<(), NoMemory>
         requires { IsValidEntry entry.now }
-        ensures ok { OnOk result (self.new ≡ record {
-          published = fold laid self.old.published (self.old.pending ++ op_at (height_of self.old.published) entry.now ∷ []);
-          pending = [];
-        }) }
+        ensures ok { OnOk result (self.new ≡ shows_next self.old (S.Disk.seen.view site.now).transcript
+            (fold laid self.old.published (self.old.pending ++ op_at (height_of self.old.published) entry.now ∷ []))) }
         ensures err { OnErr result ((self.new.published ≡ self.old.published) × ((self.new.pending ≡ self.old.pending)
             ⊎ (self.new.pending ≡ self.old.pending ++ op_at (height_of self.old.published) entry.now ∷ []))) }
+        ensures table { self.new.table ≡ self.old.table }
+        ensures past { OnErr result (self.new.past ≡ self.old.past) }
         // Where it brings what a log to which all on the shelf belongs has there, all belongs to it still.
         ensures log { (log : List Entry) → IsSound log → Belongs log self.old → slice_get log (height_of self.old.published) ≡ Some entry.now
             → Belongs log self.new }
     {
         let what = entry_at(self.alloc, self.height(), entry)?;
-        self.lay(rt, Laid { what })
+        self.lay(rt, site, Laid { what })
     }
 
     /// How many entries of a log are published: the channel and what was added.
@@ -208,10 +252,19 @@ impl ShelfWriter {
         Told::over(seat, digest)
     }
 
-    /// Waits for readers that are inside. From then on readers answer `NoMemory`.
-    pub fn end<R: Wait>(self, rt: &R) {
-        let ShelfWriter { alloc: _, core } = self;
+    /// Waits for readers that are inside. From then on readers answer `NoMemory`. What is left is what clauses know of the writer.
+    pub fn end<R: Wait>(self, rt: &R) -> ShelfEnd
+        ensures { result ≡ self }
+    {
+        let writer = Snapshot::of(&self);
+        let ShelfWriter {
+            alloc: _,
+            core,
+            name: _,
+            past: _,
+        } = self;
         core.take(rt);
+        ShelfEnd { writer }
     }
 }
 
@@ -230,8 +283,8 @@ fn taught(core: &mut Core, seat: Seat) -> Seat
 // Makes so many readers.
 fn admit(core: &Core, readers: &mut Vec<ShelfReader>, count: u32) -> Result<(), AllocError>
     ensures len { OnOk result (vec_len readers.new ≡ vec_len readers.old + count) }
-    ensures fresh { All (λ r. r ≡ record { seen = nothing; lost = false }) readers.old.items
-        → All (λ r. r ≡ record { seen = nothing; lost = false }) readers.new.items }
+    ensures fresh { All (λ r. r ≡ unread core.now.desk.place.table_id) readers.old.items
+        → All (λ r. r ≡ unread core.now.desk.place.table_id) readers.new.items }
 {
     for _ in 0..count {
         let seat = core.factory().reader()?;
@@ -250,13 +303,27 @@ pub fn make<R: Wait>(
     readers: u32,
 ) -> Result<(ShelfWriter, Readers), NoMemory>
     requires { (0 < readers) × (readers ≤ 16) }
-    ensures writer { IfOk result (λ r. r.0 ≡ record { published = nothing; pending = [] }) }
-    ensures readers { IfOk result (λ r. (length r.1 ≡ readers) × All (λ d. d ≡ record { seen = nothing; lost = false }) r.1) }
+    ensures writer { IfOk result (λ r. r.0 ≡ bare r.0.table) }
+    ensures readers { IfOk result (λ r. (length r.1 ≡ readers) × All (λ d. d ≡ unread r.0.table) r.1) }
 {
     let mut items = Vec::new(alloc);
     let core: Core = Writer::new(alloc, Stock::new(alloc), Stock::new(alloc), 32)?;
     match admit(&core, &mut items, readers) {
-        Ok(()) => Ok((ShelfWriter { alloc, core }, Readers { items })),
+        Ok(()) => {
+            let name = ShelfName {
+                made: Snapshot::of(core.factory()),
+            };
+            let past = Past::none();
+            Ok((
+                ShelfWriter {
+                    alloc,
+                    core,
+                    name,
+                    past,
+                },
+                Readers { items },
+            ))
+        }
         Err(_) => {
             core.take(rt);
             Err(NoMemory)

@@ -26,7 +26,7 @@ use Rattle.sm_shelf.specs.Shelf.{Desk, Belongs}
 use Rattle.sm_show.specs.declared.outcome.Up.{Up}
 use Rattle.sm_show.specs.declared.outcome.Up.TheVariants.{Whole, Behind}
 use Rattle.sm_show.specs.Marks.{Shows, HasShown, behind_by, short_by}
-use Rattle.sm_show.specs.Recalling.{Recalls}
+use Rattle.sm_show.specs.Recalling.{Publishes, Recalls}
 use Rattle.sm_show.proofs.Resting.{turns_rest}
 use Rattle.sm_show.proofs.Marked.{belongs_later, shows_more}
 
@@ -64,22 +64,24 @@ module _ {D : Type 0} (site : Seen D) where
       belongs_later k.point.machine.log more.0 l.point.machine.log desk more.1 belongs
 
   -- a turn, and what is published behind it
-  pub turn_shows : Grows → (h k turned : History) (s t u : State) (d m e f : D) (desk desk' : Desk) (up : Up) (n b b' c c' : ℕ) → Serves site h s d
+  pub turn_shows : Grows → (h k turned : History) (s t u : State) (d m e f : D) (before desk desk' : Desk) (up : Up) (n b b' c c' : ℕ) → Serves site h s d
       → Serves site k t m → Since h k → (serves : Serves site turned u e) → Since k turned → (deal : Deal) × (deals_in turned.items ≡ deals_in k.items ++ deal ∷ [])
-      → (recalls : Recalls site u e f)
+      → (recalls : Recalls site u e f) → Publishes (site.view e).transcript desk desk'
       → ((l : History) → Serves site l u e → IsSome (site.view e).contents → Belongs l.point.machine.log desk → Belongs l.point.machine.log desk')
       → ((l : History) → Serves site l u e → IsSome (site.view e).contents → Belongs l.point.machine.log desk → (up ≡ Whole) ↔ (desk'.published ≡ digest_of l.point.machine.log))
       → (up ≡ Behind → IsSome (site.view e).contents → Rose (site.view e).disk_faults (site.view f).disk_faults)
-      → IsSome (site.view d).contents → Shows h k n b c desk → b' ≡ b + behind_by up → c' ≡ c + short_by up → Shows h (recalls.rests turned serves).later (n + 1) b' c' desk'
-  turn_shows grows h k turned s t u d m e f desk desk' up n b b' c c' begin one on serves since took recalls belongs whole blamed told shows bs cs =
+      → IsSome (site.view d).contents → Shows h k n b c before desk → b' ≡ b + behind_by up → c' ≡ c + short_by up
+      → Shows h (recalls.rests turned serves).later (n + 1) b' c' before desk'
+  turn_shows grows h k turned s t u d m e f before desk desk' up n b b' c c' begin one on serves since took recalls more belongs whole blamed told shows bs cs =
       let rests = recalls.rests turned serves in
       let at_mid : is_told (site.view m) ≡ true = still_told h k s t d m begin one on ∙ told in
       let at_turned : is_told (site.view e) ≡ true = still_told k turned t u m e one serves since ∙ at_mid in
-      let before = belongs_on grows h k turned s t u d m e desk begin one on serves since told shows.belongs in
+      let belonged = belongs_on grows h k turned s t u d m e desk begin one on serves since told shows.belongs in
       let was : (site.view e).disk_faults ≡ turned.point.faults = sym serves.keeps.counted in
       let now : (site.view f).disk_faults ≡ rests.later.point.faults = sym rests.serves.keeps.counted in
-      shows_more h k turned rests.later n (n + 1) b b' c c' desk desk' up shows since took rests.since rests.same (rests.log (recalls.told ∙ at_turned)) (belongs turned serves at_turned before)
-      (whole turned serves at_turned before)
+      shows_more h k turned rests.later n (n + 1) b b' c c' before desk desk' up shows since took rests.since rests.same
+      (subst (λ (t : Option (List Item)). Publishes t desk desk') serves.keeps.told more) (rests.log (recalls.told ∙ at_turned)) (belongs turned serves at_turned belonged)
+      (whole turned serves at_turned belonged)
       (λ behind. subst (λ (x : ℕ). Rose x rests.later.point.faults) was (subst (λ (x : ℕ). Rose (site.view e).disk_faults x) now (blamed behind at_turned))) refl bs cs
 
   -- the end says that nothing more comes
@@ -114,10 +116,10 @@ module _ {D : Type 0} (site : Seen D) where
         record { log = s.0; store = s.1; more = s.2.0; extends = s.2.1; holds = s.3 }
 
     -- the loop served, and so it showed
-    pub served_shown : (h : History) (deals : List Deal) (turns : ℕ) (result : Outcome) (desk : Desk) (state : State) (d : D) → (all : Turns site h deals state d)
-        → EndsAs turns result (site.view d).transcript (events_in h.items) (events_in all.later.items) deals → HasShown h result all.later desk
-        → (run : Served site h result turns state d) × HasShown h result run.later desk
-    served_shown h deals turns result desk state d all ends shown =
+    pub served_shown : (h : History) (deals : List Deal) (turns : ℕ) (result : Outcome) (before desk : Desk) (state : State) (d : D) → (all : Turns site h deals state d)
+        → EndsAs turns result (site.view d).transcript (events_in h.items) (events_in all.later.items) deals → HasShown h result all.later before desk
+        → (run : Served site h result turns state d) × HasShown h result run.later before desk
+    served_shown h deals turns result before desk state d all ends shown =
         let k = all.serves.keeps in (
           record {
             later = all.later;

@@ -10,11 +10,13 @@ use Rattle.sm_site.specs.Clauses.{Rose}
 use Rattle.sm_serve.specs.Connections.{deals_in}
 use Rattle.sm_serve.specs.Standing.{History}
 use Rattle.sm_serve.specs.Serving.{Since}
+use Rattle.sm_shelf.specs.Past.{Publishing, all_at, last_of}
 use Rattle.sm_shelf.specs.Shelf.{Desk, Belongs, IsFront}
 use Rattle.sm_shelf.proofs.Heights.{front_later, of_later}
 use Rattle.sm_show.specs.declared.outcome.Up.{Up}
 use Rattle.sm_show.specs.declared.outcome.Up.TheVariants.{Whole, Behind}
-use Rattle.sm_show.specs.Marks.{Mark, IsMark, Follow, AreCounted, Shows, behind_by, short_by, shown_after}
+use Rattle.sm_show.specs.Marks.{Mark, IsMark, Follow, AreCounted, InOrder, Shows, behind_by, past_after, short_by, shown_after, told_at}
+use Rattle.sm_show.specs.Recalling.{Publishes}
 
 pub belongs_later : (log more now : List Entry) (desk : Desk) → now ≡ log ++ more → Belongs log desk → Belongs now desk
 belongs_later log more now desk is belongs =
@@ -31,6 +33,16 @@ follow_more from mid (x ∷ ms) m on since took is = (on.0, on.1, on.2, follow_m
 
 unfoldable pub none_counted : (h : History) → AreCounted h h 0 0 0
 none_counted h = record { marks = []; many = refl; follow = refl; behind_is = refl; short_is = refl }
+
+-- what is shown behind one more is in order
+order_more : (before : Digest) (ms : List Mark) (m : Mark) → InOrder before ms → m.shown ≡ last_of (shown_after before ms) m.added → InOrder before (ms ++ m ∷ [])
+order_more before [] m on is = (is, tt)
+order_more before (x ∷ ms) m on is = (on.0, order_more x.shown ms m on.1 is)
+
+-- what was published up to it
+past_more : (past : List Publishing) (ms : List Mark) (m : Mark) → past_after past (ms ++ m ∷ []) ≡ past_after past ms ++ all_at (told_at m.turned) m.added
+past_more past [] m = refl
+past_more past (x ∷ ms) m = past_more (past ++ all_at (told_at x.turned) x.added) ms m
 
 -- what was published behind the last one
 shown_last : (before : Digest) (ms : List Mark) (m : Mark) → m.shown ≡ shown_after before (ms ++ m ∷ [])
@@ -55,13 +67,13 @@ one_counted from mid turns turns' behind behind' short short' m since took is t 
     }
 
 -- a turn and its publishing
-pub shows_more : (h k turned behind : History) (t t' b b' s s' : ℕ) (desk desk' : Desk) (up : Up) → Shows h k t b s desk → Since k turned
-    → (deal : Deal) × (deals_in turned.items ≡ deals_in k.items ++ deal ∷ []) → Since turned behind → behind.items ≡ turned.items
+pub shows_more : (h k turned behind : History) (t t' b b' s s' : ℕ) (before desk desk' : Desk) (up : Up) → Shows h k t b s before desk → Since k turned
+    → (deal : Deal) × (deals_in turned.items ≡ deals_in k.items ++ deal ∷ []) → Since turned behind → behind.items ≡ turned.items → Publishes (told_at turned) desk desk'
     → behind.point.machine.log ≡ turned.point.machine.log → Belongs turned.point.machine.log desk' → (up ≡ Whole) ↔ (desk'.published ≡ digest_of turned.point.machine.log)
-    → (up ≡ Behind → Rose turned.point.faults behind.point.faults) → t' ≡ t + 1 → b' ≡ b + behind_by up → s' ≡ s + short_by up → Shows h behind t' b' s' desk'
+    → (up ≡ Behind → Rose turned.point.faults behind.point.faults) → t' ≡ t + 1 → b' ≡ b + behind_by up → s' ≡ s + short_by up → Shows h behind t' b' s' before desk'
 unfolding one_counted
-shows_more h k turned behind t t' b b' s s' desk desk' up shows since took on same log belongs whole blamed ts bs ss =
-    let m : Mark = record { turned = turned; behind = behind; shown = desk'.published; up = up } in
+shows_more h k turned behind t t' b b' s s' before desk desk' up shows since took on same more log belongs whole blamed ts bs ss =
+    let m : Mark = record { turned = turned; behind = behind; added = more.digests; shown = desk'.published; up = up } in
     let now : Belongs behind.point.machine.log desk' = subst (λ (l : List Entry). Belongs l desk') (sym log) belongs in
     let is : IsMark m = record {
       since = on;
@@ -76,17 +88,36 @@ shows_more h k turned behind t t' b b' s s' desk desk' up shows since took on sa
       since = shows.since;
       same = shows.same;
       log = shows.log;
+      added = shows.added;
       first = shows.first;
+      first_is = shows.first_is;
       front = shows.front;
       counted = one_counted shows.begun k t t' b b' s s' m since took is ts bs ss shows.counted;
+      in_order = order_more shows.first shows.counted.marks m shows.in_order (more.last ∙ ap (λ (d : Digest). last_of d more.digests) shows.last_is);
       last_is = shown_last shows.first shows.counted.marks m;
+      past = more.past ∙ ap (λ (l : List Publishing). l ++ all_at (told_at turned) more.digests) shows.past
+          ∙ sym (past_more (before.past ++ all_at (told_at h) shows.added) shows.counted.marks m);
       belongs = now;
     }
 
 -- before the first event
-pub shows_none : (h begun : History) (desk : Desk) → Since h begun → begun.items ≡ h.items → begun.point.machine.log ≡ h.point.machine.log → Belongs h.point.machine.log desk
-    → Shows h begun 0 0 0 desk
+pub shows_none : (h begun : History) (before desk : Desk) → Since h begun → begun.items ≡ h.items → Publishes (told_at h) before desk → begun.point.machine.log ≡ h.point.machine.log
+    → Belongs h.point.machine.log desk → Shows h begun 0 0 0 before desk
 unfolding none_counted
-shows_none h begun desk since same log belongs =
+shows_none h begun before desk since same more log belongs =
     let now : Belongs begun.point.machine.log desk = subst (λ (l : List Entry). Belongs l desk) (sym log) belongs in
-    record { begun = begun; since = since; same = same; log = log; first = desk.published; front = now.0; counted = none_counted begun; last_is = refl; belongs = now }
+    record {
+      begun = begun;
+      since = since;
+      same = same;
+      log = log;
+      added = more.digests;
+      first = desk.published;
+      first_is = more.last;
+      front = now.0;
+      counted = none_counted begun;
+      in_order = tt;
+      last_is = refl;
+      past = more.past;
+      belongs = now;
+    }

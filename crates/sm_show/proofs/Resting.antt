@@ -1,6 +1,7 @@
 -- A run that goes on by reading back.
-use Rattle.std.proofs.Common.{◌≡◌, ◌≢◌, List, [], Option, IsSome, is_some, refl, sym, ◌∙◌, ap, subst, append-nil, Err}
-use Rattle.sm_site.specs.Meanings.{Deal, Seen}
+use Rattle.std.proofs.Common.{◌≡◌, ◌≢◌, List, [], ◌∷◌, ◌++◌, Option, IsSome, is_some, refl, sym, ◌∙◌, ap, subst, append-nil, append_assoc, Err}
+use Rattle.std.proofs.lemmas.List.{map-append}
+use Rattle.sm_site.specs.Meanings.{Deal, Item, Seen}
 use Rattle.sm_site.proofs.Moments.{alone_here, alone_then}
 use Rattle.sm_model.specs.declared.address.Address.{Address}
 use Rattle.sm_archive.specs.declared.fetch.Fetched.{Fetched}
@@ -12,12 +13,14 @@ use Rattle.sm_serve.specs.Serving.{Serves, Since, TurnsBy, RecallsIn}
 use Rattle.sm_serve.proofs.Lasting.{on_itself, on_then, recalled_push}
 use Rattle.sm_serve.proofs.Events.{same_script}
 use Rattle.sm_model.specs.declared.entry.Entry.{Entry}
-use Rattle.sm_shelf.specs.Shelf.{Desk, Belongs}
+use Rattle.sm_log.specs.Digests.{Digest}
+use Rattle.sm_shelf.specs.Past.{Publishing, all_at, last_of, publishing}
+use Rattle.sm_shelf.specs.Shelf.{Desk, Belongs, shows_next}
 use Rattle.sm_show.specs.declared.outcome.Lack.{Lack}
 use Rattle.sm_show.specs.declared.outcome.Lack.TheVariants as lack
 use Rattle.sm_show.specs.declared.outcome.Up.{Up}
 use Rattle.sm_show.specs.declared.outcome.Up.TheVariants.{Behind}
-use Rattle.sm_show.specs.Recalling.{BringsUp, ReadsBack, Rests, Recalls}
+use Rattle.sm_show.specs.Recalling.{BringsUp, Publishes, ReadsBack, Rests, Recalls}
 
 pub since_itself : (h : History) → Since h h
 since_itself h = record { first = refl; begin = refl; base = refl; found = refl; on = on_itself h }
@@ -29,6 +32,31 @@ since_then h k l one two = record {
   base = two.base ∙ one.base;
   found = two.found ∙ one.found;
   on = on_then h k l one.on two.on;
+}
+
+-- ---- what is published
+
+pub last_then : (before : Digest) (ds es : List Digest) → last_of before (ds ++ es) ≡ last_of (last_of before ds) es
+last_then before [] es = refl
+last_then before (d ∷ ds) es = last_then d ds es
+
+-- nothing is published there
+pub publishes_here : (told : Option (List Item)) (desk : Desk) → Publishes told desk desk
+publishes_here told desk = record { digests = []; past = sym (append-nil desk.past); last = refl }
+
+-- one digest is, or none
+pub publishes_one : (told : Option (List Item)) (a b : Desk) (d : Digest) → b ≡ shows_next a told d → Publishes told a b
+publishes_one told a b d is = record { digests = d ∷ []; past = ap (λ (o : Desk). o.past) is; last = ap (λ (o : Desk). o.published) is }
+
+pub publishes_none : (told : Option (List Item)) (a b : Desk) → b.past ≡ a.past → b.published ≡ a.published → Publishes told a b
+publishes_none told a b past same = record { digests = []; past = past ∙ sym (append-nil a.past); last = same }
+
+pub publishes_then : (told : Option (List Item)) (a b c : Desk) → Publishes told a b → Publishes told b c → Publishes told a c
+publishes_then told a b c one two = record {
+  digests = one.digests ++ two.digests;
+  past = two.past ∙ ap (λ (l : List Publishing). l ++ all_at told two.digests) one.past ∙ append_assoc a.past (all_at told one.digests) (all_at told two.digests)
+      ∙ ap (λ (l : List Publishing). a.past ++ l) (sym (map-append (publishing told) one.digests two.digests));
+  last = two.last ∙ ap (λ (d : Digest). last_of d two.digests) one.last ∙ sym (last_then a.published one.digests two.digests);
 }
 
 module _ {D : Type 0} (site : Seen D) where
@@ -115,6 +143,8 @@ module _ {D : Type 0} (site : Seen D) where
   pub brings_here : (state : State) (d : D) (desk : Desk) (up : Up) → up ≢ Behind → StandsForSome site state.origin d → BringsUp site state d d desk desk up
   brings_here state d desk up not_behind stands = record {
     recalls = recalls_here state d stands;
+    table = refl;
+    publishes = publishes_here (site.view d).transcript desk;
     belongs = λ h serves told belongs. belongs;
     behind = λ is. absurd (not_behind is);
   }
@@ -123,6 +153,8 @@ module _ {D : Type 0} (site : Seen D) where
       → BringsUp site state d f a c up
   brings_then state d e f a b c was up one two = record {
     recalls = recalls_then state d e f one.recalls two.recalls;
+    table = two.table ∙ one.table;
+    publishes = publishes_then (site.view d).transcript a b c one.publishes (subst (λ (t : Option (List Item)). Publishes t b c) one.recalls.disk_alone.link.transcript two.publishes);
     belongs = belongs_then state d e a b c one.recalls one.belongs two.belongs;
     behind = λ is told. rose_later (site.view d).disk_faults (site.view e).disk_faults (site.view f).disk_faults one.recalls.disk_alone.no_fewer
         (two.behind is (one.recalls.told ∙ told));

@@ -6,9 +6,9 @@ use Rattle.sm_model.specs.declared.fragment.Fragment.{Fragment}
 use Rattle.sm_model.specs.Entries.{address_of}
 use Rattle.sm_model.specs.Fragments.{IsValid}
 use Rattle.sm_log.specs.Adds.{Add}
-use Rattle.sm_log.specs.Digests.{keeps_of, bytes_of}
+use Rattle.sm_log.specs.Digests.{Digest, keeps_of, bytes_of}
 use Rattle.sm_catalog.specs.Content.{Content}
-use Rattle.sm_site.specs.Meanings.{DiskAlone, Seen}
+use Rattle.sm_site.specs.Meanings.{DiskAlone, Item, Seen}
 use Rattle.sm_site.specs.Clauses.{Rose}
 use Rattle.sm_archive.specs.declared.archive.Archive.{Archive}
 use Rattle.sm_archive.specs.declared.fetch.Fetched.{Fetched}
@@ -22,6 +22,7 @@ use Rattle.sm_serve.specs.Run.{ladders}
 use Rattle.sm_serve.specs.Standing.{History, StandsForSome, is_told}
 use Rattle.sm_serve.specs.Serving.{Serves, Since}
 use Rattle.sm_shelf.specs.Parts.{IsEnd, addresses_in}
+use Rattle.sm_shelf.specs.Past.{all_at, last_of}
 use Rattle.sm_shelf.specs.Shelf.{Belongs, Desk}
 use Rattle.sm_show.specs.declared.outcome.Lack.{Lack}
 use Rattle.sm_show.specs.declared.outcome.Lack.TheVariants as lack
@@ -58,10 +59,18 @@ pub record ReadsBack {D T : Type 0} (site : Seen D) (state : State) (old new : D
   pub recalls : Recalls site state old new
   pub fault : IsErrOf result lack.Disk → IsSome (site.view old).contents → Rose (site.view old).disk_faults (site.view new).disk_faults
 
--- What bringing the shelf up leaves: where the disk tells its contents what belonged to the log still does, and the shelf is behind only where
--- the disk counted a fault.
+-- These digests were published there, one after the other, while the transcript was this.
+pub record Publishes (told : Option (List Item)) (before after : Desk) : Type 0 where
+  pub digests : List Digest
+  pub past : after.past ≡ before.past ++ all_at told digests
+  pub last : after.published ≡ last_of before.published digests
+
+-- What bringing the shelf up leaves: it is the same shelf, and what was published is put down with the transcript as it was; where the disk tells its
+-- contents what belonged to the log still does, and the shelf is behind only where the disk counted a fault.
 pub record BringsUp {D : Type 0} (site : Seen D) (state : State) (old new : D) (before after : Desk) (result : Up) : Type 0 where
   pub recalls : Recalls site state old new
+  pub table : after.table ≡ before.table
+  pub publishes : Publishes (site.view old).transcript before after
   pub belongs : (h : History) → Serves site h state old → IsSome (site.view old).contents → Belongs h.point.machine.log before
       → Belongs h.point.machine.log after
   pub behind : result ≡ Behind → IsSome (site.view old).contents → Rose (site.view old).disk_faults (site.view new).disk_faults

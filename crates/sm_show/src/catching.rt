@@ -9,7 +9,7 @@ ghost use Rattle.sm_serve.specs.Standing.{History, StandsForSome};
 ghost use Rattle.sm_serve.specs.Serving.{Serves};
 ghost use Rattle.sm_shelf.specs.Shelf.{Belongs, height_of};
 ghost use Rattle.sm_show.specs.declared.outcome.Up.TheVariants.{Whole, Behind};
-ghost use Rattle.sm_show.specs.Recalling.{BringsUp, Lists, Shows};
+ghost use Rattle.sm_show.specs.Recalling.{BringsUp, Lists, Publishes, Shows};
 ghost use Rattle.sm_origin.specs.Seen.{archive_of};
 
 use crate::outcome::{Up, up_of};
@@ -30,14 +30,16 @@ fn catalog_of(state: &State) -> Option<&Catalog>
 }
 
 // Puts the fragment on the shelf that stands in the log behind what is published.
-fn put<R: Wait>(rt: &R, writer: &mut ShelfWriter, fragment: Fragment) -> Up
+fn put<R: Wait, S: Site>(rt: &R, site: &S, writer: &mut ShelfWriter, fragment: Fragment) -> Up
     requires { IsValid fragment }
     ensures belongs { (log : List Entry) → IsSound log → Belongs log writer.old → slice_get log (height_of writer.old.published) ≡ Some (Keep fragment)
         → Belongs log writer.new }
     ensures short { result ≢ Whole → writer.new.published ≡ writer.old.published }
     ensures none { result ≢ Behind }
+    ensures table { writer.new.table ≡ writer.old.table }
+    ensures publishes { Publishes (S.Disk.seen.view site.now).transcript writer.old writer.new }
 {
-    match writer.put(rt, &Entry::Keep(fragment)) {
+    match writer.put(rt, site, &Entry::Keep(fragment)) {
         Ok(()) => Up::Whole,
         Err(NoMemory) => Up::Short,
     }
@@ -60,7 +62,7 @@ fn begin<R: Wait, S: Site>(
         Ok(window) => window,
         Err(lack) => return up_of(lack),
     };
-    match writer.fill(rt, catalog, window.as_slice()) {
+    match writer.fill(rt, site, catalog, window.as_slice()) {
         Ok(()) => Up::Whole,
         Err(NoMemory) => Up::Short,
     }
@@ -81,7 +83,7 @@ fn step<R: Wait, S: Site>(rt: &R, site: &mut S, state: &State, writer: &mut Shel
         return begin(rt, site, state, catalog, writer);
     }
     match fetch(site, state, catalog, height - 1) {
-        Ok(fragment) => put(rt, writer, fragment),
+        Ok(fragment) => put(rt, site, writer, fragment),
         Err(lack) => up_of(lack),
     }
 }

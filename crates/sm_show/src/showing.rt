@@ -29,16 +29,18 @@ pub fn serve_shown<R: Wait, S: Site>(
     requires known { Known S.Disk.seen state.old site.old }
     ensures runs { (h : History) → Serves S.Disk.seen h state.old site.old → HasServed S.Disk.seen h result turns state.new site.new }
     // Where the disk tells its contents, and what is on the shelf belonged to the log: what is published belongs to the log behind each turn,
-    // and the turns behind which it isn't that of the whole log are counted. Of a disk that tells no contents nothing is known of the log.
+    // and the turns behind which it isn't that of the whole log are counted. What was published so far is what was before, and then what each
+    // turn added, before the next event was taken. Of a disk that tells no contents nothing is known of the log.
     ensures shown { (h : History) → Serves S.Disk.seen h state.old site.old → IsSome (S.Disk.seen.view site.old).contents
         → Belongs h.point.machine.log writer.old
-        → (run : HasServed S.Disk.seen h result turns state.new site.new) × HasShown h result run.later writer.new }
+        → (run : HasServed S.Disk.seen h result turns state.new site.new) × HasShown h result run.later writer.old writer.new }
     ensures goes_on { (h : History) → Serves S.Disk.seen h state.old site.old → (n : ℕ)
         × TurnsBy S.Disk.seen h n (S.Disk.seen.view site.old).script state.new site.new }
     ensures stands { StandsForSome S.Disk.seen state.new.origin site.new }
     ensures told { is_some (S.Disk.seen.view site.new).transcript ≡ is_some (S.Disk.seen.view site.old).transcript }
     ensures link_faults { (S.Disk.seen.view site.old).link_faults ≤ (S.Disk.seen.view site.new).link_faults }
     ensures chosen { (S.Disk.seen.view site.new).chosen ≡ (S.Disk.seen.view site.old).chosen }
+    ensures table { writer.new.table ≡ writer.old.table }
     ensures link_fault { result ≡ Served.LinkFault → Rose (S.Disk.seen.view site.old).link_faults (S.Disk.seen.view site.new).link_faults }
 {
     crashes_hold_what_was_shown();

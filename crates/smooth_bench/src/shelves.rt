@@ -6,6 +6,7 @@ use crate::values::{TRACKS, asked, block, channel, fragment, start_of};
 use anyhow::{Result, bail};
 use sm_model::{Act, Address, Entry, Part};
 use sm_shelf::{Readers, ShelfReader, ShelfWriter, Shown, make};
+use sm_site::{MemorySite, Numbers, Script};
 use std::alloc::Global;
 use std::sync::Wait;
 
@@ -29,15 +30,30 @@ pub fn make_all(alloc: Global, times: u32, size: u32) -> Result<u64> {
     Ok(count)
 }
 
-fn declare<R: Wait>(rt: &R, alloc: Global, writer: &mut ShelfWriter) -> Result<()> {
-    let ladder = channel(alloc)?;
-    put_one(rt, writer, &Entry::Declare(ladder))
+// A site at which nothing comes.
+fn site(alloc: Global) -> MemorySite {
+    MemorySite::new(
+        alloc,
+        Script::from_vec(Vec::new(alloc)),
+        Numbers::from_vec(Vec::new(alloc)),
+        Numbers::from_vec(Vec::new(alloc)),
+    )
 }
 
-fn put_one<R: Wait>(rt: &R, writer: &mut ShelfWriter, entry: &Entry) -> Result<()>
+fn declare<R: Wait>(rt: &R, alloc: Global, writer: &mut ShelfWriter) -> Result<()> {
+    let ladder = channel(alloc)?;
+    put_one(rt, &site(alloc), writer, &Entry::Declare(ladder))
+}
+
+fn put_one<R: Wait>(
+    rt: &R,
+    site: &MemorySite,
+    writer: &mut ShelfWriter,
+    entry: &Entry,
+) -> Result<()>
     requires { IsValidEntry entry.now }
 {
-    if writer.put(rt, entry).is_err() {
+    if writer.put(rt, site, entry).is_err() {
         bail!("out of memory");
     }
     Ok(())
@@ -52,9 +68,10 @@ fn put_time<R: Wait>(
     bytes: &Part,
     is_shared: bool,
 ) -> Result<()> {
+    let site = site(alloc);
     for at in TRACKS {
         let entry = entry(alloc, at, time, bytes, is_shared)?;
-        put_one(rt, writer, &entry)?;
+        put_one(rt, &site, writer, &entry)?;
     }
     Ok(())
 }

@@ -1,4 +1,6 @@
-use Rattle.std.proofs.Common.{List, sym, ◌∙◌, subst}
+use Rattle.std.proofs.Common.{List, Option, sym, ◌∙◌, subst}
+use Rattle.sm_site.specs.Meanings.{Item}
+use Rattle.sm_show.specs.Recalling.{Publishes}
 use Rattle.sm_model.specs.declared.entry.Entry.{Entry}
 use Rattle.sm_shelf.specs.Shelf.{Belongs}
 use Rattle.sm_show.proofs.Resting.{recalls_here}
@@ -27,5 +29,6 @@ returns-clause-shown g c h serves told belongs =
     let s = c.serve_shown.ensures.shown u.later u.serves has
     (subst (λ (l : List Entry). Belongs l c.catch_up.new.writer) (sym (u.log has)) (c.catch_up.ensures.brings.belongs h serves told belongs)) in (
       served_before g.S.Disk.seen h c.args.state.now c.catch_up.new.site c.serve_shown.result c.args.turns c.serve_shown.new.state c.serve_shown.new.site u s.0,
-      shown_before g.S.Disk.seen h c.args.state.now c.catch_up.new.site c.serve_shown.result s.0.later c.serve_shown.new.writer u has s.1,
+      shown_before g.S.Disk.seen h c.args.state.now c.catch_up.new.site c.serve_shown.result s.0.later c.args.writer.now c.catch_up.new.writer c.serve_shown.new.writer u has
+          (subst (λ (t : Option (List Item)). Publishes t c.args.writer.now c.catch_up.new.writer) serves.keeps.told c.catch_up.ensures.brings.publishes) s.1,
     )

@@ -1,17 +1,20 @@
 use Rattle.std.proofs.Common.{◌≡◌, ◌∙◌, ℕ, ◌+◌, map, vec_len, sym, ap, subst, arith}
-use Rattle.sm_shelf.specs.Shelf.{Belongs, Desk}
+use Rattle.sm_shelf.specs.Shelf.{Desk, Table, bare}
 use Rattle.sm_show.proofs.Resting.{recalls_here}
 use Rattle.sm_players.specs.Wiring.{Wires}
-use Rattle.sm_run.specs.Staff.{staff_of}
-use Rattle.sm_run.proofs.Beginning.{later_rose, nothing_belongs}
+use Rattle.sm_run.specs.Staff.{Joins, staff_of}
+use Rattle.sm_run.proofs.Beginning.{later_rose, nothing_belongs, shown_on}
 use Rattle.sm_run.proofs.Starts.{joins, starts_from}
 use Rattle.sm_run.proofs.showing.show.Goals as goal
 
 pub returns-clause-shown : goal.returns-clause-shown
 returns-clause-shown g c h serves some =
     let log = h.point.machine.log in
-    let s = c.in_ok-served.ensures.shown h serves some (subst (λ (w : Desk). Belongs log w) (sym c.in-Ok-make.ensures.writer) (nothing_belongs log)) in
-    (c.serve_beside-ended.new.writer, s.0, s.1)
+    let made = c.in-Ok-make.ensures.writer in
+    let s = c.in_ok-served.ensures.shown h serves some (nothing_belongs log c.in-Ok-make.writer (ap (λ (d : Desk). d.published) made) (ap (λ (d : Desk). d.pending) made)) in
+    shown_on g.S.Disk.seen h c.in_ok-served.served c.args.turns c.serve_beside-ended.new.state c.serve_beside-ended.new.site c.in-Ok-make.writer (bare c.end-shelf.result.table)
+    c.serve_beside-ended.new.writer c.end-shelf.result
+    (made ∙ ap bare (sym c.in_ok-served.ensures.table ∙ ap (λ (d : Desk). d.table) (sym c.end-shelf.ensures))) (sym c.end-shelf.ensures) s
 
 pub returns-in_default-clause-idle : goal.returns-in_default-clause-idle
 returns-in_default-clause-idle g c = recalls_here g.S.Disk.seen c.args.state.now c.args.site.now c.requires.stands
@@ -33,12 +36,13 @@ returns-clause-staffed g c =
     let first = ran.started in
     let later = ran.later in
     let later_yet = f.later in
+    let start = staff_of s.spawn_faults s.started s.limit s.chosen s.ended old in
+    let over = staff_of s.spawn_faults s.started s.limit s.chosen s.ended c.finish-finished.new.self in
     record {
       joins =
-          joins (staff_of s.spawn_faults s.started s.limit s.chosen s.ended old)
-          (staff_of s.spawn_faults s.started s.limit s.chosen s.ended c.finish-finished.new.self) (s.started c.serve_beside-ended.new.spawner)
-          (map (λ h. h.promise) c.serve_beside-ended.new.running.items)
-          (starts_from _ _ _ _ _ (ap (map (λ h. h.promise)) c.new-running.ensures.items) ran.starts) f.started f.played.each;
+          subst (λ (t : Table). Joins t start over) (sym (ap (λ (d : Desk). d.table) c.end-shelf.ensures ∙ ran.table))
+          (joins c.in-Ok-make.writer.table start over (s.started c.serve_beside-ended.new.spawner) (map (λ h. h.promise) c.serve_beside-ended.new.running.items)
+          (starts_from _ _ _ _ _ _ (ap (map (λ h. h.promise)) c.new-running.ensures.items) ran.starts) f.started f.played.each);
       started = f.started ∙ first ∙ ap (λ (n : ℕ). s.started old + n) readers;
       chosen = f.chosen ∙ ran.wires;
       counted = f.played.counted;

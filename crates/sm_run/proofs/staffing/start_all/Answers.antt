@@ -1,7 +1,7 @@
-use Rattle.std.proofs.Common.{◌∷◌, [], ◌∙◌, All, Some, map, refl, sym, ap, subst, arith}
+use Rattle.std.proofs.Common.{rules, ◌∷◌, [], ◌∙◌, All, Some, map, refl, sym, ap, subst, arith}
 use Rattle.std.proofs.lemmas.List.{map-append}
 use Rattle.std.proofs.lemmas.List.Elements.{All-pop}
-use Rattle.sm_shelf.specs.Shelf.{Sight}
+use Rattle.sm_shelf.specs.Shelf.{Sight, Table}
 use Rattle.sm_run.specs.Staff.{IsUnread}
 use Rattle.sm_run.proofs.Starts.{starts_none, starts_one}
 use Rattle.sm_run.proofs.staffing.start_all.Goals as goal
@@ -13,8 +13,8 @@ loop-reader-init g c =
     record {
       started = omega arith;
       no_fewer = omega arith;
-      unread = subst (All IsUnread) (sym c.into_vec-readers.ensures) c.requires.unread;
-      starts = starts_none _ _ _ _ _ refl refl;
+      unread = λ shelf all. all;
+      starts = λ shelf all. starts_none shelf _ _ _ _ _ refl refl;
       count = omega arith;
       few = omega arith;
       room = omega (arith, len, room);
@@ -27,7 +27,7 @@ pub loop-reader-preserved : goal.loop-reader-preserved
 loop-reader-preserved g c =
     let was = c.loop-reader.invariant in
     let now = c.in_ok-handle.ensures in
-    let none = All-pop IsUnread c.loop-reader.readers.items c.pop.new.self.items (Some c.in-Some.reader) c.in-Some.ensures.items was.unread in
+    let none = λ (shelf : Table) (all : All (IsUnread shelf) c.loop-reader.initial.readers.items). All-pop (IsUnread shelf) c.loop-reader.readers.items c.pop.new.self.items (Some c.in-Some.reader) c.in-Some.ensures.items (was.unread shelf all) in
     let started = was.started in
     let no_fewer = was.no_fewer in
     let count = was.count in
@@ -42,11 +42,11 @@ loop-reader-preserved g c =
     record {
       started = omega (arith, started, one, len);
       no_fewer = omega (arith, no_fewer, one);
-      unread = none.0;
-      starts =
-          starts_one _ _ _ _ _ _ _ c.in_ok-handle.handle.promise one (now.given.0 ∙ ap (λ (s : Sight). s.seen) none.1, now.given.1 ∙ was.limit)
+      unread = λ shelf all. (none shelf all).0;
+      starts = λ shelf all.
+          starts_one shelf _ _ _ _ _ _ _ c.in_ok-handle.handle.promise one (now.given.0 ∙ ap (λ (s : Sight). s.table) (none shelf all).1, now.given.1 ∙ ap (λ (s : Sight). s.seen) (none shelf all).1, now.given.2 ∙ was.limit)
           (ap (map (λ h. h.promise)) c.push_reserved.ensures.items ∙ map-append (λ h. h.promise) c.loop-reader.running.items (c.in_ok-handle.handle ∷ []))
-          was.starts;
+          (was.starts shelf all);
       count = omega (arith, count, one, longer);
       few = omega (arith, few, len, longer);
       room = omega (arith, room, len, longer, capacity);
@@ -54,3 +54,16 @@ loop-reader-preserved g c =
       chosen = now.chosen ∙ was.chosen;
       later = omega (arith, later, more_faults);
     }
+
+pub returns-clause-starts : goal.returns-clause-starts
+returns-clause-starts g c shelf all =
+    let so = c.loop-reader.invariant.starts shelf (subst (All (IsUnread shelf)) (sym c.into_vec-readers.ensures) all) in
+    search rules
+
+pub returns-in_err-handle-clause-starts : goal.returns-in_err-handle-clause-starts
+returns-in_err-handle-clause-starts g c shelf all =
+    let so = c.loop-reader.invariant.starts shelf (subst (All (IsUnread shelf)) (sym c.into_vec-readers.ensures) all) in
+    search rules
+
+pub returns-in_default-clause-starts : goal.returns-in_default-clause-starts
+returns-in_default-clause-starts g c shelf all = starts_none shelf _ _ _ _ _ refl (search rules)

@@ -1,4 +1,5 @@
 use Rattle.std.proofs.Common.{◌≡◌, ◌≤◌, ◌+◌, All, map, vec_len, vec_capacity}
+use Rattle.sm_shelf.specs.Shelf.{Table}
 use Rattle.sm_run.specs.Staff.{IsUnread, Starts}
 use Rattle.sm_run.proofs.staffing.start_all.Given as goal
 
@@ -7,8 +8,8 @@ invariant-loop-reader g l =
     let old = l.initial.spawner in record {
       started : g.P.Spawner.started l.spawner + vec_len l.readers ≡ g.P.Spawner.started old + vec_len l.initial.readers;
       no_fewer : g.P.Spawner.started old ≤ g.P.Spawner.started l.spawner;
-      unread : All IsUnread l.readers.items;
-      starts : Starts (g.P.Spawner.limit old) (g.P.Spawner.started old) (g.P.Spawner.started l.spawner) (map (λ h. h.promise) l.initial.running.items) (map (λ h. h.promise) l.running.items);
+      unread : (shelf : Table) → All (IsUnread shelf) l.initial.readers.items → All (IsUnread shelf) l.readers.items;
+      starts : (shelf : Table) → All (IsUnread shelf) l.initial.readers.items → Starts shelf (g.P.Spawner.limit old) (g.P.Spawner.started old) (g.P.Spawner.started l.spawner) (map (λ h. h.promise) l.initial.running.items) (map (λ h. h.promise) l.running.items);
       count : vec_len l.running + g.P.Spawner.started old ≡ vec_len l.initial.running + g.P.Spawner.started l.spawner;
       few : vec_len l.running + vec_len l.readers ≤ vec_len l.initial.running + vec_len l.initial.readers;
       room : vec_len l.running + vec_len l.readers ≤ vec_capacity l.running;

@@ -11,7 +11,7 @@ show-requires-clause-known g c κs lives =
 pub returns-in-Ok-show-clause-run : goal.returns-in-Ok-show-clause-run
 returns-in-Ok-show-clause-run g c =
     let p = prepared g.S.Disk.seen c.args.ladder _ _ c.args.state.now c.args.site.now c.prepare.new.state c.prepare.new.site c.in-Ok.ensures.means in
-    shown_from g.S.Disk.seen c.args.ladder _ _ c.args.turns c.args.state.now c.args.site.now c.prepare.new.state c.prepare.new.site c.show.new.state c.show.new.site
+    shown_from g.S.Disk.seen c.in-Ok-show.ended.shelf c.args.ladder _ _ c.args.turns c.args.state.now c.args.site.now c.prepare.new.state c.prepare.new.site c.show.new.state c.show.new.site
     c.in-Ok-show.ended.served p c.in-Ok.ensures.disk_alone.link.link_faults c.in-Ok-show.ensures.link_fault c.in-Ok-show.ensures.runs c.in-Ok-show.ensures.shown
 
 pub returns-in-Ok-show-clause-lasts : goal.returns-in-Ok-show-clause-lasts

@@ -1,12 +1,18 @@
-use Rattle.std.proofs.Common.{◌∙◌, List, ap}
+use Rattle.std.proofs.Common.{◌∙◌, List, Option, ap, subst}
+use Rattle.sm_site.specs.Meanings.{Item}
 use Rattle.sm_model.specs.declared.fragment.Fragment.{Fragment}
 use Rattle.sm_shelf.specs.Laying.{filling}
+use Rattle.sm_show.specs.Recalling.{Publishes}
+use Rattle.sm_show.proofs.Resting.{publishes_none, publishes_one}
 use Rattle.sm_show.proofs.Marked.{all_of}
 use Rattle.sm_show.proofs.catching.begin.Goals as goal
 
 pub returns-in-Ok-fill-clause-brings : goal.returns-in-Ok-fill-clause-brings
 returns-in-Ok-fill-clause-brings g c = record {
   recalls = c.in-Ok.ensures.back.recalls;
+  table = c.fill.ensures.table;
+  publishes = subst (λ (t : Option (List Item)). Publishes t c.args.writer.now c.fill.new.self) c.in-Ok.ensures.back.recalls.disk_alone.link.transcript
+      (publishes_one _ c.args.writer.now c.fill.new.self _ c.in-Ok-fill.ensures.ok);
   belongs = λ h serves told belongs.
       let stands = serves.rest.stands.stands in
       let log = h.point.machine.log in
@@ -22,6 +28,9 @@ returns-in-Ok-fill-clause-brings g c = record {
 pub returns-clause-brings : goal.returns-clause-brings
 returns-clause-brings g c = record {
   recalls = c.in-Ok.ensures.back.recalls;
+  table = c.fill.ensures.table;
+  publishes = subst (λ (t : Option (List Item)). Publishes t c.args.writer.now c.fill.new.self) c.in-Ok.ensures.back.recalls.disk_alone.link.transcript
+      (publishes_none _ c.args.writer.now c.fill.new.self c.in-Err-fill.ensures.past c.in-Err-fill.ensures.err.0);
   belongs = λ h serves told belongs.
       let stands = serves.rest.stands.stands in
       let log = h.point.machine.log in

@@ -1,9 +1,10 @@
-use Rattle.std.proofs.Common.{rules, arith, ◌≡◌, ◌-◌, ℕ, List, Some, slice_get, subst}
+use Rattle.std.proofs.Common.{rules, arith, ◌≡◌, ◌-◌, ℕ, List, Option, Some, slice_get, subst}
+use Rattle.sm_site.specs.Meanings.{Item}
 use Rattle.sm_model.specs.declared.entry.Entry.TheVariants.{Keep}
 use Rattle.sm_log.specs.Adds.{Add}
 use Rattle.sm_shelf.specs.Shelf.{height_of}
 use Rattle.sm_show.specs.declared.outcome.Up.TheVariants.{Short}
-use Rattle.sm_show.specs.Recalling.{Shows}
+use Rattle.sm_show.specs.Recalling.{Publishes, Shows}
 use Rattle.sm_show.proofs.Resting.{brings_here}
 use Rattle.sm_show.proofs.catching.step.Goals as goal
 
@@ -13,6 +14,8 @@ returns-in_default-clause-brings g c = brings_here g.S.Disk.seen c.args.state.no
 pub returns-in-Ok-clause-brings : goal.returns-in-Ok-clause-brings
 returns-in-Ok-clause-brings g c = record {
   recalls = c.in-Ok.ensures.back.recalls;
+  table = c.put.ensures.table;
+  publishes = subst (λ (t : Option (List Item)). Publishes t c.args.writer.now c.put.new.writer) c.in-Ok.ensures.back.recalls.disk_alone.link.transcript c.put.ensures.publishes;
   belongs = λ h serves told belongs.
       let of : Shows c.args.state.now.origin.archive (Some c.in-Some.catalog.now) = search rules in
       let stands = serves.rest.stands.stands in

@@ -12,7 +12,8 @@ invariant-loop-taken g l = record {
   chosen : (g.S.Disk.seen.view l.site).chosen ≡ (g.S.Disk.seen.view l.fn.site).chosen;
   link_faults : (g.S.Disk.seen.view l.fn.site).link_faults ≤ (g.S.Disk.seen.view l.site).link_faults;
   few : l.behind + l.short ≤ l.taken;
+  table : l.writer.table ≡ l.fn.writer.table;
   goes_on : (h : History) → Serves g.S.Disk.seen h l.fn.state l.fn.site
       → (turns : TurnsBy g.S.Disk.seen h l.taken (g.S.Disk.seen.view l.fn.site).script l.state l.site) × NoneIsOver turns.deals
-      × (IsSome (g.S.Disk.seen.view l.fn.site).contents → Belongs h.point.machine.log l.fn.writer → Shows h turns.turns.later l.taken l.behind l.short l.writer);
+      × (IsSome (g.S.Disk.seen.view l.fn.site).contents → Belongs h.point.machine.log l.fn.writer → Shows h turns.turns.later l.taken l.behind l.short l.fn.writer l.writer);
 }
