@@ -1,5 +1,5 @@
 -- What belongs to a log stays of it.
-use Rattle.std.proofs.Common.{◌≡◌, ◌⊎◌, inl, inr, Option, List, [], ◌∷◌, ◌++◌, fold, map, All, refl, sym, ap, ◌∙◌, subst, zero, suc, arith}
+use Rattle.std.proofs.Common.{◌≡◌, ◌⊎◌, inl, inr, Option, List, [], ◌∷◌, ◌++◌, fold, map, All, sym, ap, ◌∙◌, subst, zero, suc, arith}
 use Rattle.std.proofs.lemmas.List.{map-append}
 use Rattle.std.proofs.lemmas.List.Elements.{All-append}
 use Rattle.atomic_table.specs.Seated.{TableId}

@@ -1,4 +1,4 @@
-use Rattle.std.proofs.Common.{◌≡◌, ◌+◌, false, All, vec_len}
+use Rattle.std.proofs.Common.{◌≡◌, ◌+◌, All, vec_len}
 use Rattle.sm_shelf.specs.Shelf.{unread}
 use Rattle.sm_shelf.proofs.writer.admit.Given as goal
 
