@@ -2,6 +2,7 @@
 
 import os
 import re
+import signal
 import subprocess
 import tempfile
 import time
@@ -22,7 +23,7 @@ class Proxy:
         listens = f"listen 127.0.0.1:{self.plain}; listen 127.0.0.1:{self.port} ssl"
         changes = [("127.0.0.1:8080", f"127.0.0.1:{origin.port}"), ("listen 443 ssl", listens), ("/var/cache/nginx/smooth", f"{self.folder}/cache"),
                    ("/etc/ssl/certs/live.example.org.pem", f"{self.folder}/pem"), ("/etc/ssl/private/live.example.org.key", f"{self.folder}/key"),
-                   ("/var/log/nginx/smooth.log", f"{self.folder}/asked"), *more]
+                   ("/var/log/nginx/smooth.log", f"{self.folder}/asked"), ("/usr/share/smooth/player", os.path.join(HERE, "..", "examples", "player")), *more]
         for old, new in changes:
             test(old in text, f"examples/nginx.conf lacks {old}")
             text = text.replace(old, new)
@@ -50,6 +51,15 @@ class Proxy:
         self.process = subprocess.Popen(["nginx", "-c", os.path.join(self.folder, "conf")], stderr=subprocess.DEVNULL)
         time.sleep(1)
         test(self.process.poll() is None, "nginx does not take examples/nginx.conf")
+
+    def change(self, old, new):
+        """Puts other words into the configuration while nginx runs."""
+        with open(os.path.join(self.folder, "conf")) as conf:
+            text = conf.read()
+        test(old in text, f"examples/nginx.conf lacks {old}")
+        with open(os.path.join(self.folder, "conf"), "w") as conf:
+            conf.write(text.replace(old, new))
+        self.process.send_signal(signal.SIGHUP)
 
     def stop(self):
         if self.process:
