@@ -29,7 +29,7 @@ class Event:
         self.is_up, self.pid, self.memory, self.disk = False, None, None, None
 
     def look(self):
-        self.pid = process(self.told)
+        self.pid = process(self.told, self.pid)
         self.memory, self.disk = memory(self.pid), disk(self.told.store)
         path = journal(self.told, self.pid) if self.reads_journal else None
         if path and (self.journal is None or self.journal.path != path):
@@ -104,18 +104,23 @@ class Events:
     """The event that was named, or those of a folder, which is read at each look."""
 
     def __init__(self, told, most):
-        self.told, self.most, self.lock, self.looked = told, most, threading.Lock(), 0
+        self.told, self.most, self.lock = told, most, threading.Lock()
         self.all = [] if told.events else [Event(told, most)]
-        self.pool = concurrent.futures.ThreadPoolExecutor(16)
+        self.pool, self.looks = concurrent.futures.ThreadPoolExecutor(64), {}
 
-    def look(self):
-        """The events as they are now. Two looks within half a second are one."""
+    def look(self, told_of):
+        """Each event with what is told of it by that function behind a look, or with None where the look takes too long, and goes on."""
         with self.lock:
-            if time.monotonic() - self.looked > 0.5:
-                if self.told.events:
-                    told = of_folder(self.told.events)
-                    same = {it.name: it for it in self.all}
-                    self.all = [same[it.event] if it.event in same and same[it.event].told == it else Event(it, self.most) for it in told]
-                list(self.pool.map(Event.look, self.all))
-                self.looked = time.monotonic()
-            return self.all
+            if self.told.events:
+                same = {it.name: it for it in self.all}
+                self.all = [same[it.event] if it.event in same and same[it.event].told == it else Event(it, self.most)
+                            for it in of_folder(self.told.events)]
+            begun = {it: self.looks.get(it) for it in self.all}
+            self.looks = {it: self.pool.submit(self.look_at, it, told_of) if look is None or look.done() else look for it, look in begun.items()}
+            concurrent.futures.wait(self.looks.values(), timeout=self.most)
+            return [(it, look.result() if look.done() else None) for it, look in self.looks.items()]
+
+    @staticmethod
+    def look_at(event, told_of):
+        event.look()
+        return told_of(event)

@@ -5,8 +5,8 @@ import shutil
 import subprocess
 
 
-def process(told):
-    """The number of the process that has the store."""
+def process(told, before=None):
+    """The number of the process that has the store; the one from before where it still has."""
     if told.unit:
         asked = subprocess.run(["systemctl", "show", "-p", "MainPID", "--value", told.unit], stdout=subprocess.PIPE, check=False)
         return asked.stdout.decode().strip()
@@ -18,15 +18,20 @@ def process(told):
                 return file.read().strip()
         except OSError:
             return None
-    for pid in filter(str.isdigit, os.listdir("/proc")):
-        try:
-            said = words_of(pid)
-            # the program itself, and no shell or `timeout` that began it
-            if said[1:2] and said[1] in ("serve", "standby", "relay") and os.path.realpath(told.store) in [path_of(pid, it) for it in said[2:] if it]:
-                return pid
-        except OSError:
-            continue
-    return None
+    if before and has(before, told.store):
+        return before
+    return next((pid for pid in filter(str.isdigit, os.listdir("/proc")) if has(pid, told.store)), None)
+
+
+def has(pid, store):
+    """Whether a process is the program itself, and no shell or `timeout` that began it, with that store."""
+    try:
+        said = words_of(pid)
+        if said[1:2] and said[1] in ("serve", "standby", "relay") and os.path.realpath(store) in [path_of(pid, it) for it in said[2:] if it]:
+            return True
+    except OSError:
+        pass
+    return False
 
 
 def words_of(pid):

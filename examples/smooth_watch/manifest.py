@@ -34,11 +34,11 @@ def manifest(url, most):
     try:
         with urllib.request.urlopen(f"{url}/Manifest", timeout=most) as reply:
             root = xml.fromstring(reply.read())
+        return {it.get("Name"): Stream(it, root.get("TimeScale", 10_000_000)) for it in root.iter("StreamIndex")}, "ok"
     except urllib.error.HTTPError as error:
         return {}, error.read().decode(errors="replace").strip()
     except (OSError, ValueError, http.client.HTTPException, xml.ParseError) as error:
         return {}, str(error)
-    return {it.get("Name"): Stream(it, root.get("TimeScale", 10_000_000)) for it in root.iter("StreamIndex")}, "ok"
 
 
 class Followed:

@@ -4,11 +4,17 @@ import signal
 import sys
 import time
 
+
+def refuse(said, status=1):
+    print(f"smooth-watch: {said}", file=sys.stderr)
+    sys.exit(status)
+
+
 try:
     from prometheus_client import CollectorRegistry, start_http_server, write_to_textfile
     from prometheus_client.core import CounterMetricFamily, GaugeMetricFamily, HistogramMetricFamily
 except ImportError:
-    sys.exit("smooth-watch: --metrics and --textfile want Prometheus' client library, of Debian's package python3-prometheus-client")
+    refuse("--metrics and --textfile want Prometheus' client library, of Debian's package python3-prometheus-client", 2)
 
 # A series that isn't there before its first count can't be seen to rise: all causes are told from the beginning.
 OF_PUSHES = """BadBox BoxTooLarge OpenEnded NoHeader BadLiveManifest BadMoov UnknownTrack NotDeclared DeclClash Protected ManyTracks ManyRuns
@@ -81,8 +87,9 @@ def of_stream(event, name, stream):
     if followed.place:
         yield "smooth_stream_end_seconds", (name,), followed.end(stream.scale)
         yield "smooth_stream_last_seconds", (name,), followed.last(stream.scale)
-    yield "smooth_stream_missing_seconds", (name,), sum(followed.holes()) / stream.scale
-    yield "smooth_stream_holes", (name,), event.holes[name]
+    if not stream.is_sparse:
+        yield "smooth_stream_missing_seconds", (name,), sum(followed.holes()) / stream.scale
+        yield "smooth_stream_holes", (name,), event.holes[name]
     yield "smooth_stream_fragments", (name,), stream.times * len(stream.qualities)
     if name in event.qualities:
         for quality, end in event.qualities[name].ends.items():
@@ -114,8 +121,13 @@ def of_journal(journal):
         yield "smooth_refusals", key, journal.refusals.get(key, 0)
 
 
+def told(event):
+    """What is told of an event that was looked at: its values, and the longest syncs."""
+    return [it for it in values(event) if it[2] is not None], list(event.journal.syncs) if event.journal else None
+
+
 class Collector:
-    """Looks at the events whenever it is asked."""
+    """Looks at the events whenever it is asked. Of one that takes too long is told that it doesn't answer, and nothing else."""
 
     def __init__(self, events):
         self.events = events
@@ -124,17 +136,16 @@ class Collector:
         return []
 
     def collect(self):
-        events, first = self.events.look(), ("event", "role")
+        first = ("event", "role")
         families = {name: GaugeMetricFamily(name, text, labels=first + more) for name, (text, more) in GAUGES.items()}
         families |= {name: CounterMetricFamily(name, text, labels=first + more) for name, (text, more) in COUNTERS.items()}
         syncs = HistogramMetricFamily(*HISTOGRAM, labels=first)
-        for event in events:
+        for event, seen in self.events.look(told):
             mine = (event.name, event.role)
-            for name, more, value in values(event):
-                if value is not None:
-                    families[name].add_metric(mine + more, float(value))
-            if event.journal:
-                took = event.journal.syncs
+            numbers, took = seen or ([("smooth_up", (), 0)], None)
+            for name, more, value in numbers:
+                families[name].add_metric(mine + more, float(value))
+            if took is not None:
                 buckets = [(str(most), sum(it <= most for it in took)) for most in SYNCS]
                 syncs.add_metric(mine, [*buckets, ("+Inf", len(took))], sum(took))
         return [it for it in [*families.values(), syncs] if it.samples]
@@ -150,11 +161,11 @@ def serve(events, address):
     """Answers whoever asks at ADDRESS:PORT, for ever."""
     host, _, port = address.rpartition(":")
     if not port.isdigit() or not host:
-        sys.exit(f"smooth-watch: --metrics takes ADDRESS:PORT, as 127.0.0.1:9464, and not {address}")
+        refuse(f"--metrics takes ADDRESS:PORT, as 127.0.0.1:9464, and not {address}", 2)
     try:
         start_http_server(int(port), host.strip("[]"), registry(events))
     except (OSError, OverflowError) as error:
-        sys.exit(f"smooth-watch: {address} can't be listened at: {error}")
+        refuse(f"{address} can't be listened at: {error}")
     signal.sigwait({signal.SIGTERM, signal.SIGINT, signal.SIGHUP})
 
 
@@ -165,7 +176,7 @@ def write(events, file, seconds):
         try:
             write_to_textfile(file, made)
         except OSError as error:
-            sys.exit(f"smooth-watch: {file} can't be written: {error}")
+            refuse(f"{file} can't be written: {error}")
         if not seconds:
             return
         time.sleep(seconds)
