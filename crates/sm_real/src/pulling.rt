@@ -17,6 +17,9 @@ const APART: u128 = 10_000;
 // The most bytes of a request line that are told.
 const TOLD: usize = 256;
 
+// The status of what the origin doesn't have.
+const NOT_FOUND: u16 = 404;
+
 // How the request line of a manifest ends.
 const MANIFEST: &[u8] = b"/Manifest HTTP/1.1";
 
@@ -40,8 +43,10 @@ enum Why {
 // What one round came to, or all of them together.
 #[derive(Clone, Copy)]
 struct Round {
-    // How many requests were made, how many of them gave nothing, and how many bytes came.
+    // How many requests were made, to how many of them the origin said that it has no such fragment, how many gave nothing else, and how many
+    // bytes came.
     asked: u64,
+    absent: u64,
     missed: u64,
     came: u64,
     // How many entries were kept, and where the fragments among them stand.
@@ -71,9 +76,10 @@ pub struct Pulling {
     before: Round,
     // When the manifest was asked for of the last round of which all came.
     whole: Instant,
-    // The last request was answered, and a while has passed since.
+    // The last request was answered, perhaps by a 404, and a while has passed since.
     has_rested: bool,
     is_answered: bool,
+    is_absent: bool,
     // When the last line of a round was told, and whether something happened since.
     told: Instant,
     is_news: bool,
@@ -83,6 +89,7 @@ impl Round {
     fn new() -> Round {
         Round {
             asked: 0,
+            absent: 0,
             missed: 0,
             came: 0,
             kept: 0,
@@ -102,6 +109,7 @@ impl Round {
     // With what came later.
     fn join(&mut self, later: &Round) {
         self.asked = self.asked.saturating_add(later.asked);
+        self.absent = self.absent.saturating_add(later.absent);
         self.missed = self.missed.saturating_add(later.missed);
         self.came = self.came.saturating_add(later.came);
         self.kept = self.kept.saturating_add(later.kept);
@@ -110,6 +118,7 @@ impl Round {
     fn put(&self, line: &mut Vec<u8>) -> Result<(), AllocError> {
         let counts = [
             (" asked ", self.asked),
+            (" absent ", self.absent),
             (" missed ", self.missed),
             (" kept ", self.kept),
             (" in ", self.came),
@@ -138,6 +147,7 @@ impl Pulling {
             whole: now,
             has_rested: false,
             is_answered: false,
+            is_absent: false,
             told: now,
             is_news: false,
         }
@@ -175,9 +185,17 @@ impl Pulling {
         if !is_manifest(request) {
             // What was answered before wasn't taken, or it would not be asked for again.
             if self.has_rested {
-                self.miss(rt, now, request, now, Why::Unreadable);
+                let why = if self.is_absent {
+                    Why::Status(NOT_FOUND)
+                } else {
+                    Why::Unreadable
+                };
+                self.miss(rt, now, request, now, why);
             }
         } else if self.is_listed {
+            if self.is_news {
+                self.tell_round(rt, now);
+            }
             self.begin_round(now);
         }
         self.has_rested = false;
@@ -187,10 +205,10 @@ impl Pulling {
     fn begin_round(&mut self, now: Instant) {
         if self.number > 0 {
             self.whole = self.since;
+            self.before.join(&self.round);
+            self.round = Round::new();
         }
         self.number = self.number.saturating_add(1);
-        self.before.join(&self.round);
-        self.round = Round::new();
         self.since = now;
         self.is_listed = false;
     }
@@ -212,8 +230,10 @@ impl Pulling {
             }
             Came::Lost(trouble) => Some(Why::Lost(trouble)),
         };
-        self.is_answered = why.is_none();
+        self.is_absent = !is_manifest(request) && is_not_found(why);
+        self.is_answered = why.is_none() || self.is_absent;
         match why {
+            Some(_) if self.is_absent => self.round.absent = self.round.absent.saturating_add(1),
             Some(why) => self.miss(rt, since, request, now, why),
             None if is_manifest(request) => self.is_listed = true,
             None => {}
@@ -232,11 +252,11 @@ impl Pulling {
         self.tell(rt, now, made, false);
     }
 
-    /// A while is waited. Behind an answer a round has ended.
+    /// A while is waited. Behind an answer a round has ended; behind a 404 that shows only where the next manifest is asked for.
     pub fn rest(&mut self, rt: &impl Clock, now: Instant) {
         if self.is_answered && self.is_listed {
             self.has_rested = true;
-            if self.is_news {
+            if self.is_news && !self.is_absent {
                 self.tell_round(rt, now);
             }
         }
@@ -256,7 +276,7 @@ impl Pulling {
 
     /// Nothing more is pulled.
     pub fn end(&mut self, rt: &impl Clock, now: Instant) {
-        if self.is_news {
+        if self.is_news || self.round.absent > 0 {
             self.tell_round(rt, now);
         }
         self.before.join(&self.round);
@@ -356,6 +376,14 @@ fn is_manifest(request: &[u8]) -> bool {
     match request.iter().position(|byte| *byte == b'\r') {
         Some(end) => request.get(..end).unwrap_or(b"").ends_with(MANIFEST),
         None => false,
+    }
+}
+
+// Whether it is that the origin has no such thing.
+fn is_not_found(why: Option<Why>) -> bool {
+    match why {
+        Some(Why::Status(status)) => status == NOT_FOUND,
+        _ => false,
     }
 }
 
