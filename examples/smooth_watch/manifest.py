@@ -130,21 +130,18 @@ class Qualities:
             self.walk(url, name, bitrate, stream, until)
 
     def walk(self, url, name, bitrate, stream, until):
-        """Goes on with one quality. Behind a hole it is looked for where it would be by the clock."""
-        steps = int((time.time() - self.rose[bitrate]) * stream.scale / stream.lasts) if stream.lasts else 0
-        starts = [self.ends[bitrate] + it * stream.lasts for it in (steps - 1, steps, steps + 1) if it > 0]
-        for _ in range(self.MOST):
-            lasts = self.fragment(url, bitrate, name, self.ends[bitrate], until)
-            while lasts is None and starts:
-                start = starts.pop(0)
+        """Goes on with one quality. Behind a hole it is looked for where it would be by the clock, or a little before."""
+        start = self.ends[bitrate]
+        steps = int((time.time() - self.rose[bitrate]) * stream.scale / stream.lasts) - 1 if stream.lasts else 0
+        for at in range(self.MOST):
+            lasts = self.fragment(url, bitrate, name, start, until)
+            if lasts is None and at == 0 and steps > 0:
+                start += steps * stream.lasts
                 lasts = self.fragment(url, bitrate, name, start, until)
-                if lasts:
-                    self.ends[bitrate] = start
             if not lasts:
                 return
-            self.ends[bitrate] += lasts
-            self.rose[bitrate] = time.time()
-            starts = []
+            start += lasts
+            self.ends[bitrate], self.rose[bitrate] = start, time.time()
 
     @staticmethod
     def fragment(url, bitrate, name, start, until):
