@@ -1,6 +1,7 @@
 -- From a store that was opened to a run beside players.
 use Rattle.std.proofs.Common.{inl, ◌≡◌, ◌≤◌, ℕ, Bool, List, [], ◌++◌, Option, Some, None, Result, Ok, Err, refl, sym, ap, subst, ◌∙◌, append_assoc, arith}
 use Rattle.std.proofs.lemmas.List.{map-append}
+use Rattle.std.proofs.lemmas.List.Elements.{All-nil}
 use Rattle.std.specs.Prelude.{All, IfSome, IsSome, IfOk, IfErr, OnErr, is_some}
 use Rattle.sm_model.specs.declared.entry.Entry.{Entry}
 use Rattle.sm_model.specs.declared.track.Track.{Track}
@@ -23,7 +24,7 @@ use Rattle.sm_command.proofs.Starting.{IsPrepared, early, serves_early, why_stop
 use Rattle.sm_shelf.specs.Laying.{nothing}
 use Rattle.sm_log.specs.Digests.{Digest}
 use Rattle.sm_shelf.specs.Past.{Publishing, all_at, last_of, publishing}
-use Rattle.sm_shelf.specs.Shelf.{Belongs, Desk, IsOf, bare}
+use Rattle.sm_shelf.specs.Shelf.{Belongs, Desk, IsOf, bare, shut}
 use Rattle.sm_show.specs.Marks.{HasShown, ShownUp, past_after, told_at}
 use Rattle.sm_show.specs.Recalling.{Publishes, Recalls, Rests}
 use Rattle.sm_show.proofs.Resting.{last_then, since_then}
@@ -131,6 +132,40 @@ runs_shown site pass at_now now_at one_list one_log ladder told told' turns stat
 pub on_err : {T E : Type 0} (r : Result T E) (P : Type 0) → P → OnErr r P
 on_err (Ok x) P p = tt
 on_err (Err e) P p = p
+
+-- ---- a shelf that was taken down
+
+none_waits : (log : List Entry) (desk : Desk) → Belongs log desk → Belongs log (shut desk)
+none_waits log desk belongs = (belongs.0, All-nil (IsOf log))
+
+shut_up : (h later : History) (turns behind short : ℕ) (before desk : Desk) → ShownUp h later turns behind short before desk → ShownUp h later turns behind short before (shut desk)
+shut_up h later turns behind short before desk s =
+    let was = s.shows in
+    record {
+      last = s.last;
+      shows = record {
+        begun = was.begun;
+        since = was.since;
+        same = was.same;
+        log = was.log;
+        added = was.added;
+        first = was.first;
+        first_is = was.first_is;
+        front = was.front;
+        counted = was.counted;
+        in_order = was.in_order;
+        last_is = was.last_is;
+        past = was.past;
+        belongs = none_waits s.last.point.machine.log desk was.belongs;
+      };
+      since = s.since;
+      belongs = none_waits later.point.machine.log desk s.belongs;
+    }
+
+pub shut_shown : (h : History) (end : Outcome) (later : History) (before desk : Desk) → HasShown h end later before desk → HasShown h end later before (shut desk)
+shut_shown h (served.Done taken behind short) later before desk s = shut_up h later taken behind short before desk s
+shut_shown h served.LinkFault later before desk (taken, behind, short, s) = (taken, behind, short, shut_up h later taken behind short before desk s)
+shut_shown h served.NoMemory later before desk (taken, behind, short, s) = (taken, behind, short, shut_up h later taken behind short before desk s)
 
 module _ {D : Type 0} (site : Seen D) where
   pub known_before : (state : State) (old mid : D) → Recalls site state old mid → Known site state old → Known site state mid

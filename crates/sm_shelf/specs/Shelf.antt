@@ -60,6 +60,10 @@ bare table = record { table = table; published = nothing; pending = []; past = [
 abbrev pub shows_next : Desk → Option (List Item) → Digest → Desk
 shows_next desk told d = record { table = desk.table; published = d; pending = []; past = desk.past ++ publishing told d ∷ [] }
 
+-- one that was taken down: what waited was never published
+abbrev pub shut : Desk → Desk
+shut desk = record { table = desk.table; published = desk.published; pending = []; past = desk.past }
+
 -- a reader of that table that has seen nothing
 abbrev pub unread : Table → Sight
 unread table = record { table = table; seen = nothing; lost = false }

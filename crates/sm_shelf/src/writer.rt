@@ -8,7 +8,7 @@ ghost use Rattle.sm_log.specs.Logs.{IsSound};
 ghost use Rattle.sm_log.specs.Digests.{window_of};
 ghost use Rattle.sm_shelf.specs.Parts.{IsListing, IsEnd, addresses_in};
 ghost use Rattle.sm_shelf.specs.Laying.{Whole, op_of, op_at, filling, nothing, laid, IsFit, IsValidEntry};
-ghost use Rattle.sm_shelf.specs.Shelf.{applied, bare, op_in, shows_next, unread, Belongs, IsFront, IsOf, height_of};
+ghost use Rattle.sm_shelf.specs.Shelf.{applied, bare, op_in, shows_next, shut, unread, Belongs, IsFront, IsOf, height_of};
 
 use crate::laid::{Laid, What};
 use crate::past::{Past, note};
@@ -64,18 +64,21 @@ impl Model for ShelfWriter {
     ghost invariant = { λ w. known w.core.desk.place ≡ w.core.desk.shown.value };
 }
 
-/// What is left of a shelf that was taken down. Contracts see what its writer was at the end. It has no bytes.
+/// What is left of a shelf that was taken down. Contracts see what its writer was at the end, but that nothing waits any more. It has no bytes.
 #[derive(Drop)]
 pub struct ShelfEnd {
-    writer: Snapshot<ShelfWriter>,
+    name: ShelfName,
+    digest: Snapshot<Stock>,
+    past: Past,
 }
 
 impl Model for ShelfEnd {
+    ghost use Rattle.std.specs.Prelude.{[]};
     ghost use Rattle.sm_shelf.specs.Shelf.{Desk};
 
     ghost Value = { Desk };
 
-    ghost view = { λ e. e.writer.value };
+    ghost view = { λ e. record { table = e.name; published = e.digest.value; pending = []; past = e.past.items } };
 }
 
 /// Readers to hand out, each to a thread of its own. Contracts see them as a list.
@@ -252,19 +255,20 @@ impl ShelfWriter {
         Told::over(seat, digest)
     }
 
-    /// Waits for readers that are inside. From then on readers answer `NoMemory`. What is left is what clauses know of the writer.
+    /// Waits for readers that are inside. From then on readers answer `NoMemory`. What is left is what clauses know of the writer; what waited was
+    /// never published.
     pub fn end<R: Wait>(self, rt: &R) -> ShelfEnd
-        ensures { result ≡ self }
+        ensures { result ≡ shut self }
     {
-        let writer = Snapshot::of(&self);
+        let digest = Snapshot::of(self.core.published());
         let ShelfWriter {
             alloc: _,
             core,
-            name: _,
-            past: _,
+            name,
+            past,
         } = self;
         core.take(rt);
-        ShelfEnd { writer }
+        ShelfEnd { name, digest, past }
     }
 }
 

@@ -1,9 +1,9 @@
 use Rattle.std.proofs.Common.{◌≡◌, ◌∙◌, ℕ, ◌+◌, map, vec_len, sym, ap, subst, arith}
-use Rattle.sm_shelf.specs.Shelf.{Desk, Table, bare}
+use Rattle.sm_shelf.specs.Shelf.{Desk, Table, bare, shut}
 use Rattle.sm_show.proofs.Resting.{recalls_here}
 use Rattle.sm_players.specs.Wiring.{Wires}
 use Rattle.sm_run.specs.Staff.{Joins, staff_of}
-use Rattle.sm_run.proofs.Beginning.{later_rose, nothing_belongs, shown_on}
+use Rattle.sm_run.proofs.Beginning.{later_rose, nothing_belongs, shown_on, shut_shown}
 use Rattle.sm_run.proofs.Starts.{joins, starts_from}
 use Rattle.sm_run.proofs.showing.show.Goals as goal
 
@@ -12,9 +12,11 @@ returns-clause-shown g c h serves some =
     let log = h.point.machine.log in
     let made = c.in-Ok-make.ensures.writer in
     let s = c.in_ok-served.ensures.shown h serves some (nothing_belongs log c.in-Ok-make.writer (ap (λ (d : Desk). d.published) made) (ap (λ (d : Desk). d.pending) made)) in
+    let down = c.serve_beside-ended.new.writer in
     shown_on g.S.Disk.seen h c.in_ok-served.served c.args.turns c.serve_beside-ended.new.state c.serve_beside-ended.new.site c.in-Ok-make.writer (bare c.end-shelf.result.table)
-    c.serve_beside-ended.new.writer c.end-shelf.result
-    (made ∙ ap bare (sym c.in_ok-served.ensures.table ∙ ap (λ (d : Desk). d.table) (sym c.end-shelf.ensures))) (sym c.end-shelf.ensures) s
+    (shut down) c.end-shelf.result
+    (made ∙ ap bare (sym c.in_ok-served.ensures.table ∙ ap (λ (d : Desk). d.table) (sym c.end-shelf.ensures))) (sym c.end-shelf.ensures)
+    (s.0, shut_shown h c.in_ok-served.served s.0.later c.in-Ok-make.writer down s.1)
 
 pub returns-in_default-clause-idle : goal.returns-in_default-clause-idle
 returns-in_default-clause-idle g c = recalls_here g.S.Disk.seen c.args.state.now c.args.site.now c.requires.stands

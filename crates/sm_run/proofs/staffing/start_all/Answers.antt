@@ -27,7 +27,6 @@ pub loop-reader-preserved : goal.loop-reader-preserved
 loop-reader-preserved g c =
     let was = c.loop-reader.invariant in
     let now = c.in_ok-handle.ensures in
-    let none = λ (shelf : Table) (all : All (IsUnread shelf) c.loop-reader.initial.readers.items). All-pop (IsUnread shelf) c.loop-reader.readers.items c.pop.new.self.items (Some c.in-Some.reader) c.in-Some.ensures.items (was.unread shelf all) in
     let started = was.started in
     let no_fewer = was.no_fewer in
     let count = was.count in
@@ -42,9 +41,11 @@ loop-reader-preserved g c =
     record {
       started = omega (arith, started, one, len);
       no_fewer = omega (arith, no_fewer, one);
-      unread = λ shelf all. (none shelf all).0;
+      unread = λ shelf all.
+          (All-pop (IsUnread shelf) c.loop-reader.readers.items c.pop.new.self.items (Some c.in-Some.reader) c.in-Some.ensures.items (was.unread shelf all)).0;
       starts = λ shelf all.
-          starts_one shelf _ _ _ _ _ _ _ c.in_ok-handle.handle.promise one (now.given.0 ∙ ap (λ (s : Sight). s.table) (none shelf all).1, now.given.1 ∙ ap (λ (s : Sight). s.seen) (none shelf all).1, now.given.2 ∙ was.limit)
+          let none = All-pop (IsUnread shelf) c.loop-reader.readers.items c.pop.new.self.items (Some c.in-Some.reader) c.in-Some.ensures.items (was.unread shelf all) in
+          starts_one shelf _ _ _ _ _ _ _ c.in_ok-handle.handle.promise one (now.given.0 ∙ ap (λ (s : Sight). s.table) none.1, now.given.1 ∙ ap (λ (s : Sight). s.seen) none.1, now.given.2 ∙ was.limit)
           (ap (map (λ h. h.promise)) c.push_reserved.ensures.items ∙ map-append (λ h. h.promise) c.loop-reader.running.items (c.in_ok-handle.handle ∷ []))
           (was.starts shelf all);
       count = omega (arith, count, one, longer);
