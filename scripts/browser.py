@@ -14,8 +14,9 @@ from live import test
 
 NAMES = ("chromium", "chromium-browser", "google-chrome", "google-chrome-stable")
 # it asks nobody but this machine for anything, and plays without a touch of the page
-WORDS = ["--headless=new", "--remote-debugging-pipe", "--no-first-run", "--disable-background-networking", "--disable-component-update", "--disable-sync",
-         "--disable-default-apps", "--disable-extensions", "--disable-gpu", "--disable-dev-shm-usage", "--mute-audio", "--ignore-certificate-errors",
+WORDS = ["--headless=new", "--remote-debugging-pipe", "--no-first-run", "--disable-background-networking", "--disable-component-update",
+         "--disable-sync", "--disable-default-apps", "--disable-extensions",
+         "--disable-gpu", "--disable-dev-shm-usage", "--mute-audio", "--ignore-certificate-errors",
          "--autoplay-policy=no-user-gesture-required", "--host-resolver-rules=MAP * ~NOTFOUND, EXCLUDE 127.0.0.1"]
 
 

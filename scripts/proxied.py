@@ -23,7 +23,8 @@ class Proxy:
         listens = f"listen 127.0.0.1:{self.plain}; listen 127.0.0.1:{self.port} ssl"
         changes = [("127.0.0.1:8080", f"127.0.0.1:{origin.port}"), ("listen 443 ssl", listens), ("/var/cache/nginx/smooth", f"{self.folder}/cache"),
                    ("/etc/ssl/certs/live.example.org.pem", f"{self.folder}/pem"), ("/etc/ssl/private/live.example.org.key", f"{self.folder}/key"),
-                   ("/var/log/nginx/smooth.log", f"{self.folder}/asked"), ("/usr/share/smooth/player", os.path.join(HERE, "..", "examples", "player")), *more]
+                   ("/var/log/nginx/smooth.log", f"{self.folder}/asked"),
+                   ("/usr/share/smooth/player", os.path.join(HERE, "..", "examples", "player")), *more]
         for old, new in changes:
             test(old in text, f"examples/nginx.conf lacks {old}")
             text = text.replace(old, new)

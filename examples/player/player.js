@@ -121,8 +121,9 @@ export class Player extends EventTarget {
     this.isFollowing = false;
   }
 
-  /** Plays on, and without a sound where the browser wants that until the page is touched. */
+  /** Plays on, from the start where it has ended, and without a sound where the browser wants that until the page is touched. */
   async play() {
+    if (this.#video.ended) this.seek(this.#edge.start);
     try {
       await this.#video.play();
     } catch (error) {
@@ -302,8 +303,10 @@ export class Player extends EventTarget {
     if (this.#video.ended) return { name: "ended" };
     if (this.#video.paused) return { name: "paused" };
     if (this.#standing < 2 * LOOK) return { name: "playing" };
-    const failed = this.#tracks.find((it) => it.failure);
-    if (this.#failure || failed) return this.#failure ?? stateOf(failed.failure);
+    if (this.#failure) return this.#failure;
+    // A single fragment that isn't there, or can't be read, says nothing of the event.
+    const failed = this.#tracks.find(({ failure }) => failure instanceof NetError && failure.why !== "absent");
+    if (failed) return stateOf(failed.failure);
     if (this.#tracks.some((it) => it.next(position))) return { name: "rebuffering" };
     const missing = this.#tracks.filter((it) => it.buffer.ahead(position) < LOOK);
     return { name: "waiting", kind: missing.length < this.#tracks.length ? missing[0]?.kind : undefined };

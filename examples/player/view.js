@@ -54,9 +54,8 @@ export class View {
 
   #toggle() {
     if (this.#player.state.name === "broken") location.reload();
-    else if (this.#video.ended) this.#player.seek(0), this.#player.play();
-    else if (this.#video.paused) this.#player.play();
-    else this.#player.pause();
+    else if (!this.#video.paused && !this.#video.ended) this.#player.pause();
+    else this.#player.play();
   }
 
   #mute() {

@@ -5,12 +5,21 @@ const KINDS = { video: "picture", audio: "sound" };
 /** For each state of the player what it is, and what may be done about it. */
 const STATES = {
   loading: () => ["Loading the event"],
-  absent: () => ["There is no event here yet", "The server has nothing at this address. The page asks again every few seconds, and starts by itself."],
+  absent: () => [
+    "There is no event here yet",
+    "The server has nothing at this address. The page asks again every few seconds, and starts by itself.",
+  ],
   unreachable: () => ["The server can't be reached", "It may be down, or your network may be. The page goes on trying."],
   server: ({ status }) => ["The server has a problem", `It answers with ${status}. The page goes on trying.`],
-  slow: () => ["Nothing arrives in time", "Your network is too slow for the lowest quality, or the server doesn't answer. The page goes on trying."],
+  slow: () => [
+    "Nothing arrives in time",
+    "Your network is too slow for the lowest quality, or the server doesn't answer. The page goes on trying.",
+  ],
   unreadable: () => ["This is no event that can be played", "What the server sends is no Smooth Streaming. Look at the address."],
-  waiting: ({ kind }) => [`Waiting for ${kind ? `the ${KINDS[kind]}` : "the event"} to go on`, "Nothing new has come from the event. It goes on by itself."],
+  waiting: ({ kind }) => [
+    `Waiting for the ${kind ? KINDS[kind] : "event"} to go on`,
+    "Nothing new has come. It goes on by itself.",
+  ],
   rebuffering: () => ["Loading"],
   paused: () => ["Paused"],
   playing: () => [""],
@@ -22,7 +31,8 @@ const STATES = {
 
 /** A sentence's part for each stream that isn't played: its kind, and its codec where the manifest names it. */
 function listOf(codecs) {
-  return codecs.map(({ kind, codec }) => `The ${KINDS[kind]} is in ${codec || "a codec that the server doesn't name"}, which isn't played here`).join(". ");
+  const named = (codec) => codec || "a codec that the server doesn't name";
+  return codecs.map(({ kind, codec }) => `The ${KINDS[kind]} is in ${named(codec)}, which isn't played here`).join(". ");
 }
 
 /**

@@ -41,7 +41,8 @@ test("a sound without a FourCC is AAC by its tag, and start codes may be short",
 test("codecs that aren't played are named as the manifest names them", () => {
   const [pictures] = video.qualities;
   const [sound] = audio.qualities;
-  const refused = (stream, quality, codec) => assert.throws(() => initOf(stream, quality), (error) => error instanceof CodecError && error.codec === codec);
+  const isOf = (codec) => (error) => error instanceof CodecError && error.codec === codec;
+  const refused = (stream, quality, codec) => assert.throws(() => initOf(stream, quality), isOf(codec));
   refused(video, { ...pictures, fourCC: "HVC1" }, "HVC1");
   refused(video, { ...pictures, fourCC: "" }, "");
   refused(audio, { ...sound, fourCC: "EC-3" }, "EC-3");

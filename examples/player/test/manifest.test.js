@@ -3,8 +3,9 @@ import { test } from "node:test";
 import { ManifestError, addressOf, readManifest, zeroOf } from "../manifest.js";
 import { textOf } from "./pushes.js";
 
-const timesOf = ({ runs }) =>
-  runs.flatMap(({ time, duration, count }) => Array.from({ length: Number(count) }, (_, at) => [String(time + BigInt(at) * duration), String(duration)]));
+const timesOfRun = ({ time, duration, count }) =>
+  Array.from({ length: Number(count) }, (_, at) => [String(time + BigInt(at) * duration), String(duration)]);
+const timesOf = ({ runs }) => runs.flatMap(timesOfRun);
 
 test("manifests are read as another reader reads them, or refused as it refuses them", async (t) => {
   for (const { name, text, streams } of JSON.parse(textOf("data/manifests.json"))) {

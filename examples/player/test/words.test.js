@@ -25,7 +25,7 @@ test("moments, rates and names", () => {
   assert.deepEqual([null, 64_000, 1_500_000].map(bits), ["–", "64 kbit/s", "1.5 Mbit/s"]);
   assert.equal(qualityName({ width: 640, height: 360, bitrate: 400_000 }), "640 × 360, 400 kbit/s");
   assert.equal(qualityName({ width: 0, height: 0, bitrate: 64_000 }), "64 kbit/s");
-  const sounds = [{ name: "audio_eng", language: "" }, { name: "audio_deu", language: "" }, { name: "a", language: "fr" }, { name: "audio", language: "" }];
+  const sounds = [["audio_eng", ""], ["audio_deu", ""], ["a", "fr"], ["audio", ""]].map(([name, language]) => ({ name, language }));
   assert.deepEqual(sounds.map(soundName), ["English", "German", "French", "audio"]);
   assert.equal(soundName({ name: "audio_und", language: "" }), "audio_und");
 });
