@@ -1,5 +1,5 @@
 -- What was done with players.
-use Rattle.std.specs.Prelude.{◌≡◌, ◌⊎◌, ◌<◌, ◌≤◌, ◌+◌, All, ℕ, List, ◌++◌, length, Option, None, Some}
+use Rattle.std.specs.Prelude.{◌≡◌, ◌⊎◌, ◌<◌, ◌≤◌, ◌+◌, All, ℕ, List, ◌++◌, length, None, Some}
 use Rattle.sm_site.specs.Clauses.{Rose}
 use Rattle.sm_shelf.specs.Laying.{nothing}
 use Rattle.sm_shelf.specs.Shelf.{Sight, Table, unread}

@@ -1,8 +1,8 @@
-use Rattle.std.proofs.Common.{◌≡◌, ◌∙◌, ℕ, ◌+◌, map, vec_len, sym, ap, subst, arith}
+use Rattle.std.proofs.Common.{rules, ◌≡◌, ◌∙◌, ℕ, ◌+◌, map, vec_len, sym, ap, subst, arith}
 use Rattle.sm_shelf.specs.Shelf.{Desk, Table, bare, shut}
 use Rattle.sm_show.proofs.Resting.{recalls_here}
 use Rattle.sm_players.specs.Wiring.{Wires}
-use Rattle.sm_run.specs.Staff.{Joins, staff_of}
+use Rattle.sm_run.specs.Staff.{Joins, JoinsSome, staff_of}
 use Rattle.sm_run.proofs.Beginning.{later_rose, nothing_belongs, shown_on, shut_shown}
 use Rattle.sm_run.proofs.Starts.{joins, starts_from}
 use Rattle.sm_run.proofs.showing.show.Goals as goal
@@ -52,3 +52,17 @@ returns-clause-staffed g c =
       blamed = λ some. later_rose (s.spawn_faults old) (s.spawn_faults c.serve_beside-ended.new.spawner) (s.spawn_faults c.finish-finished.new.self) later (f.faulted some);
       later = omega (arith, later, later_yet);
     }
+
+pub returns-in_err-served-clause-why : goal.returns-in_err-served-clause-why
+returns-in_err-served-clause-why g c =
+    let s = g.P.Spawner in
+    let ran = c.in_err-served.ensures in
+    let f = c.finish-finished.ensures in
+    let start = staff_of s.spawn_faults s.started s.limit s.chosen s.ended c.args.spawner.now in
+    let over = staff_of s.spawn_faults s.started s.limit s.chosen s.ended c.finish-finished.new.self in
+    let some : JoinsSome start over = (
+      c.in-Ok-make.writer.table,
+      joins c.in-Ok-make.writer.table start over (s.started c.serve_beside-ended.new.spawner) (map (λ h. h.promise) c.serve_beside-ended.new.running.items)
+          (starts_from _ _ _ _ _ _ (ap (map (λ h. h.promise)) c.new-running.ensures.items) ran.starts) f.started f.played.each,
+    ) in
+    search rules

@@ -1,7 +1,7 @@
 use Rattle.std.proofs.Common.{rules, ◌∷◌, [], ◌∙◌, All, Some, map, refl, sym, ap, subst, arith}
 use Rattle.std.proofs.lemmas.List.{map-append}
 use Rattle.std.proofs.lemmas.List.Elements.{All-pop}
-use Rattle.sm_shelf.specs.Shelf.{Sight, Table}
+use Rattle.sm_shelf.specs.Shelf.{Sight}
 use Rattle.sm_run.specs.Staff.{IsUnread}
 use Rattle.sm_run.proofs.Starts.{starts_none, starts_one}
 use Rattle.sm_run.proofs.staffing.start_all.Goals as goal
