@@ -1,5 +1,5 @@
 -- What came on a connection, and the steps that acted on it.
-use Rattle.std.proofs.Common.{◌≡◌, ◌⊎◌, inl, inr, ℕ, ◌+◌, ◌≤◌, ◌==◌, Bool, true, false, ◌||◌, if◌then◌else◌, List, [], ◌∷◌, ◌++◌, take, Option, Some, None, refl, sym, ◌∙◌, ap, subst, arith, append_assoc, lit<}
+use Rattle.std.proofs.Common.{◌≡◌, ◌⊎◌, inl, inr, ℕ, ◌+◌, ◌≤◌, Bool, true, false, ◌||◌, if◌then◌else◌, List, [], ◌∷◌, ◌++◌, take, Option, Some, None, refl, sym, ◌∙◌, ap, subst, arith, append_assoc, lit<}
 use Rattle.std.proofs.lemmas.List.{append-nil}
 use Rattle.std.proofs.lemmas.Bool.{eq-eqb, ne_eqb, cases_eq, cases_Bool}
 use Rattle.sm_site.specs.Meanings.{Deal, Item}
@@ -13,13 +13,13 @@ use Rattle.sm_wire.specs.declared.item.WireItem.TheVariants.{Continue}
 use Rattle.sm_wire.specs.Wire.{wire, IsWire}
 use Rattle.sm_origin.specs.Machine.{Machine}
 use Rattle.sm_serve.specs.declared.texts.TheConstants.{TOO_MANY}
-use Rattle.sm_serve.specs.Connections.{received, live_after, live_from, live, is_among, is_open}
-use Rattle.sm_serve.specs.Run.{Counts, no_counts, act_of, counts_after, set_counts, Phase, idle, acting, sending, shutting, at, sent_of, closes, phase_after, Point, Stepped, IsStep, Moves, opened, crowded, came, unread, passed, left, over, continues, acts_on, wants, done, sent, failed, unsent, shut, declared, recalled, Run, begins, goes_on}
+use Rattle.sm_serve.specs.Connections.{received, live_after, live_from, live, is_among}
+use Rattle.sm_serve.specs.Run.{Counts, no_counts, act_of, counts_after, set_counts, Phase, idle, acting, sending, shutting, at, sent_of, closes, phase_after, Point, Stepped, Moves, opened, crowded, came, unread, passed, left, over, continues, acts_on, wants, done, sent, failed, unsent, shut, declared, recalled, Run, begins, goes_on}
 use Rattle.sm_serve.specs.Sent.{opens, openings}
-use Rattle.sm_serve.proofs.Answering.{IsAway, WireLaws}
+use Rattle.sm_serve.proofs.Answering.{IsAway}
 use Rattle.sm_serve.proofs.Stepping.{away_after, option_cases}
 use Rattle.sm_serve.proofs.Quiet.{IsQuiet, quiet_began, quiet_came, quiet_left, quiet_over, quiet_sent, quiet_shut, began_less, ended_less, not_live, still_live, bytes_begun, bytes_came, bytes_sent}
-use Rattle.sm_promises.specs.Promises.{AreActs, nothing, continued, acted, elsewhere, AllActedOn, BecomeSteps}
+use Rattle.sm_promises.specs.Promises.{AreActs, nothing, continued, acted, elsewhere, BecomeSteps}
 
 -- ---- what bytes give
 

@@ -1,8 +1,7 @@
 -- What a standby kept was read of its primary, where it stands there.
-use Rattle.std.proofs.Common.{◌≡◌, ◌⊎◌, inl, inr, ℕ, ◌+◌, List, [], ◌∷◌, ◌++◌, length, length-append, Option, Some, None, refl, sym, ap, subst, ◌∙◌, append-nil, append_assoc, arith}
-use Rattle.std.proofs.lemmas.List.{append_cancel_left}
+use Rattle.std.proofs.Common.{◌≡◌, ◌⊎◌, inl, inr, ℕ, ◌+◌, List, [], ◌∷◌, ◌++◌, length, length-append, Option, Some, refl, sym, ap, subst, ◌∙◌, append-nil, append_assoc, arith}
 use Rattle.std.proofs.lemmas.List.Elements.{Contains-append_left, Contains-append_right}
-use Rattle.std.specs.Prelude.{Contains, IsSome}
+use Rattle.std.specs.Prelude.{Contains}
 use Rattle.sm_model.specs.declared.address.Address.{Address}
 use Rattle.sm_model.specs.declared.entry.Entry.{Entry}
 use Rattle.sm_model.specs.declared.entry.Entry.TheVariants.{Keep}
@@ -10,7 +9,6 @@ use Rattle.sm_model.specs.declared.fragment.Fragment.{Fragment}
 use Rattle.sm_model.specs.declared.run.RawFragment.{RawFragment}
 use Rattle.sm_model.specs.declared.track.Track.{Track}
 use Rattle.sm_model.specs.Entries.{address_of}
-use Rattle.sm_site.specs.Image.{Image}
 use Rattle.sm_site.specs.Meanings.{Seen}
 use Rattle.sm_archive.specs.declared.archive.Archive.{Archive}
 use Rattle.sm_archive.specs.Store.{IsStore}
@@ -25,7 +23,7 @@ use Rattle.sm_fetch.specs.Placing.{SpellsPlaced}
 use Rattle.sm_fetch.specs.Spelt.{given}
 use Rattle.sm_pull.specs.declared.plan.PullPlan.{PullPlan}
 use Rattle.sm_pull.specs.declared.stop.Stop.{Stop}
-use Rattle.sm_pull.specs.Adds.{keeps_of, IsFrontOf, LeavesFront}
+use Rattle.sm_pull.specs.Adds.{keeps_of}
 use Rattle.sm_pull.specs.Asks.{Gives}
 use Rattle.sm_standby.specs.declared.held.Later.{Later}
 use Rattle.sm_standby.specs.declared.report.FollowEnd.{FollowEnd}

@@ -1,13 +1,13 @@
 -- What a manifest lists.
-use Rattle.std.proofs.Common.{◌≡◌, ◌<◌, ◌^◌, ℕ, true, List, [], ◌∷◌, ◌++◌, length, Option, Some, None, is_some, sym, ap, subst}
-use Rattle.std.specs.Prelude.{All, IsSome}
+use Rattle.std.proofs.Common.{◌≡◌, ◌<◌, ◌^◌, ℕ, true, List, [], ◌∷◌, length, Option, Some, is_some, ap, subst}
+use Rattle.std.specs.Prelude.{All}
 use Rattle.sm_model.specs.declared.address.Address.{Address}
 use Rattle.sm_model.specs.declared.entry.Entry.{Entry}
 use Rattle.sm_model.specs.declared.entry.Entry.TheVariants.{Declare, Keep}
 use Rattle.sm_model.specs.declared.track.Track.{Track}
 use Rattle.sm_model.specs.Channels.{IsChannel}
 use Rattle.sm_log.specs.Adds.{is_declared, listed}
-use Rattle.sm_log.specs.Logs.{adds_of, channel_of, kept_at, listed_by, listed_in, IsSound}
+use Rattle.sm_log.specs.Logs.{adds_of, channel_of, listed_by, listed_in, IsSound}
 use Rattle.sm_log.specs.Times.{entry_at, IsSpan}
 use Rattle.sm_manout.specs.ManifestText.{manifest}
 use Rattle.sm_manout.specs.Shown.{IsWritable, ListsIn}

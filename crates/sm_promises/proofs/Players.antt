@@ -1,22 +1,21 @@
 -- What status 0 says of players, and words that ask for nothing.
-use Rattle.std.proofs.Common.{◌≡◌, ◌⊎◌, inl, inr, ℕ, zero, suc, Bool, true, false, cond, ◌==◌, ◌&&◌, ◌+◌, List, Option, Some, None, refl, sym, ap, subst, ◌∙◌, arith}
+use Rattle.std.proofs.Common.{◌≡◌, ◌⊎◌, inl, inr, ℕ, Bool, true, false, cond, ◌==◌, ◌&&◌, List, Option, Some, None, refl, sym, ap, subst, ◌∙◌, arith}
 use Rattle.std.proofs.lemmas.Bool.Decides.{nat_tests}
 use Rattle.sm_site.specs.Meanings.{Seen}
 use Rattle.sm_serve.specs.declared.outcome.Served.{Served as Outcome}
 use Rattle.sm_serve.specs.declared.outcome.Served.TheVariants as served
 use Rattle.sm_players.specs.declared.spawner.Finished.{Finished}
 use Rattle.sm_players.specs.declared.spawner.SpawnError.TheVariants as spawn
-use Rattle.sm_players.specs.Starting.{count_of}
 use Rattle.sm_command.specs.declared.fault.StoreFault.TheVariants as why
 use Rattle.sm_client.specs.Turns.{Meaning}
 use Rattle.sm_tool.specs.declared.answer.Answer.{Answer}
 use Rattle.sm_tool.specs.declared.answer.Answer.TheVariants.{Found, LinkFault, Starved, Words}
 use Rattle.sm_tool.specs.Edges.{Dialing}
-use Rattle.sm_tool.specs.Ran.{Around, IsIdle, IsRun, Means, MeansBy, Prints}
+use Rattle.sm_tool.specs.Ran.{IsRun, Means, MeansBy, Prints}
 use Rattle.sm_run.specs.declared.fault.ShowFault.{ShowFault}
 use Rattle.sm_run.specs.declared.fault.ShowFault.TheVariants as fault
-use Rattle.sm_run.specs.Runs.{IsShown, RunsBy, ShowAnswers, shown_by}
-use Rattle.sm_run.specs.Staff.{IsStaffed, Staff, wires_of}
+use Rattle.sm_run.specs.Runs.{RunsBy, ShowAnswers, shown_by}
+use Rattle.sm_run.specs.Staff.{Staff}
 use Rattle.sm_run.specs.Telling.{TellsShown, TellsUnshown, answer_of, shown_line}
 use Rattle.sm_words.specs.Words.{ServeShown, Serving, Wanted, asked}
 use Rattle.sm_usage.specs.Wrong.{wrong_words}

@@ -1,5 +1,5 @@
 -- What a play with status 0 wrote.
-use Rattle.std.proofs.Common.{◌≡◌, ◌≢◌, ◌⊎◌, inl, inr, ℕ, ◌+◌, List, [], ◌∷◌, ◌++◌, length, Option, Some, None, refl, sym, ap, subst, ◌∙◌, append-nil}
+use Rattle.std.proofs.Common.{◌≡◌, inl, inr, ℕ, ◌+◌, List, [], ◌∷◌, ◌++◌, length, Option, Some, refl, sym, ap, subst, ◌∙◌, append-nil}
 use Rattle.std.specs.Io.KnownBytes.{Appends}
 use Rattle.sm_model.specs.declared.entry.Entry.{Entry}
 use Rattle.sm_fetch.specs.declared.dial.DialError.TheVariants as dial_fault
@@ -18,7 +18,7 @@ use Rattle.sm_client.specs.Asks.{turn_after}
 use Rattle.sm_tool.specs.declared.answer.Answer.{Answer}
 use Rattle.sm_tool.specs.declared.answer.Answer.TheVariants.{Found}
 use Rattle.sm_tool.specs.Edges.{Dialing}
-use Rattle.sm_tool.specs.Plays.{PlayMeans, TellsEnd, TellsPlay}
+use Rattle.sm_tool.specs.Plays.{PlayMeans, TellsEnd}
 use Rattle.sm_tool.specs.Ran.{Around, IsRun, Means, MeansBy}
 use Rattle.sm_run.specs.Runs.{RunsBy, shown_by}
 use Rattle.sm_words.specs.Words.{Play, Serving, Wanted, asked}

@@ -1,13 +1,12 @@
 -- What a relay kept was read of its origin.
-use Rattle.std.proofs.Common.{◌≡◌, ◌⊎◌, inl, inr, ℕ, true, List, [], ◌∷◌, ◌++◌, Option, Some, None, refl, sym, ap, subst, ◌∙◌, append-nil, append_assoc}
+use Rattle.std.proofs.Common.{◌≡◌, ◌⊎◌, inl, inr, ℕ, List, [], ◌∷◌, ◌++◌, Option, Some, sym, ap, subst, ◌∙◌, append_assoc}
 use Rattle.std.proofs.lemmas.List.{append_cancel_left}
 use Rattle.std.proofs.lemmas.List.Elements.{Contains-append_left, Contains-append_right}
 use Rattle.std.specs.List.{AllByRecursion}
-use Rattle.std.specs.Prelude.{Contains, IsSome}
+use Rattle.std.specs.Prelude.{Contains}
 use Rattle.sm_model.specs.declared.entry.Entry.{Entry}
 use Rattle.sm_model.specs.declared.fragment.Fragment.{Fragment}
 use Rattle.sm_model.specs.declared.track.Track.{Track}
-use Rattle.sm_model.specs.Entries.{address_of}
 use Rattle.sm_model.specs.declared.address.Address.{Address}
 use Rattle.sm_fetch.specs.declared.dial.Exchange.{Exchange}
 use Rattle.sm_fetch.specs.declared.got.Got.TheVariants as got
@@ -24,7 +23,7 @@ use Rattle.sm_pull.specs.Asks.{AsksFragment}
 use Rattle.sm_relay.specs.declared.report.RelayEnd.{RelayEnd}
 use Rattle.sm_relay.specs.declared.report.RelayEnd.TheVariants as ends
 use Rattle.sm_relay.specs.declared.report.RelayReport.{RelayReport}
-use Rattle.sm_relay.specs.Ends.{EndsWith, IsStopped}
+use Rattle.sm_relay.specs.Ends.{EndsWith}
 use Rattle.sm_relay.specs.Read.{WasRead}
 use Rattle.sm_relay.specs.Rounds.{AreRounds, IsBroken, IsRound, Round, RoundStops, kept_in, made_in}
 use Rattle.sm_relay.specs.Wants.{Want, wants_of}

@@ -1,10 +1,10 @@
 -- What a rehearsal with status 0 was.
-use Rattle.std.proofs.Common.{◌≡◌, ◌⊎◌, inl, inr, ℕ, List, Option, Some, None, refl, sym, ap, subst, ◌∙◌}
+use Rattle.std.proofs.Common.{◌≡◌, inl, inr, ℕ, List, Option, Some, sym, ap, subst, ◌∙◌}
 use Rattle.std.specs.Io.KnownBytes.{Appends}
 use Rattle.sm_site.specs.Meanings.{Seen}
 use Rattle.sm_client.specs.Turns.{Meaning}
 use Rattle.sm_tool.specs.declared.answer.Answer.{Answer}
-use Rattle.sm_tool.specs.declared.answer.Answer.TheVariants.{Found, Starved}
+use Rattle.sm_tool.specs.declared.answer.Answer.TheVariants.{Found}
 use Rattle.sm_tool.specs.Edges.{Dialing}
 use Rattle.sm_tool.specs.Ran.{Around, IsRun, Means, MeansBy}
 use Rattle.sm_tool.specs.Rehearsals.{IsRehearsed, RehearseMeans}

@@ -1,5 +1,5 @@
 -- What each exit status says.
-use Rattle.std.proofs.Common.{◌≡◌, ◌⊎◌, inl, inr, ℕ, ◌==◌, if◌then◌else◌, List, Option, Some, None, refl, sym, ◌∙◌, ap, subst}
+use Rattle.std.proofs.Common.{◌≡◌, inl, inr, ℕ, ◌==◌, if◌then◌else◌, Option, Some, None, refl, sym, ◌∙◌, ap}
 use Rattle.sm_site.specs.Meanings.{Seen}
 use Rattle.sm_client.specs.Turns.{Meaning}
 use Rattle.sm_tool.specs.declared.answer.Answer.{Answer}
@@ -12,7 +12,7 @@ use Rattle.sm_tool.specs.Ran.{Prints}
 use Rattle.sm_run.specs.Runs.{RunsBy, shown_by}
 use Rattle.sm_words.specs.Words.{Export, Help, Listing, Pick, Play, Push, Rehearse, Relay, Serve, ServeShown, Serving, Standby, Version, Wanted, asked}
 use Rattle.sm_ends.specs.Ended.{End}
-use Rattle.sm_promises.specs.Promises.{ProgramRan, Ending, Done, BadWords, BadInput, NotDone, DiskFailed, InputFailed, OutputFailed, LinkFailed, OutOfMemory, LimitMet, NoStore, number_of, IsSaidOf, HasAnswer}
+use Rattle.sm_promises.specs.Promises.{ProgramRan, Ending, Well, WrongWords, WrongInput, NotHad, FaultOfDisk, FaultOfInput, FaultOfOutput, FaultOfLink, WantOfMemory, LimitWasMet, NoStore, number_of, IsSaidOf, HasAnswer}
 
 -- ---- the number of an answer
 
@@ -24,55 +24,56 @@ both e a out out' status written unwritten said (inl h) = (e, h.0 ∙ written, s
 both e a out out' status written unwritten said (inr h) = (e, h.0 ∙ unwritten, said)
 
 says : (a : Answer) (out out' : End) (status : ℕ) → Prints a out out' status → Says a status
-says (Found text) out out' status (inl h) = (Done, h.0, (text, refl))
-says (Found text) out out' status (inr h) = (OutputFailed, h.0, inr (inr (text, refl)))
-says (Words text) out out' status h = both BadWords (Words text) out out' status refl refl (text, refl) h
-says TooLong out out' status h = both BadInput TooLong out out' status refl refl (inl refl) h
-says LongLadder out out' status h = both BadInput LongLadder out out' status refl refl (inr (inl refl)) h
-says (Refused line) out out' status h = both BadInput (Refused line) out out' status refl refl (inr (inr (line, refl))) h
-says NotKept out out' status h = both NotDone NotKept out out' status refl refl (inl refl) h
-says (Clash line) out out' status h = both NotDone (Clash line) out out' status refl refl (inr (inl (line, inl refl))) h
-says (Undone line) out out' status h = both NotDone (Undone line) out out' status refl refl (inr (inl (line, inr refl))) h
-says Damaged out out' status h = both NotDone Damaged out out' status refl refl (inr (inr (inl refl))) h
-says DiskFault out out' status h = both DiskFailed DiskFault out out' status refl refl (inl refl) h
-says Unread out out' status h = both InputFailed Unread out out' status refl refl refl h
-says TrackFault out out' status h = both OutputFailed TrackFault out out' status refl refl (inl refl) h
-says LinkFault out out' status h = both LinkFailed LinkFault out out' status refl refl refl h
-says Starved out out' status h = both OutOfMemory Starved out out' status refl refl (inl refl) h
-says Full out out' status h = both LimitMet Full out out' status refl refl refl h
+says (Found text) out out' status (inl h) = (Well, h.0, (text, refl))
+says (Found text) out out' status (inr h) = (FaultOfOutput, h.0, inr (inr (text, refl)))
+says (Words text) out out' status h = both WrongWords (Words text) out out' status refl refl (text, refl) h
+says TooLong out out' status h = both WrongInput TooLong out out' status refl refl (inl refl) h
+says LongLadder out out' status h = both WrongInput LongLadder out out' status refl refl (inr (inl refl)) h
+says (Refused line) out out' status h = both WrongInput (Refused line) out out' status refl refl (inr (inr (line, refl))) h
+says NotKept out out' status h = both NotHad NotKept out out' status refl refl (inl refl) h
+says (Clash line) out out' status h = both NotHad (Clash line) out out' status refl refl (inr (inl (line, inl refl))) h
+says (Undone line) out out' status h = both NotHad (Undone line) out out' status refl refl (inr (inl (line, inr refl))) h
+says Damaged out out' status h = both NotHad Damaged out out' status refl refl (inr (inr (inl refl))) h
+says DiskFault out out' status h = both FaultOfDisk DiskFault out out' status refl refl (inl refl) h
+says Unread out out' status h = both FaultOfInput Unread out out' status refl refl refl h
+says TrackFault out out' status h = both FaultOfOutput TrackFault out out' status refl refl (inl refl) h
+says LinkFault out out' status h = both FaultOfLink LinkFault out out' status refl refl refl h
+says Starved out out' status h = both WantOfMemory Starved out out' status refl refl (inl refl) h
+says Full out out' status h = both LimitWasMet Full out out' status refl refl refl h
 says (NotAStore line) out out' status h = both NoStore (NotAStore line) out out' status refl refl (line, refl) h
-says (Unfinished stops.Damaged) out out' status h = both NotDone (Unfinished stops.Damaged) out out' status refl refl (inr (inr (inr refl))) h
-says (Unfinished stops.Disk) out out' status h = both DiskFailed (Unfinished stops.Disk) out out' status refl refl (inr refl) h
-says (Unfinished stops.Output) out out' status h = both OutputFailed (Unfinished stops.Output) out out' status refl refl (inr (inl refl)) h
-says (Unfinished stops.Memory) out out' status h = both OutOfMemory (Unfinished stops.Memory) out out' status refl refl (inr refl) h
+says (Unfinished stops.Damaged) out out' status h = both NotHad (Unfinished stops.Damaged) out out' status refl refl (inr (inr (inr refl))) h
+says (Unfinished stops.Disk) out out' status h = both FaultOfDisk (Unfinished stops.Disk) out out' status refl refl (inr refl) h
+says (Unfinished stops.Output) out out' status h = both FaultOfOutput (Unfinished stops.Output) out out' status refl refl (inr (inl refl)) h
+says (Unfinished stops.Memory) out out' status h = both WantOfMemory (Unfinished stops.Memory) out out' status refl refl (inr refl) h
 
 -- ---- one number, one ending
 
 by_number : ℕ → Ending
-by_number 0 = Done
-by_number 2 = BadWords
-by_number 3 = BadInput
-by_number 4 = NotDone
-by_number 5 = DiskFailed
-by_number 6 = InputFailed
-by_number 7 = OutputFailed
-by_number 8 = LinkFailed
-by_number 9 = OutOfMemory
-by_number 10 = LimitMet
-by_number n = NoStore
+by_number n =
+    if n == 0 then Well
+    else if n == 2 then WrongWords
+    else if n == 3 then WrongInput
+    else if n == 4 then NotHad
+    else if n == 5 then FaultOfDisk
+    else if n == 6 then FaultOfInput
+    else if n == 7 then FaultOfOutput
+    else if n == 8 then FaultOfLink
+    else if n == 9 then WantOfMemory
+    else if n == 10 then LimitWasMet
+    else NoStore
 
 numbered : (e : Ending) → by_number (number_of e) ≡ e
 unfolding by_number
-numbered Done = refl
-numbered BadWords = refl
-numbered BadInput = refl
-numbered NotDone = refl
-numbered DiskFailed = refl
-numbered InputFailed = refl
-numbered OutputFailed = refl
-numbered LinkFailed = refl
-numbered OutOfMemory = refl
-numbered LimitMet = refl
+numbered Well = refl
+numbered WrongWords = refl
+numbered WrongInput = refl
+numbered NotHad = refl
+numbered FaultOfDisk = refl
+numbered FaultOfInput = refl
+numbered FaultOfOutput = refl
+numbered FaultOfLink = refl
+numbered WantOfMemory = refl
+numbered LimitWasMet = refl
 numbered NoStore = refl
 
 pub one_meaning : (e f : Ending) → number_of e ≡ number_of f → e ≡ f

@@ -1,6 +1,5 @@
 -- What each step of a run may answer, and which fragments stay.
 use Rattle.std.proofs.Common.{◌≡◌, ◌⊎◌, inl, inr, ℕ, ◌≤◌, true, List, [], ◌∷◌, ◌++◌, Option, Some, None, refl, sym, ap, subst, ◌∙◌, append_assoc}
-use Rattle.std.proofs.lemmas.List.{append-nil}
 use Rattle.sm_model.specs.declared.act.Act.{Act}
 use Rattle.sm_model.specs.declared.act.Act.TheVariants.{Frag, Fragment as Ask}
 use Rattle.sm_model.specs.declared.address.Address.{Address}
@@ -14,7 +13,6 @@ use Rattle.sm_model.specs.Entries.{address_of}
 use Rattle.sm_log.specs.declared.verdict.Judged.{Judged as Verdict}
 use Rattle.sm_log.specs.declared.verdict.Judged.TheVariants as verdicts
 use Rattle.sm_log.specs.Logs.{adds_of, channel_of, kept_at, verdict_by, verdict_on, IsSound}
-use Rattle.sm_site.specs.Clauses.{Rose}
 use Rattle.sm_site.specs.Image.{Image}
 use Rattle.sm_site.specs.Meanings.{Item}
 use Rattle.sm_archive.specs.Store.{IsStore}
@@ -22,7 +20,7 @@ use Rattle.sm_reply.specs.declared.reply.Counted.{Counted}
 use Rattle.sm_reply.specs.declared.reply.Counted.TheVariants.{Known}
 use Rattle.sm_reply.specs.declared.reply.Reply.{Reply}
 use Rattle.sm_reply.specs.Replies.{silent, unplaced, no_memory, reply_of, kept_reply, fragment_reply}
-use Rattle.sm_origin.specs.Machine.{Machine, SameLog, MeetsLimit, Judged, Fresh, There, Not, by_verdict, judged, Clear, Settled, Writes, refused, there, full, kept, unwritten, Row, answered, unread, unsettled, wrote, Step, row, wants as wants_memory, untold, entry_of}
+use Rattle.sm_origin.specs.Machine.{Machine, SameLog, MeetsLimit, Fresh, There, Not, by_verdict, judged, Clear, Writes, refused, there, full, kept, unwritten, Row, answered, unread, unsettled, wrote, Step, row, wants as wants_memory, untold, entry_of}
 use Rattle.sm_serve.specs.Faultless.{TakesIn, IsBeyond}
 use Rattle.sm_serve.specs.Moments.{machine_at, IsOneOf, FitsAt}
 use Rattle.sm_serve.specs.Run.{Point, Stepped, IsStep, Moves, opened, crowded, came, unread as unread_piece, passed, left, over, continues, acts_on, wants, done, sent, failed, unsent, shut, declared, recalled, Run, begins, goes_on}

@@ -307,46 +307,46 @@ pub record IsPublished {D : Type 0} (site : Seen D) (s : Serving) (players : ℕ
 -- what an exit status says
 pub data Ending : Type 0 where
   -- what was asked for was done, and its line was written
-  Done : Ending
-  BadWords : Ending
+  Well : Ending
+  WrongWords : Ending
   -- the input, or the ladder, is none, or is too long
-  BadInput : Ending
+  WrongInput : Ending
   -- what was asked for isn't there, or may not stand there, or what was read isn't what was written
-  NotDone : Ending
-  DiskFailed : Ending
-  InputFailed : Ending
-  OutputFailed : Ending
-  LinkFailed : Ending
-  OutOfMemory : Ending
-  LimitMet : Ending
+  NotHad : Ending
+  FaultOfDisk : Ending
+  FaultOfInput : Ending
+  FaultOfOutput : Ending
+  FaultOfLink : Ending
+  WantOfMemory : Ending
+  LimitWasMet : Ending
   NoStore : Ending
 
 abbrev pub number_of : Ending → ℕ
-number_of Done = 0
-number_of BadWords = 2
-number_of BadInput = 3
-number_of NotDone = 4
-number_of DiskFailed = 5
-number_of InputFailed = 6
-number_of OutputFailed = 7
-number_of LinkFailed = 8
-number_of OutOfMemory = 9
-number_of LimitMet = 10
+number_of Well = 0
+number_of WrongWords = 2
+number_of WrongInput = 3
+number_of NotHad = 4
+number_of FaultOfDisk = 5
+number_of FaultOfInput = 6
+number_of FaultOfOutput = 7
+number_of FaultOfLink = 8
+number_of WantOfMemory = 9
+number_of LimitWasMet = 10
 number_of NoStore = 11
 
 -- which answers end so; where what was found could not be written, the output's fault is told instead
 abbrev pub IsSaidOf : Ending → Answer → Type 0
-IsSaidOf Done a = (text : List ℕ) × (a ≡ answers.Found text)
-IsSaidOf BadWords a = (text : List ℕ) × (a ≡ answers.Words text)
-IsSaidOf BadInput a = (a ≡ answers.TooLong) ⊎ ((a ≡ answers.LongLadder) ⊎ ((line : List ℕ) × (a ≡ answers.Refused line)))
-IsSaidOf NotDone a = (a ≡ answers.NotKept) ⊎ (((line : List ℕ) × ((a ≡ answers.Clash line) ⊎ (a ≡ answers.Undone line)))
+IsSaidOf Well a = (text : List ℕ) × (a ≡ answers.Found text)
+IsSaidOf WrongWords a = (text : List ℕ) × (a ≡ answers.Words text)
+IsSaidOf WrongInput a = (a ≡ answers.TooLong) ⊎ ((a ≡ answers.LongLadder) ⊎ ((line : List ℕ) × (a ≡ answers.Refused line)))
+IsSaidOf NotHad a = (a ≡ answers.NotKept) ⊎ (((line : List ℕ) × ((a ≡ answers.Clash line) ⊎ (a ≡ answers.Undone line)))
     ⊎ ((a ≡ answers.Damaged) ⊎ (a ≡ answers.Unfinished stops.Damaged)))
-IsSaidOf DiskFailed a = (a ≡ answers.DiskFault) ⊎ (a ≡ answers.Unfinished stops.Disk)
-IsSaidOf InputFailed a = a ≡ answers.Unread
-IsSaidOf OutputFailed a = (a ≡ answers.TrackFault) ⊎ ((a ≡ answers.Unfinished stops.Output) ⊎ ((text : List ℕ) × (a ≡ answers.Found text)))
-IsSaidOf LinkFailed a = a ≡ answers.LinkFault
-IsSaidOf OutOfMemory a = (a ≡ answers.Starved) ⊎ (a ≡ answers.Unfinished stops.Memory)
-IsSaidOf LimitMet a = a ≡ answers.Full
+IsSaidOf FaultOfDisk a = (a ≡ answers.DiskFault) ⊎ (a ≡ answers.Unfinished stops.Disk)
+IsSaidOf FaultOfInput a = a ≡ answers.Unread
+IsSaidOf FaultOfOutput a = (a ≡ answers.TrackFault) ⊎ ((a ≡ answers.Unfinished stops.Output) ⊎ ((text : List ℕ) × (a ≡ answers.Found text)))
+IsSaidOf FaultOfLink a = a ≡ answers.LinkFault
+IsSaidOf WantOfMemory a = (a ≡ answers.Starved) ⊎ (a ≡ answers.Unfinished stops.Memory)
+IsSaidOf LimitWasMet a = a ≡ answers.Full
 IsSaidOf NoStore a = (line : List ℕ) × (a ≡ answers.NotAStore line)
 
 -- The answer that a run has: it means what was done, alone (`Means`) or with players beside (`ShowAnswers`); its line was printed, and the status tells it.
