@@ -101,7 +101,7 @@ module _ {D C P : Type 0} (site : Seen D) (t : Dialing C) (m : Meaning P) (befor
       → RunsBy site t m r.policies r.words o r.around r.around' r.output r.output' before after r.dial r.dial' r.staff r.staff' r.status
       → (answer : Answer) × HasAnswer site t m before after r answer
   answer_by None is (run, staff) = (run.answer, record { written = run.written; means = inl run.means; prints = run.prints })
-  answer_by (Some x) is run = (run.answer, record { written = r.output; means = inr (x.0, x.1, are_shown (asked r.words) x is, run.means); prints = run.prints })
+  answer_by (Some x) is run = (run.answer, record { written = r.output; means = inr (refl, x.0, x.1, are_shown (asked r.words) x is, run.means); prints = run.prints })
 
   pub ends_so : (e : Ending) × (r.status ≡ number_of e) × ((answer : Answer) × IsSaidOf e answer × HasAnswer site t m before after r answer)
   ends_so =

@@ -1,5 +1,5 @@
 -- The words of the promises.
-use Rattle.std.specs.Prelude.{◌≡◌, ◌⊎◌, ◌≤◌, ◌<◌, ◌+◌, ◌++◌, ℕ, true, false, List, [], ◌∷◌, length, map, Option, Some, IsSome, Contains}
+use Rattle.std.specs.Prelude.{◌≡◌, ◌⊎◌, ◌≤◌, ◌<◌, ◌+◌, ◌++◌, ℕ, true, false, List, [], ◌∷◌, length, map, Option, Some, None, IsSome, Contains}
 use Rattle.std.specs.List.{AllByRecursion}
 use Rattle.std.specs.Io.KnownBytes.{Appends, Consumes, IsAtEnd}
 use Rattle.sm_model.specs.declared.address.Address.{Address}
@@ -91,7 +91,7 @@ pub record BeginsWith {D : Type 0} (site : Seen D) (before : D) (log : List Entr
   pub one_store : HasOneStore log (site.may_leave before)
   pub link : (site.view before).transcript ≡ Some base
 
--- a crash at this moment of the run might have left these files on the disk
+-- a crash at this moment, not before the run began, might have left these files on the disk
 pub record MayBeLeft {D : Type 0} (site : Seen D) (before after : D) (t : ℕ) (image : Image) : Type 0 where
   pub in_run : (site.view before).moment ≤ t
   pub left : site.left_at after t image
@@ -130,6 +130,8 @@ pub record LoopRan {D : Type 0} (site : Seen D) (before after : D) (found : List
   pub faults : ℕ
   pub last : Point
   pub first_is : first.log ≡ found
+  -- nothing is in doubt when it begins
+  pub settled : first.doubt ≡ None
   pub since : (site.view after).transcript ≡ Some (base ++ items)
   pub run : Run true first (site.view before).moment faults items steps last
   pub left : (t : ℕ) (image : Image) → MayBeLeft site before after t image → FitsAt first steps t image
@@ -141,22 +143,22 @@ abbrev pub log_at : {D : Type 0} {site : Seen D} {before after : D} {found : Lis
     → LoopRan site before after found base → ℕ → List Entry
 log_at loop t = (machine_at loop.first loop.steps t).log
 
--- the fragment that is kept at this place went out with status 200: its place as its number, its samples, and up to two listed starts behind it
+-- the reply gives the fragment that is kept at this place, with status 200: its place as its number, its samples, and up to two listed later starts
 abbrev pub GivesWhole : Stepped → Address → ℕ → Fragment → Type 0
 GivesWhole x a place f =
     (channel : List Track) × (channel_of x.before.log ≡ Some channel) × (x.reply ≡ ok Mp4 (fragment_of channel x.before.log a place f))
 
--- the disk failed in this step: its count of faults rose, or stands at its end
+-- the disk failed in this step: its count of faults rose in it, or is at its maximum
 abbrev pub DiskFailed : Stepped → Type 0
 DiskFailed x = Rose x.faults x.faults_after
 
--- there was no memory, and 500 is said
+-- the reply is 500, which is said where memory ran out
 abbrev pub IsOutOfMemory : Stepped → Type 0
 IsOutOfMemory x = x.reply ≡ no_memory
 
 -- ---- requests
 
--- The steps of a connection acted on these items of what it sent, one after the other, and this is what is counted of its push then. The head 100 is sent
+-- The steps of a connection acted on these items of what it sent, one after the other, and these are the counts of its push then. The head 100 is sent
 -- without a step.
 pub data AreActs (n : ℕ) : List Stepped → List WireItem → Counts → Type 0 where
   nothing : AreActs n [] [] no_counts
@@ -354,6 +356,6 @@ pub record HasAnswer {D C P : Type 0} (site : Seen D) (t : Dialing C) (m : Meani
     (answer : Answer) : Type 0 where
   pub written : End
   pub means : Means site t m ran.policies ran.words ran.around ran.around' ran.output written before after ran.dial ran.dial' answer
-      ⊎ ((s : Serving) × (players : ℕ) × (asked ran.words ≡ Some (ServeShown s players))
+      ⊎ ((written ≡ ran.output) × (s : Serving) × (players : ℕ) × (asked ran.words ≡ Some (ServeShown s players))
       × ShowAnswers site s players ran.around.input ran.around'.input before after ran.staff ran.staff' answer)
   pub prints : Prints answer written ran.output' ran.status

@@ -139,7 +139,7 @@ pub fn replies_are_what_the_log_gives<S: Site>()
 }
 
 /// Each request becomes a step. The acts of the steps of a connection that was opened once are those of what it sent, in its order: of a front of that,
-/// and of all of it while the connection is open and the loop awaits an event. So who asks is answered, and nothing else is done.
+/// and of all of it while the connection is open and the loop awaits an event. So who asks is answered, and nothing else is done for it.
 pub fn each_request_becomes_a_step<S: Site>()
     ensures { (before after : S) (found : List Entry) (base : List Item) (loop : LoopRan S.Disk.seen before after found base)
         → (n : ℕ) → openings n loop.items ≤ 1 → BecomeSteps n loop.items loop.steps loop.last }
